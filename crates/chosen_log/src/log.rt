@@ -94,9 +94,9 @@ fn extend(
     if run.len() as u64 + 1 != place {
         return Ok(());
     }
-    run.push(command.again())?;
+    run.push(command.copy())?;
     while let Some(next) = places.get(&(run.len() as u64 + 1)) {
-        run.push(next.again())?;
+        run.push(next.copy())?;
     }
     Ok(())
 }

@@ -5,7 +5,7 @@ use Rattle.petal_command.specs.declared.command.Command.{Command}
 use Rattle.spec_state.specs.State.{latest}
 use Rattle.spec_state.specs.Command.{after, state_after}
 use Rattle.spec_rules.proofs.Applied.{state_append}
-use Rattle.client_core.specs.Core.{Core, state_of}
+use Rattle.client_core.specs.ClientView.{ClientView, state_of}
 use Rattle.script_lines.specs.declared.answer.Answer.{Answer}
 use Rattle.client_core.specs.Learning.{learnt}
 use Rattle.client_core.specs.Judging.{fated}
@@ -86,7 +86,7 @@ learnt_applied client (Some asked) now =
     ]
 
 -- after the entries of a letter the state is again what the applied entries make
-pub news_fits : (core : Core) (old new : Here) (entries : List Command)
+pub news_fits : (core : ClientView) (old new : Here) (entries : List Command)
     → learnt core.client core.client.asked new ≡ takes_all core.me (learnt core.client core.client.asked old) entries
     → learnt core.client core.client.asked old ≡ record { state = state_of core; client = core.client; answer = None }
     → new.state ≡ state_after core.servers new.applied.items

@@ -8,7 +8,7 @@ use Rattle.spec_rules.specs.State.{State, servers_of}
 use Rattle.spec_rules.specs.Server.{letters_of}
 use Rattle.spec_rules.specs.Clients.{Client, Asked, asks_to_propose, called, goes_out, goes_out_where, sends}
 use Rattle.spec_rules.specs.Clients.{sends_or_proposes, then_goes_out, to_propose}
-use Rattle.client_core.specs.Core.{Core, at_core, state_of}
+use Rattle.client_core.specs.ClientView.{ClientView, at_core, state_of}
 use Rattle.client_core.specs.Open.{fresh, goes_old_where, on_way, sent_last, turned, way_of, with_send, with_witnesses}
 use Rattle.client_core.specs.Sending.{sent_by, sent_where}
 use Rattle.client_core.specs.Posting.{posts_of}
@@ -28,13 +28,13 @@ as_it_stands state me asks asked witnesses way sent same way_is is client =
     subst goes (λ i. on_way asked (same i) (way_is i)) (is client)
 
 -- the open request goes out at the client's state
-pub open_sent : (core : Core) (state : State) (asked : Asked) (sent : Sent) → state ≡ state_of core → core.client.asked ≡ Some asked
+pub open_sent : (core : ClientView) (state : State) (asked : Asked) (sent : Sent) → state ≡ state_of core → core.client.asked ≡ Some asked
     → ((client : Client) → goes_out state core.me (record client { asks = core.client.asks }) asked ≡ sent_by client asked sent)
     → goes_out_where (state_of core) core.me core.client core.client.asked ≡ sent_where core.client sent
 open_sent core state asked sent at_state is_open is = rw (← at_state) (rw is_open (is core.client))
 
 -- the open request goes out in another state, with more entries applied
-pub open_sent_in : (core : Core) (state : State) (log : List Command) (witnesses : ℕ) (asked : Asked) (way : Way) (sent : Sent) → core.client.asked ≡ Some asked
+pub open_sent_in : (core : ClientView) (state : State) (log : List Command) (witnesses : ℕ) (asked : Asked) (way : Way) (sent : Sent) → core.client.asked ≡ Some asked
     → way ≡ way_of asked
     → ((client : Client) → goes_out state core.me (record client { asks = core.client.asks }) (on_way asked witnesses way)
     ≡ sent_by client (on_way asked witnesses way) sent)
@@ -47,7 +47,7 @@ open_sent_in core state log witnesses asked way sent is_open way_is is =
     rw is_open (subst goes (λ i. on_way asked witnesses (way_is i)) (is client))
 
 -- it goes the old way
-pub old_way_sent : (core : Core) (state : State) (asked : Asked) (witnesses : ℕ) (way : Way) (sent : Sent) → state ≡ state_of core
+pub old_way_sent : (core : ClientView) (state : State) (asked : Asked) (witnesses : ℕ) (way : Way) (sent : Sent) → state ≡ state_of core
     → core.client.asked ≡ Some asked
     → witnesses ≡ asked.witnesses → way ≡ turned
     → ((client : Client) → goes_out state core.me (record client { asks = core.client.asks }) (on_way asked witnesses way)
@@ -58,12 +58,12 @@ old_way_sent core state asked witnesses way sent at_state is_open same way_is is
     rw (← at_state) (rw is_open (subst goes (λ i. on_way asked (same i) (way_is i)) (is core.client)))
 
 -- a call
-pub called_is : (core new : Core) (line : ℕ) (request : Request) (asked : Asked) (sent : Sent) (letters : List Letter)
+pub called_is : (core new : ClientView) (line : ℕ) (request : Request) (asked : Asked) (sent : Sent) (letters : List Letter)
     → asked ≡ fresh line (core.client.seq + 1) request (state_of core).rev
     → ((client : Client) → goes_out (state_of core) core.me (record client { asks = core.client.asks }) asked ≡ sent_by client asked sent)
     → letters ≡ letters_of (record { from = actor.Client core.me; inc = 0; rev = length core.client.applied }) 0 (posts_of sent.post)
     → new ≡ record core { client = record core.client { seq = asked.seq; asks = sent.asks; asked = Some (sent_last sent.last asked) } }
-    → ◌≡◌ {A = Core × Reaction} (new, record { letters = letters; answer = None }) (at_core core (called (state_of core) core.me core.client line request))
+    → ◌≡◌ {A = ClientView × Reaction} (new, record { letters = letters; answer = None }) (at_core core (called (state_of core) core.me core.client line request))
 called_is core new line request asked sent letters asked_is sent_is letters_are new_is =
     let goes : called (state_of core) core.me core.client line request ≡ goes_out (state_of core) core.me (record core.client { seq = asked.seq }) asked =
     rw asked_is refl in
@@ -77,7 +77,7 @@ learnt_waits client None now witnesses is = refl
 learnt_waits client (Some asked) now witnesses is = rw is refl
 
 -- the entries of a letter, where the request waits still
-pub waited_is : (core new : Core) (now : Here) (witnesses : ℕ) (sent : Sent) (letters : List Letter) → now.fate ≡ Waits witnesses
+pub waited_is : (core new : ClientView) (now : Here) (witnesses : ℕ) (sent : Sent) (letters : List Letter) → now.fate ≡ Waits witnesses
     → goes_out_where now.state core.me (record core.client { applied = now.applied.items; asked = with_witnesses witnesses core.client.asked })
     (with_witnesses witnesses core.client.asked)
     ≡ sent_where (record core.client { applied = now.applied.items; asked = with_witnesses witnesses core.client.asked }) sent
@@ -89,7 +89,7 @@ pub waited_is : (core new : Core) (now : Here) (witnesses : ℕ) (sent : Sent) (
         asked = with_send sent.last (with_witnesses witnesses core.client.asked);
       };
     }
-    → ◌≡◌ {A = Core × Reaction} (new, record { letters = letters; answer = None })
+    → ◌≡◌ {A = ClientView × Reaction} (new, record { letters = letters; answer = None })
     (at_core core (then_goes_out core.me (learnt core.client core.client.asked now)))
 waited_is core new now witnesses sent letters waits sent_is letters_are new_is =
     rw (new_is, letters_are, learnt_waits core.client core.client.asked now witnesses waits, sent_is) refl

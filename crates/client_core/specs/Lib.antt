@@ -1,4 +1,4 @@
-pub mod Core
+pub mod ClientView
 pub mod Sending
 pub mod Learning
 pub mod Judging

@@ -7,7 +7,7 @@ ghost use Rattle.spec_rules.specs.State.{servers_of};
 ghost use Rattle.spec_rules.specs.Clients.{Client, first_client, called, heard, hears_of, next_entries, sees, takes_entries};
 ghost use Rattle.spec_rules.specs.Clients.{then_goes_out, ticked, asking, goes_out_where};
 ghost use Rattle.spec_rules.specs.World.{round_of, turn_of};
-ghost use Rattle.client_core.specs.Core.{at_core, is_spent, ordered, settle_of, state_of};
+ghost use Rattle.client_core.specs.ClientView.{at_core, is_spent, ordered, settle_of, state_of};
 ghost use Rattle.client_core.specs.Open.{answers_where, fresh, goes_old_where, in_round, outcome, with_send, with_witnesses};
 ghost use Rattle.client_core.specs.Learning.{learnt};
 
@@ -44,9 +44,9 @@ pub struct ClientCore {
 impl Model for ClientCore {
     ghost use Rattle.std.specs.Prelude.{◌≡◌};
     ghost use Rattle.spec_state.specs.Command.{state_after};
-    ghost use Rattle.client_core.specs.Core.{Core};
+    ghost use Rattle.client_core.specs.ClientView.{ClientView};
 
-    ghost Value = { Core };
+    ghost Value = { ClientView };
 
     ghost view = { λ c. record {
       me = c.id;
@@ -83,7 +83,7 @@ impl ClientCore {
         ensures err { OnErr result (self.new ≡ self.old) }
     {
         let mut asked = self.opened(alloc, line, request)?;
-        let Sent { post, asks, last } = self.sends_first(alloc, &asked)?;
+        let Sent { post, asks, last } = self.send_first(alloc, &asked)?;
         let letters = one_letter(alloc, self.me(), self.rev(), post)?;
         asked.was_sent(last);
         self.has_open(asked, asks);
@@ -228,7 +228,7 @@ impl ClientCore {
             post,
             asks: _,
             last,
-        } = self.sends(alloc)?;
+        } = self.send(alloc)?;
         let letters = two_letters(alloc, self.me(), self.rev(), self.ask(), post)?;
         self.has_sent(next, last);
         Ok(Reaction {
@@ -243,7 +243,7 @@ impl ClientCore {
             ≡ at_core self.old (goes_old_where (state_of self.old) self.old.me self.old.client self.old.client.asked)) }
         ensures err { OnErr result (self.new ≡ self.old) }
     {
-        let Sent { post, asks, last } = self.sends_old_way(alloc)?;
+        let Sent { post, asks, last } = self.send_old_way(alloc)?;
         let letters = one_letter(alloc, self.me(), self.rev(), post)?;
         self.has_sent(asks, last);
         Ok(Reaction {
@@ -367,7 +367,7 @@ impl ClientCore {
                 Ok(self.answer(alloc, answer))
             }
             Fate::Waits(witnesses) => {
-                let Sent { post, asks, last } = self.sends_in(alloc, &state, witnesses)?;
+                let Sent { post, asks, last } = self.send_in(alloc, &state, witnesses)?;
                 let letters = one_letter(alloc, self.me(), state.rev(), post)?;
                 self.has_applied(state, applied);
                 self.has_witnesses(witnesses);

@@ -4,7 +4,7 @@ ghost use Rattle.std.specs.Prelude.{◌≡◌, ◌++◌, [], ◌∷◌, None, On
 ghost use Rattle.spec_state.specs.Command.{after};
 ghost use Rattle.spec_rules.specs.State.{servers_of};
 ghost use Rattle.spec_rules.specs.Clients.{next_entries, takes_all, takes_entry};
-ghost use Rattle.client_core.specs.Core.{state_of};
+ghost use Rattle.client_core.specs.ClientView.{state_of};
 ghost use Rattle.client_core.specs.Learning.{learnt};
 
 use crate::ClientCore;

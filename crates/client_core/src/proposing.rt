@@ -20,20 +20,20 @@ pub fn command_of(client: ClientNumber, seq: Seq, request: &Request) -> Option<C
         Request::Disk { name, tuple } => Some(Command::MakeDisk {
             client,
             seq,
-            name: name.again(),
-            tuple: tuple.again(),
+            name: name.copy(),
+            tuple: tuple.copy(),
         }),
         Request::Snap { name, snap } => Some(Command::Snap {
             client,
             seq,
-            disk: name.again(),
-            name: snap.again(),
+            disk: name.copy(),
+            name: snap.copy(),
         }),
         Request::Move { name, tuple } => Some(Command::StartMove {
             client,
             seq,
-            disk: name.again(),
-            tuple: tuple.again(),
+            disk: name.copy(),
+            tuple: tuple.copy(),
         }),
         _ => None,
     }

@@ -167,12 +167,12 @@ impl Open {
             return Ok(Heard::Nothing);
         }
         let shown = self.round.shown.with(sight.server, sight.inc_running())?;
-        self.ends_round(alloc, servers, state, shown)
+        self.end_round(alloc, servers, state, shown)
     }
 
     /// What a round that has shown these servers means for a settle: where they are all, it is settled by the state, or
     /// another round begins.
-    fn ends_round(
+    fn end_round(
         &self,
         alloc: Global,
         servers: u8,

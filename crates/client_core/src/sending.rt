@@ -6,7 +6,7 @@ ghost use Rattle.petal_msg.specs.declared.body.Body.TheVariants as body;
 ghost use Rattle.petal_msg.specs.declared.letter.Actor.TheVariants as actor;
 ghost use Rattle.spec_rules.specs.State.{State, servers_of};
 ghost use Rattle.spec_rules.specs.Clients.{Client, asks_to_propose, goes_out, goes_out_where, sends};
-ghost use Rattle.client_core.specs.Core.{state_of};
+ghost use Rattle.client_core.specs.ClientView.{state_of};
 ghost use Rattle.client_core.specs.Open.{goes_old_where, on_way, with_witnesses};
 ghost use Rattle.client_core.specs.Sending.{sent_by, sent_where};
 
@@ -39,7 +39,7 @@ pub fn next_server(asks: ServerId, servers: u8) -> Result<ServerId, NoMemory>
 impl ClientCore {
     /// A request that goes this way, and of which so many Witnesses were applied, goes out in a state: to its servers, or as a
     /// proposal.
-    fn goes_out(
+    fn go_out(
         &self,
         alloc: Global,
         state: &GlobalState,
@@ -53,13 +53,13 @@ impl ClientCore {
             ≡ sent_by client (on_way asked.now witnesses way) sent) }
     {
         match to_propose(self.servers, state, self.id, asked, witnesses, way) {
-            Some(command) => self.proposes(asked, way, command),
-            None => self.sends_to(alloc, state, asked, way),
+            Some(command) => self.propose(asked, way, command),
+            None => self.send_to(alloc, state, asked, way),
         }
     }
 
     /// The command is proposed; the request stands as after its latest send.
-    fn proposes(&self, asked: &Open, way: Way, command: Command) -> Result<Sent, NoMemory>
+    fn propose(&self, asked: &Open, way: Way, command: Command) -> Result<Sent, NoMemory>
         ensures { (state : State) → IfOk result (λ sent. (client : Client) (witnesses : ℕ) → self.now.servers ≡ servers_of state
             → asks_to_propose state (record client { asks = self.now.client.asks }) (on_way asked.now witnesses way) command
             ≡ sent_by client (on_way asked.now witnesses way) sent) }
@@ -79,7 +79,7 @@ impl ClientCore {
     }
 
     /// The request goes to its servers. It asks the old map only at the revision at which it was told.
-    fn sends_to(
+    fn send_to(
         &self,
         alloc: Global,
         state: &GlobalState,
@@ -127,17 +127,17 @@ impl ClientCore {
 
     /// A request that was just called goes out.
     #[tactic(auto, using(spec_rules::proofs::Applied::servers_after))]
-    pub(crate) fn sends_first(&self, alloc: Global, asked: &Open) -> Result<Sent, NoMemory>
+    pub(crate) fn send_first(&self, alloc: Global, asked: &Open) -> Result<Sent, NoMemory>
         ensures { IfOk result (λ sent. (client : Client)
             → goes_out (state_of self.now) self.now.me (record client { asks = self.now.client.asks }) asked.now
             ≡ sent_by client asked.now sent) }
     {
-        let sent = self.goes_out(alloc, &self.state, asked, asked.witnesses, asked.way())?;
+        let sent = self.go_out(alloc, &self.state, asked, asked.witnesses, asked.way())?;
         Ok(sent)
     }
 
     /// The open request, where there is one, goes out in a state. So many of its Witnesses were applied.
-    pub(crate) fn sends_in(
+    pub(crate) fn send_in(
         &self,
         alloc: Global,
         state: &GlobalState,
@@ -151,7 +151,7 @@ impl ClientCore {
         match &self.asked {
             None => Ok(self.no_send()),
             Some(asked) => {
-                let sent = self.goes_out(alloc, state, asked, witnesses, asked.way())?;
+                let sent = self.go_out(alloc, state, asked, witnesses, asked.way())?;
                 Ok(sent)
             }
         }
@@ -159,14 +159,14 @@ impl ClientCore {
 
     /// The open request, where there is one, goes out.
     #[tactic(auto, using(spec_rules::proofs::Applied::servers_after))]
-    pub(crate) fn sends(&self, alloc: Global) -> Result<Sent, NoMemory>
+    pub(crate) fn send(&self, alloc: Global) -> Result<Sent, NoMemory>
         ensures { IfOk result (λ sent. goes_out_where (state_of self.now) self.now.me self.now.client self.now.client.asked
             ≡ sent_where self.now.client sent) }
     {
         match &self.asked {
             None => Ok(self.no_send()),
             Some(asked) => {
-                let sent = self.goes_out(alloc, &self.state, asked, asked.witnesses, asked.way())?;
+                let sent = self.go_out(alloc, &self.state, asked, asked.witnesses, asked.way())?;
                 Ok(sent)
             }
         }
@@ -174,7 +174,7 @@ impl ClientCore {
 
     /// The open request, where there is one, goes the old way.
     #[tactic(auto, using(spec_rules::proofs::Applied::servers_after))]
-    pub(crate) fn sends_old_way(&self, alloc: Global) -> Result<Sent, NoMemory>
+    pub(crate) fn send_old_way(&self, alloc: Global) -> Result<Sent, NoMemory>
         ensures { IfOk result (λ sent. goes_old_where (state_of self.now) self.now.me self.now.client self.now.client.asked
             ≡ sent_where self.now.client sent) }
     {
@@ -185,7 +185,7 @@ impl ClientCore {
                     told: true,
                     old_way: true,
                 };
-                let sent = self.goes_out(alloc, &self.state, asked, asked.witnesses, way)?;
+                let sent = self.go_out(alloc, &self.state, asked, asked.witnesses, way)?;
                 Ok(sent)
             }
         }

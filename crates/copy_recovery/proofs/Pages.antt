@@ -2,18 +2,18 @@
 use Rattle.std.proofs.Common.{◌≡◌, Err, refl, sym, subst, ap, ◌∙◌}
 use Rattle.std.specs.Result.{IsErrOf}
 use Rattle.petal_disk.specs.declared.disk.Disk.{Ghosts}
-use Rattle.spec_rules.specs.Server.{Copies, Here, Done}
+use Rattle.spec_rules.specs.Server.{Copies, JobContext, JobResult}
 use Rattle.server_store.specs.declared.StoreError.{StoreError}
 use Rattle.server_store.specs.declared.StoreError.TheVariants as store
 use Rattle.server_store.specs.Errors.{IsMarkError}
 use Rattle.server_store.specs.Holdings.{Holdings}
 use Rattle.kept_chains.specs.Marking.{IsCommit}
-use Rattle.pair_memory.specs.declared.done.Done.{Done as Left}
+use Rattle.pair_memory.specs.declared.job_result.JobResult.{JobResult as Left}
 use Rattle.pair_memory.specs.declared.error.WorkError.{WorkError}
 use Rattle.pair_memory.specs.declared.error.WorkError.TheVariants.{Failed, JournalFull, NoMemory}
-use Rattle.pair_memory.specs.Done.{HoldsAt, IsDone}
+use Rattle.pair_memory.specs.JobResult.{HoldsAt, IsDone}
 use Rattle.pair_memory.specs.Refusals.{work_error}
-use Rattle.pair_memory.specs.Side.{Side}
+use Rattle.pair_memory.specs.PairMemory.{PairMemory}
 
 err_is : (a b : WorkError) → IsErrOf {T = Left} (Err a) b → a ≡ b
 err_is a b is = cc
@@ -40,7 +40,7 @@ failed_is (store.BadRecord index) may is = absurd may
 failed_is store.NoMemory may is = absurd (cc)
 
 -- a job whose one commit was refused, and whose side is as before
-refused_done : {D T : Type 0} (device : Ghosts D) (here : Here) (old new : Side) (before after : Holdings D) (e : StoreError) (rule : Done) → new ≡ old
+refused_done : {D T : Type 0} (device : Ghosts D) (here : JobContext) (old new : PairMemory) (before after : Holdings D) (e : StoreError) (rule : JobResult) → new ≡ old
     → IsCommit {T = T} device before after (Err e) rule.own.store → IsDone device here old new before after (Err (work_error e)) rule
 refused_done {D = D} device here old new before after e rule same commit = record {
   done = tt;
@@ -63,7 +63,7 @@ refused_done {D = D} device here old new before after e rule same commit = recor
 }
 
 -- what the side has of copies is as before
-pub refused_page : {D T : Type 0} (device : Ghosts D) (here : Here) (old : Side) (copies : Copies) (before after : Holdings D) (e : StoreError) (rule : Done)
+pub refused_page : {D T : Type 0} (device : Ghosts D) (here : JobContext) (old : PairMemory) (copies : Copies) (before after : Holdings D) (e : StoreError) (rule : JobResult)
     → copies ≡ old.copies → IsCommit {T = T} device before after (Err e) rule.own.store
     → IsDone device here old (record old { copies = copies }) before after (Err (work_error e)) rule
 refused_page device here old copies before after e rule same commit =

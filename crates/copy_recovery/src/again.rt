@@ -8,8 +8,8 @@ ghost use Rattle.spec_rules.specs.Server.{Post, letters_of, sender};
 ghost use Rattle.spec_rules.specs.State.{other_in};
 ghost use Rattle.kept_chains.specs.Kept.{store_of};
 ghost use Rattle.kept_chains.specs.Reading.{IsReadFault};
-ghost use Rattle.pair_memory.specs.Side.{Side as Sides, own_of};
-ghost use Rattle.pair_memory.specs.Done.{HoldsAt};
+ghost use Rattle.pair_memory.specs.PairMemory.{PairMemory as Sides, own_of};
+ghost use Rattle.pair_memory.specs.JobResult.{HoldsAt};
 ghost use Rattle.pair_memory.specs.Letters.{IsLook, posts_of};
 ghost use Rattle.copy_recovery.specs.Again.{other_of_cell};
 
@@ -17,7 +17,7 @@ use crate::page::page_wanted;
 use copy_transfer::{copy_stage, next_copy, other_in, other_on, sync_body, trim_body};
 use global_state::LinkRow;
 use kept_chains::read_nth;
-use pair_memory::{Here, Side, with_letter};
+use pair_memory::{JobContext, PairMemory, with_letter};
 use petal_base::{Cell, NoMemory, Sequence, ServerId};
 use petal_disk::{DeviceError, Disk};
 use petal_msg::{Body, CopyAction, Copying, Letter, NextCopy};
@@ -25,7 +25,7 @@ use server_store::Store;
 
 /// The letter of an entry that is not yet answered.
 fn entry_awaited<D: Disk>(
-    here: &Here,
+    here: &JobContext,
     store: &mut Store<D>,
     to: ServerId,
     cell: Cell,
@@ -43,7 +43,7 @@ fn entry_awaited<D: Disk>(
 
 /// The letter of which a copy waits for the answer.
 fn awaited<D: Disk>(
-    here: &Here,
+    here: &JobContext,
     store: &mut Store<D>,
     cell: Cell,
     copy: Copying,
@@ -64,8 +64,8 @@ fn awaited<D: Disk>(
 
 /// The page of the link that is not yet answered.
 fn page_awaited<D: Disk>(
-    here: &Here,
-    side: &Side,
+    here: &JobContext,
+    side: &PairMemory,
     store: &Store<D>,
     row: &LinkRow,
 ) -> Option<(ServerId, Body)>
@@ -80,8 +80,8 @@ fn page_awaited<D: Disk>(
 
 /// Letters of the step, and after them those of the pages that are not yet answered.
 fn pages_after<D: Disk>(
-    here: &Here,
-    side: &Side,
+    here: &JobContext,
+    side: &PairMemory,
     store: &Store<D>,
     before: Sequence<Letter>,
 ) -> Result<Sequence<Letter>, NoMemory>
@@ -103,7 +103,7 @@ fn pages_after<D: Disk>(
 
 /// The letters of the step so far with that of one copy more, if it waits for an answer, and the number of the next letter.
 fn with_awaited<D: Disk>(
-    here: &Here,
+    here: &JobContext,
     store: &mut Store<D>,
     cell: Cell,
     copy: Copying,
@@ -121,8 +121,8 @@ fn with_awaited<D: Disk>(
 
 /// Letters of the step, and after them those of the copies that are not yet answered.
 fn copies_after<D: Disk>(
-    here: &Here,
-    side: &Side,
+    here: &JobContext,
+    side: &PairMemory,
     store: &mut Store<D>,
     before: Sequence<Letter>,
 ) -> Result<Sequence<Letter>, DeviceError>
@@ -148,8 +148,8 @@ fn copies_after<D: Disk>(
 /// # Errors
 /// `Failed` where the device failed, and out of memory.
 pub fn letters_after<D: Disk>(
-    here: &Here,
-    side: &Side,
+    here: &JobContext,
+    side: &PairMemory,
     store: &mut Store<D>,
     before: Sequence<Letter>,
 ) -> Result<Sequence<Letter>, DeviceError>

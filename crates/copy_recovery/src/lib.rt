@@ -11,7 +11,7 @@ mod page;
 
 pub use again::letters_after;
 pub use copy_transfer::{
-    CopiedEntry, copies_on, on_sync, on_sync_full, on_synced, on_trim, on_trimmed, trims_on,
+    CopiedEntry, copy_on, on_sync, on_sync_full, on_synced, on_trim, on_trimmed, trim_on,
 };
-pub use link::{mend_jobs, mends};
+pub use link::{repair_jobs, repair};
 pub use page::{on_hello, on_hello_ask};

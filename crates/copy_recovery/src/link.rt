@@ -4,14 +4,14 @@ ghost use Rattle.std.specs.Prelude.{◌≡◌, filter, map, Some, IfOk};
 ghost use Rattle.spec_rules.specs.Copies as copies;
 ghost use Rattle.spec_rules.specs.State.{id_of, other_in};
 ghost use Rattle.spec_rules.specs.declared.job.Job.TheVariants as job;
-ghost use Rattle.pair_memory.specs.Side.{own_of, HasTicketsAt};
-ghost use Rattle.pair_memory.specs.Done.{IsDone, IsSaid};
+ghost use Rattle.pair_memory.specs.PairMemory.{own_of, HasTicketsAt};
+ghost use Rattle.pair_memory.specs.JobResult.{IsDone, IsSaid};
 
 use crate::page::page_wanted;
-use copy_transfer::{begins, cell_at, followed, idle_mark, next_copy, other_in};
+use copy_transfer::{begin, cell_at, followed, idle_mark, next_copy, other_in};
 use global_state::{LinkRow, LinkState};
 use kept_chains::{mark_left, unmark};
-use pair_memory::{Done, FollowUp, Here, Side, WorkError, link_id, says_to, silent};
+use pair_memory::{JobResult, FollowUp, JobContext, PairMemory, WorkError, link_id, say_to, silent};
 use petal_base::{BlockNo, NoMemory, ServerId};
 use petal_disk::Disk;
 use petal_msg::{LinkId, NextCopy};
@@ -20,32 +20,32 @@ use spec_rules::Job;
 use std::alloc::{AllocError, Global};
 
 /// What is next of the link.
-fn goes_for<D: Disk>(
-    here: &Here,
-    side: &mut Side,
+fn go_for<D: Disk>(
+    here: &JobContext,
+    side: &mut PairMemory,
     store: &Store<D>,
     row: &LinkRow,
     other: ServerId,
     next: NextCopy,
-) -> Result<Done, WorkError>
+) -> Result<JobResult, WorkError>
     requires { HasTicketsAt side.old store.now }
     ensures { IsSaid here.now side.old side.new store.now store.now result
         (copies.goes_for here.now (own_of side.old store.now) row.now other next) }
 {
     match next {
-        NextCopy::Ask => says_to(here, side, store, Some(other), page_wanted(side, row)),
-        NextCopy::Block(cell) => begins(here, side, store, cell),
+        NextCopy::Ask => say_to(here, side, store, Some(other), page_wanted(side, row)),
+        NextCopy::Block(cell) => begin(here, side, store, cell),
         NextCopy::Wait | NextCopy::Nothing => silent(here, side, store),
     }
 }
 
 /// Of a link that the server holds alone the next page is asked for, or the next copy begins.
-fn catches_up<D: Disk>(
-    here: &Here,
-    side: &mut Side,
+fn catch_up<D: Disk>(
+    here: &JobContext,
+    side: &mut PairMemory,
     store: &Store<D>,
     row: &LinkRow,
-) -> Result<Done, WorkError>
+) -> Result<JobResult, WorkError>
     requires { HasTicketsAt side.old store.now }
     ensures { IsSaid here.now side.old side.new store.now store.now result
         (copies.catches_up here.now (own_of side.old store.now) row.now (other_in here.now.state here.now.me row.now)) }
@@ -54,63 +54,63 @@ fn catches_up<D: Disk>(
         None => silent(here, side, store),
         Some(other) => {
             let next = next_copy(here, side, store, row);
-            goes_for(here, side, store, row, other, next)
+            go_for(here, side, store, row, other, next)
         }
     }
 }
 
 /// The first mark of the block is taken away.
-fn takes_mark<D: Disk>(
-    here: &Here,
-    side: &Side,
+fn take_mark<D: Disk>(
+    here: &JobContext,
+    side: &PairMemory,
     store: &mut Store<D>,
     row: &LinkRow,
     block: BlockNo,
-) -> Result<Done, WorkError>
+) -> Result<JobResult, WorkError>
     requires { HasTicketsAt side.now store.old }
     ensures { IsDone D.Disk here.now side.now side.now store.old store.new result
-        (copies.tidies (own_of side.now store.old) row.now (Some block)) }
+        (copies.clears_old_marks (own_of side.now store.old) row.now (Some block)) }
 {
     let cell = cell_at(row, block);
     match mark_left(store, cell) {
         None => silent(here, side, store),
         Some(kind) => {
             unmark(store, kind, cell)?;
-            Ok(followed(here, Some(FollowUp::Mend(link_id(row)))))
+            Ok(followed(here, Some(FollowUp::Repair(link_id(row)))))
         }
     }
 }
 
 /// In Both a mark that an earlier life left is taken away.
-fn tidies<D: Disk>(
-    here: &Here,
-    side: &Side,
+fn clear_old_marks<D: Disk>(
+    here: &JobContext,
+    side: &PairMemory,
     store: &mut Store<D>,
     row: &LinkRow,
-) -> Result<Done, WorkError>
+) -> Result<JobResult, WorkError>
     requires { HasTicketsAt side.now store.old }
     ensures { IsDone D.Disk here.now side.now side.now store.old store.new result
-        (copies.tidies (own_of side.now store.old) row.now (copies.idle_mark here.now.state row.now (own_of side.now store.old))) }
+        (copies.clears_old_marks (own_of side.now store.old) row.now (copies.idle_mark here.now.state row.now (own_of side.now store.old))) }
 {
     match idle_mark(here, side, store, row) {
         None => silent(here, side, store),
-        Some(block) => takes_mark(here, side, store, row, block),
+        Some(block) => take_mark(here, side, store, row, block),
     }
 }
 
-fn mends_row<D: Disk>(
-    here: &Here,
-    side: &mut Side,
+fn repair_row<D: Disk>(
+    here: &JobContext,
+    side: &mut PairMemory,
     store: &mut Store<D>,
     row: &LinkRow,
-) -> Result<Done, WorkError>
+) -> Result<JobResult, WorkError>
     requires { HasTicketsAt side.old store.old }
     ensures { IsDone D.Disk here.now side.old side.new store.old store.new result
-        (copies.mends_row here.now (own_of side.old store.old) row.now row.now.state) }
+        (copies.repairs_row here.now (own_of side.old store.old) row.now row.now.state) }
 {
     match row.state {
-        LinkState::Both => tidies(here, side, store, row),
-        LinkState::Only { .. } => catches_up(here, side, store, row),
+        LinkState::Both => clear_old_marks(here, side, store, row),
+        LinkState::Only { .. } => catch_up(here, side, store, row),
         LinkState::Lost => silent(here, side, store),
     }
 }
@@ -119,20 +119,20 @@ fn mends_row<D: Disk>(
 ///
 /// # Errors
 /// As of [`copies_on`](crate::copies_on).
-#[tactic(auto, unfolding(spec_rules::specs::Copies::mends))]
-pub fn mends<D: Disk>(
-    here: &Here,
-    side: &mut Side,
+#[tactic(auto, unfolding(spec_rules::specs::Copies::repair))]
+pub fn repair<D: Disk>(
+    here: &JobContext,
+    side: &mut PairMemory,
     store: &mut Store<D>,
     link: LinkId,
-) -> Result<Done, WorkError>
+) -> Result<JobResult, WorkError>
     requires { HasTicketsAt side.old store.old }
     ensures { IsDone D.Disk here.now side.old side.new store.old store.new result
-        (copies.mends here.now (own_of side.old store.old) link) }
+        (copies.repairs here.now (own_of side.old store.old) link) }
 {
     match here.state().link_row(link.map, link.link) {
         None => silent(here, side, store),
-        Some(row) => mends_row(here, side, store, row),
+        Some(row) => repair_row(here, side, store, row),
     }
 }
 
@@ -146,7 +146,7 @@ fn is_block(next: NextCopy) -> bool
 }
 
 /// Whether a copy waits to be begun, or a mark to be taken away.
-fn waits_for_job<D: Disk>(here: &Here, side: &Side, store: &Store<D>, row: &LinkRow) -> bool
+fn waits_for_job<D: Disk>(here: &JobContext, side: &PairMemory, store: &Store<D>, row: &LinkRow) -> bool
     ensures { result ≡ copies.waits_for_job here.now (own_of side.now store.now) row.now row.now.state }
 {
     match row.state {
@@ -160,17 +160,17 @@ fn waits_for_job<D: Disk>(here: &Here, side: &Side, store: &Store<D>, row: &Link
 
 fn jobs_of<D: Disk>(
     alloc: Global,
-    here: &Here,
-    side: &Side,
+    here: &JobContext,
+    side: &PairMemory,
     store: &Store<D>,
     rows: &[LinkRow],
 ) -> Result<Vec<Job>, AllocError>
     ensures { IfOk result (λ jobs. jobs.items
-        ≡ map (λ row. job.Mend (id_of row)) (filter (λ row. copies.waits_for_job here.now (own_of side.now store.now) row row.state) rows.now)) }
+        ≡ map (λ row. job.Repair (id_of row)) (filter (λ row. copies.waits_for_job here.now (own_of side.now store.now) row row.state) rows.now)) }
 {
     rows.iter()
         .filter(|row| waits_for_job(here, side, store, row))
-        .map(|row| Job::Mend(link_id(row)))
+        .map(|row| Job::Repair(link_id(row)))
         .collect(alloc)
 }
 
@@ -178,8 +178,8 @@ fn jobs_of<D: Disk>(
 ///
 /// # Errors
 /// Out of memory.
-pub fn mend_jobs<D: Disk>(here: &Here, side: &Side, store: &Store<D>) -> Result<Vec<Job>, NoMemory>
-    ensures { IfOk result (λ jobs. jobs.items ≡ copies.mend_jobs here.now (own_of side.now store.now)) }
+pub fn repair_jobs<D: Disk>(here: &JobContext, side: &PairMemory, store: &Store<D>) -> Result<Vec<Job>, NoMemory>
+    ensures { IfOk result (λ jobs. jobs.items ≡ copies.repair_jobs here.now (own_of side.now store.now)) }
 {
     Ok(jobs_of(here.alloc(), here, side, store, here.state().links())?)
 }

@@ -3,15 +3,15 @@
 ghost use Rattle.std.specs.Prelude.{◌≡◌, Some, None};
 ghost use Rattle.spec_rules.specs.Copies as copies;
 ghost use Rattle.spec_rules.specs.Store.{Store as Stored};
-ghost use Rattle.pair_memory.specs.Side.{own_of, HasTicketsAt};
-ghost use Rattle.pair_memory.specs.Done.{IsDone, IsSaid};
+ghost use Rattle.pair_memory.specs.PairMemory.{own_of, HasTicketsAt};
+ghost use Rattle.pair_memory.specs.JobResult.{IsDone, IsSaid};
 ghost use Rattle.link_blocks.specs.Walks.{side_own};
 
 use busy_marks::MarkKind;
 use global_state::{LinkRow, holder_of};
 use kept_chains::mark;
 use link_blocks::{cell_at, followed, marked_above, other_in};
-use pair_memory::{Done, FollowUp, Here, Side, WorkError, link_id, says_to, silent};
+use pair_memory::{JobResult, FollowUp, JobContext, PairMemory, WorkError, link_id, say_to, silent};
 use petal_base::BlockNo;
 use petal_disk::Disk;
 use petal_msg::{Body, LinkId, Progress};
@@ -23,12 +23,12 @@ use server_store::Store;
 /// Out of memory, which changed nothing.
 #[tactic(auto, unfolding(spec_rules::specs::Copies::on_hello_ask))]
 pub fn on_hello_ask<D: Disk>(
-    here: &Here,
-    side: &Side,
+    here: &JobContext,
+    side: &PairMemory,
     store: &Store<D>,
     link: LinkId,
     after: Option<BlockNo>,
-) -> Result<Done, WorkError>
+) -> Result<JobResult, WorkError>
     requires { HasTicketsAt side.now store.now }
     ensures { IsSaid here.now side.now side.now store.now store.now result (copies.on_hello_ask here.now (own_of side.now store.now) link after) }
 {
@@ -41,13 +41,13 @@ pub fn on_hello_ask<D: Disk>(
                 after,
                 block: marked_above(here, store, row, after),
             };
-            says_to(here, side, store, holder_of(here.me(), row), body)
+            say_to(here, side, store, holder_of(here.me(), row), body)
         }
     }
 }
 
 /// The page above the last block that was answered.
-pub fn page_wanted(side: &Side, row: &LinkRow) -> Body
+pub fn page_wanted(side: &PairMemory, row: &LinkRow) -> Body
     ensures { (store : Stored) → result ≡ copies.page_wanted (side_own side.now store) row.now }
 {
     let progress = side.copies.progress_on(link_id(row));
@@ -69,13 +69,13 @@ fn is_same_block(a: Option<BlockNo>, b: Option<BlockNo>) -> bool
 }
 
 /// The pages are done.
-fn ends_pages<D: Disk>(
-    here: &Here,
-    side: &mut Side,
+fn end_pages<D: Disk>(
+    here: &JobContext,
+    side: &mut PairMemory,
     store: &Store<D>,
     row: &LinkRow,
     before: Progress,
-) -> Result<Done, WorkError>
+) -> Result<JobResult, WorkError>
     requires { HasTicketsAt side.old store.now }
     ensures { IsSaid here.now side.old side.new store.now store.now result
         (copies.turns_page (own_of side.old store.now) row.now before None) }
@@ -89,18 +89,18 @@ fn ends_pages<D: Disk>(
             ..before
         },
     )?;
-    Ok(followed(here, Some(FollowUp::Mend(link))))
+    Ok(followed(here, Some(FollowUp::Repair(link))))
 }
 
 /// The block of the page is marked stale here. Where that is refused the link is as far as before.
-fn marks_page<D: Disk>(
-    here: &Here,
-    side: &mut Side,
+fn mark_page<D: Disk>(
+    here: &JobContext,
+    side: &mut PairMemory,
     store: &mut Store<D>,
     row: &LinkRow,
     before: Progress,
     block: BlockNo,
-) -> Result<Done, WorkError>
+) -> Result<JobResult, WorkError>
     requires { HasTicketsAt side.old store.old }
     ensures { IsDone D.Disk here.now side.old side.new store.old store.new result
         (copies.turns_page (own_of side.old store.old) row.now before (Some block)) }
@@ -115,7 +115,7 @@ fn marks_page<D: Disk>(
         },
     )?;
     match mark(store, MarkKind::Stale, cell_at(row, block)) {
-        Ok(()) => Ok(followed(here, Some(FollowUp::Mend(link)))),
+        Ok(()) => Ok(followed(here, Some(FollowUp::Repair(link)))),
         Err(error) => {
             side.copies.restore_progress(link, found);
             Err(WorkError::from(error))
@@ -123,33 +123,33 @@ fn marks_page<D: Disk>(
     }
 }
 
-fn turns_page<D: Disk>(
-    here: &Here,
-    side: &mut Side,
+fn turn_page<D: Disk>(
+    here: &JobContext,
+    side: &mut PairMemory,
     store: &mut Store<D>,
     row: &LinkRow,
     before: Progress,
     block: Option<BlockNo>,
-) -> Result<Done, WorkError>
+) -> Result<JobResult, WorkError>
     requires { HasTicketsAt side.old store.old }
     ensures { IsDone D.Disk here.now side.old side.new store.old store.new result
         (copies.turns_page (own_of side.old store.old) row.now before block) }
 {
     match block {
-        None => ends_pages(here, side, store, row, before),
-        Some(block) => marks_page(here, side, store, row, before, block),
+        None => end_pages(here, side, store, row, before),
+        Some(block) => mark_page(here, side, store, row, before, block),
     }
 }
 
 /// A page counts where it is the one that is waited for.
-fn hears_page<D: Disk>(
-    here: &Here,
-    side: &mut Side,
+fn hear_page<D: Disk>(
+    here: &JobContext,
+    side: &mut PairMemory,
     store: &mut Store<D>,
     row: &LinkRow,
     after: Option<BlockNo>,
     block: Option<BlockNo>,
-) -> Result<Done, WorkError>
+) -> Result<JobResult, WorkError>
     requires { HasTicketsAt side.old store.old }
     ensures { IsDone D.Disk here.now side.old side.new store.old store.new result
         (copies.hears_hello here.now (own_of side.old store.old) after block (Some row.now)) }
@@ -159,7 +159,7 @@ fn hears_page<D: Disk>(
     }
     let before = side.copies.progress_on(link_id(row));
     if !before.paged && is_same_block(after, before.after) {
-        turns_page(here, side, store, row, before, block)
+        turn_page(here, side, store, row, before, block)
     } else {
         silent(here, side, store)
     }
@@ -172,19 +172,19 @@ fn hears_page<D: Disk>(
 /// all its records: the entries are as they were, and the server is to be stopped.
 #[tactic(auto, unfolding(spec_rules::specs::Copies::on_hello))]
 pub fn on_hello<D: Disk>(
-    here: &Here,
-    side: &mut Side,
+    here: &JobContext,
+    side: &mut PairMemory,
     store: &mut Store<D>,
     link: LinkId,
     after: Option<BlockNo>,
     block: Option<BlockNo>,
-) -> Result<Done, WorkError>
+) -> Result<JobResult, WorkError>
     requires { HasTicketsAt side.old store.old }
     ensures { IsDone D.Disk here.now side.old side.new store.old store.new result
         (copies.on_hello here.now (own_of side.old store.old) link after block) }
 {
     match here.state().link_row(link.map, link.link) {
         None => silent(here, side, store),
-        Some(row) => hears_page(here, side, store, row, after, block),
+        Some(row) => hear_page(here, side, store, row, after, block),
     }
 }

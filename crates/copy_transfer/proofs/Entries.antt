@@ -5,7 +5,7 @@ use Rattle.petal_base.specs.Cells.{cell_of}
 use Rattle.petal_table.specs.Table.{at}
 use Rattle.petal_msg.specs.declared.copying.LastCopy.{LastCopy}
 use Rattle.spec_rules.specs.Copies.{Entry, cell_holder, hears_entry, hears_sync, on_sync, puts_entry}
-use Rattle.spec_rules.specs.Server.{Own, Here, silent}
+use Rattle.spec_rules.specs.Server.{PairState, JobContext, silent}
 use Rattle.spec_rules.specs.Store.{cell_cmp, free_of}
 use Rattle.copy_transfer.specs.Entries.{one_more}
 
@@ -15,7 +15,7 @@ next_is next last is = cc
 pub next_of : (next last : LastCopy) (o : Option LastCopy) → Some next ≡ option_map one_more o → o ≡ Some last → next ≡ one_more last
 next_of next last o is there = next_is next last (is ∙ ap (option_map one_more) there)
 
-pub hears_next : (own : Own) (entry : Entry) (holder : ℕ) (last : LastCopy) → nat_lt entry.index last.index ≡ false → (entry.index == last.index) ≡ true
+pub hears_next : (own : PairState) (entry : Entry) (holder : ℕ) (last : LastCopy) → nat_lt entry.index last.index ≡ false → (entry.index == last.index) ≡ true
     → puts_entry own entry last holder (nat_lt 0 (free_of own.store)) ≡ hears_entry own entry holder last
 hears_next own entry holder last older same = rw (older, same) refl
 
@@ -31,7 +31,7 @@ known_place (Some last) op index is =
     let same : here ≡ there = pair_is here there is in
     (last, (refl, (ap (λ (p : ℕ × ℕ). p.0) same, ap (λ (p : ℕ × ℕ). p.1) same)))
 
-pub sync_is : (here : Here) (own : Own) (entry : Entry) (holder : ℕ) (last : LastCopy) → cell_holder here (cell_of entry.key) ≡ Some holder
+pub sync_is : (here : JobContext) (own : PairState) (entry : Entry) (holder : ℕ) (last : LastCopy) → cell_holder here (cell_of entry.key) ≡ Some holder
     → at cell_cmp own.copies.last (cell_of entry.key) ≡ Some last → (entry.op == last.op) ≡ true → hears_entry own entry holder last ≡ on_sync here own entry
 unfolding on_sync
 sync_is here own entry holder last is there same =

@@ -10,7 +10,7 @@ use Rattle.petal_msg.specs.declared.body.Body.TheVariants as body
 use Rattle.petal_msg.specs.declared.copying.LastCopy.{LastCopy}
 use Rattle.spec_rules.specs.Copies.{cell_holder, epochs_beyond, hears_trim, hears_trim_of, on_trim, trims_again, trims_first, trims_for, trims_newly, trims_on}
 use Rattle.spec_rules.specs.Progress.{with_last_copy}
-use Rattle.spec_rules.specs.Server.{Own, Here, silent, says_to}
+use Rattle.spec_rules.specs.Server.{PairState, JobContext, silent, says_to}
 use Rattle.spec_rules.specs.Store.{cell_cmp, chain_in, epochs_of}
 use Rattle.spec_rules.proofs.CellTables.{cell_same}
 use Rattle.copy_transfer.specs.Entries.{dropped}
@@ -47,10 +47,10 @@ module _ (test : ℕ → Bool) where
 abbrev pub is_beyond : List ℕ → ℕ → Bool
 is_beyond kept epoch = not (list_any (nat_eq epoch) kept)
 
-abbrev pub own_epochs : Own → Cell → List ℕ
+abbrev pub own_epochs : PairState → Cell → List ℕ
 own_epochs own cell = epochs_of (chain_in own.store.chains cell)
 
-module _ (own : Own) (cell : Cell) (kept : List ℕ) where
+module _ (own : PairState) (cell : Cell) (kept : List ℕ) where
   pub beyond_none : find (is_beyond kept) (own_epochs own cell) ≡ None → epochs_beyond own cell kept ≡ []
   beyond_none is = none_left (is_beyond kept) (own_epochs own cell) is
 
@@ -58,12 +58,12 @@ module _ (own : Own) (cell : Cell) (kept : List ℕ) where
   beyond_there epoch is = found_there (is_beyond kept) (own_epochs own cell) epoch is
 
   -- nothing is left to drop
-  pub first_none : (number holder : ℕ) (left : Own) → find (is_beyond kept) (own_epochs own cell) ≡ None
+  pub first_none : (number holder : ℕ) (left : PairState) → find (is_beyond kept) (own_epochs own cell) ≡ None
       → trims_first left cell number holder [] ≡ trims_first left cell number holder (epochs_beyond own cell kept)
   first_none number holder left is = ap (trims_first left cell number holder) (sym (beyond_none is))
 
   -- an entry is dropped
-  pub first_some : (number holder epoch : ℕ) (left : Own) → find (is_beyond kept) (own_epochs own cell) ≡ Some epoch
+  pub first_some : (number holder epoch : ℕ) (left : PairState) → find (is_beyond kept) (own_epochs own cell) ≡ Some epoch
       → dropped left cell epoch ≡ trims_first left cell number holder (epochs_beyond own cell kept)
   first_some number holder epoch left is =
       let found = first_left (is_beyond kept) (own_epochs own cell) epoch is in
@@ -83,13 +83,13 @@ module _ (own : Own) (cell : Cell) (kept : List ℕ) where
 -- ### Trim
 
 -- a copy that is new here
-pub newly_is : (here : Here) (own : Own) (cell : Cell) (holder : ℕ) (last : LastCopy) → cell_holder here cell ≡ Some holder
+pub newly_is : (here : JobContext) (own : PairState) (cell : Cell) (holder : ℕ) (last : LastCopy) → cell_holder here cell ≡ Some holder
     → trims_for (with_last_copy own cell last) cell (Some holder) (Some last) ≡ trims_on here (with_last_copy own cell last) cell
 unfolding trims_on
 newly_is here own cell holder last is =
     λ i. trims_for (with_last_copy own cell last) cell (sym is i) (sym (cell_same own.copies.last cell last) i)
 
-module _ (here : Here) (own : Own) (cell : Cell) (copy : LastCopy) (holder : ℕ) (is : cell_holder here cell ≡ Some holder) (begins : copy.index ≡ 0) where
+module _ (here : JobContext) (own : PairState) (cell : Cell) (copy : LastCopy) (holder : ℕ) (is : cell_holder here cell ≡ Some holder) (begins : copy.index ≡ 0) where
   -- the copy as the letter begins it
   begun : with_last_copy own cell (record { op = copy.op; epochs = copy.epochs; index = 0 }) ≡ with_last_copy own cell copy
   begun = λ i. with_last_copy own cell (record { op = copy.op; epochs = copy.epochs; index = sym begins i })
@@ -100,7 +100,7 @@ module _ (here : Here) (own : Own) (cell : Cell) (copy : LastCopy) (holder : ℕ
   trim_is found last = ap (hears_trim_of here own copy.op cell copy.epochs) is ∙ ap (hears_trim here own copy.op cell copy.epochs holder) last
 
   trims_newly_is : trims_for (with_last_copy own cell copy) cell (Some holder) (Some copy) ≡ trims_newly here own copy.op cell copy.epochs
-  trims_newly_is = newly_is here own cell holder copy is ∙ ap (λ (left : Own). trims_on here left cell) (sym begun)
+  trims_newly_is = newly_is here own cell holder copy is ∙ ap (λ (left : PairState). trims_on here left cell) (sym begun)
 
   pub trim_new : at cell_cmp own.copies.last cell ≡ None
       → trims_for (with_last_copy own cell copy) cell (Some holder) (Some copy) ≡ on_trim here own copy.op cell copy.epochs

@@ -4,7 +4,7 @@ use Rattle.petal_base.specs.declared.cell.Cell.{Cell}
 use Rattle.petal_base.specs.Cells.{key_at}
 use Rattle.petal_msg.specs.declared.copying.LastCopy.{LastCopy}
 use Rattle.spec_rules.specs.Copies as rules
-use Rattle.spec_rules.specs.Server.{Done, Own}
+use Rattle.spec_rules.specs.Server.{JobResult, PairState}
 use Rattle.spec_rules.specs.Store.{without_entry}
 use Rattle.spec_rules.specs.declared.job.Job.TheVariants as job
 use Rattle.copy_transfer.specs.declared.sync.CopiedEntry.{CopiedEntry}
@@ -14,7 +14,7 @@ abbrev pub entry_of : CopiedEntry → rules.Entry
 entry_of entry = record { op = entry.op; key = entry.key; index = entry.index; stored = record { version = entry.version; bytes = entry.bytes.now } }
 
 -- an entry of the cell is dropped, and the next one follows as a job of its own
-abbrev pub dropped : Own → Cell → ℕ → Done
+abbrev pub dropped : PairState → Cell → ℕ → JobResult
 dropped own cell epoch = record {
   own = record own { store = without_entry own.store (key_at cell epoch) };
   posts = [];

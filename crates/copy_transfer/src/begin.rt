@@ -2,12 +2,12 @@
 
 ghost use Rattle.std.specs.Prelude.{◌≡◌, ◌+◌, IfOk};
 ghost use Rattle.spec_rules.specs.Copies as copies;
-ghost use Rattle.pair_memory.specs.Side.{own_of, HasTicketsAt};
-ghost use Rattle.pair_memory.specs.Done.{IsSaid};
+ghost use Rattle.pair_memory.specs.PairMemory.{own_of, HasTicketsAt};
+ghost use Rattle.pair_memory.specs.JobResult.{IsSaid};
 
 use crate::copy::trim_body;
 use link_blocks::other_on;
-use pair_memory::{Done, Here, Side, WorkError, only};
+use pair_memory::{JobResult, JobContext, PairMemory, WorkError, only};
 use petal_base::{Cell, NoMemory, Op};
 use petal_disk::Disk;
 use petal_msg::Copying;
@@ -21,12 +21,12 @@ fn next_number(op: Op) -> Result<Op, NoMemory>
 }
 
 /// A copy begins under the next number of this life: the other server is to drop its other entries.
-pub fn begins<D: Disk>(
-    here: &Here,
-    side: &mut Side,
+pub fn begin<D: Disk>(
+    here: &JobContext,
+    side: &mut PairMemory,
     store: &Store<D>,
     cell: Cell,
-) -> Result<Done, WorkError>
+) -> Result<JobResult, WorkError>
     requires { HasTicketsAt side.old store.now }
     ensures { IsSaid here.now side.old side.new store.now store.now result
         (copies.copies_on here.now (copies.begins_copy (own_of side.old store.now) cell) cell) }
@@ -38,7 +38,7 @@ pub fn begins<D: Disk>(
         index: 0,
     };
     let body = trim_body(here, store, cell, copy)?;
-    let letters = here.says_to(other_on(here, cell), body)?;
+    let letters = here.say_to(other_on(here, cell), body)?;
     side.copies.set_copying(cell, copy)?;
     side.next = later;
     Ok(only(letters))

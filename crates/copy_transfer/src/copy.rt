@@ -13,15 +13,15 @@ ghost use Rattle.spec_rules.specs.Store.{cell_cmp, chain_in, epochs_of};
 ghost use Rattle.spec_state.specs.CellState.{cell_link};
 ghost use Rattle.kept_chains.specs.Kept.{store_of};
 ghost use Rattle.kept_chains.specs.Walking.{row_of};
-ghost use Rattle.pair_memory.specs.declared.done.FollowUp.TheVariants as follow_up;
-ghost use Rattle.pair_memory.specs.Side.{own_of, HasTicketsAt};
-ghost use Rattle.pair_memory.specs.Done.{IsDone, IsSaid};
+ghost use Rattle.pair_memory.specs.declared.job_result.FollowUp.TheVariants as follow_up;
+ghost use Rattle.pair_memory.specs.PairMemory.{own_of, HasTicketsAt};
+ghost use Rattle.pair_memory.specs.JobResult.{IsDone, IsSaid};
 ghost use Rattle.copy_transfer.specs.Stages.{copied_in};
 
 use busy_marks::MarkKind;
 use kept_chains::{Found, epochs, mark_left, nth, read_nth, unmark};
 use link_blocks::{followed, other_on};
-use pair_memory::{Copies, Done, FollowUp, Here, Side, WorkError, link_id, says_to, silent};
+use pair_memory::{Copies, JobResult, FollowUp, JobContext, PairMemory, WorkError, link_id, say_to, silent};
 use petal_base::{BlockNo, Cell, Key, NoMemory};
 use petal_disk::{DeviceError, Disk};
 use petal_msg::{Body, CopyAction, Copying, Progress};
@@ -52,7 +52,7 @@ pub fn copy_stage<D: Disk>(store: &Store<D>, cell: Cell, copy: Copying) -> CopyA
 
 /// The letter with which the copy begins.
 pub fn trim_body<D: Disk>(
-    here: &Here,
+    here: &JobContext,
     store: &Store<D>,
     cell: Cell,
     copy: Copying,
@@ -84,40 +84,40 @@ pub fn sync_body(cell: Cell, copy: Copying, found: Found) -> Body
 }
 
 /// The other server is to drop its other entries.
-fn trims<D: Disk>(
-    here: &Here,
-    side: &mut Side,
+fn trim<D: Disk>(
+    here: &JobContext,
+    side: &mut PairMemory,
     store: &Store<D>,
     cell: Cell,
     copy: Copying,
-) -> Result<Done, WorkError>
+) -> Result<JobResult, WorkError>
     requires tickets { HasTicketsAt side.old store.now }
     requires there { IsSome (at cell_cmp side.old.copies.pending cell) }
     ensures { IsSaid here.now side.old side.new store.now store.now result
         (copies.copy_acts here.now (with_copying (own_of side.old store.now) cell copy) cell copy copy_action.Trim) }
 {
     let body = trim_body(here, store, cell, copy)?;
-    let done = says_to(here, side, store, other_on(here, cell), body)?;
+    let done = say_to(here, side, store, other_on(here, cell), body)?;
     side.copies.replace_copying(cell, copy);
     Ok(done)
 }
 
 /// The other server is sent an entry.
-fn sends<D: Disk>(
-    here: &Here,
-    side: &mut Side,
+fn send_entry<D: Disk>(
+    here: &JobContext,
+    side: &mut PairMemory,
     store: &Store<D>,
     cell: Cell,
     copy: Copying,
     found: Option<Found>,
-) -> Result<Done, WorkError>
+) -> Result<JobResult, WorkError>
     requires tickets { HasTicketsAt side.old store.now }
     requires there { IsSome (at cell_cmp side.old.copies.pending cell) }
     ensures { IsSaid here.now side.old side.new store.now store.now result
         (copies.sends_entry here.now (with_copying (own_of side.old store.now) cell copy) cell copy (option_map row_of found)) }
 {
     let done = match found {
-        Some(found) => says_to(
+        Some(found) => say_to(
             here,
             side,
             store,
@@ -131,34 +131,34 @@ fn sends<D: Disk>(
 }
 
 /// The other server is sent the entry at the copy's place.
-fn syncs<D: Disk>(
-    here: &Here,
-    side: &mut Side,
+fn sync<D: Disk>(
+    here: &JobContext,
+    side: &mut PairMemory,
     store: &mut Store<D>,
     cell: Cell,
     copy: Copying,
-) -> Result<Done, WorkError>
+) -> Result<JobResult, WorkError>
     requires tickets { HasTicketsAt side.old store.old }
     requires there { IsSome (at cell_cmp side.old.copies.pending cell) }
     ensures { IsDone D.Disk here.now side.old side.new store.old store.new result
         (copies.copy_acts here.now (with_copying (own_of side.old store.old) cell copy) cell copy copy_action.Sync) }
 {
     match read_nth(here.alloc(), store, cell, copy.index as usize) {
-        Ok(found) => sends(here, side, store, cell, copy, found),
+        Ok(found) => send_entry(here, side, store, cell, copy, found),
         Err(DeviceError::Failed) => Err(WorkError::Failed),
         Err(DeviceError::NoMemory) => Err(WorkError::NoMemory),
     }
 }
 
 /// A mark of the block is taken away here.
-fn unmarks<D: Disk>(
-    here: &Here,
-    side: &mut Side,
+fn unmark_block<D: Disk>(
+    here: &JobContext,
+    side: &mut PairMemory,
     store: &mut Store<D>,
     cell: Cell,
     copy: Copying,
     kind: MarkKind,
-) -> Result<Done, WorkError>
+) -> Result<JobResult, WorkError>
     requires tickets { HasTicketsAt side.old store.old }
     requires there { IsSome (at cell_cmp side.old.copies.pending cell) }
     ensures { IsDone D.Disk here.now side.old side.new store.old store.new result
@@ -179,7 +179,7 @@ fn is_above(after: Option<BlockNo>, block: BlockNo) -> bool
 }
 
 /// The block is the greatest that was copied of its link, where none above it was.
-fn sets_copied(here: &Here, noted: &mut Copies, cell: Cell) -> Result<(), NoMemory>
+fn set_copied(here: &JobContext, noted: &mut Copies, cell: Cell) -> Result<(), NoMemory>
     ensures ok { OnOk result (noted.new ≡ copied_in (cell_link here.now.state cell) noted.old cell.block) }
     ensures err { OnErr result (noted.new ≡ noted.old) }
 {
@@ -201,52 +201,52 @@ fn sets_copied(here: &Here, noted: &mut Copies, cell: Cell) -> Result<(), NoMemo
 }
 
 /// The job that goes on with the cell's link.
-fn mend_after(here: &Here, cell: Cell) -> Option<FollowUp>
-    ensures { result ≡ option_map (λ row. follow_up.Mend (id_of row)) (cell_link here.now.state cell) }
+fn repair_after(here: &JobContext, cell: Cell) -> Option<FollowUp>
+    ensures { result ≡ option_map (λ row. follow_up.Repair (id_of row)) (cell_link here.now.state cell) }
 {
     match here.state().cell_row(cell) {
-        Some(row) => Some(FollowUp::Mend(link_id(row))),
+        Some(row) => Some(FollowUp::Repair(link_id(row))),
         None => None,
     }
 }
 
 /// The block is copied, and the link goes on.
-fn closes<D: Disk>(
-    here: &Here,
-    side: &mut Side,
+fn close<D: Disk>(
+    here: &JobContext,
+    side: &mut PairMemory,
     store: &Store<D>,
     cell: Cell,
     copy: Copying,
-) -> Result<Done, WorkError>
+) -> Result<JobResult, WorkError>
     requires tickets { HasTicketsAt side.old store.now }
     ensures { IsSaid here.now side.old side.new store.now store.now result
         (copies.copy_acts here.now (with_copying (own_of side.old store.now) cell copy) cell copy copy_action.Close) }
 {
     let _ = store;
     let _ = copy;
-    sets_copied(here, &mut side.copies, cell)?;
+    set_copied(here, &mut side.copies, cell)?;
     side.copies.end_copying(cell);
     side.copies.set_full(false);
-    Ok(followed(here, mend_after(here, cell)))
+    Ok(followed(here, repair_after(here, cell)))
 }
 
 /// What the copy does next, as a letter has moved it on.
 pub fn copy_acts<D: Disk>(
-    here: &Here,
-    side: &mut Side,
+    here: &JobContext,
+    side: &mut PairMemory,
     store: &mut Store<D>,
     cell: Cell,
     copy: Copying,
-) -> Result<Done, WorkError>
+) -> Result<JobResult, WorkError>
     requires tickets { HasTicketsAt side.old store.old }
     requires there { IsSome (at cell_cmp side.old.copies.pending cell) }
     ensures { IsDone D.Disk here.now side.old side.new store.old store.new result
         (copies.copy_acts here.now (with_copying (own_of side.old store.old) cell copy) cell copy (copies.copy_stage (store_of store.old) cell copy)) }
 {
     match copy_stage(store, cell, copy) {
-        CopyAction::Trim => trims(here, side, store, cell, copy),
-        CopyAction::Sync => syncs(here, side, store, cell, copy),
-        CopyAction::Unmark(kind) => unmarks(here, side, store, cell, copy, kind),
-        CopyAction::Close => closes(here, side, store, cell, copy),
+        CopyAction::Trim => trim(here, side, store, cell, copy),
+        CopyAction::Sync => sync(here, side, store, cell, copy),
+        CopyAction::Unmark(kind) => unmark_block(here, side, store, cell, copy, kind),
+        CopyAction::Close => close(here, side, store, cell, copy),
     }
 }

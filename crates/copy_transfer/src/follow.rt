@@ -9,13 +9,13 @@ ghost use Rattle.spec_rules.specs.Copies as copies;
 ghost use Rattle.spec_rules.specs.Progress.{with_last_copy};
 ghost use Rattle.spec_rules.specs.Store.{cell_cmp, chain_in, epochs_of};
 ghost use Rattle.kept_chains.specs.Kept.{chains_of};
-ghost use Rattle.pair_memory.specs.Side.{own_of, HasTicketsAt};
-ghost use Rattle.pair_memory.specs.Done.{IsDone, IsSaid};
+ghost use Rattle.pair_memory.specs.PairMemory.{own_of, HasTicketsAt};
+ghost use Rattle.pair_memory.specs.JobResult.{IsDone, IsSaid};
 ghost use Rattle.copy_transfer.specs.Entries.{dropped};
 
 use kept_chains::{drop_entry, epochs};
 use link_blocks::{followed, holder_on};
-use pair_memory::{Done, FollowUp, Here, Side, WorkError, says_to, silent};
+use pair_memory::{JobResult, FollowUp, JobContext, PairMemory, WorkError, say_to, silent};
 use petal_base::{Cell, Epoch, Key, NoMemory, Op, Sequence, ServerId};
 use petal_disk::Disk;
 use petal_msg::{Body, LastCopy};
@@ -30,7 +30,7 @@ fn first_beyond(own: &[Epoch], kept: &[Epoch]) -> Option<Epoch>
 
 /// The first epoch of the cell's entries that the holder has not.
 fn beyond<D: Disk>(
-    here: &Here,
+    here: &JobContext,
     store: &Store<D>,
     cell: Cell,
     kept: &Sequence<Epoch>,
@@ -53,13 +53,13 @@ fn key_at(cell: Cell, epoch: Epoch) -> Key
 }
 
 /// An entry is dropped.
-fn drops<D: Disk>(
-    here: &Here,
-    side: &Side,
+fn drop_one<D: Disk>(
+    here: &JobContext,
+    side: &PairMemory,
     store: &mut Store<D>,
     cell: Cell,
     epoch: Epoch,
-) -> Result<Done, WorkError>
+) -> Result<JobResult, WorkError>
     requires tickets { HasTicketsAt side.now store.old }
     requires there { list_any (nat_eq epoch) (epochs_of (chain_in (chains_of store.old.entries) cell)) ≡ true }
     ensures { IsDone D.Disk here.now side.now side.now store.old store.new result (dropped (own_of side.now store.old) cell epoch) }
@@ -70,27 +70,27 @@ fn drops<D: Disk>(
 }
 
 /// One of the cell's entries that the holder has not is dropped, or the holder is told that none is left.
-fn trims<D: Disk>(
-    here: &Here,
-    side: &Side,
+fn trim<D: Disk>(
+    here: &JobContext,
+    side: &PairMemory,
     store: &mut Store<D>,
     cell: Cell,
     holder: ServerId,
     last: &LastCopy,
-) -> Result<Done, WorkError>
+) -> Result<JobResult, WorkError>
     requires { HasTicketsAt side.now store.old }
     ensures { IsDone D.Disk here.now side.now side.now store.old store.new result
         (copies.trims_for (own_of side.now store.old) cell (Some holder) (Some last.now)) }
 {
     match beyond(here, store, cell, &last.epochs)? {
-        None => says_to(
+        None => say_to(
             here,
             side,
             store,
             Some(holder),
             Body::Trimmed { op: last.op, cell },
         ),
-        Some(epoch) => drops(here, side, store, cell, epoch),
+        Some(epoch) => drop_one(here, side, store, cell, epoch),
     }
 }
 
@@ -99,50 +99,50 @@ fn trims<D: Disk>(
 /// # Errors
 /// `NoMemory`, and then nothing changed; `Failed` where the device failed, and `JournalFull` only where the store's journal had
 /// all its records: the entries are as they were, and the server is to be stopped.
-#[tactic(auto, unfolding(spec_rules::specs::Copies::trims_on))]
-pub fn trims_on<D: Disk>(
-    here: &Here,
-    side: &Side,
+#[tactic(auto, unfolding(spec_rules::specs::Copies::trim_on))]
+pub fn trim_on<D: Disk>(
+    here: &JobContext,
+    side: &PairMemory,
     store: &mut Store<D>,
     cell: Cell,
-) -> Result<Done, WorkError>
+) -> Result<JobResult, WorkError>
     requires { HasTicketsAt side.now store.old }
     ensures { IsDone D.Disk here.now side.now side.now store.old store.new result (copies.trims_on here.now (own_of side.now store.old) cell) }
 {
     match (holder_on(here, cell), side.copies.last_copy(cell)) {
-        (Some(holder), Some(last)) => trims(here, side, store, cell, holder, last),
+        (Some(holder), Some(last)) => trim(here, side, store, cell, holder, last),
         (None, _) | (Some(_), None) => silent(here, side, store),
     }
 }
 
 /// A copy that is new here is remembered, and the holder is told that no other entry is left.
-fn remembers<D: Disk>(
-    here: &Here,
-    side: &mut Side,
+fn remember<D: Disk>(
+    here: &JobContext,
+    side: &mut PairMemory,
     store: &Store<D>,
     cell: Cell,
     holder: ServerId,
     last: LastCopy,
-) -> Result<Done, WorkError>
+) -> Result<JobResult, WorkError>
     requires { HasTicketsAt side.old store.now }
     ensures { IsSaid here.now side.old side.new store.now store.now result
         (copies.trims_first (with_last_copy (own_of side.old store.now) cell last) cell last.op holder []) }
 {
     let body = Body::Trimmed { op: last.op, cell };
-    let done = says_to(here, side, store, Some(holder), body)?;
+    let done = say_to(here, side, store, Some(holder), body)?;
     side.copies.set_last_copy(cell, last)?;
     Ok(done)
 }
 
 /// A copy that is new here is remembered, and an entry is dropped. Where the journal is full nothing changes.
-fn remembers_and_drops<D: Disk>(
-    here: &Here,
-    side: &mut Side,
+fn remember_and_drop<D: Disk>(
+    here: &JobContext,
+    side: &mut PairMemory,
     store: &mut Store<D>,
     cell: Cell,
     epoch: Epoch,
     last: LastCopy,
-) -> Result<Done, WorkError>
+) -> Result<JobResult, WorkError>
     requires tickets { HasTicketsAt side.old store.old }
     requires there { list_any (nat_eq epoch) (epochs_of (chain_in (chains_of store.old.entries) cell)) ≡ true }
     ensures { IsDone D.Disk here.now side.old side.new store.old store.new result
@@ -159,33 +159,33 @@ fn remembers_and_drops<D: Disk>(
 }
 
 /// A copy that is new here is remembered, and trims.
-fn trims_newly<D: Disk>(
-    here: &Here,
-    side: &mut Side,
+fn trim_newly<D: Disk>(
+    here: &JobContext,
+    side: &mut PairMemory,
     store: &mut Store<D>,
     cell: Cell,
     holder: ServerId,
     last: LastCopy,
-) -> Result<Done, WorkError>
+) -> Result<JobResult, WorkError>
     requires { HasTicketsAt side.old store.old }
     ensures { IsDone D.Disk here.now side.old side.new store.old store.new result
         (copies.trims_for (with_last_copy (own_of side.old store.old) cell last) cell (Some holder) (Some last)) }
 {
     match beyond(here, store, cell, &last.epochs)? {
-        None => remembers(here, side, store, cell, holder, last),
-        Some(epoch) => remembers_and_drops(here, side, store, cell, epoch, last),
+        None => remember(here, side, store, cell, holder, last),
+        Some(epoch) => remember_and_drop(here, side, store, cell, epoch, last),
     }
 }
 
 /// An equal number is answered again, once nothing is left to drop.
-fn trims_again<D: Disk>(
-    here: &Here,
-    side: &Side,
+fn trim_again<D: Disk>(
+    here: &JobContext,
+    side: &PairMemory,
     store: &Store<D>,
     cell: Cell,
     op: Op,
     holder: ServerId,
-) -> Result<Done, WorkError>
+) -> Result<JobResult, WorkError>
     requires { HasTicketsAt side.now store.now }
     ensures { (last : Last) → at cell_cmp side.now.copies.last cell ≡ Some last
         → IsSaid here.now side.now side.now store.now store.now result
@@ -195,13 +195,13 @@ fn trims_again<D: Disk>(
         return silent(here, side, store);
     };
     match beyond(here, store, cell, &last.epochs)? {
-        None => says_to(here, side, store, Some(holder), Body::Trimmed { op, cell }),
+        None => say_to(here, side, store, Some(holder), Body::Trimmed { op, cell }),
         Some(_) => silent(here, side, store),
     }
 }
 
 /// The number of the last copy of the cell to this server.
-fn last_number(side: &Side, cell: Cell) -> Option<Op>
+fn last_number(side: &PairMemory, cell: Cell) -> Option<Op>
     ensures { result ≡ option_map (λ last. last.op) (at cell_cmp side.now.copies.last cell) }
 {
     match side.copies.last_copy(cell) {
@@ -211,15 +211,15 @@ fn last_number(side: &Side, cell: Cell) -> Option<Op>
 }
 
 /// A copy where one of the cell was known here.
-fn trims_after<D: Disk>(
-    here: &Here,
-    side: &mut Side,
+fn trim_after<D: Disk>(
+    here: &JobContext,
+    side: &mut PairMemory,
     store: &mut Store<D>,
     cell: Cell,
     holder: ServerId,
     copy: LastCopy,
     last: Op,
-) -> Result<Done, WorkError>
+) -> Result<JobResult, WorkError>
     requires tickets { HasTicketsAt side.old store.old }
     requires known { option_map (λ known. known.op) (at cell_cmp side.old.copies.last cell) ≡ Some last }
     requires begins { copy.index ≡ 0 }
@@ -230,24 +230,24 @@ fn trims_after<D: Disk>(
         return silent(here, side, store);
     }
     if copy.op == last {
-        return trims_again(here, side, store, cell, copy.op, holder);
+        return trim_again(here, side, store, cell, copy.op, holder);
     }
-    trims_newly(here, side, store, cell, holder, copy)
+    trim_newly(here, side, store, cell, holder, copy)
 }
 
 /// An older number is dropped, an equal one is answered again, a newer one is remembered and trims.
 ///
 /// # Errors
-/// As of [`trims_on`](crate::follow::trims_on).
+/// As of [`trim_on`](crate::follow::trim_on).
 #[tactic(auto, unfolding(spec_rules::specs::Copies::on_trim))]
 pub fn on_trim<D: Disk>(
-    here: &Here,
-    side: &mut Side,
+    here: &JobContext,
+    side: &mut PairMemory,
     store: &mut Store<D>,
     op: Op,
     cell: Cell,
     epochs: &Sequence<Epoch>,
-) -> Result<Done, WorkError>
+) -> Result<JobResult, WorkError>
     requires { HasTicketsAt side.old store.old }
     ensures { IsDone D.Disk here.now side.old side.new store.old store.new result
         (copies.on_trim here.now (own_of side.old store.old) op cell epochs.now) }
@@ -257,8 +257,8 @@ pub fn on_trim<D: Disk>(
     };
     let copy = new_copy(op, epochs)?;
     match last_number(side, cell) {
-        None => trims_newly(here, side, store, cell, holder, copy),
-        Some(last) => trims_after(here, side, store, cell, holder, copy, last),
+        None => trim_newly(here, side, store, cell, holder, copy),
+        Some(last) => trim_after(here, side, store, cell, holder, copy, last),
     }
 }
 

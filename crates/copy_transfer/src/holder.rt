@@ -4,11 +4,11 @@ ghost use Rattle.std.specs.Prelude.{◌≡◌, ◌+◌, true, IfOk};
 ghost use Rattle.spec_rules.specs.Copies as copies;
 ghost use Rattle.spec_rules.specs.Progress.{with_full, without_copying};
 ghost use Rattle.spec_rules.specs.Server.{silent};
-ghost use Rattle.pair_memory.specs.Side.{own_of, HasTicketsAt};
-ghost use Rattle.pair_memory.specs.Done.{IsDone, IsSaid};
+ghost use Rattle.pair_memory.specs.PairMemory.{own_of, HasTicketsAt};
+ghost use Rattle.pair_memory.specs.JobResult.{IsDone, IsSaid};
 
 use crate::copy::{copy_acts, has_next};
-use pair_memory::{Done, Here, Side, WorkError, silent};
+use pair_memory::{JobResult, JobContext, PairMemory, WorkError, silent};
 use petal_base::{Cell, NoMemory, Op};
 use petal_disk::Disk;
 use petal_msg::Copying;
@@ -19,13 +19,13 @@ use server_store::Store;
 /// # Errors
 /// `NoMemory`, and then nothing changed; `Failed` where the device failed, and `JournalFull` only where the store's journal had
 /// all its records: the entries are as they were, and the server is to be stopped.
-#[tactic(auto, unfolding(spec_rules::specs::Copies::copies_on))]
-pub fn copies_on<D: Disk>(
-    here: &Here,
-    side: &mut Side,
+#[tactic(auto, unfolding(spec_rules::specs::Copies::copy_on))]
+pub fn copy_on<D: Disk>(
+    here: &JobContext,
+    side: &mut PairMemory,
     store: &mut Store<D>,
     cell: Cell,
-) -> Result<Done, WorkError>
+) -> Result<JobResult, WorkError>
     requires tickets { HasTicketsAt side.old store.old }
     ensures { IsDone D.Disk here.now side.old side.new store.old store.new result (copies.copies_on here.now (own_of side.old store.old) cell) }
 {
@@ -39,15 +39,15 @@ pub fn copies_on<D: Disk>(
 /// The other server has dropped the entries that the holder has not: the first entry follows.
 ///
 /// # Errors
-/// As of [`copies_on`].
-#[tactic(auto, unfolding(spec_rules::specs::Copies::on_trimmed, spec_rules::specs::Copies::copies_on))]
+/// As of [`copy_on`].
+#[tactic(auto, unfolding(spec_rules::specs::Copies::on_trimmed, spec_rules::specs::Copies::copy_on))]
 pub fn on_trimmed<D: Disk>(
-    here: &Here,
-    side: &mut Side,
+    here: &JobContext,
+    side: &mut PairMemory,
     store: &mut Store<D>,
     op: Op,
     cell: Cell,
-) -> Result<Done, WorkError>
+) -> Result<JobResult, WorkError>
     requires tickets { HasTicketsAt side.old store.old }
     ensures { IsDone D.Disk here.now side.old side.new store.old store.new result (copies.on_trimmed here.now (own_of side.old store.old) op cell) }
 {
@@ -64,7 +64,7 @@ pub fn on_trimmed<D: Disk>(
 }
 
 /// Whether the copy waits for the answer to its next entry.
-fn is_syncing<D: Disk>(side: &Side, store: &Store<D>, cell: Cell, copy: Copying, op: Op) -> bool
+fn is_syncing<D: Disk>(side: &PairMemory, store: &Store<D>, cell: Cell, copy: Copying, op: Op) -> bool
     ensures { result ≡ copies.is_syncing (own_of side.now store.now) cell copy op }
 {
     let _ = side;
@@ -84,16 +84,16 @@ fn synced(copy: Copying) -> Result<Copying, NoMemory>
 /// The other server has put the entry of this place: the next one follows, or the block's marks are taken away.
 ///
 /// # Errors
-/// As of [`copies_on`].
-#[tactic(auto, unfolding(spec_rules::specs::Copies::on_synced, spec_rules::specs::Copies::copies_on))]
+/// As of [`copy_on`].
+#[tactic(auto, unfolding(spec_rules::specs::Copies::on_synced, spec_rules::specs::Copies::copy_on))]
 pub fn on_synced<D: Disk>(
-    here: &Here,
-    side: &mut Side,
+    here: &JobContext,
+    side: &mut PairMemory,
     store: &mut Store<D>,
     op: Op,
     cell: Cell,
     index: u32,
-) -> Result<Done, WorkError>
+) -> Result<JobResult, WorkError>
     requires tickets { HasTicketsAt side.old store.old }
     ensures { IsDone D.Disk here.now side.old side.new store.old store.new result (copies.on_synced here.now (own_of side.old store.old) op cell index) }
 {
@@ -107,12 +107,12 @@ pub fn on_synced<D: Disk>(
 }
 
 /// The copy ends, which found no slot.
-fn ends_full<D: Disk>(
-    here: &Here,
-    side: &mut Side,
+fn end_full<D: Disk>(
+    here: &JobContext,
+    side: &mut PairMemory,
     store: &Store<D>,
     cell: Cell,
-) -> Result<Done, WorkError>
+) -> Result<JobResult, WorkError>
     requires tickets { HasTicketsAt side.old store.now }
     ensures { IsSaid here.now side.old side.new store.now store.now result
         (silent (with_full (without_copying (own_of side.old store.now) cell) true)) }
@@ -129,17 +129,17 @@ fn ends_full<D: Disk>(
 /// Out of memory, which changed nothing.
 #[tactic(auto, unfolding(spec_rules::specs::Copies::on_sync_full))]
 pub fn on_sync_full<D: Disk>(
-    here: &Here,
-    side: &mut Side,
+    here: &JobContext,
+    side: &mut PairMemory,
     store: &Store<D>,
     op: Op,
     cell: Cell,
-) -> Result<Done, WorkError>
+) -> Result<JobResult, WorkError>
     requires tickets { HasTicketsAt side.old store.now }
     ensures { IsSaid here.now side.old side.new store.now store.now result (copies.on_sync_full (own_of side.old store.now) op cell) }
 {
     match side.copies.copying_on(cell) {
-        Some(copy) if is_syncing(side, store, cell, copy, op) => ends_full(here, side, store, cell),
+        Some(copy) if is_syncing(side, store, cell, copy, op) => end_full(here, side, store, cell),
         _ => silent(here, side, store),
     }
 }

@@ -11,9 +11,9 @@ mod follow;
 mod holder;
 mod sync;
 
-pub use begin::begins;
+pub use begin::begin;
 pub use copy::{copy_stage, sync_body, trim_body};
-pub use follow::{on_trim, trims_on};
-pub use holder::{copies_on, on_sync_full, on_synced, on_trimmed};
+pub use follow::{on_trim, trim_on};
+pub use holder::{copy_on, on_sync_full, on_synced, on_trimmed};
 pub use link_blocks::{cell_at, followed, idle_mark, next_copy, other_in, other_on};
 pub use sync::{CopiedEntry, on_sync};

@@ -9,12 +9,12 @@ ghost use Rattle.spec_rules.specs.Copies as copies;
 ghost use Rattle.spec_rules.specs.Server as rules;
 ghost use Rattle.spec_rules.specs.Store.{cell_cmp, free_of};
 ghost use Rattle.kept_chains.specs.Kept.{store_of};
-ghost use Rattle.pair_memory.specs.Side.{own_of, HasTicketsAt};
-ghost use Rattle.pair_memory.specs.Done.{IsDone, IsSaid};
+ghost use Rattle.pair_memory.specs.PairMemory.{own_of, HasTicketsAt};
+ghost use Rattle.pair_memory.specs.JobResult.{IsDone, IsSaid};
 ghost use Rattle.copy_transfer.specs.Entries.{entry_of, one_more};
 
 use link_blocks::holder_on;
-use pair_memory::{Done, Here, Side, WorkError, only, put_new, says_to, silent};
+use pair_memory::{JobResult, JobContext, PairMemory, WorkError, only, put_new, say_to, silent};
 use petal_base::{Cell, Key, NoMemory, Op, ServerId, SharedBlock, Version};
 use petal_disk::Disk;
 use petal_msg::{Body, LastCopy};
@@ -34,13 +34,13 @@ pub struct CopiedEntry<'a> {
 }
 
 /// The holder is told that the entry is put.
-fn says_synced<D: Disk>(
-    here: &Here,
-    side: &Side,
+fn say_synced<D: Disk>(
+    here: &JobContext,
+    side: &PairMemory,
     store: &Store<D>,
     entry: &CopiedEntry,
     holder: ServerId,
-) -> Result<Done, WorkError>
+) -> Result<JobResult, WorkError>
     requires { HasTicketsAt side.now store.now }
     ensures { IsSaid here.now side.now side.now store.now store.now result
         (rules.says_to (own_of side.now store.now) (Some holder) (body.Synced entry.now.op (cell_of entry.now.key) entry.now.index)) }
@@ -50,7 +50,7 @@ fn says_synced<D: Disk>(
         cell: entry.key.cell(),
         index: entry.index,
     };
-    says_to(here, side, store, Some(holder), body)
+    say_to(here, side, store, Some(holder), body)
 }
 
 /// The copy with one entry more that is put.
@@ -65,14 +65,14 @@ fn advanced(last: &LastCopy) -> Result<LastCopy, NoMemory>
 }
 
 /// The entry is put in a free slot, and the copy is as far as this.
-fn puts<D: Disk>(
-    here: &Here,
-    side: &mut Side,
+fn put_entry<D: Disk>(
+    here: &JobContext,
+    side: &mut PairMemory,
     store: &mut Store<D>,
     entry: &CopiedEntry,
     holder: ServerId,
     next: LastCopy,
-) -> Result<Done, WorkError>
+) -> Result<JobResult, WorkError>
     requires tickets { HasTicketsAt side.old store.old }
     requires there { IsSome (at cell_cmp side.old.copies.last (cell_of entry.now.key)) }
     ensures { (last : Last) → next ≡ one_more last → IsDone D.Disk here.now side.old side.new store.old store.new result
@@ -84,43 +84,43 @@ fn puts<D: Disk>(
         cell,
         index: entry.index,
     };
-    let letters = here.says_to(Some(holder), body)?;
+    let letters = here.say_to(Some(holder), body)?;
     if put_new(store, entry.key, entry.version, entry.bytes)? {
         side.copies.replace_last_copy(cell, next);
         return Ok(only(letters));
     }
     let body = Body::SyncFull { op: entry.op, cell };
-    says_to(here, side, store, Some(holder), body)
+    say_to(here, side, store, Some(holder), body)
 }
 
 /// The next entry is put, and one that is put already is answered again.
-fn hears_entry<D: Disk>(
-    here: &Here,
-    side: &mut Side,
+fn hear_entry<D: Disk>(
+    here: &JobContext,
+    side: &mut PairMemory,
     store: &mut Store<D>,
     entry: &CopiedEntry,
     holder: ServerId,
     index: u32,
-) -> Result<Done, WorkError>
+) -> Result<JobResult, WorkError>
     requires { HasTicketsAt side.old store.old }
     ensures { (last : Last) → at cell_cmp side.old.copies.last (cell_of entry.now.key) ≡ Some last → last.index ≡ index
         → IsDone D.Disk here.now side.old side.new store.old store.new result
         (copies.hears_entry (own_of side.old store.old) (entry_of entry.now) holder last) }
 {
     if entry.index < index {
-        return says_synced(here, side, store, entry, holder);
+        return say_synced(here, side, store, entry, holder);
     }
     if entry.index != index {
         return silent(here, side, store);
     }
     match next_copy(side, entry.key.cell())? {
-        Some(next) => puts(here, side, store, entry, holder, next),
+        Some(next) => put_entry(here, side, store, entry, holder, next),
         None => silent(here, side, store),
     }
 }
 
 /// The last copy of the cell with one entry more that is put.
-fn next_copy(side: &Side, cell: Cell) -> Result<Option<LastCopy>, NoMemory>
+fn next_copy(side: &PairMemory, cell: Cell) -> Result<Option<LastCopy>, NoMemory>
     ensures { IfOk result (λ next. next ≡ option_map one_more (at cell_cmp side.now.copies.last cell)) }
 {
     match side.copies.last_copy(cell) {
@@ -130,7 +130,7 @@ fn next_copy(side: &Side, cell: Cell) -> Result<Option<LastCopy>, NoMemory>
 }
 
 /// The number of the last copy of the cell to this server, and how many of its entries are put.
-fn last_place(side: &Side, cell: Cell) -> Option<(Op, u32)>
+fn last_place(side: &PairMemory, cell: Cell) -> Option<(Op, u32)>
     ensures { result ≡ option_map (λ last. (last.op, last.index)) (at cell_cmp side.now.copies.last cell) }
 {
     match side.copies.last_copy(cell) {
@@ -142,14 +142,14 @@ fn last_place(side: &Side, cell: Cell) -> Option<(Op, u32)>
 /// An entry of the copy that trimmed the cell last is put as the holder has it, in a free slot.
 ///
 /// # Errors
-/// As of [`trims_on`](crate::follow::trims_on).
+/// As of [`trim_on`](crate::follow::trim_on).
 #[tactic(auto, unfolding(spec_rules::specs::Copies::on_sync))]
 pub fn on_sync<D: Disk>(
-    here: &Here,
-    side: &mut Side,
+    here: &JobContext,
+    side: &mut PairMemory,
     store: &mut Store<D>,
     entry: &CopiedEntry,
-) -> Result<Done, WorkError>
+) -> Result<JobResult, WorkError>
     requires { HasTicketsAt side.old store.old }
     ensures { IsDone D.Disk here.now side.old side.new store.old store.new result
         (copies.on_sync here.now (own_of side.old store.old) (entry_of entry.now)) }
@@ -157,7 +157,7 @@ pub fn on_sync<D: Disk>(
     let cell = entry.key.cell();
     match (holder_on(here, cell), last_place(side, cell)) {
         (Some(holder), Some((op, index))) if op == entry.op => {
-            hears_entry(here, side, store, entry, holder, index)
+            hear_entry(here, side, store, entry, holder, index)
         }
         _ => silent(here, side, store),
     }

@@ -46,7 +46,7 @@ impl Maps {
     {
         let number = self.rows.len() as MapId;
         self.rows.push(MapRow {
-            tuple: tuple.again(),
+            tuple: tuple.copy(),
             disk,
         })?;
         Ok(number)

@@ -68,7 +68,7 @@ impl Clone for Snapshot {
 
     fn clone(&self) -> Result<Self, AllocError> {
         Ok(Snapshot {
-            name: self.name.again(),
+            name: self.name.copy(),
             epoch: self.epoch,
         })
     }
@@ -96,7 +96,7 @@ impl Clone for DiskRow {
     fn clone(&self) -> Result<Self, AllocError> {
         Ok(DiskRow {
             id: self.id,
-            name: self.name.again(),
+            name: self.name.copy(),
             map: self.map,
             epoch: self.epoch,
             snaps: self.snaps.clone()?,

@@ -52,7 +52,7 @@ impl Clone for FenceKind {
                 seq,
             } => FenceKind::Whole {
                 disk: *disk,
-                name: name.again(),
+                name: name.copy(),
                 client: *client,
                 seq: *seq,
             },

@@ -17,7 +17,7 @@ impl Clone for MapRow {
 
     fn clone(&self) -> Result<Self, AllocError> {
         Ok(MapRow {
-            tuple: self.tuple.again(),
+            tuple: self.tuple.copy(),
             disk: self.disk,
         })
     }

@@ -1,8 +1,8 @@
 pub mod Quorum
-pub mod Facts
-pub mod Later
-pub mod Moves
-pub mod Runs
-pub mod Wants
-pub mod Votes
-pub mod Places
+pub mod ScheduleFacts
+pub mod LaterWorldsSay
+pub mod MovesKeepFacts
+pub mod SchedulesKeepFacts
+pub mod ChosenWasWanted
+pub mod MajoritiesChoose
+pub mod ChosenLogGrows

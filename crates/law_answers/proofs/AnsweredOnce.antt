@@ -14,20 +14,20 @@ use Rattle.script_lines.specs.declared.request.Line.{Line}
 use Rattle.script_lines.specs.declared.script.Script.{Script}
 use Rattle.spec_rules.specs.Lists.{In}
 use Rattle.spec_rules.specs.Clients.{Client, Asked, Reaction}
-use Rattle.spec_rules.specs.World.{Setting, World, Stepped, IsAnswered, MayActor, lines_of, next_line, client_step}
+use Rattle.spec_rules.specs.World.{Setting, World, StepResult, IsAnswered, MayActor, lines_of, next_line, client_step}
 use Rattle.spec_rules.specs.World.{client_state, step, start, setting_of, with_answer}
 use Rattle.spec_rules.specs.declared.step.Step.{Step}
 use Rattle.spec_history.specs.Steps.{Follows, AreSteps, AreStepsFrom, stepped, world_after}
 use Rattle.spec_history.specs.Text.{with_given}
 use Rattle.spec_history.specs.declared.record.Record.{Record}
-use Rattle.law_steps.specs.Happens.{Heard}
-use Rattle.law_steps.specs.Turned.{Turned, StaysOpen, Goes_on, Is_told, Begins, Reads, Judges}
-use Rattle.law_steps.specs.Turned as happens
-use Rattle.law_steps.proofs.Turning.{client_turns, is_call}
-use Rattle.law_steps.proofs.Histories.{front_legal}
+use Rattle.law_steps.specs.DidStep.{Heard}
+use Rattle.law_steps.specs.DidClient.{Turned, StaysOpen, Goes_on, Is_told, Begins, Reads, Judges}
+use Rattle.law_steps.specs.DidClient as happens
+use Rattle.law_steps.proofs.ClientStepKinds.{client_turns, is_call}
+use Rattle.law_steps.proofs.KindsInHistories.{front_legal}
 use Rattle.spec_rules.proofs.Tests.{same_some, none_some, by_bool, same_or_apart, true_false, all_put_apart}
 use Rattle.spec_history.specs.Order.{AreRising, is_answered, IsOpenLine}
-use Rattle.law_answers.proofs.Places.{line_at, one_client, one_place}
+use Rattle.law_answers.proofs.LinesHavePlaces.{line_at, one_client, one_place}
 
 -- ### Answers given
 
@@ -206,7 +206,7 @@ abbrev pub Ahead : List Line → World → Type 0
 Ahead lines w = (c : ℕ) → IsAhead lines w.answers c (w.clients c)
 
 -- what a step leaves and answers
-pub record IsStepped (lines : List Line) (w : World) (s : Stepped) : Type 0 where
+pub record IsStepped (lines : List Line) (w : World) (s : StepResult) : Type 0 where
   pub ahead : Ahead lines s.world
   pub answers : s.world.answers ≡ with_answer s.answer w.answers
   pub new : (row : ℕ × Answer) → s.answer ≡ Some row → IsNew lines w row.0

@@ -21,9 +21,9 @@ use Rattle.spec_history.specs.Order.{AreRising}
 use Rattle.spec_history.specs.Sound.{IsSound}
 use Rattle.spec_history.specs.declared.record.Record.{Record}
 use Rattle.law_state.specs.Moments.{IsMoment}
-use Rattle.law_steps.proofs.Histories.{front_legal}
+use Rattle.law_steps.proofs.KindsInHistories.{front_legal}
 use Rattle.law_jobs.proofs.Runs.{Run, after, at_moment, follows_in, longer, run_of, setting_in, stepped_in}
-use Rattle.law_jobs.proofs.Sent.{stays_sent}
+use Rattle.law_jobs.proofs.LettersWereSent.{stays_sent}
 use Rattle.law_answers.specs.Glances.{HasGlance}
 use Rattle.law_answers.proofs.Glances.{glanced_before, was_glanced}
 

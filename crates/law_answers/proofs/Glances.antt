@@ -31,21 +31,21 @@ use Rattle.spec_history.specs.Order.{AreRising}
 use Rattle.spec_history.specs.Sound.{IsSound}
 use Rattle.spec_history.specs.declared.record.Record.{Record}
 use Rattle.law_state.specs.Moments.{IsMoment}
-use Rattle.law_answers.proofs.Places.{line_at, one_place}
-use Rattle.law_steps.specs.Happens.{Heard}
-use Rattle.law_steps.specs.Turned.{Turned, IsSame, StaysOpen, Goes_on, Is_told, Begins, Reads, Ends, Shown, IsSeenAs}
-use Rattle.law_steps.specs.Turned.{Judges}
-use Rattle.law_steps.proofs.Histories.{front_legal, world_more}
-use Rattle.law_steps.proofs.Turning.{client_turns}
-use Rattle.law_answers.specs.Fails.{IsReasonToFail, HasReasonToFail}
+use Rattle.law_answers.proofs.LinesHavePlaces.{line_at, one_place}
+use Rattle.law_steps.specs.DidStep.{Heard}
+use Rattle.law_steps.specs.DidClient.{Turned, IsSame, StaysOpen, Goes_on, Is_told, Begins, Reads, Ends, Shown, IsSeenAs}
+use Rattle.law_steps.specs.DidClient.{Judges}
+use Rattle.law_steps.proofs.KindsInHistories.{front_legal, world_more}
+use Rattle.law_steps.proofs.ClientStepKinds.{client_turns}
+use Rattle.law_answers.specs.FailureCauses.{IsReasonToFail, HasReasonToFail}
 use Rattle.law_answers.specs.Glances.{IsGlance, Tells}
 use Rattle.law_answers.specs.Lines.{AsksToBoot}
-use Rattle.law_answers.proofs.Answered.{IsOpenFor}
+use Rattle.law_answers.proofs.AnswersAreCaused.{IsOpenFor}
 use Rattle.law_answers.proofs.Lines.{asks_to_boot, line_of, open_for}
-use Rattle.law_answers.proofs.Mute.{IsMute, is_mute}
-use Rattle.law_answers.proofs.Saying.{Mute, Rev, Sight, server_says, client_says}
-use Rattle.law_answers.proofs.Failing.{seen_failed, ending_not, reason_not, not_read, not_written, not_judged, glanced_at, AnsweredAs, seen_as}
-use Rattle.law_answers.proofs.Failing.{told_by, boots_named, done_booted, boot_why}
+use Rattle.law_answers.proofs.LettersMuteOfRevisions.{IsMute, is_mute}
+use Rattle.law_answers.proofs.WhatLettersSay.{Mute, Rev, Sight, server_says, client_says}
+use Rattle.law_answers.proofs.FailuresAreCaused.{seen_failed, ending_not, reason_not, not_read, not_written, not_judged, glanced_at, AnsweredAs, seen_as}
+use Rattle.law_answers.proofs.FailuresAreCaused.{told_by, boots_named, done_booted, boot_why}
 
 -- ### A history
 

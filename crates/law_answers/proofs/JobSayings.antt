@@ -8,11 +8,11 @@ use Rattle.petal_msg.specs.declared.body.Body.TheVariants as body
 use Rattle.petal_msg.specs.declared.letter.Actor.{Actor}
 use Rattle.petal_msg.specs.declared.letter.Actor.TheVariants as actor
 use Rattle.petal_msg.specs.declared.letter.Letter.{Letter}
-use Rattle.spec_rules.specs.Copies.{mends}
+use Rattle.spec_rules.specs.Copies.{repairs}
 use Rattle.spec_rules.specs.Sweeping.{sweeps}
 use Rattle.spec_rules.specs.Lists.{In}
 use Rattle.spec_rules.specs.State.{is_in}
-use Rattle.spec_rules.specs.Server.{Server, Own, Here, Done, Post, silent}
+use Rattle.spec_rules.specs.Server.{Server, PairState, JobContext, JobResult, Post, silent}
 use Rattle.spec_rules.specs.Jobs.{handles, wrong_rev, at_other_rev, is_from_in, does}
 use Rattle.spec_rules.specs.Jobs.{voter_of}
 use Rattle.spec_rules.specs.Jobs.{stages, tick_posts}
@@ -21,13 +21,13 @@ use Rattle.spec_rules.specs.declared.job.Job.TheVariants as job
 use Rattle.spec_rules.proofs.Tests.{by_test, not_true}
 use Rattle.law_steps.proofs.Letters.{one_post}
 use Rattle.law_steps.proofs.LogJobs.{ballot_logged, ask_logged}
-use Rattle.law_log.proofs.Copying.{IsCalm, calm_mends}
-use Rattle.law_log.proofs.Filling.{calm_sweeps}
-use Rattle.law_log.proofs.Handling.{calm_handles, calm_stages, calm_where_in, dated_copies_again}
-use Rattle.law_log.proofs.Pairs.{dated_again}
-use Rattle.law_answers.proofs.Mute.{IsMute, AreMute, M, both_mute, calm_mute, dated_mute, logged_mute, none_mute}
+use Rattle.law_log.proofs.CopyJobsLeaveLog.{IsCalm, calm_mends}
+use Rattle.law_log.proofs.FillJobsLeaveLog.{calm_sweeps}
+use Rattle.law_log.proofs.PairLettersLeaveLog.{calm_handles, calm_stages, calm_where_in, dated_copies_again}
+use Rattle.law_log.proofs.PairJobsLeaveLog.{dated_again}
+use Rattle.law_answers.proofs.LettersMuteOfRevisions.{IsMute, AreMute, M, both_mute, calm_mute, dated_mute, logged_mute, none_mute}
 
-module _ (here : Here) where
+module _ (here : JobContext) where
   pub tick_mute : (server : Server) → AreMute (tick_posts here server)
   tick_mute server =
       both_mute _ _
@@ -53,13 +53,13 @@ module _ (here : Here) where
     Mute_post : IsMute post.body → JobSays what post
     Rev_post : (seq : ℕ) → post.body ≡ body.WrongRev seq → IsTold what post seq → JobSays what post
 
-  abbrev W : Job → Done → Type 0
+  abbrev W : Job → JobResult → Type 0
   W what done = (post : Post) → In post done.posts → JobSays what post
 
-  mute_tells : (what : Job) (done : Done) → M done → W what done
+  mute_tells : (what : Job) (done : JobResult) → M done → W what done
   mute_tells what done mute post h = Mute_post (mute post h)
 
-  rev_tells : (own : Own) (letter : Letter) (client : ℕ) (o : Option ℕ) → is_in here.state here.me here.inc ≡ true → letter.rev ≢ here.state.rev
+  rev_tells : (own : PairState) (letter : Letter) (client : ℕ) (o : Option ℕ) → is_in here.state here.me here.inc ≡ true → letter.rev ≢ here.state.rev
       → letter.from ≡ actor.Client client
       → asked_by letter.body ≡ o → W (job.Letter letter) (wrong_rev own client o)
   rev_tells own letter client None itself other from_is number post h = mute_tells (job.Letter letter) (wrong_rev own client None) none_mute post h
@@ -76,7 +76,7 @@ module _ (here : Here) where
         told = one.0;
       })
 
-  other_tells : (own : Own) (letter : Letter) (who : Actor) → is_in here.state here.me here.inc ≡ true → letter.rev ≢ here.state.rev → letter.from ≡ who
+  other_tells : (own : PairState) (letter : Letter) (who : Actor) → is_in here.state here.me here.inc ≡ true → letter.rev ≢ here.state.rev → letter.from ≡ who
       → W (job.Letter letter) (at_other_rev own letter who)
   other_tells own letter (actor.Server n) itself other from_is = mute_tells (job.Letter letter) (at_other_rev own letter (actor.Server n)) none_mute
   other_tells own letter (actor.Client c) itself other from_is = rev_tells own letter c (asked_by letter.body) itself other from_is refl
@@ -88,12 +88,12 @@ module _ (here : Here) where
   stays_in true t = refl
   stays_in false t = absurd (cc)
 
-  tells_in : (own : Own) (what : Job) (done : Done) → IsCalm own done → W what (if is_in here.state here.me here.inc then done else silent own)
+  tells_in : (own : PairState) (what : Job) (done : JobResult) → IsCalm own done → W what (if is_in here.state here.me here.inc then done else silent own)
   tells_in own what done calm =
       let found = if is_in here.state here.me here.inc then done else silent own in
       mute_tells what found (calm_mute own found (calm_where_in here own done calm))
 
-  pub job_tells : (own : Own) (what : Job) → W what (does here own what)
+  pub job_tells : (own : PairState) (what : Job) → W what (does here own what)
   unfolding does
   job_tells own (job.Letter letter) =
       by_test (W (job.Letter letter)) (not (is_in here.state here.me here.inc)) _ _ (λ t. mute_tells (job.Letter letter) (silent own) none_mute) (λ now.
@@ -102,7 +102,7 @@ module _ (here : Here) where
       by_test (W (job.Letter letter)) (not (is_from_in here.state letter.inc letter.from)) _ _ (λ t. mute_tells (job.Letter letter) (silent own) none_mute)
       (λ t. mute_tells (job.Letter letter) (handles here own letter.body) (calm_mute own (handles here own letter.body) (calm_handles here own letter.body)))))
   job_tells own (job.Stage cell) = tells_in own (job.Stage cell) (stages here own cell) (calm_stages here own cell)
-  job_tells own (job.Mend id) = tells_in own (job.Mend id) (mends here own id) (calm_mends here own id)
+  job_tells own (job.Repair id) = tells_in own (job.Repair id) (repairs here own id) (calm_mends here own id)
   job_tells own job.Sweep = tells_in own job.Sweep (sweeps here own) (calm_sweeps here own)
   job_tells own job.Apply = mute_tells job.Apply (silent own) none_mute
   job_tells own job.Start = mute_tells job.Start (silent own) none_mute

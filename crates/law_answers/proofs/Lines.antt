@@ -10,10 +10,10 @@ use Rattle.spec_rules.specs.World.{Boots, Deed, IsOpenLine, Stops, World, settin
 use Rattle.spec_history.specs.Steps.{AreSteps, world_after}
 use Rattle.spec_history.specs.Sound.{IsSound}
 use Rattle.spec_history.specs.declared.record.Record.{Record}
-use Rattle.law_answers.proofs.Places.{line_at}
+use Rattle.law_answers.proofs.LinesHavePlaces.{line_at}
 use Rattle.law_jobs.proofs.Runs.{run_of}
 use Rattle.law_answers.specs.Lines.{AsksToBoot, AsksToStop, IsLineOf}
-use Rattle.law_answers.proofs.Answered.{IsOpenFor, open_after}
+use Rattle.law_answers.proofs.AnswersAreCaused.{IsOpenFor, open_after}
 
 -- an open request is that of a line
 pub open_for : (script : Script) (records : List Record) → IsSound script → AreSteps script records → (c : ℕ) (asked : Asked)

@@ -11,9 +11,9 @@ use Rattle.spec_history.specs.Sound.{IsSound}
 use Rattle.spec_history.specs.declared.record.Record.{Record}
 use Rattle.law_state.specs.Moments.{IsMoment}
 use Rattle.law_answers.specs.Looks.{IsAnsweredAfter, looks_at}
-use Rattle.law_answers.proofs.Answering.{accepted_by}
-use Rattle.law_answers.proofs.Found.{By_data, By_turning, TellsIt, told_by}
-use Rattle.law_answers.proofs.Searching.{found}
+use Rattle.law_answers.proofs.OneRecordAnswers.{accepted_by}
+use Rattle.law_answers.proofs.LettersTellLooks.{By_data, By_turning, TellsIt, told_by}
+use Rattle.law_answers.proofs.SearchesFindLooks.{found}
 
 module _ (script : Script) (sound : IsSound script) (rise : AreRising script.lines) (records : List Record) (legal : AreSteps script records)
     (m : IsMoment records) where

@@ -16,7 +16,7 @@ use Rattle.petal_msg.specs.declared.operation.OpKind.TheVariants as kind
 use Rattle.petal_msg.specs.declared.operation.Pending.{Pending}
 use Rattle.spec_rules.specs.Fills.{Moving}
 use Rattle.spec_rules.specs.Lists.{In}
-use Rattle.spec_rules.specs.Server.{Own, Here, Post}
+use Rattle.spec_rules.specs.Server.{PairState, JobContext, Post}
 use Rattle.spec_rules.specs.State.{first, is_second}
 use Rattle.spec_rules.specs.Store.{cell_cmp, free_of}
 use Rattle.spec_rules.specs.World.{Setting, World}
@@ -28,15 +28,15 @@ use Rattle.spec_rules.proofs.Tests.{by_bool, true_false}
 use Rattle.law_steps.specs.Did.{IsBusy, IsHeldBack, IsRefusal}
 use Rattle.law_steps.specs.DidLead.{Asks, An_entry_to_move, IsNewFill, Of_the_log}
 use Rattle.law_steps.specs.DidSecond.{FoundNoSlot}
-use Rattle.law_steps.specs.Happens.{Handled, own_place}
+use Rattle.law_steps.specs.DidStep.{Handled, own_place}
 use Rattle.law_jobs.specs.Sayings as says
 use Rattle.law_jobs.specs.Effects.{HasEnded, Is_declined}
 use Rattle.law_jobs.specs.Sayings.{Says}
 use Rattle.law_jobs.proofs.JobsSay.{letters_of_job}
 use Rattle.law_jobs.proofs.Runs.{OneMore, after, rests_in, setting_in}
-use Rattle.law_answers.specs.Full.{LacksRoom}
+use Rattle.law_answers.specs.FullCauses.{LacksRoom}
 use Rattle.law_answers.specs.Refusals.{HasNothingOf}
-use Rattle.law_answers.proofs.Sent.{is_aside, logged_aside, sent_by}
+use Rattle.law_answers.proofs.WhatStepsSend.{is_aside, logged_aside, sent_by}
 
 -- it refuses, or tells another server that no slot is free
 abbrev pub has_reason : Body → Bool
@@ -65,12 +65,12 @@ ended_none : (seq : ℕ) (how : Ending) → has_reason (ended seq how) ≡ false
 ended_none seq ending.Written = refl
 ended_none seq ending.Full = refl
 
-asks_none : (here : Here) (own : Own) (post : Post) → Asks here own post → has_reason post.body ≡ false
+asks_none : (here : JobContext) (own : PairState) (post : Post) → Asks here own post → has_reason post.body ≡ false
 asks_none here own post (An_entry_to_move _ next) = ap (λ (p : Post). has_reason p.body) next.is
 asks_none here own post (Of_the_log _ logged) = logged_none post.body logged
 asks_none here own _ _ = refl
 
-module _ (heard : Body → Type 0) (here : Here) (own : Own) where
+module _ (heard : Body → Type 0) (here : JobContext) (own : PairState) where
   -- the second server of the cell was asked, and had no slot; it tells the lead
   pub record TellsLead (to : Actor) (number : ℕ) (cell : Cell) : Type 0 where
     pub lead : ℕ
@@ -127,7 +127,7 @@ module _ (heard : Body → Type 0) (here : Here) (own : Own) where
         Was_declined op (subst (λ (c : Cell). at cell_cmp own.pairs.pending c ≡ Some op) same is) fill refl
         (subst (λ (c : Cell). heard (body.PairFull op.op c)) same h)
 
-    reason_of : (new : Own) (post : Post) → Says heard here own new post → Reason post.to post.body
+    reason_of : (new : PairState) (post : Post) → Says heard here own new post → Reason post.to post.body
     reason_of new _ (says.Refuses to said is busy held) = refusal_reason to said is busy held
     reason_of new _ (says.Shows_nothing client seq cell epoch may comes none) =
         record { client = client; to_client = refl; cell = cell; epoch = epoch; may = may; comes = comes; none = none }

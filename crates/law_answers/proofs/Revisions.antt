@@ -17,10 +17,10 @@ use Rattle.spec_history.specs.declared.record.Record.{Record}
 use Rattle.law_state.proofs.Steady.{log_rev}
 use Rattle.law_steps.specs.Ready.{Rests}
 use Rattle.law_jobs.proofs.Runs.{Run, after, at_moment, follows_in, rests_in, setting_in}
-use Rattle.law_jobs.proofs.Sent.{was_sent}
+use Rattle.law_jobs.proofs.LettersWereSent.{was_sent}
 use Rattle.law_answers.specs.Revisions.{IsOtherRev, HasReason}
-use Rattle.law_answers.proofs.Mute.{IsMute, is_mute}
-use Rattle.law_answers.proofs.Saying.{Mute, Rev, Sight, TellsRev, server_says, client_says}
+use Rattle.law_answers.proofs.LettersMuteOfRevisions.{IsMute, is_mute}
+use Rattle.law_answers.proofs.WhatLettersSay.{Mute, Rev, Sight, TellsRev, server_says, client_says}
 
 -- ### Steps
 

@@ -22,7 +22,7 @@ use Rattle.spec_rules.specs.Jobs.{Acted, down_posts}
 use Rattle.spec_rules.specs.Lists.{In}
 use Rattle.spec_rules.specs.Log.{Log}
 use Rattle.spec_rules.specs.Returns.{proposed}
-use Rattle.spec_rules.specs.Server.{Own, Server, Pairs, Done, Post, Sender, silent, sender, letters_of, no_pairs, stopped}
+use Rattle.spec_rules.specs.Server.{PairState, Server, Pairs, JobResult, Post, Sender, silent, sender, letters_of, no_pairs, stopped}
 use Rattle.spec_rules.specs.State.{servers_of}
 use Rattle.spec_rules.specs.Store.{cell_cmp}
 use Rattle.spec_rules.specs.World.{Setting, World, reacts, step, stamped, client_step, client_state}
@@ -37,20 +37,20 @@ use Rattle.spec_rules.proofs.Tests.{none_some, true_false}
 use Rattle.spec_history.specs.Claims.{IsPrefix}
 use Rattle.law_state.specs.Firm.{Firm}
 use Rattle.law_state.proofs.Steady.{log_rev}
-use Rattle.law_steps.specs.Happens.{Heard, IsIdle, Worked, By_job, By_ballot, By_entry, Serving, Goes as Serves_on, Ends as Stops_so, Stays, Wakes}
-use Rattle.law_steps.specs.Happens.{Fails, own_place, without_rev, served, served_so, stopped_so, shown_so}
+use Rattle.law_steps.specs.DidStep.{Heard, IsIdle, Worked, By_job, By_ballot, By_entry, Serving, Goes as Serves_on, Ends as Stops_so, Stays, Wakes}
+use Rattle.law_steps.specs.DidStep.{Fails, own_place, without_rev, served, served_so, stopped_so, shown_so}
 use Rattle.law_steps.specs.Ready.{Rests}
-use Rattle.law_steps.specs.Turned.{Turned}
-use Rattle.law_steps.proofs.Histories.{own_steady, proposed_pairs}
+use Rattle.law_steps.specs.DidClient.{Turned}
+use Rattle.law_steps.proofs.KindsInHistories.{own_steady, proposed_pairs}
 use Rattle.law_steps.proofs.Letters.{said}
 use Rattle.law_steps.proofs.Restages.{was_same}
-use Rattle.law_steps.proofs.Sending.{is_ask, turned_asks}
-use Rattle.law_steps.proofs.Serving.{server_serves}
-use Rattle.law_steps.proofs.Turning.{client_turns, is_call}
+use Rattle.law_steps.proofs.ClientLetters.{is_ask, turned_asks}
+use Rattle.law_steps.proofs.ServerStepKinds.{server_serves}
+use Rattle.law_steps.proofs.ClientStepKinds.{client_turns, is_call}
 use Rattle.law_answers.specs.Refusals.{HadNoSlot, Refusals}
-use Rattle.law_answers.proofs.Frames.{GoesOn, StepRefuses, still_declined, still_numbered, still_on, step_refusals}
-use Rattle.law_answers.proofs.Slots.{JobRefuses, Scene, WereRefused, is_of_slots}
-use Rattle.law_answers.proofs.Jobs.{asks_refuses, job_refuses, kept_refuses}
+use Rattle.law_answers.proofs.RefusalFrames.{GoesOn, StepRefuses, still_declined, still_numbered, still_on, step_refusals}
+use Rattle.law_answers.proofs.SlotLetters.{JobRefuses, Scene, WereRefused, is_of_slots}
+use Rattle.law_answers.proofs.JobsRefuseForReasons.{asks_refuses, job_refuses, kept_refuses}
 
 -- ### Steps
 
@@ -104,20 +104,20 @@ module _ (R S : ℕ → ℕ → Type 0) (it : WereRefused R S) (n stamp : ℕ) w
   here = w.servers n
 
   -- a server that is still the incarnation that it was, with what a job leaves
-  job_on : (T : ℕ → ℕ → Type 0) (own : Own) (posts : List Post) → JobRefuses T setting w n own posts → (new : Server) → new.own ≡ own
+  job_on : (T : ℕ → ℕ → Type 0) (own : PairState) (posts : List Post) → JobRefuses T setting w n own posts → (new : Server) → new.own ≡ own
       → new.life.inc ≡ here.life.inc
       → GoesOn here new
   job_on T own posts job new owns incs = record {
     life = omega arith;
-    next = λ same. subst (λ (o : Own). here.own.pairs.next ≤ o.pairs.next) (sym owns) job.next;
-    pending = λ cell op same is. elim (job.pending cell op (sym (ap (λ (o : Own). at cell_cmp o.pairs.pending cell) owns) ∙ is)) [
+    next = λ same. subst (λ (o : PairState). here.own.pairs.next ≤ o.pairs.next) (sym owns) job.next;
+    pending = λ cell op same is. elim (job.pending cell op (sym (ap (λ (o : PairState). at cell_cmp o.pairs.pending cell) owns) ∙ is)) [
       | inl was ↦ inl was
       | inr now ↦ inr now.0
     ];
     numbered = λ cell op is.
         let more_next = job.next in
-        subst (λ (o : Own). op.op < o.pairs.next) (sym owns)
-        (elim (job.pending cell op (sym (ap (λ (o : Own). at cell_cmp o.pairs.pending cell) owns) ∙ is)) [
+        subst (λ (o : PairState). op.op < o.pairs.next) (sym owns)
+        (elim (job.pending cell op (sym (ap (λ (o : PairState). at cell_cmp o.pairs.pending cell) owns) ∙ is)) [
           | inl there ↦
               let old = refusals.numbered n cell there.was there.is in
               let same = there.same.number in
@@ -127,7 +127,7 @@ module _ (R S : ℕ → ℕ → Type 0) (it : WereRefused R S) (n stamp : ℕ) w
   }
 
   -- what a server does that goes on
-  of_job : (log : Log) (done : Done) (queue : List Job) → (w.servers n).life.running ≡ true → JobRefuses S setting w n done.own done.posts
+  of_job : (log : Log) (done : JobResult) (queue : List Job) → (w.servers n).life.running ≡ true → JobRefuses S setting w n done.own done.posts
       → StepRefuses S setting w n stamp (served_so setting w n log done queue)
   of_job log done queue runs job =
       let who = sender (own_place setting w n) in
@@ -245,16 +245,16 @@ module _ (R S : ℕ → ℕ → Type 0) (it : WereRefused R S) (n stamp : ℕ) w
   unfolding In
   entry_refuses runs entry =
       let own = crossed (server_state setting w n) entry here.own in
-      by_settled (λ (now : Own). JobRefuses S setting w n now []) (own_place setting w n) entry own
+      by_settled (λ (now : PairState). JobRefuses S setting w n now []) (own_place setting w n) entry own
       (λ store. kept_refuses R S (scene runs) (record own { store = store }) [] refl refl refl (λ post i. absurd i))
 
-  idle_refuses : (runs : (w.servers n).life.running ≡ true) (done : Done) → IsIdle (own_place setting w n) here.own done
+  idle_refuses : (runs : (w.servers n).life.running ≡ true) (done : JobResult) → IsIdle (own_place setting w n) here.own done
       → JobRefuses S setting w n done.own done.posts
-  idle_refuses runs done idle = subst (λ (h : Own). JobRefuses S setting w n h done.posts) (sym idle.same)
+  idle_refuses runs done idle = subst (λ (h : PairState). JobRefuses S setting w n h done.posts) (sym idle.same)
       (asks_refuses R S (scene runs) done.posts idle.asks)
 
   -- what a server that stops leaves is no more than a job leaves
-  worked_on : (runs : (w.servers n).life.running ≡ true) (log : Log) (done : Done) → Worked setting w n log done
+  worked_on : (runs : (w.servers n).life.running ≡ true) (log : Log) (done : JobResult) → Worked setting w n log done
       → GoesOn here (stopped (served here log done []))
   worked_on runs _ _ (By_job log done same did seat) =
       let either = λ (c seq : ℕ). (S c seq ⊎ HadNoSlot setting w (actor.Server n) (Work work_end.Done) c seq) in
@@ -274,7 +274,7 @@ module _ (R S : ℕ → ℕ → Type 0) (it : WereRefused R S) (n stamp : ℕ) w
     now_work : what ≡ Work work_end.Done → (c seq : ℕ) → HadNoSlot setting w (actor.Server n) (Work work_end.Done) c seq → S c seq
     now_work works c seq h = now c seq (subst (λ x. HadNoSlot setting w (actor.Server n) x c seq) (sym works) h)
 
-    goes_refuse : (log : Log) (done : Done) (queue : List Job) → (w.servers n).life.running ≡ true → Worked setting w n log done
+    goes_refuse : (log : Log) (done : JobResult) (queue : List Job) → (w.servers n).life.running ≡ true → Worked setting w n log done
         → (what ≡ Work work_end.Done) ⊎ IsIdle (own_place setting w n) here.own done
         → StepRefuses S setting w n stamp (served_so setting w n log done queue)
     goes_refuse _ _ queue runs (By_job log done same did seat) (inl works) =

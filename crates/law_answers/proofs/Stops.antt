@@ -10,7 +10,7 @@ use Rattle.script_lines.specs.declared.script.Script.{Script}
 use Rattle.spec_state.specs.State.{start as first_state}
 use Rattle.spec_rules.specs.Jobs.{Acted, job_done, works, is_log_job, is_overfull, operator}
 use Rattle.spec_rules.specs.Lists.{In, put_at}
-use Rattle.spec_rules.specs.Server.{Here, Server}
+use Rattle.spec_rules.specs.Server.{JobContext, Server}
 use Rattle.spec_rules.specs.State.{is_in}
 use Rattle.spec_rules.specs.World.{Setting, World, MayStop, MayServer, MayActor, acts, chosen_log, chosen_state}
 use Rattle.spec_rules.specs.World.{server_state, server_step, step, setting_of, start}
@@ -28,11 +28,11 @@ use Rattle.spec_history.specs.declared.record.Record.{Record}
 use Rattle.law_state.proofs.Disks.{first_at_start}
 use Rattle.law_state.specs.Moments.{IsMoment}
 use Rattle.law_state.proofs.Moments.{first_moment, moment_later}
-use Rattle.law_log.specs.Requested.{NoneBoots}
-use Rattle.law_log.proofs.Histories.{who_runs_is_in}
-use Rattle.law_log.proofs.Unbooted.{unbooted}
-use Rattle.law_steps.specs.Happens.{own_place}
-use Rattle.law_steps.proofs.Histories.{front_legal}
+use Rattle.law_log.specs.ProposedCommands.{NoneBoots}
+use Rattle.law_log.proofs.LogInHistories.{who_runs_is_in}
+use Rattle.law_log.proofs.FirstIncarnationsStay.{unbooted}
+use Rattle.law_steps.specs.DidStep.{own_place}
+use Rattle.law_steps.proofs.KindsInHistories.{front_legal}
 use Rattle.law_answers.specs.Lines.{AsksToStop}
 use Rattle.law_answers.specs.Stops.{IsReasonToStop, Was_told, Device_failed, Device_stopped, Journal_full, HasReasonToStop, NoneIsStopped}
 use Rattle.law_answers.specs.Stops.{NoneStopsByItself, StaysDown, is_of_a_job, stops_a_server}
@@ -41,14 +41,14 @@ use Rattle.law_answers.proofs.Lines.{asks_to_stop, line_of, open_for}
 -- ### One step
 
 -- with room in both journals, a server goes on running
-job_runs : (here : Here) (server : Server) (first : Job) (rest : List Job)
+job_runs : (here : JobContext) (server : Server) (first : Job) (rest : List Job)
     → (job_done here server first rest).server.life.running ≡ server.life.running
 job_runs here server (job.Letter letter) rest =
     by_test (λ (a : Acted). a.server.life.running ≡ server.life.running) (is_log_job (job.Letter letter)) _ _ (λ t. refl) (λ t. refl)
 job_runs here server _ rest = refl
 
 module _ (setting : Setting) (w : World) (n : ℕ) (told : MayStop w n → IsReasonToStop setting w n Stop) (ran : (w.servers n).life.running ≡ true) where
-  abbrev here : Here
+  abbrev here : JobContext
   here = own_place setting w n
 
   abbrev server : Server

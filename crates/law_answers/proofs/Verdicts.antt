@@ -32,21 +32,21 @@ use Rattle.spec_rules.proofs.Tests.{by_test, none_some, same_some, some_or_none,
 use Rattle.law_state.specs.Plain.{IsPlainLog}
 use Rattle.law_state.specs.Tables.{IsForRegion, IsForSnapshot, Of_disk, Of_region}
 use Rattle.law_state.proofs.Caughts.{act_caught}
-use Rattle.law_state.proofs.Entries.{acting}
+use Rattle.law_state.proofs.EntriesOnlyAdd.{acting}
 use Rattle.law_state.proofs.Fences.{Acted, IsRequeued, IsUnsettled, get_after, head_get, ready_by, requeued_awaiting}
 use Rattle.law_state.proofs.Fences.{requeued_itself, requeued_reported}
-use Rattle.law_state.proofs.Passing.{one_passed, passed_here, passing, settled_keeps}
-use Rattle.law_state.proofs.Places.{get_last, get_within, text_itself}
-use Rattle.law_state.proofs.Moves.{IsNoting, act_moved, act_note, act_start}
-use Rattle.law_state.proofs.Rowed.{here_now}
-use Rattle.law_state.proofs.Snaps.{act_drained, act_snap}
-use Rattle.law_answers.specs.Asked.{asker}
-use Rattle.law_answers.proofs.Asked.{asker_of}
-use Rattle.law_answers.proofs.Folds.{told_answers, act_make, judged_last, judged_old, old_now, onward_new, passed_old, passed_or}
-use Rattle.law_answers.proofs.Folds.{passed_stays, settled_old, told_old, told_or, told_stays}
-use Rattle.law_answers.proofs.Wanted.{nobody_told, named_on, last_found, has_kept, made_on, asks_it, request_of, same_whole}
-use Rattle.law_answers.proofs.Wanted.{no_whole, row_known_at, settled_moving, IsMoving}
-use Rattle.law_answers.proofs.Numbers.{at_next, entry_plain, many_at, old_on, own_old, plain_at}
+use Rattle.law_state.proofs.FencesPass.{one_passed, passed_here, passing, settled_keeps}
+use Rattle.law_state.proofs.ListLookups.{get_last, get_within, text_itself}
+use Rattle.law_state.proofs.MovesOfDisks.{IsNoting, act_moved, act_note, act_start}
+use Rattle.law_state.proofs.DiskRowChanges.{here_now}
+use Rattle.law_state.proofs.SnapsQueueFences.{act_drained, act_snap}
+use Rattle.law_answers.specs.AskedCommands.{asker}
+use Rattle.law_answers.proofs.CommandsWereAsked.{asker_of}
+use Rattle.law_answers.proofs.EntriesTellClients.{told_answers, act_make, judged_last, judged_old, old_now, onward_new, passed_old, passed_or}
+use Rattle.law_answers.proofs.EntriesTellClients.{passed_stays, settled_old, told_old, told_or, told_stays}
+use Rattle.law_answers.proofs.RequestsStayDone.{nobody_told, named_on, last_found, has_kept, made_on, asks_it, request_of, same_whole}
+use Rattle.law_answers.proofs.RequestsStayDone.{no_whole, row_known_at, settled_moving, IsMoving}
+use Rattle.law_answers.proofs.OldNumbersStayOld.{at_next, entry_plain, many_at, old_on, own_old, plain_at}
 
 -- ### Along a log
 

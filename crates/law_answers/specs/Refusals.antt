@@ -14,7 +14,7 @@ use Rattle.petal_msg.specs.declared.operation.Finished.{Finished}
 use Rattle.petal_msg.specs.declared.operation.Pending.{Pending}
 use Rattle.script_lines.specs.declared.request.Request.TheVariants.{Settle}
 use Rattle.spec_rules.specs.Lists.{In}
-use Rattle.spec_rules.specs.Server.{Here, Own}
+use Rattle.spec_rules.specs.Server.{JobContext, PairState}
 use Rattle.spec_state.specs.Command.{state_after}
 use Rattle.spec_rules.specs.State.{coming, first, second, is_in, is_lead}
 use Rattle.spec_rules.specs.Store.{cell_cmp, chain_in, entry_at, free_of}
@@ -32,8 +32,8 @@ use Rattle.law_steps.specs.Operations.{done_to}
 use Rattle.law_steps.specs.DidRead.{IsReadable}
 use Rattle.law_steps.specs.DidSecond.{FoundNoSlot}
 use Rattle.law_steps.specs.Did.{IsBusy, IsHeldBack}
-use Rattle.law_steps.specs.Happens.{Handled, own_place}
-use Rattle.law_answers.specs.Full.{HasFullServer}
+use Rattle.law_steps.specs.DidStep.{Handled, own_place}
+use Rattle.law_answers.specs.FullCauses.{HasFullServer}
 
 -- ### No slot
 
@@ -94,7 +94,7 @@ pub record FoundHeld (setting : Setting) (w : World) (who : Actor) (seq : ℕ) :
 
 -- the server may read the cell that this client's read asked for, which is coming by its own state, and no fence holds its reads; and its chain
 -- has no entry at the epoch or below
-pub record HasNothingOf (heard : Body → Type 0) (here : Here) (own : Own) (to : Actor) (seq : ℕ) : Type 0 where
+pub record HasNothingOf (heard : Body → Type 0) (here : JobContext) (own : PairState) (to : Actor) (seq : ℕ) : Type 0 where
   pub client : ℕ
   pub to_client : to ≡ actor.Client client
   pub cell : Cell

@@ -16,7 +16,7 @@ use Rattle.spec_rules.specs.declared.step.WorkEnd.TheVariants as work_end
 use Rattle.spec_history.specs.Steps.{stepped, world_after}
 use Rattle.spec_history.specs.declared.record.Record.{Record}
 use Rattle.law_state.specs.Moments.{IsMoment}
-use Rattle.law_steps.specs.Happens.{own_place}
+use Rattle.law_steps.specs.DidStep.{own_place}
 use Rattle.law_answers.specs.Lines.{AsksToStop, IsLineOf}
 
 -- the server ran, and does not run after this step of its own

@@ -18,7 +18,7 @@ ghost use Rattle.spec_rules.specs.Lists.{In};
 ghost use Rattle.spec_history.specs.Causes.{AreCaused, may_answer};
 ghost use Rattle.spec_history.specs.Order.{AreRising};
 ghost use Rattle.law_state.specs.Histories.{AreSteps, IsSound, Record, Script, setting_of, start, world_after};
-ghost use Rattle.law_answers.specs.Fails.{HasReasonToFail};
+ghost use Rattle.law_answers.specs.FailureCauses.{HasReasonToFail};
 ghost use Rattle.law_answers.specs.Glances.{HasGlance};
 ghost use Rattle.law_answers.specs.Revisions.{HasReason};
 ghost use Rattle.law_answers.specs.Settles.{HasSettled};

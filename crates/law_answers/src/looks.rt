@@ -16,9 +16,9 @@ ghost use Rattle.spec_rules.specs.declared.step.Step.TheVariants.{Call};
 ghost use Rattle.script_lines.specs.declared.answer.Answer.TheVariants.{Data};
 ghost use Rattle.law_state.specs.Histories.{AreSteps, IsSound, Record, Script, setting_of, start};
 ghost use Rattle.law_state.specs.Moments.{IsMoment};
-ghost use Rattle.law_answers.specs.Links.{IsReadFrom};
+ghost use Rattle.law_answers.specs.ReadLinks.{IsReadFrom};
 ghost use Rattle.law_answers.specs.Looks.{HasItsLook, IsAnsweredAfter, looks_at, record_looks};
-ghost use Rattle.law_answers.specs.Runs.{looks_along, sevens_records};
+ghost use Rattle.law_answers.specs.ComputedLooks.{looks_along, sevens_records};
 
 /// The looks beside their lines are the ones of the events: without the numbers they are exactly those.
 pub fn the_looks_are_those_of_the_events()

@@ -14,7 +14,7 @@ ghost use Rattle.script_lines.specs.declared.answer.Answer.TheVariants.{NoSpace}
 ghost use Rattle.spec_rules.specs.Lists.{In};
 ghost use Rattle.law_state.specs.Histories.{AreSteps, IsSound, Record, Script, setting_of, start, world_after};
 ghost use Rattle.law_answers.specs.Refusals.{FoundBusy, FoundHeld, FoundNothing, HasReason};
-ghost use Rattle.law_answers.specs.Full.{HadNoFill, HasFoundNone};
+ghost use Rattle.law_answers.specs.FullCauses.{HadNoFill, HasFoundNone};
 
 /// Where a client's line is answered `nospace`, an earlier step refused this request since there was no slot: its lead, which
 /// had not finished it and had nothing pending on its cell, had none free when the write came; or the second server had none,

@@ -9,15 +9,15 @@ use Rattle.petal_msg.specs.declared.copying.Copying.{Copying}
 use Rattle.petal_msg.specs.declared.copying.LastCopy.{LastCopy}
 use Rattle.spec_rules.specs.Copies.{epochs_beyond}
 use Rattle.spec_rules.specs.Progress.{copying_on, last_copy}
-use Rattle.spec_rules.specs.Server.{Own}
+use Rattle.spec_rules.specs.Server.{PairState}
 use Rattle.spec_rules.specs.Store.{Chain, Store, chain_in, epochs_of}
 use Rattle.spec_rules.proofs.Tests.{same_some, true_false}
 use Rattle.law_steps.specs.Ready.{IsRising}
-use Rattle.law_copies.specs.Copied.{AreCopying, IsCopied, IsCopying, IsFollowed}
-use Rattle.law_copies.specs.Steps.{IsStill}
-use Rattle.law_copies.proofs.Epochs.{epoch_place, same_chains, within}
+use Rattle.law_copies.specs.CopyProgress.{AreCopying, IsCopied, IsCopying, IsFollowed}
+use Rattle.law_copies.specs.LoneSteps.{IsStill}
+use Rattle.law_copies.proofs.CopyEpochs.{epoch_place, same_chains, within}
 
-module _ {links : ℕ} {row : LinkRow} {cell : Cell} {vo : Option Own} {own : Own} (old : AreCopying links row cell (Some own) vo)
+module _ {links : ℕ} {row : LinkRow} {cell : Cell} {vo : Option PairState} {own : PairState} (old : AreCopying links row cell (Some own) vo)
     (all : IsCopied own cell) where
   abbrev chain : Chain
   chain = chain_in own.store.chains cell
@@ -42,7 +42,7 @@ module _ {links : ℕ} {row : LinkRow} {cell : Cell} {vo : Option Own} {own : Ow
       copied_chain (subst (IsRising nat_cmp) (sym same) rises) ∙ same
 
   -- no entry is left to be put
-  pub none_left_to_put : {A : Type 0} (o : Own) (last : LastCopy) (index epoch : ℕ) → vo ≡ Some o → last_copy o cell ≡ Some last
+  pub none_left_to_put : {A : Type 0} (o : PairState) (last : LastCopy) (index epoch : ℕ) → vo ≡ Some o → last_copy o cell ≡ Some last
       → slice_get last.epochs index ≡ Some epoch → index ≡ last.index → A
   none_left_to_put o last index epoch met there at_index e =
       let same : last ≡ g.last = same_some (sym (ap (λ x. last_copy x cell) (same_some (sym c.met ∙ met)) ∙ there) ∙ g.is) in

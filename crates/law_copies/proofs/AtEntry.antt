@@ -7,7 +7,7 @@ use Rattle.spec_rules.specs.Server.{Server}
 use Rattle.spec_rules.specs.State.{is_in}
 use Rattle.spec_rules.specs.World.{Setting, World, blank_joins_in, chosen_log, server_state}
 use Rattle.law_copies.specs.Visits.{with_stores}
-use Rattle.law_copies.proofs.Ground.{Ground}
+use Rattle.law_copies.proofs.CopiesGround.{Ground}
 use Rattle.law_copies.proofs.AtStep.{AtStep, IsStep, at_step}
 use Rattle.law_copies.proofs.LeftByEntry.{IsCrossed}
 

@@ -11,40 +11,40 @@ use Rattle.petal_msg.specs.declared.copying.LastCopy.{LastCopy}
 use Rattle.spec_state.specs.CellState.{cell_link}
 use Rattle.spec_rules.specs.Lists.{In}
 use Rattle.spec_rules.specs.Progress.{last_copy}
-use Rattle.spec_rules.specs.Server.{Own, Post, Server, Done}
+use Rattle.spec_rules.specs.Server.{PairState, Post, Server, JobResult}
 use Rattle.spec_rules.specs.State.{holder_of, live}
 use Rattle.spec_rules.specs.Store.{Store, chain_in}
 use Rattle.spec_rules.specs.World.{Setting, World, chosen_log, server_state}
 use Rattle.law_state.specs.Homes.{stage_at}
-use Rattle.law_steps.specs.Happens.{Handled, is_between, own_place}
+use Rattle.law_steps.specs.DidStep.{Handled, is_between, own_place}
 use Rattle.law_steps.specs.Ready.{IsRising}
 use Rattle.law_copies.specs.BothSteps.{LeadKeeps, SecondKeeps}
-use Rattle.law_copies.specs.Copied.{IsOfLink, links_of}
-use Rattle.law_copies.specs.Good.{IsUnheard}
+use Rattle.law_copies.specs.CopyProgress.{IsOfLink, links_of}
+use Rattle.law_copies.specs.GoodCopies.{IsUnheard}
 use Rattle.law_copies.specs.Pair.{HaveMarks, Known, PairOk, pair_of}
-use Rattle.law_copies.specs.Steps.{AreFilled, HolderKeeps, IsFollowing, IsHolding, IsNotOf, KeepsCell, OtherKeeps}
+use Rattle.law_copies.specs.LoneSteps.{AreFilled, HolderKeeps, IsFollowing, IsHolding, IsNotOf, KeepsCell, OtherKeeps}
 use Rattle.law_copies.specs.Visits.{AliveIn, with_stores}
-use Rattle.law_copies.proofs.Ground.{Ground}
+use Rattle.law_copies.proofs.CopiesGround.{Ground}
 use Rattle.law_copies.proofs.AtSeat.{AtSeat, IsAtWork}
 use Rattle.law_copies.proofs.AtStep.{AtStep, IsStep, at_step}
-use Rattle.law_copies.proofs.Later.{AllStarted}
+use Rattle.law_copies.proofs.ServedAtLaterFronts.{AllStarted}
 
 -- what a job, or a ballot that is started, keeps by itself
-pub record IsKeeping (setting : Setting) (w : World) (k : ℕ) (done : Done) : Type 0 where
-  pub lead : (cell : Cell) (row : LinkRow) (second : Own) → cell_link (server_state setting w k) cell ≡ Some row
+pub record IsKeeping (setting : Setting) (w : World) (k : ℕ) (done : JobResult) : Type 0 where
+  pub lead : (cell : Cell) (row : LinkRow) (second : PairState) → cell_link (server_state setting w k) cell ≡ Some row
       → AliveIn (server_state setting w k) cell → row.state ≡ Both → row.primary ≡ k
       → PairOk (pair_of (w.servers k).own second cell)
       → ((said : Body) → Handled w k said → (about said).cell ≡ Some cell → Known (pair_of (w.servers k).own second cell) said)
       → LeadKeeps (w.servers k).own done.own done.posts second cell
-  pub second : (cell : Cell) (row : LinkRow) (first : Own) → cell_link (server_state setting w k) cell ≡ Some row
+  pub second : (cell : Cell) (row : LinkRow) (first : PairState) → cell_link (server_state setting w k) cell ≡ Some row
       → AliveIn (server_state setting w k) cell → row.state ≡ Both → row.secondary ≡ k
       → PairOk (pair_of first (w.servers k).own cell)
       → ((said : Body) → Handled w k said → (about said).cell ≡ Some cell → Known (pair_of first (w.servers k).own cell) said)
       → SecondKeeps (w.servers k).own done.own done.posts first cell
-  pub holder : (cell : Cell) (row : LinkRow) (other : Option Own)
+  pub holder : (cell : Cell) (row : LinkRow) (other : Option PairState)
       → IsHolding (Handled w k) (own_place setting w k) (links_of (server_state setting w k) cell.map) row cell (w.servers k).own other
       → HolderKeeps (Handled w k) (links_of (server_state setting w k) cell.map) row cell (w.servers k).own other done
-  pub other : (cell : Cell) (row : LinkRow) (holder : Option Own)
+  pub other : (cell : Cell) (row : LinkRow) (holder : Option PairState)
       → IsFollowing (Handled w k) (own_place setting w k) (links_of (server_state setting w k) cell.map) row cell holder (w.servers k).own
       → OtherKeeps (links_of (server_state setting w k) cell.map) row cell holder (w.servers k).own done
   pub unlinked : (cell : Cell) → cell_link (server_state setting w k) cell ≡ None → AliveIn (server_state setting w k) cell
@@ -68,7 +68,7 @@ pub record IsKeeping (setting : Setting) (w : World) (k : ℕ) (done : Done) : T
       → IsUnheard (server_state setting w k) done.own cell
 
 -- a job of a server that runs, and is In as itself: its step applies no entry, and leaves what the job does; by the stores that count
-pub record IsJob (setting : Setting) (w : World) (stores : ℕ → Store) (v : World) (k : ℕ) (server : Server) (done : Done) : Type 0 where
+pub record IsJob (setting : Setting) (w : World) (stores : ℕ → Store) (v : World) (k : ℕ) (server : Server) (done : JobResult) : Type 0 where
   pub step : IsStep setting (chosen_log setting w) (with_stores w stores) v k server
   pub works : IsAtWork setting w stores k
   pub keeping : IsKeeping setting w k done
@@ -83,11 +83,11 @@ pub record AtJob : Type 0 where
   pub v : World
   pub k : ℕ
   pub server : Server
-  pub done : Done
+  pub done : JobResult
   pub job : IsJob setting w stores v k server done
   pub started : AllStarted setting records w
 
-abbrev pub at_job : (ground : Ground) {v : World} {k : ℕ} {server : Server} {done : Done} → IsJob ground.setting ground.w ground.stores v k server done
+abbrev pub at_job : (ground : Ground) {v : World} {k : ℕ} {server : Server} {done : JobResult} → IsJob ground.setting ground.w ground.stores v k server done
     → AllStarted ground.setting ground.records ground.w → AtJob
 at_job ground {v} {k} {server} {done} job started = record { ground = ground; v = v; k = k; server = server; done = done; job = job; started = started }
 

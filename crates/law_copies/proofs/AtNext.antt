@@ -12,10 +12,10 @@ use Rattle.spec_rules.specs.Blanked.{joins_blank}
 use Rattle.spec_rules.specs.State.{State, is_in}
 use Rattle.spec_rules.specs.Store.{Store}
 use Rattle.spec_rules.specs.World.{Setting, World, blank_joins_in, server_state, start}
-use Rattle.law_log.specs.Requested.{WasStarted}
+use Rattle.law_log.specs.ProposedCommands.{WasStarted}
 use Rattle.law_state.specs.Plain.{IsPlainLog}
 use Rattle.law_steps.proofs.Fronts.{front_on}
-use Rattle.law_copies.specs.Good.{Good}
+use Rattle.law_copies.specs.GoodCopies.{Good}
 use Rattle.law_copies.specs.Pair.{HaveMarks}
 use Rattle.law_copies.specs.Visits.{Visits, with_stores}
 

@@ -3,7 +3,7 @@ use Rattle.std.proofs.Common.{◌≡◌, ℕ, true}
 use Rattle.spec_rules.specs.State.{is_in}
 use Rattle.spec_rules.specs.Store.{Store}
 use Rattle.spec_rules.specs.World.{Setting, World, blank_joins_in, chosen_log, server_state}
-use Rattle.law_copies.proofs.Ground.{Ground}
+use Rattle.law_copies.proofs.CopiesGround.{Ground}
 
 -- a running server that is In as itself: its store is the one that counts, and no Join of it with an empty store is chosen after its
 -- own entries

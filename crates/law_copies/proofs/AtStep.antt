@@ -6,7 +6,7 @@ use Rattle.spec_history.specs.declared.record.Record.{Record}
 use Rattle.spec_rules.specs.Server.{Server}
 use Rattle.spec_rules.specs.World.{Setting, World}
 use Rattle.law_state.specs.Plain.{IsPlainLog}
-use Rattle.law_copies.specs.Good.{Good}
+use Rattle.law_copies.specs.GoodCopies.{Good}
 
 -- the world after a step of this server, which leaves each other server as it is, and does not take the server beyond the log so far
 pub record IsStep (setting : Setting) (top : List Command) (w v : World) (k : ℕ) (server : Server) : Type 0 where

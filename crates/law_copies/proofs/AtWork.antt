@@ -6,7 +6,7 @@ use Rattle.spec_history.specs.Sound.{IsSound}
 use Rattle.spec_history.specs.declared.record.Record.{Record}
 use Rattle.spec_rules.specs.State.{is_in}
 use Rattle.spec_rules.specs.World.{World, kept, server_state, setting_of, start}
-use Rattle.law_log.proofs.Histories.{history_is_firm}
+use Rattle.law_log.proofs.LogInHistories.{history_is_firm}
 use Rattle.law_copies.proofs.StoreHistories.{in_counts, in_own}
 use Rattle.law_copies.proofs.AtSeat.{IsAtWork}
 

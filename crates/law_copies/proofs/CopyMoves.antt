@@ -14,24 +14,24 @@ use Rattle.petal_msg.specs.declared.copying.LastCopy.{LastCopy}
 use Rattle.spec_history.specs.Claims.{IsMarked, IsToBeCopied}
 use Rattle.spec_rules.specs.Copies.{begins_copy, cell_at, epochs_beyond}
 use Rattle.spec_rules.specs.Progress.{copying_on, last_copy, progress_on, with_copying}
-use Rattle.spec_rules.specs.Server.{Own, Pairs}
+use Rattle.spec_rules.specs.Server.{PairState, Pairs}
 use Rattle.spec_rules.specs.State.{id_of}
 use Rattle.spec_rules.specs.Store.{Chain, Store, Stored, chain_in, epochs_of, without_mark_on}
 use Rattle.spec_rules.specs.Writes.{pending_on}
 use Rattle.spec_rules.proofs.CellTables.{cell_apart, cell_same}
 use Rattle.spec_rules.proofs.Tests.{none_some, same_some, some_or_none, true_false}
-use Rattle.law_state.specs.Started.{is_flagged}
+use Rattle.law_state.specs.StartedBallots.{is_flagged}
 use Rattle.law_steps.specs.DidHolder.{first_copy}
 use Rattle.law_steps.specs.Ready.{IsRising}
-use Rattle.law_copies.specs.Copied.{AreCopying, AreInOrder, HasPut, HasSent, HasTrimmed, IsCopied, IsCopying, Is_equal, IsFollowed, IsLastCopy}
-use Rattle.law_copies.specs.Copied.{IsLeft, IsPast, IsSent, IsTold, IsTrimming, number_above}
-use Rattle.law_copies.specs.Steps.{StaysTold}
+use Rattle.law_copies.specs.CopyProgress.{AreCopying, AreInOrder, HasPut, HasSent, HasTrimmed, IsCopied, IsCopying, Is_equal, IsFollowed, IsLastCopy}
+use Rattle.law_copies.specs.CopyProgress.{IsLeft, IsPast, IsSent, IsTold, IsTrimming, number_above}
+use Rattle.law_copies.specs.LoneSteps.{StaysTold}
 use Rattle.law_copies.proofs.AllPut.{all_put, copied_now, none_left_to_put}
-use Rattle.law_copies.proofs.Epochs.{epoch_at}
-use Rattle.law_copies.proofs.Holding.{HolderStep, alike_by, alike_still, below, holder_copying, holder_told, to_be_copied, trimmed_or}
+use Rattle.law_copies.proofs.CopyEpochs.{epoch_at}
+use Rattle.law_copies.proofs.HolderChanges.{HolderStep, alike_by, alike_still, below, holder_copying, holder_told, to_be_copied, trimmed_or}
 
 -- the last copy follows where the holder's entries stay, and no more of them is counted as put
-followed_on : (holder to other : Own) (cell : Cell) (copy next : Copying) (g : IsFollowed holder other cell copy)
+followed_on : (holder to other : PairState) (cell : Cell) (copy next : Copying) (g : IsFollowed holder other cell copy)
     → chain_in to.store.chains cell ≡ chain_in holder.store.chains cell → next.op ≡ copy.op → next.index ≤ g.last.index → IsFollowed to other cell next
 followed_on holder to other cell copy next g chain op past = record {
   last = g.last;
@@ -43,9 +43,9 @@ followed_on holder to other cell copy next g chain op past = record {
   put = λ i row lt there. g.put i row lt (ap (λ c. slice_get c i) (sym chain) ∙ there);
 }
 
-module _ (heard : Body → Type 0) {links : ℕ} {row : LinkRow} {cell : Cell} {vo : Option Own} {own : Own}
+module _ (heard : Body → Type 0) {links : ℕ} {row : LinkRow} {cell : Cell} {vo : Option PairState} {own : PairState}
     (old : AreCopying links row cell (Some own) vo) where
-  abbrev Step : Own → Type 0
+  abbrev Step : PairState → Type 0
   Step to = HolderStep heard links row cell vo own to
 
   abbrev chain : Chain
@@ -56,7 +56,7 @@ module _ (heard : Body → Type 0) {links : ℕ} {row : LinkRow} {cell : Cell} {
   not_flagged copy is flag = none_some (old.caught own refl flag).idle is
 
   -- where the store and how far the link is stay, and only the cell's own copy changes
-  still_ordered : (to : Own) → to.store ≡ own.store → (progress_on to row).paged ≡ (progress_on own row).paged
+  still_ordered : (to : PairState) → to.store ≡ own.store → (progress_on to row).paged ≡ (progress_on own row).paged
       → (progress_on to row).copied ≡ (progress_on own row).copied
       → ((q : Cell) → q ≢ cell → copying_on to q ≡ copying_on own q)
       → (IsCopied own cell → IsMarked to.store cell ⊎ IsCopied to cell) → AreInOrder links row cell to
@@ -72,17 +72,17 @@ module _ (heard : Body → Type 0) {links : ℕ} {row : LinkRow} {cell : Cell} {
 
   module _ (paged : (progress_on own row).paged ≡ true) (free : pending_on own cell ≡ None) (idle : copying_on own cell ≡ None)
       (left : IsLeft own row cell) where
-    abbrev begun : Own
+    abbrev begun : PairState
     begun = begins_copy own cell
 
     pub begun_is : copying_on begun cell ≡ Some (first_copy own.pairs.next)
     begun_is = cell_same own.copies.pending cell (first_copy own.pairs.next)
 
     -- each last copy is an older one
-    older : (o : Own) (last : LastCopy) → vo ≡ Some o → last_copy o cell ≡ Some last → last.op < own.pairs.next
+    older : (o : PairState) (last : LastCopy) → vo ≡ Some o → last_copy o cell ≡ Some last → last.op < own.pairs.next
     older o last met is = subst (λ c. last.op < number_above c own.pairs.next) idle (below heard old o last met is)
 
-    met_other : (o : Own) × (vo ≡ Some o)
+    met_other : (o : PairState) × (vo ≡ Some o)
     met_other = elim (some_or_none vo) [ inl there ↦ there | inr none ↦ true_false (old.met own refl (inl paged)) (ap is_some none) ]
 
     begun_copying_is : (copy : Copying) → copying_on begun cell ≡ Some copy → IsCopying row begun vo cell copy
@@ -97,7 +97,7 @@ module _ (heard : Body → Type 0) {links : ℕ} {row : LinkRow} {cell : Cell} {
       heard = λ last fresh there op. let lt = older met_other.0 last met_other.1 there in absurd (omega arith);
     })
 
-    begun_lasts : (o : Own) (last : LastCopy) → vo ≡ Some o → last_copy o cell ≡ Some last → IsLastCopy (Some begun) o cell last
+    begun_lasts : (o : PairState) (last : LastCopy) → vo ≡ Some o → last_copy o cell ≡ Some last → IsLastCopy (Some begun) o cell last
     begun_lasts o last met is = record {
       by = begun;
       met = refl;
@@ -139,20 +139,20 @@ module _ (heard : Body → Type 0) {links : ℕ} {row : LinkRow} {cell : Cell} {
     c = old.copying own copy refl is
 
     -- the last copy at the other server has no greater number
-    up_to : (o : Own) (last : LastCopy) → vo ≡ Some o → last_copy o cell ≡ Some last → last.op ≤ copy.op
+    up_to : (o : PairState) (last : LastCopy) → vo ≡ Some o → last_copy o cell ≡ Some last → last.op ≤ copy.op
     up_to o last met there =
         let lt = subst (λ x. last.op < number_above x own.pairs.next) is (below heard old o last met there) in
         omega arith
 
     -- what the other server has beside is one thing
-    one_last : (o : Own) (last : LastCopy) → vo ≡ Some o → last_copy o cell ≡ Some last → last_copy c.beside cell ≡ Some last
+    one_last : (o : PairState) (last : LastCopy) → vo ≡ Some o → last_copy o cell ≡ Some last → last_copy c.beside cell ≡ Some last
     one_last o last met there = ap (λ x. last_copy x cell) (same_some (sym c.met ∙ met)) ∙ there
 
     -- what waits for the other server to trim is this copy
     waits_not : {A : Type 0} (number : ℕ) → copy.trimmed ≡ true → IsTrimming own cell number → A
     waits_not number trimmed t = true_false trimmed (ap (λ (x : Copying). x.trimmed) (same_some (sym is ∙ t.is)) ∙ t.waits)
 
-    changed : (to : Own) (new : Copying) → copying_on to cell ≡ Some new → IsCopying row to vo cell new → (x : Copying)
+    changed : (to : PairState) (new : Copying) → copying_on to cell ≡ Some new → IsCopying row to vo cell new → (x : Copying)
         → copying_on to cell ≡ Some x
         → IsCopying row to vo cell x
     changed to new there so x at_cell = subst (IsCopying row to vo cell) (same_some (sym there ∙ at_cell)) so
@@ -170,7 +170,7 @@ module _ (heard : Body → Type 0) {links : ℕ} {row : LinkRow} {cell : Cell} {
       abbrev trimmed : Copying
       trimmed = record copy { trimmed = true }
 
-      abbrev to_trimmed : Own
+      abbrev to_trimmed : PairState
       to_trimmed = with_copying own cell trimmed
 
       pub trimmed_is : copying_on to_trimmed cell ≡ Some trimmed
@@ -218,7 +218,7 @@ module _ (heard : Body → Type 0) {links : ℕ} {row : LinkRow} {cell : Cell} {
         heard = λ last f there op. true_false refl f;
       })
 
-      trimmed_lasts : (o : Own) (last : LastCopy) → vo ≡ Some o → last_copy o cell ≡ Some last → IsLastCopy (Some to_trimmed) o cell last
+      trimmed_lasts : (o : PairState) (last : LastCopy) → vo ≡ Some o → last_copy o cell ≡ Some last → IsLastCopy (Some to_trimmed) o cell last
       trimmed_lasts o last met there =
           let le = up_to o last met there in
           let own_is : said.past.own ≡ o = same_some (sym said.past.met ∙ met) in
@@ -255,11 +255,11 @@ module _ (heard : Body → Type 0) {links : ℕ} {row : LinkRow} {cell : Cell} {
       g = c.followed done
 
       -- the last copy of a letter is the one that follows
-      the_last : (o : Own) (last : LastCopy) → vo ≡ Some o → last_copy o cell ≡ Some last → last ≡ g.last
+      the_last : (o : PairState) (last : LastCopy) → vo ≡ Some o → last_copy o cell ≡ Some last → last ≡ g.last
       the_last o last met there = same_some (sym (one_last o last met there) ∙ g.is)
 
       -- nothing waits for it to be trimmed
-      trimmed_last : (o : Own) (last : LastCopy) → vo ≡ Some o → last_copy o cell ≡ Some last → epochs_beyond o cell last.epochs ≡ []
+      trimmed_last : (o : PairState) (last : LastCopy) → vo ≡ Some o → last_copy o cell ≡ Some last → epochs_beyond o cell last.epochs ≡ []
       trimmed_last o last met there = elim (trimmed_or heard old o last met there) [
         | inl none ↦ none
         | inr t ↦ waits_not last.op done t
@@ -271,7 +271,7 @@ module _ (heard : Body → Type 0) {links : ℕ} {row : LinkRow} {cell : Cell} {
         abbrev synced : Copying
         synced = record copy { index = copy.index + 1 }
 
-        abbrev to_synced : Own
+        abbrev to_synced : PairState
         to_synced = with_copying own cell synced
 
         pub synced_is : copying_on to_synced cell ≡ Some synced
@@ -326,7 +326,7 @@ module _ (heard : Body → Type 0) {links : ℕ} {row : LinkRow} {cell : Cell} {
         put = record { copy = copy; is = is; trimmed = done; past = past }
 
         -- no entry is left to be put
-        none_left : {A : Type 0} (o : Own) (last : LastCopy) (index epoch : ℕ) → vo ≡ Some o → last_copy o cell ≡ Some last
+        none_left : {A : Type 0} (o : PairState) (last : LastCopy) (index epoch : ℕ) → vo ≡ Some o → last_copy o cell ≡ Some last
             → slice_get last.epochs index ≡ Some epoch → index ≡ last.index → A
         none_left o last index epoch met there at_index e =
             none_left_to_put old put o last index epoch met there at_index e
@@ -334,7 +334,7 @@ module _ (heard : Body → Type 0) {links : ℕ} {row : LinkRow} {cell : Cell} {
         -- #### A mark of the block is taken away
 
         module _ (kind : MarkKind) where
-          abbrev unmarked : Own
+          abbrev unmarked : PairState
           unmarked = record own { store = without_mark_on own.store kind cell }
 
           unmarked_copying : (x : Copying) → copying_on unmarked cell ≡ Some x → IsCopying row unmarked vo cell x
@@ -373,7 +373,7 @@ module _ (heard : Body → Type 0) {links : ℕ} {row : LinkRow} {cell : Cell} {
 
       -- #### The copy ends
 
-      module _ (to : Own) (gone : copying_on to cell ≡ None) (others : (q : Cell) → q ≢ cell → copying_on to q ≡ copying_on own q)
+      module _ (to : PairState) (gone : copying_on to cell ≡ None) (others : (q : Cell) → q ≢ cell → copying_on to q ≡ copying_on own q)
           (store : to.store ≡ own.store) (pairs : to.pairs ≡ own.pairs)
           (paged : (progress_on to row).paged ≡ (progress_on own row).paged)
           (after : (progress_on to row).after ≡ (progress_on own row).after)
@@ -395,7 +395,7 @@ module _ (heard : Body → Type 0) {links : ℕ} {row : LinkRow} {cell : Cell} {
             (λ flag. not_flagged copy is (sym flag_is ∙ flag))
             (λ page. ap is_some c.met) ordered
 
-        ended_told : ((o : Own) (last : LastCopy) (index epoch : ℕ) → vo ≡ Some o → last_copy o cell ≡ Some last
+        ended_told : ((o : PairState) (last : LastCopy) (index epoch : ℕ) → vo ≡ Some o → last_copy o cell ≡ Some last
             → slice_get last.epochs index ≡ Some epoch → index ≡ last.index → IsLeft own row cell → IsLeft to row cell)
             → StaysTold row cell (Some own) vo (Some to) vo
         ended_told left = holder_told links row cell vo to own (λ number t. waits_not number done t) left
@@ -460,6 +460,6 @@ module _ (heard : Body → Type 0) {links : ℕ} {row : LinkRow} {cell : Cell} {
           };
           sent = λ x other own_is there same.
               let one : copy ≡ other = same_some (sym is ∙ ap (λ y. copying_on y cell) (same_some own_is) ∙ there) in
-              subst (λ (y : Own). IsSent y cell other copy.index r) (same_some own_is)
+              subst (λ (y : PairState). IsSent y cell other copy.index r) (same_some own_is)
               (subst (λ (y : Copying). IsSent own cell y copy.index r) one (done, omega arith, at_index));
         }

@@ -20,12 +20,12 @@ use Rattle.spec_state.specs.CellState.{cell_link}
 use Rattle.spec_rules.specs.Copies.{begins_copy, cell_at, closes, idle_mark, same_block, turns_page as turned, with_copied, with_page}
 use Rattle.spec_rules.specs.Lists.{In}
 use Rattle.spec_rules.specs.Progress.{copying_on, progress_on, with_copying, with_full, with_last_copy, without_copying}
-use Rattle.spec_rules.specs.Server.{Own, Copies, Pairs, Here, Post, Done, silent}
+use Rattle.spec_rules.specs.Server.{PairState, Copies, Pairs, JobContext, Post, JobResult, silent}
 use Rattle.spec_rules.specs.State.{id_of, is_second, link_cmp, link_named}
 use Rattle.spec_rules.specs.Store.{cell_cmp, chain_in, epochs_of, with_mark_on}
 use Rattle.spec_rules.proofs.CellTables.{cell_gone, cell_gone_apart, cell_same}
 use Rattle.spec_rules.proofs.Tests.{by_bool, same_some, some_or_none, true_false}
-use Rattle.law_log.proofs.Flags.{progress_beside, same_id}
+use Rattle.law_log.proofs.BallotFlags.{progress_beside, same_id}
 use Rattle.law_steps.specs.DidHolder.{DidHolder, CopyStep, Asks_to_trim, Sends, Unmarks_copied, Closes_copy, TakenCopy, Copy_as_is, Copy_trimmed, Copy_synced}
 use Rattle.law_steps.specs.DidHolder.{Asks_page, Turns_page, Begins_copy, Goes_on_copying, Finds_it_full, Tidies, IsHeldWith, first_copy}
 use Rattle.law_steps.specs.DidOther.{DidOther, first_last, TrimStep, Is_trimmed, Drops_entry, Is_copied_to}
@@ -34,49 +34,49 @@ use Rattle.law_steps.specs.DidSecond.{DidSecond}
 use Rattle.law_steps.specs.Did.{Did, Ignores, Refuses, By_read, By_lead, By_second, By_holder, By_other, By_filler, By_sweep}
 use Rattle.law_steps.proofs.CopyFrames.{of_holder, of_other}
 use Rattle.law_steps.proofs.Letters.{one_post, posted}
-use Rattle.law_steps.proofs.Staged.{same_cell_or_apart}
+use Rattle.law_steps.proofs.OperationsRest.{same_cell_or_apart}
 use Rattle.law_steps.proofs.Subjects.{of_filler, of_read, of_second, of_sweep}
-use Rattle.law_copies.specs.Copied.{AreCopying, IsLeft, IsTold}
-use Rattle.law_copies.specs.Steps.{HolderKeeps, IsHolding, KeepsCell}
-use Rattle.law_copies.proofs.Apart.{away}
-use Rattle.law_copies.proofs.Blocks.{on_block}
+use Rattle.law_copies.specs.CopyProgress.{AreCopying, IsLeft, IsTold}
+use Rattle.law_copies.specs.LoneSteps.{HolderKeeps, IsHolding, KeepsCell}
+use Rattle.law_copies.proofs.ForeignCellsStay.{away}
+use Rattle.law_copies.proofs.BlocksOnLinks.{on_block}
 use Rattle.law_jobs.proofs.ChainsApart.{closed_pairs, closed_store}
 use Rattle.law_copies.proofs.CopyMoves as moves
-use Rattle.law_copies.proofs.Filled.{has_entry}
-use Rattle.law_copies.proofs.Frames.{copied_alike, copying_beside, keeps_itself}
+use Rattle.law_copies.proofs.EmptyCellsHaveNoChain.{has_entry}
+use Rattle.law_copies.proofs.OwnPartFrames.{copied_alike, copying_beside, keeps_itself}
 use Rattle.law_copies.proofs.HolderSteps as steps
-use Rattle.law_copies.proofs.Holding.{HolderStep, step_on}
-use Rattle.law_copies.proofs.Left.{IsNext, next_is}
-use Rattle.law_copies.proofs.Onward.{IsOnward, begun_onward, closed_onward, copied_itself, ended_onward, going_onward, onward_by, onward_tables}
-use Rattle.law_copies.proofs.Pacing.{IsPaced, link_itself, paced_beside, paced_copied}
+use Rattle.law_copies.proofs.HolderChanges.{HolderStep, step_on}
+use Rattle.law_copies.proofs.LeftToCopy.{IsNext, next_is}
+use Rattle.law_copies.proofs.CopiesGoOn.{IsOnward, begun_onward, closed_onward, copied_itself, ended_onward, going_onward, onward_by, onward_tables}
+use Rattle.law_copies.proofs.HolderPace.{IsPaced, link_itself, paced_beside, paced_copied}
 use Rattle.law_jobs.proofs.JobsSay.{none_in}
-use Rattle.law_copies.proofs.Sent.{at_away, filling_not, holder_says, other_says, paired_not, read_not, refused_not, untold}
-use Rattle.law_copies.proofs.Standing.{alone_not_row, alone_not_second, cell_map, holder_not_other, idle_on}
-use Rattle.law_copies.proofs.Standing.{kept_lives, named_id, one_named, page_on}
-use Rattle.law_copies.proofs.Working.{Away, IsHeldBy, copy_step_beside, filler_beside, holder_beside, holder_cell, other_beside}
-use Rattle.law_copies.proofs.Working.{other_cell, other_held, page_cell, second_beside, second_follows, sweep_beside}
+use Rattle.law_copies.proofs.CopyLetters.{at_away, filling_not, holder_says, other_says, paired_not, read_not, refused_not, untold}
+use Rattle.law_copies.proofs.RolesOfWorkers.{alone_not_row, alone_not_second, cell_map, holder_not_other, idle_on}
+use Rattle.law_copies.proofs.RolesOfWorkers.{kept_lives, named_id, one_named, page_on}
+use Rattle.law_copies.proofs.WorkedCell.{Away, IsHeldBy, copy_step_beside, filler_beside, holder_beside, holder_cell, other_beside}
+use Rattle.law_copies.proofs.WorkedCell.{other_cell, other_held, page_cell, second_beside, second_follows, sweep_beside}
 use Rattle.law_copies.proofs.HolderWrites as writes
 
-module _ (heard : Body → Type 0) (here : Here) (links : ℕ) (row : LinkRow) (vo : Option Own) (own : Own) where
+module _ (heard : Body → Type 0) (here : JobContext) (links : ℕ) (row : LinkRow) (vo : Option PairState) (own : PairState) where
   -- ### A copy of the cell
 
   module _ (cell : Cell) where
-    abbrev Says : Done → Type 0
+    abbrev Says : JobResult → Type 0
     Says done = (post : Post) → In post done.posts → (about post.body).cell ≡ Some cell → IsTold row (Some done.own) vo post.body
 
-    itself : (now : Own) → AreCopying links row cell (Some now) vo → HolderStep heard links row cell vo now now
+    itself : (now : PairState) → AreCopying links row cell (Some now) vo → HolderStep heard links row cell vo now now
     itself now old = steps.kept_step heard old now (keeps_itself cell now) (omega arith)
         (record { paged = refl; after = refl; flag = refl })
         (onward_by links row cell now now (record { paged = refl; after = refl; flag = refl }) refl (λ later copy lt on is. inl (copy, is)))
 
     -- the block is one that is copied, once its copy ends
-    closed_block : cell_link here.state cell ≡ Some row → (gone : Own)
+    closed_block : cell_link here.state cell ≡ Some row → (gone : PairState)
         → above (progress_on (with_copied (cell_link here.state cell) gone cell.block) row).copied cell.block ≡ false
     closed_block on gone = subst (λ (o : Option LinkRow). above (progress_on (with_copied o gone cell.block) row).copied cell.block ≡ false) (sym on)
         (copied_itself gone row cell.block row (link_itself (id_of row)))
 
-    copy_step : (on : cell_link here.state cell ≡ Some row) (now : Own) (old : AreCopying links row cell (Some now) vo) (copy : Copying)
-        → copying_on now cell ≡ Some copy → (done : Done)
+    copy_step : (on : cell_link here.state cell ≡ Some row) (now : PairState) (old : AreCopying links row cell (Some now) vo) (copy : Copying)
+        → copying_on now cell ≡ Some copy → (done : JobResult)
         → CopyStep here now cell copy done → HolderStep heard links row cell vo now done.own × Says done
     copy_step on now old copy is _ (Asks_to_trim fresh) = (
       itself now old,
@@ -104,7 +104,7 @@ module _ (heard : Body → Type 0) (here : Here) (links : ℕ) (row : LinkRow) (
           (λ post i e. none_in post i),
         )
 
-    taken_copy_step : (f : IsHolding heard here links row cell own vo) (now : Own) (copy : Copying) → TakenCopy heard own cell now copy
+    taken_copy_step : (f : IsHolding heard here links row cell own vo) (now : PairState) (copy : Copying) → TakenCopy heard own cell now copy
         → HolderStep heard links row cell vo own now × (copying_on now cell ≡ Some copy)
     taken_copy_step f _ _ (Copy_as_is copy is) = (itself own f.old, is)
     taken_copy_step f _ _ (Copy_trimmed copy h is fresh) =
@@ -116,14 +116,14 @@ module _ (heard : Body → Type 0) (here : Here) (links : ℕ) (row : LinkRow) (
           moves.synced_is heard f.old copy is trimmed lt said,
         )
 
-    goes_on_at : (f : IsHolding heard here links row cell own vo) (now : Own) (copy : Copying) (done : Done) → TakenCopy heard own cell now copy
+    goes_on_at : (f : IsHolding heard here links row cell own vo) (now : PairState) (copy : Copying) (done : JobResult) → TakenCopy heard own cell now copy
         → CopyStep here now cell copy done → HolderStep heard links row cell vo own done.own × Says done
     goes_on_at f now copy done taken step =
         let one = taken_copy_step f now copy taken in
         let two = copy_step f.is now one.0.copying copy one.1 done step in
         (step_on heard links row cell vo own now done.own one.0 two.0, two.1)
 
-    begins_at : (f : IsHolding heard here links row cell own vo) (n : IsNext here.state row own cell) (done : Done)
+    begins_at : (f : IsHolding heard here links row cell own vo) (n : IsNext here.state row own cell) (done : JobResult)
         → CopyStep here (begins_copy own cell) cell (first_copy own.pairs.next) done → HolderStep heard links row cell vo own done.own × Says done
     begins_at f n done step =
         let left : IsLeft own row cell =
@@ -144,23 +144,23 @@ module _ (heard : Body → Type 0) (here : Here) (links : ℕ) (row : LinkRow) (
   -- ### All jobs
 
   module _ (cell : Cell) (f : IsHolding heard here links row cell own vo) where
-    abbrev Step : Done → Type 0
+    abbrev Step : JobResult → Type 0
     Step done = HolderStep heard links row cell vo own done.own
 
     at_cell : (c : Cell) → cell ≡ c → IsHolding heard here links row c own vo
     at_cell = writes.at_cell heard here links row vo own cell f
 
-    kept : (done : Done) → KeepsCell cell own done.own → own.pairs.next ≤ done.own.pairs.next → IsPaced row own done.own
+    kept : (done : JobResult) → KeepsCell cell own done.own → own.pairs.next ≤ done.own.pairs.next → IsPaced row own done.own
         → IsOnward links row cell own done.own → Step done
     kept = writes.kept heard here links row vo own cell f
 
-    same_paced : (to : Own) → to.copies.progress ≡ own.copies.progress → to.copies.pending ≡ own.copies.pending
+    same_paced : (to : PairState) → to.copies.progress ≡ own.copies.progress → to.copies.pending ≡ own.copies.pending
         → IsPaced row own to × IsOnward links row cell own to
     same_paced = writes.same_paced heard here links row vo own cell f
 
     -- ### Copies
 
-    holder_apart : (done : Done) (d : DidHolder heard here own done) → Away cell (holder_cell heard here own done d)
+    holder_apart : (done : JobResult) (d : DidHolder heard here own done) → Away cell (holder_cell heard here own done d)
         → IsPaced row own done.own → IsOnward links row cell own done.own
         → Step done × Says cell done
     holder_apart done d apart paced onward = (
@@ -182,7 +182,7 @@ module _ (heard : Body → Type 0) (here : Here) (links : ℕ) (row : LinkRow) (
         → IsPaced row own (with_page own r (progress_on own r) block)
     page_paced r None apart = paced_beside own r (record (progress_on own r) { paged = true }) row apart
     page_paced r (Some block) apart =
-        let marked : Own = record own { store = with_mark_on own.store Stale (cell_at r block) } in
+        let marked : PairState = record own { store = with_mark_on own.store Stale (cell_at r block) } in
         let p = paced_beside marked r (record (progress_on own r) { after = Some block }) row apart in
         record { paged = p.paged; after = p.after; flag = p.flag }
 
@@ -192,7 +192,7 @@ module _ (heard : Body → Type 0) (here : Here) (links : ℕ) (row : LinkRow) (
         (ap (λ (p : Progress). p.copied) (progress_beside own r (record (progress_on own r) { paged = true }) row apart))
         (λ later copy lt on is. inl (copy, is))
     page_onward r (Some block) apart =
-        let marked : Own = record own { store = with_mark_on own.store Stale (cell_at r block) } in
+        let marked : PairState = record own { store = with_mark_on own.store Stale (cell_at r block) } in
         onward_by links row cell own _ (page_paced r (Some block) apart)
         (ap (λ (p : Progress). p.copied) (progress_beside marked r (record (progress_on own r) { after = Some block }) row apart))
         (λ later copy lt on is. inl (copy, is))
@@ -233,7 +233,7 @@ module _ (heard : Body → Type 0) (here : Here) (links : ℕ) (row : LinkRow) (
         (page_paced r block no) (page_onward r block no))
 
     -- a copy is at the cell, or apart from it
-    copy_either : (c : Cell) (done : Done) → (IsHolding heard here links row c own vo → HolderStep heard links row c vo own done.own × Says c done)
+    copy_either : (c : Cell) (done : JobResult) → (IsHolding heard here links row c own vo → HolderStep heard links row c vo own done.own × Says c done)
         → (cell ≢ c → Step done × Says cell done) → Step done × Says cell done
     copy_either c done here_it apart = elim (same_cell_or_apart cell c) [
       | inl e ↦ subst (λ (q : Cell). HolderStep heard links row q vo own done.own × Says q done) (sym e) (here_it (at_cell c e))
@@ -250,28 +250,28 @@ module _ (heard : Body → Type 0) (here : Here) (links : ℕ) (row : LinkRow) (
     )
 
     -- the pages of its link are done
-    taken_paged : (c : Cell) (now : Own) (copy : Copying) → TakenCopy heard own c now copy
+    taken_paged : (c : Cell) (now : PairState) (copy : Copying) → TakenCopy heard own c now copy
         → (of : LinkRow) × (cell_link here.state c ≡ Some of) × ((progress_on now of).paged ≡ true)
     taken_paged c _ _ (Copy_as_is copy is) = let r = f.fit.resting.copying c copy is in (r.row, r.is, r.paged)
     taken_paged c _ _ (Copy_trimmed copy h is fresh) = let r = f.fit.resting.copying c copy is in (r.row, r.is, r.paged)
     taken_paged c _ _ (Copy_synced copy h is trimmed lt) = let r = f.fit.resting.copying c copy is in (r.row, r.is, r.paged)
 
-    step_paced : (now : Own) (c : Cell) (copy : Copying) (done : Done) → CopyStep here now c copy done → IsPaced row now done.own
+    step_paced : (now : PairState) (c : Cell) (copy : Copying) (done : JobResult) → CopyStep here now c copy done → IsPaced row now done.own
     step_paced now c copy _ (Closes_copy synced left) =
         let p = paced_copied (cell_link here.state c) (without_copying now c) c.block row in
         record { paged = p.paged; after = p.after; flag = p.flag }
     step_paced now c copy _ _ = record { paged = refl; after = refl; flag = refl }
 
     -- a copy of another cell is taken up
-    taken_apart : (c : Cell) → cell ≢ c → (now : Own) (copy : Copying) → TakenCopy heard own c now copy
+    taken_apart : (c : Cell) → cell ≢ c → (now : PairState) (copy : Copying) → TakenCopy heard own c now copy
         → HolderStep heard links row cell vo own now × (copying_on now c ≡ Some copy)
     taken_apart c ne _ _ (Copy_as_is copy is) = (itself cell own f.old, is)
     taken_apart c ne _ _ (Copy_trimmed copy h is fresh) = taken_with c ne copy is (record copy { trimmed = true })
     taken_apart c ne _ _ (Copy_synced copy h is trimmed lt) = taken_with c ne copy is (record copy { index = copy.index + 1 })
 
     -- and does its next step
-    step_apart : (c : Cell) → cell ≢ c → (now : Own) → AreCopying links row cell (Some now) vo → (copy : Copying) → copying_on now c ≡ Some copy
-        → (of : LinkRow) → cell_link here.state c ≡ Some of → (progress_on now of).paged ≡ true → (done : Done)
+    step_apart : (c : Cell) → cell ≢ c → (now : PairState) → AreCopying links row cell (Some now) vo → (copy : Copying) → copying_on now c ≡ Some copy
+        → (of : LinkRow) → cell_link here.state c ≡ Some of → (progress_on now of).paged ≡ true → (done : JobResult)
         → CopyStep here now c copy done → HolderStep heard links row cell vo now done.own
     step_apart c ne now old copy is of of_is paged _ (Unmarks_copied kind synced left) =
         steps.kept_step heard old _ (copy_step_beside heard here own now c copy _ cell ne (Unmarks_copied kind synced left))
@@ -284,7 +284,7 @@ module _ (heard : Body → Type 0) (here : Here) (links : ℕ) (row : LinkRow) (
         (record { late = onward.late; yet = onward.yet; others = onward.others; page = onward.page })
     step_apart c ne now old copy is of of_is paged _ _ = itself cell now old
 
-    goes_apart : (c : Cell) → cell ≢ c → (now : Own) (copy : Copying) (done : Done) → TakenCopy heard own c now copy
+    goes_apart : (c : Cell) → cell ≢ c → (now : PairState) (copy : Copying) (done : JobResult) → TakenCopy heard own c now copy
         → CopyStep here now c copy done → Step done
     goes_apart c ne now copy done taken step =
         let one = taken_apart c ne now copy taken in
@@ -293,7 +293,7 @@ module _ (heard : Body → Type 0) (here : Here) (links : ℕ) (row : LinkRow) (
         (step_apart c ne now one.0.copying copy one.1 of.0 of.1 of.2 done step)
 
     -- a copy that begins asks first
-    begun_own : (c : Cell) (done : Done) → CopyStep here (begins_copy own c) c (first_copy own.pairs.next) done → done.own ≡ begins_copy own c
+    begun_own : (c : Cell) (done : JobResult) → CopyStep here (begins_copy own c) c (first_copy own.pairs.next) done → done.own ≡ begins_copy own c
     begun_own c _ (Asks_to_trim fresh) = refl
     begun_own c _ (Sends r trimmed there) = true_false trimmed refl
     begun_own c _ (Unmarks_copied kind synced left) = true_false synced.trimmed refl
@@ -308,7 +308,7 @@ module _ (heard : Body → Type 0) (here : Here) (links : ℕ) (row : LinkRow) (
           both = both;
         })
 
-    holder_step : (done : Done) → DidHolder heard here own done → Step done × Says cell done
+    holder_step : (done : JobResult) → DidHolder heard here own done → Step done × Says cell done
     holder_step _ (Asks_page id r other held fresh) = let same = same_paced own refl refl in
         holder_apart _ (Asks_page id r other held fresh) tt same.0 same.1
     holder_step _ (Turns_page id r other after block h held fresh at) = turns_page id r other after block h held fresh at
@@ -340,21 +340,21 @@ module _ (heard : Body → Type 0) (here : Here) (links : ℕ) (row : LinkRow) (
 
     -- ### As the other server of another link
 
-    abbrev KeepsCopies : Own → Own → Type 0
+    abbrev KeepsCopies : PairState → PairState → Type 0
     KeepsCopies now to = (to.copies.progress ≡ now.copies.progress) × (to.copies.pending ≡ now.copies.pending)
 
-    trim_copies : (now : Own) (c : Cell) (last : LastCopy) (holder : ℕ) (done : Done) → TrimStep now c last holder done
+    trim_copies : (now : PairState) (c : Cell) (last : LastCopy) (holder : ℕ) (done : JobResult) → TrimStep now c last holder done
         → KeepsCopies now done.own
     trim_copies now c last holder _ (Is_trimmed none) = (refl, refl)
     trim_copies now c last holder _ (Drops_entry epoch epochs left) = (refl, refl)
 
-    other_copies : (done : Done) → DidOther heard here own done → KeepsCopies own done.own
+    other_copies : (done : JobResult) → DidOther heard here own done → KeepsCopies own done.own
     other_copies done (Is_copied_to number c epochs holder _ h held newer step) =
         trim_copies (with_last_copy own c (first_last number epochs)) c (first_last number epochs) holder done step
     other_copies done (Goes_on_trimming c holder last _ held is step) = trim_copies own c last holder done step
     other_copies _ _ = (refl, refl)
 
-    other_step : (done : Done) → DidOther heard here own done → Step done × Says cell done
+    other_step : (done : JobResult) → DidOther heard here own done → Step done × Says cell done
     other_step done d =
         let apart = away (IsHeldBy heard here own) cell
         (λ h. holder_not_other here f.fit.steady cell row f.is (writes.mine heard here links row vo own cell f) h.holder h.held)
@@ -365,7 +365,7 @@ module _ (heard : Body → Type 0) (here : Here) (links : ℕ) (row : LinkRow) (
           (λ post i e. at_away cell (other_cell heard here own done d) (other_says heard here own done d post i cell e) apart),
         )
 
-    second_step : (done : Done) → DidSecond heard here own done → Step done
+    second_step : (done : JobResult) → DidSecond heard here own done → Step done
     second_step done d =
         let frame = of_second heard here own done d in
         let paced = same_paced done.own (ap (λ (c : Copies). c.progress) frame.copies) (ap (λ (c : Copies). c.pending) frame.copies) in
@@ -375,7 +375,7 @@ module _ (heard : Body → Type 0) (here : Here) (links : ℕ) (row : LinkRow) (
         (subst (λ (c : Cell). is_second here.state here.me c ≡ true) (sym e) (second_follows heard here own done d))))
         (let e = frame.next in omega arith) paced.0 paced.1
 
-    did_step : (done : Done) → Did heard here own done → Step done × Says cell done
+    did_step : (done : JobResult) → Did heard here own done → Step done × Says cell done
     did_step _ Ignores = (itself cell own f.old, (λ post i. none_in post i))
     did_step _ (Refuses to said is why because) = (
       itself cell own f.old,
@@ -383,7 +383,7 @@ module _ (heard : Body → Type 0) (here : Here) (links : ℕ) (row : LinkRow) (
     )
     did_step done (By_read _ d) =
         let r = of_read heard here own done d in (
-          subst (λ (x : Own). HolderStep heard links row cell vo own x) (sym r.same) (itself cell own f.old),
+          subst (λ (x : PairState). HolderStep heard links row cell vo own x) (sym r.same) (itself cell own f.old),
           (λ post i e. untold row (Some done.own) vo post.body (read_not post (r.says post i))),
         )
     did_step done (By_lead _ d) = (writes.lead_step heard here links row vo own cell f done d, writes.lead_says heard here links row vo own cell f done d)
@@ -408,7 +408,7 @@ module _ (heard : Body → Type 0) (here : Here) (links : ℕ) (row : LinkRow) (
         )
 
     -- what is kept
-    pub holds : (done : Done) → Did heard here own done → HolderKeeps heard links row cell own vo done
+    pub holds : (done : JobResult) → Did heard here own done → HolderKeeps heard links row cell own vo done
     holds done d =
         let s = did_step done d in
         record {

@@ -17,36 +17,36 @@ use Rattle.petal_table.specs.Table.{at}
 use Rattle.spec_history.specs.Claims.{IsMarked}
 use Rattle.spec_rules.specs.Copies.{cell_at, same_block, with_page}
 use Rattle.spec_rules.specs.Progress.{copying_on, no_progress, progress_on}
-use Rattle.spec_rules.specs.Server.{Own, Copies}
+use Rattle.spec_rules.specs.Server.{PairState, Copies}
 use Rattle.spec_rules.specs.State.{id_of, link_cmp}
 use Rattle.spec_rules.specs.Store.{Chain, Store, cell_cmp, chain_in, is_marked, with_mark_on}
 use Rattle.spec_rules.specs.Writes.{pending_on}
 use Rattle.spec_rules.proofs.Tests.{by_bool, none_some, same_or_apart, some_or_none, true_false}
-use Rattle.law_state.specs.Started.{is_flagged}
+use Rattle.law_state.specs.StartedBallots.{is_flagged}
 use Rattle.law_steps.specs.Ready.{IsRising}
-use Rattle.law_copies.specs.Copied.{AreCopying, AreInOrder, IsCopied, IsCovered, Is_equal, Is_marked_here, Is_marked_there}
-use Rattle.law_copies.specs.Copied.{Is_to_be_copied, IsLeft, IsPage, NotCopied}
-use Rattle.law_copies.specs.Steps.{IsStill, KeepsCell}
+use Rattle.law_copies.specs.CopyProgress.{AreCopying, AreInOrder, IsCopied, IsCovered, Is_equal, Is_marked_here, Is_marked_there}
+use Rattle.law_copies.specs.CopyProgress.{Is_to_be_copied, IsLeft, IsPage, NotCopied}
+use Rattle.law_copies.specs.LoneSteps.{IsStill, KeepsCell}
 use Rattle.law_copies.proofs.AllPut.{copied_now}
 use Rattle.law_jobs.proofs.ChainsApart.{page_chains}
-use Rattle.law_copies.proofs.Holding.{HolderStep, IsUntouched, calm_step, covers, to_be_copied}
+use Rattle.law_copies.proofs.HolderChanges.{HolderStep, IsUntouched, calm_step, covers, to_be_copied}
 use Rattle.law_jobs.proofs.MarksApart.{mark_there}
-use Rattle.law_copies.proofs.Onward.{IsOnward, onward_tables}
-use Rattle.law_copies.proofs.Pacing.{IsPaced, paced_table, page_flag, page_marks, progress_itself, same_block_is}
+use Rattle.law_copies.proofs.CopiesGoOn.{IsOnward, onward_tables}
+use Rattle.law_copies.proofs.HolderPace.{IsPaced, paced_table, page_flag, page_marks, progress_itself, same_block_is}
 
-module _ (heard : Body → Type 0) {links : ℕ} {row : LinkRow} {cell : Cell} {vo : Option Own} {own : Own}
+module _ (heard : Body → Type 0) {links : ℕ} {row : LinkRow} {cell : Cell} {vo : Option PairState} {own : PairState}
     (old : AreCopying links row cell (Some own) vo) where
-  abbrev Step : Own → Type 0
+  abbrev Step : PairState → Type 0
   Step to = HolderStep heard links row cell vo own to
 
   -- ### Of other cells
 
-  kept_marks : (one two : Own) → ((kind : MarkKind) → is_marked two.store kind cell ≡ is_marked one.store kind cell)
+  kept_marks : (one two : PairState) → ((kind : MarkKind) → is_marked two.store kind cell ≡ is_marked one.store kind cell)
       → IsMarked one.store cell → IsMarked two.store cell
   kept_marks one two same (inl busy) = inl (same Busy ∙ busy)
   kept_marks one two same (inr stale) = inr (same Stale ∙ stale)
 
-  module _ (to : Own) (k : KeepsCell cell own to) (next : own.pairs.next ≤ to.pairs.next) (paced : IsPaced row own to)
+  module _ (to : PairState) (k : KeepsCell cell own to) (next : own.pairs.next ≤ to.pairs.next) (paced : IsPaced row own to)
       (onward : IsOnward links row cell own to) where
     kept_untouched : IsUntouched cell own to
     kept_untouched = record {
@@ -112,7 +112,7 @@ module _ (heard : Body → Type 0) {links : ℕ} {row : LinkRow} {cell : Cell} {
   -- ### Of a write on the cell: no copy of it is under way, and no ballot was started
 
   module _ (idle : copying_on own cell ≡ None) (unflagged : is_flagged own (id_of row) ≡ false) where
-    module _ (to : Own) (copies : to.copies ≡ own.copies) (next : own.pairs.next ≤ to.pairs.next)
+    module _ (to : PairState) (copies : to.copies ≡ own.copies) (next : own.pairs.next ≤ to.pairs.next)
         (marks : IsMarked own.store cell → IsMarked to.store cell)
         (chain : (chain_in to.store.chains cell ≡ chain_in own.store.chains cell) ⊎ IsMarked to.store cell)
         (stored : chain_in own.store.chains cell ≢ [] → chain_in to.store.chains cell ≢ [])
@@ -176,7 +176,7 @@ module _ (heard : Body → Type 0) {links : ℕ} {row : LinkRow} {cell : Cell} {
   module _ (after : Option ℕ) (map_is : cell.map ≡ row.map) (fresh : (progress_on own row).paged ≡ false)
       (waited : same_block after (progress_on own row).after ≡ true) (idle : copying_on own cell ≡ None) (met : is_some vo ≡ true)
       (none : (later : ℕ) → link_of links later ≡ row.link → copying_on own (cell_at row later) ≡ None) where
-    abbrev turned : Option ℕ → Own
+    abbrev turned : Option ℕ → PairState
     turned block = with_page own row (progress_on own row) block
 
     waited_past : above (progress_on own row).after cell.block ≡ true → above after cell.block ≡ true
@@ -224,7 +224,7 @@ module _ (heard : Body → Type 0) {links : ℕ} {row : LinkRow} {cell : Cell} {
     page_covers None now page (Is_marked_there m np) = absurd (page.least (waited_past np.1) tt m)
     page_covers (Some block) now page (Is_marked_there m np) =
         let le = passed block now page m np.1 in
-        let marked : Own = record own { store = with_mark_on own.store Stale (cell_at row block) } in
+        let marked : PairState = record own { store = with_mark_on own.store Stale (cell_at row block) } in
         let stands = progress_itself marked row (record (progress_on own row) { after = Some block }) in
         elim (same_or_apart block cell.block) [
           | inl e ↦ (

@@ -18,43 +18,43 @@ use Rattle.spec_history.specs.Claims.{IsMarked}
 use Rattle.spec_rules.specs.Fills.{fill_operation}
 use Rattle.spec_rules.specs.Lists.{In}
 use Rattle.spec_rules.specs.Progress.{copying_on, has_proposed}
-use Rattle.spec_rules.specs.Server.{Own, Copies, Here, Post, Done}
+use Rattle.spec_rules.specs.Server.{PairState, Copies, JobContext, Post, JobResult}
 use Rattle.spec_rules.specs.State.{id_of, in_both, live}
 use Rattle.spec_rules.specs.Store.{Store, chain_in, epochs_of, is_marked, version_of, with_ticket}
 use Rattle.spec_rules.specs.Writes.{ends, gives_back, marks, operation, pending_on, puts, unmarks, with_opened, without_pending}
 use Rattle.spec_rules.proofs.Tests.{same_some, true_false}
-use Rattle.law_state.specs.Started.{is_flagged}
+use Rattle.law_state.specs.StartedBallots.{is_flagged}
 use Rattle.law_steps.specs.Ready.{IsRising}
 use Rattle.law_steps.specs.DidLead.{DidLead, Asks, A_trim, A_copied_entry, An_entry_to_move, Of_the_log, Asks_for, Repeats, Is_full}
 use Rattle.law_steps.specs.DidLead.{Opens, Marks, Puts, Gives_up, Unmarks, Closes, Opens_alone, Marks_alone, Puts_alone, Unmarks_alone, Closes_alone}
 use Rattle.law_steps.specs.DidLead.{Opens_fill, Opens_fill_alone, Has_fill, Has_no_room, Goes_on_dead, Taken}
 use Rattle.law_steps.specs.Did.{By_lead}
-use Rattle.law_steps.proofs.Leading.{stage_live}
-use Rattle.law_steps.proofs.Minds.{held_as_flag}
-use Rattle.law_steps.proofs.Staged.{same_cell_or_apart}
+use Rattle.law_steps.proofs.WhoLeads.{stage_live}
+use Rattle.law_steps.proofs.HeldBackForCaughts.{held_as_flag}
+use Rattle.law_steps.proofs.OperationsRest.{same_cell_or_apart}
 use Rattle.law_steps.proofs.Subjects.{of_ending, of_lead}
-use Rattle.law_steps.proofs.Taking.{IsTaken, taking}
-use Rattle.law_copies.specs.Copied.{IsTold}
-use Rattle.law_copies.specs.Steps.{IsHolding, KeepsCell}
+use Rattle.law_steps.proofs.TakenUpAlone.{IsTaken, taking}
+use Rattle.law_copies.specs.CopyProgress.{IsTold}
+use Rattle.law_copies.specs.LoneSteps.{IsHolding, KeepsCell}
 use Rattle.law_jobs.proofs.ChainsApart.{chain_put}
 use Rattle.law_jobs.proofs.CountsGrow.{did_count}
 use Rattle.law_copies.proofs.CopyMoves as moves
-use Rattle.law_copies.proofs.Filled.{no_entries}
+use Rattle.law_copies.proofs.EmptyCellsHaveNoChain.{no_entries}
 use Rattle.law_copies.proofs.HolderSteps as steps
-use Rattle.law_copies.proofs.Holding.{HolderStep}
+use Rattle.law_copies.proofs.HolderChanges.{HolderStep}
 use Rattle.law_jobs.proofs.MarksApart.{mark_kept, stale_kept}
-use Rattle.law_copies.proofs.Onward.{IsOnward, onward_tables}
-use Rattle.law_copies.proofs.Pacing.{IsPaced, paced_table}
-use Rattle.law_copies.proofs.Rising.{did_rising}
-use Rattle.law_copies.proofs.Sent.{filling_not, lead_sends, logged_not, untold}
-use Rattle.law_copies.proofs.Standing.{alone_not_in_both}
-use Rattle.law_copies.proofs.Standing.{only_alone}
-use Rattle.law_copies.proofs.Working.{Away, lead_beside, lead_cell}
+use Rattle.law_copies.proofs.CopiesGoOn.{IsOnward, onward_tables}
+use Rattle.law_copies.proofs.HolderPace.{IsPaced, paced_table}
+use Rattle.law_copies.proofs.EpochsRise.{did_rising}
+use Rattle.law_copies.proofs.CopyLetters.{filling_not, lead_sends, logged_not, untold}
+use Rattle.law_copies.proofs.RolesOfWorkers.{alone_not_in_both}
+use Rattle.law_copies.proofs.RolesOfWorkers.{only_alone}
+use Rattle.law_copies.proofs.WorkedCell.{Away, lead_beside, lead_cell}
 
-module _ (heard : Body → Type 0) (here : Here) (links : ℕ) (row : LinkRow) (vo : Option Own) (own : Own) where
+module _ (heard : Body → Type 0) (here : JobContext) (links : ℕ) (row : LinkRow) (vo : Option PairState) (own : PairState) where
   -- ### A write on the cell
 
-  module _ (now : Own) (op : Pending) (taken : Taken own now op) (f : IsHolding heard here links row op.cell own vo) where
+  module _ (now : PairState) (op : Pending) (taken : Taken own now op) (f : IsHolding heard here links row op.cell own vo) where
     abbrev k : IsTaken own now op
     k = taking own now op taken
 
@@ -83,7 +83,7 @@ module _ (heard : Body → Type 0) (here : Here) (links : ℕ) (row : LinkRow) (
     taken_chain : chain_in now.store.chains op.cell ≡ chain_in own.store.chains op.cell
     taken_chain = ap (λ (s : Store). chain_in s.chains op.cell) k.store
 
-    taken_step : (to : Own) → to.copies ≡ now.copies → to.pairs.next ≡ now.pairs.next
+    taken_step : (to : PairState) → to.copies ≡ now.copies → to.pairs.next ≡ now.pairs.next
         → (IsMarked now.store op.cell → IsMarked to.store op.cell)
         → (chain_in to.store.chains op.cell ≡ chain_in now.store.chains op.cell) ⊎ IsMarked to.store op.cell
         → (chain_in now.store.chains op.cell ≢ [] → chain_in to.store.chains op.cell ≢ [])
@@ -148,11 +148,11 @@ module _ (heard : Body → Type 0) (here : Here) (links : ℕ) (row : LinkRow) (
       ]) (inl refl) (λ some. some) (f.fit.rising op.cell)
 
   module _ (cell : Cell) where
-    abbrev Says : Done → Type 0
+    abbrev Says : JobResult → Type 0
     Says done = (post : Post) → In post done.posts → (about post.body).cell ≡ Some cell → IsTold row (Some done.own) vo post.body
 
   module _ (cell : Cell) (f : IsHolding heard here links row cell own vo) where
-    abbrev Step : Done → Type 0
+    abbrev Step : JobResult → Type 0
     Step done = HolderStep heard links row cell vo own done.own
 
     pub mine : is_alone here.me row.state ≡ true
@@ -165,40 +165,40 @@ module _ (heard : Body → Type 0) (here : Here) (links : ℕ) (row : LinkRow) (
     not_in_both c e both = alone_not_in_both here f.fit.steady cell row f.is here.me mine
         (subst (λ (q : Cell). in_both here.state q ≡ true) (sym e) both)
 
-    pub kept : (done : Done) → KeepsCell cell own done.own → own.pairs.next ≤ done.own.pairs.next → IsPaced row own done.own
+    pub kept : (done : JobResult) → KeepsCell cell own done.own → own.pairs.next ≤ done.own.pairs.next → IsPaced row own done.own
         → IsOnward links row cell own done.own → Step done
     kept done k next paced onward = steps.kept_step heard f.old done.own k next paced onward
 
     -- where nothing is changed of copies at the holder
-    pub same_paced : (to : Own) → to.copies.progress ≡ own.copies.progress → to.copies.pending ≡ own.copies.pending
+    pub same_paced : (to : PairState) → to.copies.progress ≡ own.copies.progress → to.copies.pending ≡ own.copies.pending
         → IsPaced row own to × IsOnward links row cell own to
     same_paced to progress pending = let paced = paced_table row own to progress in
         (paced, onward_tables links row cell own to progress pending paced)
 
     -- ### Writes
 
-    lead_apart : (done : Done) (d : DidLead heard here own done) → Away cell (lead_cell heard here own done d) → Step done
+    lead_apart : (done : JobResult) (d : DidLead heard here own done) → Away cell (lead_cell heard here own done d) → Step done
     lead_apart done d apart =
         let copies = (of_lead heard here own done d).copies in
         let paced = same_paced done.own (ap (λ (c : Copies). c.progress) copies) (ap (λ (c : Copies). c.pending) copies) in
         kept done (lead_beside heard here own f.fit.ready done d cell apart) (did_count heard here own done (By_lead done d)) paced.0 paced.1
 
     -- at the cell of the operation, or apart from it
-    either : (c : Cell) (to : Own) → (IsHolding heard here links row c own vo → HolderStep heard links row c vo own to)
+    either : (c : Cell) (to : PairState) → (IsHolding heard here links row c own vo → HolderStep heard links row c vo own to)
         → (cell ≢ c → HolderStep heard links row cell vo own to) → HolderStep heard links row cell vo own to
     either c to here_it apart = elim (same_cell_or_apart cell c) [
       | inl e ↦ subst (λ (q : Cell). HolderStep heard links row q vo own to) (sym e) (here_it (at_cell c e))
       | inr ne ↦ apart ne
     ]
 
-    both_not : (c : Cell) (to : Own) → in_both here.state c ≡ true → (cell ≢ c → HolderStep heard links row cell vo own to)
+    both_not : (c : Cell) (to : PairState) → in_both here.state c ≡ true → (cell ≢ c → HolderStep heard links row cell vo own to)
         → HolderStep heard links row cell vo own to
     both_not c to both apart = elim (same_cell_or_apart cell c) [ inl e ↦ not_in_both c e both | inr ne ↦ apart ne ]
 
-    rises : (done : Done) → DidLead heard here own done → (c : Cell) → IsRising nat_cmp (chain_in done.own.store.chains c)
+    rises : (done : JobResult) → DidLead heard here own done → (c : Cell) → IsRising nat_cmp (chain_in done.own.store.chains c)
     rises done d c = did_rising heard here own f.fit.rising done (By_lead done d) c
 
-    pub lead_step : (done : Done) → DidLead heard here own done → Step done
+    pub lead_step : (done : JobResult) → DidLead heard here own done → Step done
     lead_step _ (Asks_for posts h) = lead_apart _ (Asks_for posts h) tt
     lead_step _ (Repeats want last h lead is e) = lead_apart _ (Repeats want last h lead is e) tt
     lead_step _ (Is_full want new no_room) = lead_apart _ (Is_full want new no_room) tt
@@ -246,8 +246,8 @@ module _ (heard : Body → Type 0) (here : Here) (links : ℕ) (row : LinkRow) (
     asks_told post (Of_the_log _ logged) e = untold row (Some own) vo post.body (logged_not (subject_of post.body) logged)
     asks_told _ _ e = tt
 
-    pub lead_says : (done : Done) → DidLead heard here own done → Says cell done
+    pub lead_says : (done : JobResult) → DidLead heard here own done → Says cell done
     lead_says done d post i e = elim (lead_sends heard here own done d post i) [
-      | inl asks ↦ subst (λ (x : Own). IsTold row (Some x) vo post.body) (sym asks.1) (asks_told post asks.0 e)
+      | inl asks ↦ subst (λ (x : PairState). IsTold row (Some x) vo post.body) (sym asks.1) (asks_told post asks.0 e)
       | inr ne ↦ untold row (Some done.own) vo post.body ne
     ]

@@ -20,26 +20,26 @@ use Rattle.spec_state.specs.Place.{touches, touches_cell}
 use Rattle.spec_rules.specs.Copies.{cell_at}
 use Rattle.spec_rules.specs.Crossing.{crossed, dies, ends_cell, ends_link, touches_link}
 use Rattle.spec_rules.specs.Progress.{copying_on, last_copy, no_progress, progress_on}
-use Rattle.spec_rules.specs.Server.{Copies, Own, Pairs}
+use Rattle.spec_rules.specs.Server.{Copies, PairState, Pairs}
 use Rattle.spec_rules.specs.State.{State, id_of, link_cmp, link_named, live}
 use Rattle.spec_rules.specs.Store.{cell_cmp, chain_in, mark_on}
 use Rattle.spec_rules.proofs.CellTables.{cell_cmp_same}
 use Rattle.spec_rules.proofs.Tests.{by_bool, none_some, true_false}
-use Rattle.law_log.proofs.Flags.{same_id}
+use Rattle.law_log.proofs.BallotFlags.{same_id}
 use Rattle.law_state.specs.Homes.{stage_at}
-use Rattle.law_state.proofs.Links.{either_false}
-use Rattle.law_steps.proofs.Leading.{live_stage, stage_live}
-use Rattle.law_steps.proofs.Resting.{row_named}
-use Rattle.law_copies.specs.Good.{IsUnheard}
-use Rattle.law_copies.specs.Steps.{IsBare, KeepsCell}
-use Rattle.law_copies.proofs.Fresh.{IsFresh}
-use Rattle.law_copies.proofs.Onward.{IsOnward, onward_by}
-use Rattle.law_copies.proofs.Pacing.{IsPaced}
+use Rattle.law_state.proofs.NewMapLinks.{either_false}
+use Rattle.law_steps.proofs.WhoLeads.{live_stage, stage_live}
+use Rattle.law_steps.proofs.CopiesRest.{row_named}
+use Rattle.law_copies.specs.GoodCopies.{IsUnheard}
+use Rattle.law_copies.specs.LoneSteps.{IsBare, KeepsCell}
+use Rattle.law_copies.proofs.NewcomersRememberNothing.{IsFresh}
+use Rattle.law_copies.proofs.CopiesGoOn.{IsOnward, onward_by}
+use Rattle.law_copies.proofs.HolderPace.{IsPaced}
 
 -- ### What an entry leaves of a server's own part
 
 -- all that concerns the cell and its link is as before
-pub record KeepsAll (own to : Own) (row : LinkRow) (cell : Cell) : Type 0 where
+pub record KeepsAll (own to : PairState) (row : LinkRow) (cell : Cell) : Type 0 where
   pub keeps : KeepsCell cell own to
   pub next : to.pairs.next ≡ own.pairs.next
   pub pages : at link_cmp to.copies.progress (id_of row) ≡ at link_cmp own.copies.progress (id_of row)
@@ -47,7 +47,7 @@ pub record KeepsAll (own to : Own) (row : LinkRow) (cell : Cell) : Type 0 where
   pub copies : (q : Cell) (copy : Copying) → copying_on to q ≡ Some copy → copying_on own q ≡ Some copy
 
 -- the copies of the link go on by that
-pub keeps_onward : (links : ℕ) (own to : Own) (row : LinkRow) (cell : Cell) → KeepsAll own to row cell
+pub keeps_onward : (links : ℕ) (own to : PairState) (row : LinkRow) (cell : Cell) → KeepsAll own to row cell
     → IsPaced row own to × IsOnward links row cell own to
 keeps_onward links own to row cell all =
     let paced : IsPaced row own to = record {
@@ -61,7 +61,7 @@ keeps_onward links own to row cell all =
     )
 
 -- an entry leaves this of a server's part, whose chains and marks stay as they are
-pub record IsCrossed (state : State) (entry : Command) (old new : Own) : Type 0 where
+pub record IsCrossed (state : State) (entry : Command) (old new : PairState) : Type 0 where
   pub pairs : new.pairs ≡ (crossed state entry old).pairs
   pub copies : new.copies ≡ (crossed state entry old).copies
   pub chains : new.store.chains ≡ old.store.chains
@@ -87,7 +87,7 @@ live_then : (state : State) (entry : Command) (cell : Cell) → dies state entry
 live_then state entry cell stays on = by_bool (live (after state entry) cell) (λ t. t)
     (λ off. true_false (ap (λ b. live state cell && not b) off ∙ ap (λ b. b && true) on) stays)
 
-module _ (state : State) (entry : Command) (own : Own) where
+module _ (state : State) (entry : Command) (own : PairState) where
   cells_left : {X : Type 0} (t : Table Cell X) (cell : Cell)
       → at cell_cmp (filter (λ row. not (ends_cell state entry row.0)) t) cell ≡ cond (not (ends_cell state entry cell)) (at cell_cmp t cell) None
   cells_left t cell = at-where cell_cmp t (λ k. not (ends_cell state entry k)) cell
@@ -177,7 +177,7 @@ module _ (state : State) (entry : Command) (own : Own) where
       }
 
   -- what is so of that is so of what the entry leaves
-  module _ (new : Own) (left : IsCrossed state entry own new) where
+  module _ (new : PairState) (left : IsCrossed state entry own new) where
     pub left_fresh : (row : LinkRow) (cell : Cell) → IsFresh (crossed state entry own) row cell → IsFresh new row cell
     left_fresh row cell fresh = record {
       last = ap (λ (p : Pairs). at cell_cmp p.last cell) left.pairs ∙ fresh.last;

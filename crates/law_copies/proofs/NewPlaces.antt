@@ -7,7 +7,7 @@ use Rattle.petal_base.specs.declared.cell.Cell.{Cell}
 use Rattle.petal_command.specs.declared.command.Command.{Command}
 use Rattle.petal_msg.specs.declared.operation.Pending.{Pending}
 use Rattle.spec_state.specs.Command.{state_after}
-use Rattle.spec_rules.specs.Server.{Own}
+use Rattle.spec_rules.specs.Server.{PairState}
 use Rattle.spec_rules.specs.State.{is_whole}
 use Rattle.spec_rules.specs.Store.{Store, cell_cmp, chain_in}
 use Rattle.spec_rules.specs.World.{Setting}
@@ -15,11 +15,11 @@ use Rattle.spec_rules.proofs.Tests.{none_some}
 use Rattle.petal_table.specs.Table.{at}
 use Rattle.petal_table.proofs.Rows.{at-empty}
 use Rattle.law_state.proofs.Leaves.{other_between}
-use Rattle.law_copies.specs.Copied.{AreAlike, IsCovered, Is_equal, Is_marked_here, Is_marked_there, Is_to_be_copied}
-use Rattle.law_copies.specs.Good.{AloneOk, AreBeside, AreTwins}
+use Rattle.law_copies.specs.CopyProgress.{AreAlike, IsCovered, Is_equal, Is_marked_here, Is_marked_there, Is_to_be_copied}
+use Rattle.law_copies.specs.GoodCopies.{AloneOk, AreBeside, AreTwins}
 use Rattle.law_copies.specs.Pair.{IsRecalled, PairOk, far, pair_of}
 use Rattle.law_copies.specs.Visits.{AliveIn, HasFilled, Visits, half, place_by, store_by}
-use Rattle.law_copies.proofs.Covering.{AreRecalled, covered_first, covered_second}
+use Rattle.law_copies.proofs.UnequalIsMarked.{AreRecalled, covered_first, covered_second}
 
 -- ### The other server
 
@@ -33,22 +33,22 @@ in_common f row holder has same = elim (other_between row holder has) [
 
 -- ### Two copies of a link in Both
 
-pub half_store : (visit : Option Own) (store : Store) → (half visit store).store ≡ store
+pub half_store : (visit : Option PairState) (store : Store) → (half visit store).store ≡ store
 half_store None store = refl
 half_store (Some own) store = refl
 
 -- what a server has in memory of the place it recalls
-recalled_half : (visit : Option Own) (a : Store) (cell : Cell)
-    → ((own : Own) (op : Pending) → visit ≡ Some own → at cell_cmp own.pairs.pending cell ≡ Some op → IsRecalled op a cell) → AreRecalled (half visit a) cell
+recalled_half : (visit : Option PairState) (a : Store) (cell : Cell)
+    → ((own : PairState) (op : Pending) → visit ≡ Some own → at cell_cmp own.pairs.pending cell ≡ Some op → IsRecalled op a cell) → AreRecalled (half visit a) cell
 recalled_half None a cell recalled op there = none_some (at-empty cell_cmp cell) there
 recalled_half (Some own) a cell recalled op there = recalled own op refl there
 
 module _ (stores : ℕ → Store) (visits : Visits) (place : ℕ) (row now : LinkRow) (cell : Cell)
     (twins : AreTwins stores visits place cell row.primary row.secondary) where
-  abbrev lead_half : Own
+  abbrev lead_half : PairState
   lead_half = half (visits row.primary place cell) (stores row.primary)
 
-  abbrev second_half : Own
+  abbrev second_half : PairState
   second_half = half (visits row.secondary place cell) (stores row.secondary)
 
   recalled : AreRecalled lead_half cell
@@ -76,7 +76,7 @@ module _ (stores : ℕ → Store) (visits : Visits) (place : ℕ) (row now : Lin
   ]
 
 -- what covers the copies at one place covers them at the next one, at which the holder has heard of no block
-pub cover_again : (row now : LinkRow) (cell : Cell) (a b : Store) (visit : Option Own) → (is_whole row.state ≡ true → is_whole now.state ≡ true)
+pub cover_again : (row now : LinkRow) (cell : Cell) (a b : Store) (visit : Option PairState) → (is_whole row.state ≡ true → is_whole now.state ≡ true)
     → IsCovered row cell a b visit → IsCovered now cell a b None
 cover_again row now cell a b visit whole (Is_equal same) = Is_equal same
 cover_again row now cell a b visit whole (Is_marked_here marked) = Is_marked_here marked

@@ -11,7 +11,7 @@ use Rattle.spec_state.specs.Command.{after}
 use Rattle.spec_state.specs.Place.{touches}
 use Rattle.spec_rules.specs.Blanked.{joins_blank}
 use Rattle.spec_rules.specs.Lists.{In}
-use Rattle.spec_rules.specs.Server.{Own}
+use Rattle.spec_rules.specs.Server.{PairState}
 use Rattle.spec_rules.specs.State.{State}
 use Rattle.spec_rules.specs.Store.{Store, chain_in}
 use Rattle.spec_rules.specs.World.{blank_joins_in}
@@ -19,17 +19,17 @@ use Rattle.spec_rules.proofs.ListLemmas.{in_later}
 use Rattle.spec_rules.proofs.Tests.{by_bool, none_some, number_itself, same_numbers, same_some, some_or_none}
 use Rattle.law_state.specs.Homes.{stage_at}
 use Rattle.law_state.specs.Plain.{IsPlain, IsPlainLog}
-use Rattle.law_state.specs.Rows.{IsLater}
+use Rattle.law_state.specs.LinkRows.{IsLater}
 use Rattle.law_state.specs.Steady.{IsSteady}
 use Rattle.law_state.proofs.BlankJoins.{joins_grow}
 use Rattle.law_state.proofs.Steady.{front_plain, log_steady}
-use Rattle.law_state.proofs.Touching.{log_entry_stays}
+use Rattle.law_state.proofs.EntriesTouchLinks.{log_entry_stays}
 use Rattle.law_steps.proofs.Fronts.{front_itself, front_more, front_on}
 use Rattle.law_copies.specs.Visits.{AliveIn, IsLinked, place_by, store_by}
 use Rattle.law_copies.proofs.AtNext.{AtNext, next_of}
-use Rattle.law_copies.proofs.Places.{alive_on, linked_between, place_of_later, place_touched}
-use Rattle.law_copies.proofs.Places.{place_untouched, places_up, rows_later, state_next, unborn}
-use Rattle.law_copies.proofs.Renewed.{counts_more, no_blank_join, no_chains}
+use Rattle.law_copies.proofs.PlacesByFronts.{alive_on, linked_between, place_of_later, place_touched}
+use Rattle.law_copies.proofs.PlacesByFronts.{place_untouched, places_up, rows_later, state_next, unborn}
+use Rattle.law_copies.proofs.BlankJoinsRenewLinks.{counts_more, no_blank_join, no_chains}
 
 module _ (it : AtNext) where
   open it use {setting, top, entry, old, new, good, following, all, recounts}
@@ -53,7 +53,7 @@ module _ (it : AtNext) where
   later_then cell row now is end = rows_later setting next all top next cell row now (front_more top entry) (front_itself next) is end
 
   -- who was at a place of a cell that has a link then knew its link
-  been_linked : (n place : ℕ) (cell : Cell) (own : Own) → good.visits n place cell ≡ Some own → (now : LinkRow) → IsLinked setting next cell now
+  been_linked : (n place : ℕ) (cell : Cell) (own : PairState) → good.visits n place cell ≡ Some own → (now : LinkRow) → IsLinked setting next cell now
       → (row : LinkRow) × IsLinked setting top cell row
   been_linked n place cell own visited now end =
       let b = good.been n place cell own visited in
@@ -61,7 +61,7 @@ module _ (it : AtNext) where
       (front_itself next) b.linked end
 
   -- and the place is not past that by the entries so far
-  been_below : (n place : ℕ) (cell : Cell) (own : Own) (row : LinkRow) → good.visits n place cell ≡ Some own → IsLinked setting top cell row
+  been_below : (n place : ℕ) (cell : Cell) (own : PairState) (row : LinkRow) → good.visits n place cell ≡ Some own → IsLinked setting top cell row
       → place ≤ place_by setting top row
   been_below n place cell own row visited is =
       let b = good.been n place cell own visited in
@@ -82,7 +82,7 @@ module _ (it : AtNext) where
     | inr r ↦ been_below r.server (good.reached cell) cell r.own row r.visited is
   ]
 
-  unvisited : (n : ℕ) (place : ℕ) (cell : Cell) → ((own : Own) → good.visits n place cell ≡ Some own → ⊥) → good.visits n place cell ≡ None
+  unvisited : (n : ℕ) (place : ℕ) (cell : Cell) → ((own : PairState) → good.visits n place cell ≡ Some own → ⊥) → good.visits n place cell ≡ None
   unvisited n place cell never = elim (some_or_none (good.visits n place cell)) [ inl h ↦ absurd (never h.0 h.1) | inr none ↦ none ]
 
   -- nobody has been at the new place of a link that the entry touches

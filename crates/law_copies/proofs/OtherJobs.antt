@@ -15,11 +15,11 @@ use Rattle.spec_history.specs.Claims.{IsMarked}
 use Rattle.spec_rules.specs.Copies.{Entry, marked_blocks, puts_entry}
 use Rattle.spec_rules.specs.Lists.{In}
 use Rattle.spec_rules.specs.Progress.{last_copy, with_last_copy}
-use Rattle.spec_rules.specs.Server.{Own, Here, Post, Done, says_to}
+use Rattle.spec_rules.specs.Server.{PairState, JobContext, Post, JobResult, says_to}
 use Rattle.spec_rules.specs.State.{is_on, is_second}
 use Rattle.spec_rules.specs.Store.{Store, chain_in, is_marked}
 use Rattle.spec_rules.proofs.Tests.{same_some}
-use Rattle.law_state.proofs.Alone.{IsBothRow}
+use Rattle.law_state.proofs.LoneHolders.{IsBothRow}
 use Rattle.law_steps.specs.DidLead.{DidLead, Asks, A_trim, A_copied_entry, An_entry_to_move, Of_the_log}
 use Rattle.law_steps.specs.DidHolder.{DidHolder}
 use Rattle.law_steps.specs.DidOther.{OtherReply, Replies, DidOther, IsOfCopy, first_last, TrimStep, Is_trimmed, Drops_entry, Is_copied_to}
@@ -27,27 +27,27 @@ use Rattle.law_steps.specs.DidOther.{Goes_on_trimming, Puts_entry, Has_entry, Ha
 use Rattle.law_steps.specs.DidSecond.{DidSecond}
 use Rattle.law_steps.specs.Did.{Did, Ignores, Refuses, By_read, By_lead, By_second, By_holder, By_other, By_filler, By_sweep}
 use Rattle.law_steps.proofs.Letters.{one_post, posted}
-use Rattle.law_steps.proofs.Staged.{same_cell_or_apart}
+use Rattle.law_steps.proofs.OperationsRest.{same_cell_or_apart}
 use Rattle.law_steps.proofs.Subjects.{of_filler, of_read, of_second, of_sweep}
-use Rattle.law_copies.specs.Copied.{AreCopying, IsPage, IsTold, IsUpTo}
-use Rattle.law_copies.specs.Steps.{IsFollowing, KeepsCell, KeepsHere, OtherKeeps, StaysTold}
-use Rattle.law_copies.proofs.Apart.{away}
-use Rattle.law_copies.proofs.Following as following
-use Rattle.law_copies.proofs.Following.{CopiedEntry}
-use Rattle.law_copies.proofs.Frames.{keeps_itself}
-use Rattle.law_copies.proofs.Lasts.{past_last, past_of, stays_told, to_put, to_trimmed}
-use Rattle.law_copies.proofs.Left.{among_marked, least_below, on_itself}
-use Rattle.law_copies.proofs.Rising.{did_rising}
-use Rattle.law_copies.proofs.Rows.{in_kept}
+use Rattle.law_copies.specs.CopyProgress.{AreCopying, IsPage, IsTold, IsUpTo}
+use Rattle.law_copies.specs.LoneSteps.{IsFollowing, KeepsCell, KeepsHere, OtherKeeps, StaysTold}
+use Rattle.law_copies.proofs.ForeignCellsStay.{away}
+use Rattle.law_copies.proofs.OtherServerChanges as following
+use Rattle.law_copies.proofs.OtherServerChanges.{CopiedEntry}
+use Rattle.law_copies.proofs.OwnPartFrames.{keeps_itself}
+use Rattle.law_copies.proofs.LastCopies.{past_last, past_of, stays_told, to_put, to_trimmed}
+use Rattle.law_copies.proofs.LeftToCopy.{among_marked, least_below, on_itself}
+use Rattle.law_copies.proofs.EpochsRise.{did_rising}
+use Rattle.law_copies.proofs.ChainsRise.{in_kept}
 use Rattle.law_jobs.proofs.JobsSay.{none_in}
-use Rattle.law_copies.proofs.Sent.{at_away, filling_not, holder_says, lead_sends, logged_not, other_says, page_after, page_block, page_link}
-use Rattle.law_copies.proofs.Sent.{page_map, page_sent, paired_not, read_not, refused_not, untold}
-use Rattle.law_copies.proofs.Standing.{IsHeldHere, IsOtherOf, alone_not_row, alone_not_second, copying_held, holder_works, kept_lives, named_id}
-use Rattle.law_copies.proofs.Standing.{one_named, other_alone, other_not_alone, other_not_leading, other_row}
-use Rattle.law_copies.proofs.Working.{Away, IsLedHere, filler_beside, holder_beside, holder_cell, lead_beside, lead_cell, lead_leads, led_alive}
-use Rattle.law_copies.proofs.Working.{other_beside, other_cell, second_beside, second_follows, sweep_beside}
+use Rattle.law_copies.proofs.CopyLetters.{at_away, filling_not, holder_says, lead_sends, logged_not, other_says, page_after, page_block, page_link}
+use Rattle.law_copies.proofs.CopyLetters.{page_map, page_sent, paired_not, read_not, refused_not, untold}
+use Rattle.law_copies.proofs.RolesOfWorkers.{IsHeldHere, IsOtherOf, alone_not_row, alone_not_second, copying_held, holder_works, kept_lives, named_id}
+use Rattle.law_copies.proofs.RolesOfWorkers.{one_named, other_alone, other_not_alone, other_not_leading, other_row}
+use Rattle.law_copies.proofs.WorkedCell.{Away, IsLedHere, filler_beside, holder_beside, holder_cell, lead_beside, lead_cell, lead_leads, led_alive}
+use Rattle.law_copies.proofs.WorkedCell.{other_beside, other_cell, second_beside, second_follows, sweep_beside}
 
-kept_here : (links : ℕ) (row : LinkRow) (cell : Cell) (vh : Option Own) (own : Own) (old : AreCopying links row cell vh (Some own)) (done : Done)
+kept_here : (links : ℕ) (row : LinkRow) (cell : Cell) (vh : Option PairState) (own : PairState) (old : AreCopying links row cell vh (Some own)) (done : JobResult)
     → KeepsCell cell own done.own
     → ((post : Post) → In post done.posts → (about post.body).cell ≡ Some cell → IsTold row vh (Some done.own) post.body)
     → KeepsHere links row cell vh own done
@@ -60,9 +60,9 @@ kept_here links row cell vh own old done k says = record {
 }
 
 -- the last copy does its next step, where it was remembered in this job or before
-trims_here : (links : ℕ) (row : LinkRow) (cell : Cell) (vh : Option Own) (own now : Own) → now.store ≡ own.store
+trims_here : (links : ℕ) (row : LinkRow) (cell : Cell) (vh : Option PairState) (own now : PairState) → now.store ≡ own.store
     → (copying : AreCopying links row cell vh (Some now))
-    → StaysTold row cell vh (Some own) vh (Some now) → (last : LastCopy) → last_copy now cell ≡ Some last → (holder : ℕ) (done : Done)
+    → StaysTold row cell vh (Some own) vh (Some now) → (last : LastCopy) → last_copy now cell ≡ Some last → (holder : ℕ) (done : JobResult)
     → TrimStep now cell last holder done → KeepsHere links row cell vh own done
 trims_here links row cell vh own now same copying told last is holder _ (Is_trimmed none) = record {
   copying = copying;
@@ -81,10 +81,10 @@ trims_here links row cell vh own now same copying told last is holder _ (Drops_e
   changes = inr (following.dropped_by copying last is epoch epochs left);
 }
 
-module _ {heard : Body → Type 0} {here : Here} {links : ℕ} {row : LinkRow} {vh : Option Own} {own : Own} where
+module _ {heard : Body → Type 0} {here : JobContext} {links : ℕ} {row : LinkRow} {vh : Option PairState} {own : PairState} where
   -- ### At the cell
 
-  copied_to : (cell : Cell) (f : IsFollowing heard here links row cell vh own) (number : ℕ) (epochs : List ℕ) (holder : ℕ) (done : Done)
+  copied_to : (cell : Cell) (f : IsFollowing heard here links row cell vh own) (number : ℕ) (epochs : List ℕ) (holder : ℕ) (done : JobResult)
       → heard (body.Trim number cell epochs)
       → ((last : LastCopy) → last_copy own cell ≡ Some last → last.op < number)
       → TrimStep (with_last_copy own cell (first_last number epochs)) cell (first_last number epochs) holder done
@@ -106,7 +106,7 @@ module _ {heard : Body → Type 0} {here : Here} {links : ℕ} {row : LinkRow} {
   ]
 
   trims_on : (cell : Cell) (f : IsFollowing heard here links row cell vh own) (last : LastCopy) → last_copy own cell ≡ Some last
-      → (holder : ℕ) (done : Done)
+      → (holder : ℕ) (done : JobResult)
       → TrimStep own cell last holder done → KeepsHere links row cell vh own done
   trims_on cell f last is holder done step = trims_here links row cell vh own own refl f.old (λ said e t. t) last is holder done step
 
@@ -165,13 +165,13 @@ module _ {heard : Body → Type 0} {here : Here} {links : ℕ} {row : LinkRow} {
     no_both : IsBothRow here.state cell → ⊥
     no_both b = alone_not_row here f.fit.steady cell row f.is (other_of here.me row) mine.alone b
 
-    abbrev Says : Done → Type 0
+    abbrev Says : JobResult → Type 0
     Says done = (post : Post) → In post done.posts → (about post.body).cell ≡ Some cell → IsTold row vh (Some done.own) post.body
 
-    beside : (done : Done) → KeepsCell cell own done.own → Says done → KeepsHere links row cell vh own done
+    beside : (done : JobResult) → KeepsCell cell own done.own → Says done → KeepsHere links row cell vh own done
     beside done k says = kept_here links row cell vh own f.old done k says
 
-    asks_told : (to : Own) (post : Post) → Asks here own post → (about post.body).cell ≡ Some cell → IsTold row vh (Some to) post.body
+    asks_told : (to : PairState) (post : Post) → Asks here own post → (about post.body).cell ≡ Some cell → IsTold row vh (Some to) post.body
     asks_told to _ (A_trim c copy at is fresh so) e = absurd
         (no_holder (subst (IsHeldHere here) (same_some e) (copying_held heard here own f.fit c copy is)))
     asks_told to _ (A_copied_entry c copy r at is trimmed there so) e = absurd
@@ -181,7 +181,7 @@ module _ {heard : Body → Type 0} {here : Here} {links : ℕ} {row : LinkRow} {
     asks_told to post (Of_the_log _ logged) e = untold row vh (Some to) post.body (logged_not (subject_of post.body) logged)
     asks_told to _ _ e = tt
 
-    lead_here : (done : Done) → DidLead heard here own done → KeepsHere links row cell vh own done
+    lead_here : (done : JobResult) → DidLead heard here own done → KeepsHere links row cell vh own done
     lead_here done d = beside done
         (lead_beside heard here own f.fit.ready done d cell
         (away (IsLedHere heard here own) cell
@@ -193,14 +193,14 @@ module _ {heard : Body → Type 0} {here : Here} {links : ℕ} {row : LinkRow} {
           | inr ne ↦ untold row vh (Some done.own) post.body ne
         ])
 
-    second_here : (done : Done) → DidSecond heard here own done → KeepsHere links row cell vh own done
+    second_here : (done : JobResult) → DidSecond heard here own done → KeepsHere links row cell vh own done
     second_here done d = beside done
         (second_beside heard here own done d cell
         (λ e. alone_not_second here f.fit.steady cell row f.is (other_of here.me row) mine.alone
         (subst (λ (c : Cell). is_second here.state here.me c ≡ true) (sym e) (second_follows heard here own done d))))
         (λ post i e. untold row vh (Some done.own) post.body (paired_not post.body ((of_second heard here own done d).says post i)))
 
-    holder_here : (done : Done) → DidHolder heard here own done → KeepsHere links row cell vh own done
+    holder_here : (done : JobResult) → DidHolder heard here own done → KeepsHere links row cell vh own done
     holder_here done d =
         let apart = away (λ c. IsHeldHere here c ⊎ IsBothRow here.state c) cell
         (λ w. elim w [ inl held ↦ no_holder held | inr both ↦ no_both both ])
@@ -208,7 +208,7 @@ module _ {heard : Body → Type 0} {here : Here} {links : ℕ} {row : LinkRow} {
         beside done (holder_beside heard here own done d cell apart)
         (λ post i e. at_away cell (holder_cell heard here own done d) (holder_says heard here own done d post i cell e) apart)
 
-    other_apart : (done : Done) (d : DidOther heard here own done) → Away cell (other_cell heard here own done d)
+    other_apart : (done : JobResult) (d : DidOther heard here own done) → Away cell (other_cell heard here own done d)
         → KeepsHere links row cell vh own done
     other_apart done d apart = beside done (other_beside heard here own done d cell apart)
         (λ post i e. at_away cell (other_cell heard here own done d) (other_says heard here own done d post i cell e) apart)
@@ -229,7 +229,7 @@ module _ {heard : Body → Type 0} {here : Here} {links : ℕ} {row : LinkRow} {
     ]
     reply_here to said reply = other_apart (says_to own to said) (Replies to said reply) tt
 
-    other_here : (done : Done) → DidOther heard here own done → KeepsHere links row cell vh own done
+    other_here : (done : JobResult) → DidOther heard here own done → KeepsHere links row cell vh own done
     other_here _ (Replies to said reply) = reply_here to said reply
     other_here done (Is_copied_to number c epochs holder _ h held newer step) = elim (same_cell_or_apart cell c) [
       | inl e ↦ copied_to cell f number epochs holder done (subst (λ (x : Cell). heard (body.Trim number x epochs)) (sym e) h)
@@ -250,7 +250,7 @@ module _ {heard : Body → Type 0} {here : Here} {links : ℕ} {row : LinkRow} {
       | inr ne ↦ other_apart _ (Puts_entry entry holder last of at room) ne
     ]
 
-    here_by : (done : Done) → Did heard here own done → KeepsHere links row cell vh own done
+    here_by : (done : JobResult) → Did heard here own done → KeepsHere links row cell vh own done
     here_by _ Ignores = beside _ (keeps_itself cell own) (λ post i. none_in post i)
     here_by _ (Refuses to said is why because) = beside _ (keeps_itself cell own)
         (λ post i e. untold row vh (Some own) post.body (refused_not post.body (ap subject_of (one_post to said post i).1 ∙ is.refused)))
@@ -269,7 +269,7 @@ module _ {heard : Body → Type 0} {here : Here} {links : ℕ} {row : LinkRow} {
 
     -- ### Pages
 
-    page_is : (done : Done) → Did heard here own done → (post : Post) → In post done.posts → (after block : Option ℕ)
+    page_is : (done : JobResult) → Did heard here own done → (post : Post) → In post done.posts → (after block : Option ℕ)
         → post.body ≡ body.Hello row.map row.link after block → IsPage cell done.own.store (Some done.own) after block
     page_is done d post i after block e =
         let p = page_sent heard here own done d post i row.map row.link after block e in
@@ -283,7 +283,7 @@ module _ {heard : Body → Type 0} {here : Here} {links : ℕ} {row : LinkRow} {
         record {
           met = refl;
           least = λ past up_to marked.
-              let was : IsMarked own.store cell = subst (λ (o : Own). IsMarked o.store cell) p.same marked in
+              let was : IsMarked own.store cell = subst (λ (o : PairState). IsMarked o.store cell) p.same marked in
               let there = in_kept (above p.after) (marked_blocks here.state p.row own) cell.block
               (among_marked here.state p.row own cell on (kept_lives heard here own f.fit cell f.alive (inl was)) was)
               (ap (λ o. above o cell.block) (sym (ap page_after same)) ∙ past) in
@@ -293,7 +293,7 @@ module _ {heard : Body → Type 0} {here : Here} {links : ℕ} {row : LinkRow} {
         }
 
     -- what is kept
-    pub follows : (done : Done) → Did heard here own done → OtherKeeps links row cell vh own done
+    pub follows : (done : JobResult) → Did heard here own done → OtherKeeps links row cell vh own done
     follows done d =
         record {
           here = here_by done d;

@@ -23,13 +23,13 @@ use Rattle.law_state.specs.Plain.{IsPlainLog}
 use Rattle.law_state.proofs.BlankJoins.{joined_counts, joins_grow}
 use Rattle.law_state.proofs.Incarnations.{joined_in, joined_once}
 use Rattle.law_steps.proofs.LogHistories.{chosen_join_acts, history_grows, history_is_firm, join_has_begun, join_was_wanted}
-use Rattle.law_steps.proofs.Lists.{parted}
+use Rattle.law_steps.proofs.ListPlaces.{parted}
 use Rattle.law_steps.proofs.Fronts.{front_more, front_on}
-use Rattle.law_copies.specs.Waiting.{AreEmpty, IsEmpty, IsOwn}
+use Rattle.law_copies.specs.WaitingStores.{AreEmpty, IsEmpty, IsOwn}
 use Rattle.law_copies.proofs.EmptyJoins.{joined_where, stands_in}
 use Rattle.law_copies.proofs.StoreKept.{Kept, kept_blanked, kept_more, kept_moves}
 use Rattle.law_jobs.proofs.Runs.{At, OneMore, after, before_part, by_run, firm_in, grown_in, longer, more_of, run_of, setting_in}
-use Rattle.law_copies.proofs.StoreWays.{before_last, stays_filled, step_moves, waits_moves, waits_since}
+use Rattle.law_copies.proofs.StoresAlongRecords.{before_last, stays_filled, step_moves, waits_moves, waits_since}
 
 -- what is kept of all servers' stores
 abbrev AllKept : Setting → World → Type 0

@@ -21,7 +21,7 @@ use Rattle.law_state.specs.Plain.{IsPlainLog}
 use Rattle.law_state.proofs.BlankJoins.{joined_counts, joins_grow}
 use Rattle.law_state.proofs.Incarnations.{joined_since}
 use Rattle.law_steps.proofs.Fronts.{front_itself, front_more, front_on}
-use Rattle.law_copies.specs.Waiting.{IsEmpty}
+use Rattle.law_copies.specs.WaitingStores.{IsEmpty}
 use Rattle.law_copies.proofs.EmptyJoins.{after_front, joins_by_entry, stands_in}
 use Rattle.law_copies.proofs.StoreMoves.{IsSame, Moves, Rests, Works, Enters, Settles, Raises}
 

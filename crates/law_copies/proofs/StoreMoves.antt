@@ -10,16 +10,16 @@ use Rattle.spec_rules.specs.Crossing.{crossed, is_blank_join}
 use Rattle.spec_rules.specs.Jobs.{Acted}
 use Rattle.spec_rules.specs.Lists.{put_at}
 use Rattle.spec_rules.specs.Log.{Log}
-use Rattle.spec_rules.specs.Server.{Own, Server, Done}
+use Rattle.spec_rules.specs.Server.{PairState, Server, JobResult}
 use Rattle.spec_rules.specs.State.{State, is_in}
 use Rattle.spec_rules.specs.Store.{Store, settled}
 use Rattle.spec_rules.specs.World.{Setting, World, blank_joins_in, chosen_log, kept, server_state}
 use Rattle.spec_rules.specs.declared.step.Step.{Step}
 use Rattle.spec_rules.proofs.ListLemmas.{put_apart, put_same}
 use Rattle.spec_rules.proofs.Tests.{all_put_apart, both_true, by_test, same_numbers, same_or_apart, true_false}
-use Rattle.law_steps.specs.Happens.{Happens, Serves, Blanks, Turns, Serving, Goes, Ends, Stays, Wakes, Fails, Worked, By_job}
-use Rattle.law_steps.specs.Happens.{By_ballot, By_entry, own_place, served_so, stopped_so}
-use Rattle.law_steps.specs.Waking.{AllMayWake}
+use Rattle.law_steps.specs.DidStep.{Happens, Serves, Blanks, Turns, Serving, Goes, Ends, Stays, Wakes, Fails, Worked, By_job}
+use Rattle.law_steps.specs.DidStep.{By_ballot, By_entry, own_place, served_so, stopped_so}
+use Rattle.law_steps.specs.WakingServers.{AllMayWake}
 use Rattle.law_copies.proofs.StoreJobs.{ballot_store, did_waits}
 
 -- a store waits to be filled as the other one does, and has the same entries and marks
@@ -74,31 +74,31 @@ module _ (setting : Setting) (w : World) (n : ℕ) where
   itself = Rests server (store_itself server.own.store) refl (λ runs. (runs, refl))
 
   -- the server as it is where it works on, or stops then
-  abbrev IsLater : Log → Done → Server → Type 0
+  abbrev IsLater : Log → JobResult → Server → Type 0
   IsLater log done to = (to.own ≡ done.own) × (to.life.inc ≡ server.life.inc) × (to.log ≡ log)
 
-  worked : (runs : server.life.running ≡ true) (log : Log) (done : Done) → Worked setting w n log done → (to : Server) → IsLater log done to → To to
+  worked : (runs : server.life.running ≡ true) (log : Log) (done : JobResult) → Worked setting w n log done → (to : Server) → IsLater log done to → To to
   worked runs _ _ (By_job log done same did (inl seat)) to later =
-      Works to (ap (λ (o : Own). o.store.fresh) later.0 ∙ did_waits _ (own_place setting w n) server.own done did) later.1 runs seat
+      Works to (ap (λ (o : PairState). o.store.fresh) later.0 ∙ did_waits _ (own_place setting w n) server.own done did) later.1 runs seat
   worked runs _ _ (By_job log done same did (inr apart)) to later =
-      Rests to (same_store server.own.store to.own.store (ap (λ (o : Own). o.store) (later.0 ∙ apart.same))) later.1
+      Rests to (same_store server.own.store to.own.store (ap (λ (o : PairState). o.store) (later.0 ∙ apart.same))) later.1
       (λ up. (runs, ap (λ (l : Log). l.applied) later.2 ∙ same))
   worked runs _ _ (By_ballot log started posts same starts logged) to later =
       Rests to (same_store server.own.store to.own.store
-      (ap (λ (o : Own). o.store) later.0 ∙ ballot_store (server_state setting w n) server.own started)) later.1
+      (ap (λ (o : PairState). o.store) later.0 ∙ ballot_store (server_state setting w n) server.own started)) later.1
       (λ up. (runs, ap (λ (l : Log). l.applied) later.2 ∙ same))
   worked runs _ _ (By_entry log entry more front) to later =
       let own = crossed (server_state setting w n) entry server.own in
       let applied : to.log.applied ≡ server.log.applied ++ entry ∷ [] = ap (λ (l : Log). l.applied) later.2 ∙ more in
       let stands : IsPrefix (server.log.applied ++ entry ∷ []) (chosen_log setting w) = subst (λ xs. IsPrefix xs (chosen_log setting w)) more front in
-      by_test (λ (o : Own). to.own ≡ o → To to) (is_blank_join entry n server.life.inc) (record own { store = settled own.store }) own
-      (λ joins is. Settles to (ap (λ (o : Own). o.store.fresh) is ∙ settled_waits own.store) later.1 runs
+      by_test (λ (o : PairState). to.own ≡ o → To to) (is_blank_join entry n server.life.inc) (record own { store = settled own.store }) own
+      (λ joins is. Settles to (ap (λ (o : PairState). o.store.fresh) is ∙ settled_waits own.store) later.1 runs
       (subst (λ c. IsPrefix (server.log.applied ++ c ∷ []) (chosen_log setting w)) (own_blank entry n server.life.inc joins) stands))
       (λ other is. Enters to entry other
       (record {
-        fresh = ap (λ (o : Own). o.store.fresh) is;
-        chains = ap (λ (o : Own). o.store.chains) is;
-        marks = ap (λ (o : Own). o.store.marks) is;
+        fresh = ap (λ (o : PairState). o.store.fresh) is;
+        chains = ap (λ (o : PairState). o.store.chains) is;
+        marks = ap (λ (o : PairState). o.store.marks) is;
       }) later.1 runs applied stands) later.0
 
   serving : AllMayWake setting w → (what : Step) (acted : Acted) → Serving setting w n what acted → To acted.server

@@ -6,7 +6,7 @@ use Rattle.petal_table.specs.Table.{at}
 use Rattle.petal_msg.specs.Kinds.{about}
 use Rattle.petal_msg.specs.declared.operation.Pending.{Pending}
 use Rattle.spec_rules.specs.Lists.{In}
-use Rattle.spec_rules.specs.Server.{Own, Post}
+use Rattle.spec_rules.specs.Server.{PairState, Post}
 use Rattle.spec_rules.specs.Store.{cell_cmp, chain_in}
 use Rattle.spec_rules.specs.Writes.{is_clients}
 use Rattle.law_steps.specs.Ready.{IsRising}
@@ -17,12 +17,12 @@ abbrev pub SaysKnown : List Post → Cell → Pair → Type 0
 SaysKnown posts cell pair = (post : Post) → In post posts → (about post.body).cell ≡ Some cell → Known pair post.body
 
 -- of an entry that moves, which is pending at the first server, the second one has nothing until it has followed
-abbrev pub LacksFill : (first second : Own) → Cell → Type 0
+abbrev pub LacksFill : (first second : PairState) → Cell → Type 0
 LacksFill first second cell = (op : Pending) → at cell_cmp first.pairs.pending cell ≡ Some op → is_clients op.kind ≡ false
     → far (pair_of first second cell) ≤ op.op + op.op → at nat_cmp (chain_in second.store.chains cell) op.key.epoch ≡ None
 
 -- at the first server, where the second one has this
-pub record LeadKeeps (own new : Own) (posts : List Post) (second : Own) (cell : Cell) : Type 0 where
+pub record LeadKeeps (own new : PairState) (posts : List Post) (second : PairState) (cell : Cell) : Type 0 where
   pub keeps : Keeps (pair_of own second cell) (pair_of new second cell)
   pub recalled : (op : Pending) → at cell_cmp new.pairs.pending cell ≡ Some op → IsRecalled op new.store cell
   pub lacks : LacksFill own second cell → LacksFill new second cell
@@ -30,7 +30,7 @@ pub record LeadKeeps (own new : Own) (posts : List Post) (second : Own) (cell : 
   pub rising : IsRising nat_cmp (chain_in own.store.chains cell) → IsRising nat_cmp (chain_in new.store.chains cell)
 
 -- at the second server, where the first one has this
-pub record SecondKeeps (own new : Own) (posts : List Post) (first : Own) (cell : Cell) : Type 0 where
+pub record SecondKeeps (own new : PairState) (posts : List Post) (first : PairState) (cell : Cell) : Type 0 where
   pub keeps : Keeps (pair_of first own cell) (pair_of first new cell)
   pub lacks : LacksFill first own cell → LacksFill first new cell
   pub says : SaysKnown posts cell (pair_of first new cell)

@@ -1,7 +1,7 @@
 pub mod Pair
 pub mod Visits
-pub mod Copied
-pub mod Steps
-pub mod Good
+pub mod CopyProgress
+pub mod LoneSteps
+pub mod GoodCopies
 pub mod BothSteps
-pub mod Waiting
+pub mod WaitingStores

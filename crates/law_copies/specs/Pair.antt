@@ -11,7 +11,7 @@ use Rattle.petal_msg.specs.declared.operation.LastOp.{LastOp}
 use Rattle.petal_msg.specs.declared.operation.Pending.{Pending}
 use Rattle.spec_rules.specs.State.{State, live, primary, secondary}
 use Rattle.spec_rules.specs.Store.{Chain, Store, cell_cmp, chain_in, is_marked}
-use Rattle.spec_rules.specs.Server.{Own}
+use Rattle.spec_rules.specs.Server.{PairState}
 use Rattle.spec_rules.specs.Writes.{is_clients}
 use Rattle.spec_rules.specs.World.{World}
 use Rattle.spec_history.specs.Claims.{one_put_ahead}
@@ -26,7 +26,7 @@ pub record Pair : Type 0 where
   pub next : ℕ
   pub last : Option LastOp
 
-abbrev pub pair_of : Own → Own → Cell → Pair
+abbrev pub pair_of : PairState → PairState → Cell → Pair
 pair_of lead other cell = record {
   first = chain_in lead.store.chains cell;
   second = chain_in other.store.chains cell;
@@ -113,7 +113,7 @@ Known pair (body.Replicate number key version bytes) = IsPutting pair.pending nu
 Known pair (body.Replicated number cell) = number + number + 1 ≤ far pair
 Known pair _ = Unit {0}
 
-abbrev pub owns_of : World → ℕ → Own
+abbrev pub owns_of : World → ℕ → PairState
 owns_of w n = (w.servers n).own
 
 -- ### Marks

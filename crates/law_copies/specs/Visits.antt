@@ -12,7 +12,7 @@ use Rattle.spec_state.specs.Command.{state_after}
 use Rattle.spec_state.specs.Place.{places_from}
 use Rattle.spec_state.specs.State.{start}
 use Rattle.spec_rules.specs.Log.{state_in}
-use Rattle.spec_rules.specs.Server.{Own, Pairs, Server, no_copies, no_pairs}
+use Rattle.spec_rules.specs.Server.{PairState, Pairs, Server, no_copies, no_pairs}
 use Rattle.spec_rules.specs.State.{State, is_in}
 use Rattle.spec_rules.specs.Store.{Store}
 use Rattle.spec_rules.specs.World.{Setting, World, blank_joins_in, with_store}
@@ -31,7 +31,7 @@ is_alive state cell = nat_lt (stage_at state cell) 4
 -- of each server and each place of a cell's link, the server's own part as it last was while the server was there and was In as itself, and
 -- the cell was not dead by its own entries: what is left of a dead cell is dropped, and nobody speaks of it any more
 abbrev pub Visits : Type 0
-Visits = (server place : ℕ) → Cell → Option Own
+Visits = (server place : ℕ) → Cell → Option PairState
 
 -- the place of a link by these entries
 abbrev pub place_by : Setting → List Command → LinkRow → ℕ
@@ -50,7 +50,7 @@ abbrev pub IsLinked : Setting → List Command → Cell → LinkRow → Type 0
 IsLinked setting front cell row = cell_link (state_after setting.servers front) cell ≡ Some row
 
 -- what a server has in memory of a place: nothing, where it was not there; with this store
-abbrev pub half : Option Own → Store → Own
+abbrev pub half : Option PairState → Store → PairState
 half None store = record { pairs = no_pairs; copies = no_copies; filled = []; store = store }
 half (Some own) store = record { pairs = own.pairs; copies = own.copies; filled = own.filled; store = store }
 
@@ -82,7 +82,7 @@ pub record WasThere (setting : Setting) (records : List Record) (n place : ℕ) 
 
 -- the server was at the place that the link has by its own entries, and as it is now
 pub record IsHere (setting : Setting) (w : World) (visits : Visits) (n : ℕ) (cell : Cell) (row : LinkRow) : Type 0 where
-  pub own : Own
+  pub own : PairState
   pub is : visits n (place_by setting (w.servers n).log.applied row) cell ≡ Some own
   pub same : own ≡ (w.servers n).own
 
@@ -112,7 +112,7 @@ pub record HasReached (setting : Setting) (top : List Command) (visits : Visits)
   pub open placed use *
   pub server : ℕ
   pub serving : serves server row row.state ≡ true
-  pub own : Own
+  pub own : PairState
   pub visited : visits server place cell ≡ Some own
 
 -- the holder has been at a place of the cell's link after as many Joins of the other server with an empty store
@@ -122,11 +122,11 @@ pub record HasFilled (setting : Setting) (top : List Command) (visits : Visits) 
   pub row : LinkRow
   pub linked : IsLinked setting more cell row
   pub joins : blank_joins_in setting more other ≡ blank_joins_in setting front other
-  pub own : Own
+  pub own : PairState
   pub visited : visits holder (place_by setting more row) cell ≡ Some own
 
 -- places of servers that serve the link, and of none other, are counted
 pub record AreReached (setting : Setting) (top : List Command) (visits : Visits) (reached : Cell → ℕ) : Type 0 where
-  pub below : (front : List Command) (cell : Cell) (row : LinkRow) (n : ℕ) (own : Own) → IsPrefix front top → IsLinked setting front cell row
+  pub below : (front : List Command) (cell : Cell) (row : LinkRow) (n : ℕ) (own : PairState) → IsPrefix front top → IsLinked setting front cell row
       → serves n row row.state ≡ true → visits n (place_by setting front row) cell ≡ Some own → place_by setting front row ≤ reached cell
   pub by : (cell : Cell) → (reached cell ≡ 0) ⊎ HasReached setting top visits cell (reached cell)

@@ -14,7 +14,7 @@ ghost use Rattle.petal_base.specs.declared.cell.Cell.{Cell};
 ghost use Rattle.spec_rules.specs.World.{chosen_log, chosen_state, counted};
 ghost use Rattle.spec_history.specs.Claims.{TwoCopies, Covered, MarksFirst};
 ghost use Rattle.law_state.specs.Histories.{AreSteps, IsSound, Record, Script, setting_of, start, world_after};
-ghost use Rattle.law_copies.specs.Good.{Good};
+ghost use Rattle.law_copies.specs.GoodCopies.{Good};
 
 mod stores;
 

@@ -11,7 +11,7 @@ ghost use Rattle.spec_rules.specs.Blanked.{BeforeBlank};
 ghost use Rattle.spec_rules.specs.State.{is_in};
 ghost use Rattle.spec_rules.specs.World.{blank_joins_in};
 ghost use Rattle.law_state.specs.Histories.{AreSteps, IsPrefix, IsSound, Record, Script, chosen_log, server_state, setting_of, start, world_after};
-ghost use Rattle.law_copies.specs.Waiting.{AreEmpty, IsEmpty, IsOwn};
+ghost use Rattle.law_copies.specs.WaitingStores.{AreEmpty, IsEmpty, IsOwn};
 
 /// A store that waits to be filled has neither entries nor marks.
 pub fn a_store_that_waits_is_empty()

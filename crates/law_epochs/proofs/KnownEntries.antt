@@ -16,7 +16,7 @@ use Rattle.spec_rules.specs.Crossing.{crossed}
 use Rattle.spec_rules.specs.Jobs.{Acted}
 use Rattle.spec_rules.specs.Lists.{In}
 use Rattle.spec_rules.specs.Log.{Log}
-use Rattle.spec_rules.specs.Server.{Pairs, Server, Done}
+use Rattle.spec_rules.specs.Server.{Pairs, Server, JobResult}
 use Rattle.spec_rules.specs.State.{State}
 use Rattle.spec_rules.specs.Store.{Store, cell_cmp}
 use Rattle.spec_rules.specs.Writes.{is_clients}
@@ -29,17 +29,17 @@ use Rattle.law_state.specs.Homes.{epoch_at, stage_at}
 use Rattle.law_state.specs.Firm.{Firm}
 use Rattle.law_state.specs.Plain.{IsPlainLog}
 use Rattle.law_state.proofs.Steady.{log_below}
-use Rattle.law_steps.specs.Happens.{Handled, Happens, Serves, Blanks, Turns, Worked, By_job, By_ballot, By_entry, Serving, Goes}
-use Rattle.law_steps.specs.Happens.{Ends, Stays, Wakes, Fails, own_place}
-use Rattle.law_steps.proofs.Filling.{Fills, Stood, Writes, did_come}
+use Rattle.law_steps.specs.DidStep.{Handled, Happens, Serves, Blanks, Turns, Worked, By_job, By_ballot, By_entry, Serving, Goes}
+use Rattle.law_steps.specs.DidStep.{Ends, Stays, Wakes, Fails, own_place}
+use Rattle.law_steps.proofs.FillsByJobs.{Fills, Stood, Writes, did_come}
 use Rattle.law_steps.proofs.Fronts.{front_on, one_front}
-use Rattle.law_steps.proofs.Histories.{own_plain, proposed_pairs}
+use Rattle.law_steps.proofs.KindsInHistories.{own_plain, proposed_pairs}
 use Rattle.law_copies.proofs.StoreJobs.{ballot_store}
-use Rattle.law_epochs.proofs.Present.{firm, opened_by, was_opened}
-use Rattle.law_epochs.proofs.Puts.{did_kept}
-use Rattle.law_epochs.proofs.Reports.{resting}
-use Rattle.law_epochs.proofs.Within.{AreWithin, IsWithin, OfKey, none_within, of_key_on}
-use Rattle.law_epochs.proofs.Scenes.{OneMore, ends_of}
+use Rattle.law_epochs.proofs.PendingIsInTime.{firm, opened_by, was_opened}
+use Rattle.law_epochs.proofs.EntriesAfterJobs.{did_kept}
+use Rattle.law_epochs.proofs.ReportedHaveNoPending.{resting}
+use Rattle.law_epochs.proofs.EntryPredicates.{AreWithin, IsWithin, OfKey, none_within, of_key_on}
+use Rattle.law_epochs.proofs.EpochScenes.{OneMore, ends_of}
 
 -- by these entries the epoch is one that the cell's disk has, or has had, and the cell is live, or has been
 pub record IsKnownBy (servers : ℕ) (log : List Command) (cell : Cell) (epoch : ℕ) : Type 0 where
@@ -133,7 +133,7 @@ module _ (it : OneMore) (old : AllEarly (ends_of it).setting (ends_of it).w) whe
 
   -- ### Stores
 
-  worked_within : (n : ℕ) (log : Log) (done : Done) → Worked setting w n log done → AreWithin (bound n) done.own.store.chains
+  worked_within : (n : ℕ) (log : Log) (done : JobResult) → Worked setting w n log done → AreWithin (bound n) done.own.store.chains
   worked_within n _ _ (By_job log done same did seat) =
       did_kept (bound n) (Handled w n) (own_place setting w n) (w.servers n).own (now_within n) (pending_within n) (told_within n) done did
   worked_within n _ _ (By_ballot log started posts same starts says) =
@@ -182,7 +182,7 @@ module _ (it : OneMore) (old : AllEarly (ends_of it).setting (ends_of it).w) whe
   same_fills : (n : ℕ) (pending : Table Cell Pending) → pending ≡ (w.servers n).own.pairs.pending → AreFills n pending
   same_fills n pending same = subst (AreFills n) (sym same) (old.fills n)
 
-  worked_fills : (n : ℕ) (log : Log) (done : Done) → Worked setting w n log done → AreFills n done.own.pairs.pending
+  worked_fills : (n : ℕ) (log : Log) (done : JobResult) → Worked setting w n log done → AreFills n done.own.pairs.pending
   worked_fills n _ _ (By_job log done same did seat) = λ cell op is fills.
       elim (did_come (Handled w n) (own_place setting w n) (w.servers n).own done did cell op is) [
         | Stood was ↦ subst (IsWithin (bound n)) was.same.key (old.fills n cell was.was was.is (ap is_clients was.same.kind ∙ fills))

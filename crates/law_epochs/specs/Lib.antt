@@ -1,2 +1,2 @@
-pub mod Early
-pub mod Timely
+pub mod EntryEpochs
+pub mod InTime

@@ -20,8 +20,8 @@ ghost use Rattle.spec_rules.specs.State.{is_in};
 ghost use Rattle.spec_rules.specs.Store.{cell_cmp};
 ghost use Rattle.law_state.specs.Histories.{AreSteps, IsPrefix, IsSound, Record, Script, chosen_log, chosen_state, server_state, setting_of, start, world_after};
 ghost use Rattle.law_copies.specs.Visits.{IsLinked, WasThere, place_by};
-ghost use Rattle.law_epochs.specs.Early.{HaveEarlyEntries};
-ghost use Rattle.law_epochs.specs.Timely.{IsTimely};
+ghost use Rattle.law_epochs.specs.EntryEpochs.{HaveEarlyEntries};
+ghost use Rattle.law_epochs.specs.InTime.{IsTimely};
 
 /// A client's write that a server has pending is of the epoch that its disk has, and its cell is live and not leaving, by each front of the chosen
 /// log, from the revision on at which the write was opened, by which the server is In as the incarnation that it was there.

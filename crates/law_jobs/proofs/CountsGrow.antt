@@ -2,28 +2,28 @@
 use Rattle.std.proofs.Common.{◌≡◌, ◌≤◌, ℕ, ap, ◌∙◌, inl, inr, arith}
 use Rattle.petal_base.specs.declared.cell.Cell.{Cell}
 use Rattle.petal_msg.specs.declared.body.Body.{Body}
-use Rattle.spec_rules.specs.Server.{Own, Here, Done}
+use Rattle.spec_rules.specs.Server.{PairState, JobContext, JobResult}
 use Rattle.spec_rules.specs.Writes.{last_on}
 use Rattle.spec_rules.proofs.CellTables.{cell_apart, cell_same}
 use Rattle.law_steps.specs.Did.{Did}
 use Rattle.law_steps.specs.Operations.{far_of, progress}
-use Rattle.law_steps.proofs.Staged.{same_cell_or_apart}
+use Rattle.law_steps.proofs.OperationsRest.{same_cell_or_apart}
 use Rattle.law_jobs.specs.Effects.{Counts, Effect, Follows, May, applied}
 use Rattle.law_jobs.proofs.JobsAreEffects.{job_keeps}
 
-module _ (heard : Body → Type 0) (here : Here) (own : Own) where
-  counts : (now : Own) (e : Effect) → May heard here own now e → own.pairs.next ≤ now.pairs.next → own.pairs.next ≤ (applied now e).pairs.next
+module _ (heard : Body → Type 0) (here : JobContext) (own : PairState) where
+  counts : (now : PairState) (e : Effect) → May heard here own now e → own.pairs.next ≤ now.pairs.next → own.pairs.next ≤ (applied now e).pairs.next
   counts now Counts may le = omega arith
   counts now _ may le = le
 
-  pub did_count : (done : Done) → Did heard here own done → own.pairs.next ≤ done.own.pairs.next
-  did_count = job_keeps heard here own (λ (o : Own). own.pairs.next ≤ o.pairs.next) counts (omega arith)
+  pub did_count : (done : JobResult) → Did heard here own done → own.pairs.next ≤ done.own.pairs.next
+  did_count = job_keeps heard here own (λ (o : PairState). own.pairs.next ≤ o.pairs.next) counts (omega arith)
 
   module _ (cell : Cell) where
-    abbrev far_on : Own → ℕ
+    abbrev far_on : PairState → ℕ
     far_on o = progress (last_on o cell)
 
-    follows : (now : Own) (e : Effect) → May heard here own now e → far_on own ≤ far_on now → far_on own ≤ far_on (applied now e)
+    follows : (now : PairState) (e : Effect) → May heard here own now e → far_on own ≤ far_on now → far_on own ≤ far_on (applied now e)
     follows now (Follows of last) may le = elim (same_cell_or_apart cell of) [
       | inl e ↦
           let then : far_on (applied now (Follows of last)) ≡ far_of last.op last.far =
@@ -36,5 +36,5 @@ module _ (heard : Body → Type 0) (here : Here) (own : Own) where
     ]
     follows now _ may le = le
 
-    pub did_follow : (done : Done) → Did heard here own done → far_on own ≤ far_on done.own
-    did_follow = job_keeps heard here own (λ (o : Own). far_on own ≤ far_on o) follows (omega arith)
+    pub did_follow : (done : JobResult) → Did heard here own done → far_on own ≤ far_on done.own
+    did_follow = job_keeps heard here own (λ (o : PairState). far_on own ≤ far_on o) follows (omega arith)

@@ -26,7 +26,7 @@ use Rattle.spec_state.specs.CellState.{cell_link}
 use Rattle.spec_rules.specs.Copies.{with_copied, with_page}
 use Rattle.spec_rules.specs.Fills.{fill_operation}
 use Rattle.spec_rules.specs.Progress.{progress_on, with_progress, without_copying}
-use Rattle.spec_rules.specs.Server.{Own, Here, Done}
+use Rattle.spec_rules.specs.Server.{PairState, JobContext, JobResult}
 use Rattle.spec_rules.specs.Copies.{begins_copy, cell_at}
 use Rattle.spec_rules.specs.Store.{Stored, chain_in, version_of}
 use Rattle.spec_rules.specs.Writes.{acts, ends, gives_back, gives_up, last_on, marks, pending_on, puts, next_stage, operation, tells, with_flag, with_mark_at, with_opened, with_paired, with_pending, with_reserved, without_pending}
@@ -45,30 +45,30 @@ use Rattle.law_steps.specs.Did.{Did, Ignores, Refuses, By_read, By_lead, By_seco
 use Rattle.petal_msg.specs.declared.copying.LinkId.{LinkId}
 use Rattle.spec_rules.specs.State.{id_of, link_named, live}
 use Rattle.law_steps.specs.Operations.{progress}
-use Rattle.law_steps.proofs.Resting.{row_named}
+use Rattle.law_steps.proofs.CopiesRest.{row_named}
 use Rattle.law_steps.proofs.Subjects.{of_read}
-use Rattle.law_steps.proofs.Taking.{taking}
+use Rattle.law_steps.proofs.TakenUpAlone.{taking}
 use Rattle.law_jobs.proofs.ChainsApart.{entry_put}
 use Rattle.law_jobs.specs.Effects as effect
 use Rattle.law_jobs.specs.Effects.{Effect, applied, May, Becomes, As_it_was, Then, Alone_has, Both_have, By_operation, For_a_fill, For_a_write, Had_no_slot, HasEnded, Is_dead, Is_declined}
 use Rattle.law_jobs.specs.Effects.{IsFilledAs, IsOpening, IsPutFor, IsSetFor, Is_begun, Is_further, Is_opened, Goes_on, Has_put, An_operation, A_lead, A_copy}
 
-module _ (heard : Body → Type 0) (here : Here) (own : Own) where
-  abbrev To : Own → Type 0
+module _ (heard : Body → Type 0) (here : JobContext) (own : PairState) where
+  abbrev To : PairState → Type 0
   To now = Becomes heard here own now
 
   -- ### The lead
 
-  taken_to : (now : Own) (op : Pending) → Taken own now op → To now
+  taken_to : (now : PairState) (op : Pending) → Taken own now op → To now
   taken_to _ _ (As_it_is op is) = As_it_was
   taken_to _ _ (As_told op reserved paired is) = Then own (effect.Sets (told op reserved paired)) As_it_was
       (Goes_on op (record op.stage { reserved = reserved; paired = paired }) is refl, refl)
 
-  chains_taken : (now : Own) (op : Pending) → Taken own now op → now.store.chains ≡ own.store.chains
+  chains_taken : (now : PairState) (op : Pending) → Taken own now op → now.store.chains ≡ own.store.chains
   chains_taken _ _ (As_it_is op is) = refl
   chains_taken _ _ (As_told op reserved paired is) = refl
 
-  ends_to : (now : Own) (op : Pending) (how : Ending) → HasEnded heard here own op how → pending_on now op.cell ≡ None
+  ends_to : (now : PairState) (op : Pending) (how : Ending) → HasEnded heard here own op how → pending_on now op.cell ≡ None
       → now.pairs.finished ≡ own.pairs.finished → To now → To (ends here now op op.kind how).own
   ends_to now op how ended none same so = by op.kind refl
     where
@@ -77,7 +77,7 @@ module _ (heard : Body → Type 0) (here : Here) (own : Own) where
       by kind.Fill e = so
       by kind.Copy e = so
 
-  closes_to : (now : Own) (op : Pending) → HasEnded heard here own op ending.Written → now.pairs.finished ≡ own.pairs.finished → To now
+  closes_to : (now : PairState) (op : Pending) → HasEnded heard here own op ending.Written → now.pairs.finished ≡ own.pairs.finished → To now
       → To (ends here (without_pending now op.cell) op op.kind ending.Written).own
   closes_to now op ended same so =
       ends_to (without_pending now op.cell) op ending.Written ended (cell_gone now.pairs.pending op.cell) same (Then now (effect.Closes op.cell) so tt)
@@ -86,13 +86,13 @@ module _ (heard : Body → Type 0) (here : Here) (own : Own) where
   flag_put stage mark.Busy is = refl
   flag_put stage mark.Stale is = refl
 
-  marks_to : (now : Own) (op : Pending) (which : MarkKind) → pending_on now op.cell ≡ Some op → now.pairs.finished ≡ own.pairs.finished
+  marks_to : (now : PairState) (op : Pending) (which : MarkKind) → pending_on now op.cell ≡ Some op → now.pairs.finished ≡ own.pairs.finished
       → To now → To (with_pending (applied now (effect.Marks which op.cell)) (with_mark_at op which true))
   marks_to now op which there same so =
       Then (applied now (effect.Marks which op.cell)) (effect.Sets (with_mark_at op which true)) (Then now (effect.Marks which op.cell) so tt)
       (Goes_on op (with_flag op.stage which true) there (flag_put op.stage which true), same)
 
-  unmarks_to : (now : Own) (op : Pending) (which : MarkKind) → pending_on now op.cell ≡ Some op → now.pairs.finished ≡ own.pairs.finished
+  unmarks_to : (now : PairState) (op : Pending) (which : MarkKind) → pending_on now op.cell ≡ Some op → now.pairs.finished ≡ own.pairs.finished
       → To now → To (with_pending (applied now (effect.Unmarks which op.cell)) (with_mark_at op which false))
   unmarks_to now op which there same so =
       Then (applied now (effect.Unmarks which op.cell)) (effect.Sets (with_mark_at op which false)) (Then now (effect.Unmarks which op.cell) so tt)
@@ -105,7 +105,7 @@ module _ (heard : Body → Type 0) (here : Here) (own : Own) where
       Then set (effect.Holds_slots (own.store.tickets + 1))
       (Then counted (effect.Sets op) (Then own effect.Counts As_it_was tt) (Is_opened op opening refl, refl)) tt
 
-  puts_to : (now : Own) (op : Pending) → Taken own now op → To (puts now op).own
+  puts_to : (now : PairState) (op : Pending) → Taken own now op → To (puts now op).own
   puts_to now op taken =
       let version = version_of (chain_in now.store.chains op.cell) + 1 in
       let stored : Stored = record { version = version; bytes = op.bytes } in
@@ -113,7 +113,7 @@ module _ (heard : Body → Type 0) (here : Here) (own : Own) where
       (Then now (effect.Puts op.key stored) (taken_to now op taken) (for_taken now op taken version, chains_taken now op taken))
       (put_taken now op taken version stored, (taking own now op taken).finished)
     where
-      put_taken : (now : Own) (op : Pending) → Taken own now op → (version : ℕ) (stored : Stored)
+      put_taken : (now : PairState) (op : Pending) → Taken own now op → (version : ℕ) (stored : Stored)
           → IsSetFor heard here own (applied now (effect.Puts op.key stored)) (record op { version = version; stage = record op.stage { put = true } })
       put_taken _ _ (As_it_is op is) version stored =
           Has_put op version (record op.stage { put = true }) is (ap is_some (entry_put own.store.chains op.key stored))
@@ -121,30 +121,30 @@ module _ (heard : Body → Type 0) (here : Here) (own : Own) where
           Has_put op version (record op.stage { reserved = reserved; paired = paired; put = true }) is
           (ap is_some (entry_put own.store.chains op.key stored))
 
-      for_taken : (now : Own) (op : Pending) → Taken own now op → (version : ℕ)
+      for_taken : (now : PairState) (op : Pending) → Taken own now op → (version : ℕ)
           → IsPutFor heard own op.key (record { version = version; bytes = op.bytes })
       for_taken _ _ (As_it_is op is) version = An_operation op version is
       for_taken _ _ (As_told op reserved paired is) version = An_operation op version is
 
-  drops_to : (now : Own) (op : Pending) → To now → To (gives_up now op)
+  drops_to : (now : PairState) (op : Pending) → To now → To (gives_up now op)
   drops_to now op so =
       let closed = Then now (effect.Closes op.cell) so tt in
       by_test To op.stage.put (without_pending now op.cell) (gives_back (without_pending now op.cell)) (λ put. closed)
       (λ fresh. Then (without_pending now op.cell) (effect.Holds_slots (now.store.tickets - 1)) closed tt)
 
-  marks_taken : (now : Own) (op : Pending) → Taken own now op → (which : MarkKind)
+  marks_taken : (now : PairState) (op : Pending) → Taken own now op → (which : MarkKind)
       → To (with_pending (applied now (effect.Marks which op.cell)) (with_mark_at op which true))
   marks_taken now op taken which = let t = taking own now op taken in marks_to now op which t.there t.finished (taken_to now op taken)
 
-  unmarks_taken : (now : Own) (op : Pending) → Taken own now op → (which : MarkKind)
+  unmarks_taken : (now : PairState) (op : Pending) → Taken own now op → (which : MarkKind)
       → To (with_pending (applied now (effect.Unmarks which op.cell)) (with_mark_at op which false))
   unmarks_taken now op taken which = let t = taking own now op taken in unmarks_to now op which t.there t.finished (taken_to now op taken)
 
-  closes_taken : (now : Own) (op : Pending) → Taken own now op → HasEnded heard here own op ending.Written
+  closes_taken : (now : PairState) (op : Pending) → Taken own now op → HasEnded heard here own op ending.Written
       → To (ends here (without_pending now op.cell) op op.kind ending.Written).own
   closes_taken now op taken ended = closes_to now op ended (taking own now op taken).finished (taken_to now op taken)
 
-  acts_to : (now : Own) (op : Pending) → Taken own now op → live here.state op.cell ≡ false → (next : Action) → To (acts here now op next).own
+  acts_to : (now : PairState) (op : Pending) → Taken own now op → live here.state op.cell ≡ false → (next : Action) → To (acts here now op next).own
   acts_to now op taken off action.Reserve = taken_to now op taken
   acts_to now op taken off (action.Mark which) = marks_taken now op taken which
   acts_to now op taken off action.Put = puts_to now op taken
@@ -157,7 +157,7 @@ module _ (heard : Body → Type 0) (here : Here) (own : Own) where
   opens_alone_to op opening =
       marks_to (with_opened own op) op mark.Stale (cell_same own.pairs.pending op.cell op) refl (opened_to op opening)
 
-  lead_to : (done : Done) → DidLead heard here own done → To done.own
+  lead_to : (done : JobResult) → DidLead heard here own done → To done.own
   lead_to _ (Is_full want new full) =
       Then own (effect.Finishes want.client (record { seq = want.seq; ending = ending.Full })) As_it_was (Had_no_slot want new full new.none, refl)
   lead_to _ (Gives_up op h is reserved put) =
@@ -185,11 +185,11 @@ module _ (heard : Body → Type 0) (here : Here) (own : Own) where
 
   -- ### The second server
 
-  tells_to : (now : Own) (cell : Cell) (number : ℕ) (how : Far) → To now → To (tells here now cell number how).own
+  tells_to : (now : PairState) (cell : Cell) (number : ℕ) (how : Far) → To now → To (tells here now cell number how).own
   tells_to now cell number far.Reserved so = so
   tells_to now cell number far.Replicated so = so
 
-  second_to : (done : Done) → DidSecond heard here own done → To done.own
+  second_to : (done : JobResult) → DidSecond heard here own done → To done.own
   second_to _ (Sets_apart number cell tickets h is le) =
       Then (applied own (effect.Holds_slots tickets)) (effect.Follows cell (record { op = number; far = far.Reserved }))
       (Then own (effect.Holds_slots tickets) As_it_was tt) le
@@ -203,21 +203,21 @@ module _ (heard : Body → Type 0) (here : Here) (own : Own) where
 
   -- ### Copies
 
-  copied_to : (cell : Cell) (row : Option LinkRow) → cell_link here.state cell ≡ row → (now : Own) (block : ℕ) → To now → To (with_copied row now block)
+  copied_to : (cell : Cell) (row : Option LinkRow) → cell_link here.state cell ≡ row → (now : PairState) (block : ℕ) → To now → To (with_copied row now block)
   copied_to cell None is now block so = so
   copied_to cell (Some row) is now block so =
       let progress = record (progress_on now row) { copied = Some block } in
       by_test To (above (progress_on now row).copied block) (with_progress now row progress) now
       (λ t. Then now (effect.Moves_on row progress) so (id_of row, row_named here.state cell row is)) (λ t. so)
 
-  copy_step_to : (now : Own) (cell : Cell) (copy : Copying) (done : Done) → CopyStep here now cell copy done → To now → To done.own
+  copy_step_to : (now : PairState) (cell : Cell) (copy : Copying) (done : JobResult) → CopyStep here now cell copy done → To now → To done.own
   copy_step_to now cell copy _ (Unmarks_copied which synced left) so = Then now (effect.Unmarks which cell) so tt
   copy_step_to now cell copy _ (Closes_copy synced left) so =
       Then _ (effect.Is_full false) (copied_to cell (cell_link here.state cell) refl (without_copying now cell) cell.block (Then now (effect.Ends_copy cell) so tt))
       (λ e. true_false e refl)
   copy_step_to now cell copy _ _ so = so
 
-  pub copy_to : (cell : Cell) (now : Own) (copy : Copying) → TakenCopy heard own cell now copy → To now
+  pub copy_to : (cell : Cell) (now : PairState) (copy : Copying) → TakenCopy heard own cell now copy → To now
   copy_to cell _ _ (Copy_as_is copy is) = As_it_was
   copy_to cell _ _ (Copy_trimmed copy h is fresh) = Then own (effect.Copies cell (record copy { trimmed = true })) As_it_was tt
   copy_to cell _ _ (Copy_synced copy h is trimmed lt) = Then own (effect.Copies cell (record copy { index = copy.index + 1 })) As_it_was tt
@@ -233,7 +233,7 @@ module _ (heard : Body → Type 0) (here : Here) (own : Own) where
       Then (applied own (effect.Marks mark.Stale (cell_at row block))) (effect.Moves_on row (record (progress_on own row) { after = Some block }))
       (Then own (effect.Marks mark.Stale (cell_at row block)) As_it_was tt) (id, is)
 
-  holder_to : (done : Done) → DidHolder heard here own done → To done.own
+  holder_to : (done : JobResult) → DidHolder heard here own done → To done.own
   holder_to _ (Turns_page id row other after block h held fresh at) = page_to id row held.is block
   holder_to done (Begins_copy id row other cell _ held next step) =
       copy_step_to _ cell _ done step (begun_to cell)
@@ -244,12 +244,12 @@ module _ (heard : Body → Type 0) (here : Here) (own : Own) where
   holder_to _ (Tidies id row block which is both idle left) = Then own (effect.Unmarks which (cell_at row block)) As_it_was tt
   holder_to _ _ = As_it_was
 
-  trim_to : (now : Own) (cell : Cell) (last : LastCopy) (holder : ℕ) (done : Done) → TrimStep now cell last holder done → To now
+  trim_to : (now : PairState) (cell : Cell) (last : LastCopy) (holder : ℕ) (done : JobResult) → TrimStep now cell last holder done → To now
       → (now.store.chains ≡ own.store.chains) × (now.pairs.pending ≡ own.pairs.pending) → To done.own
   trim_to now cell last holder _ (Is_trimmed none) so same = so
   trim_to now cell last holder _ (Drops_entry epoch epochs is) so same = Then now (effect.Drops (key_at cell epoch)) so same
 
-  other_to : (done : Done) → DidOther heard here own done → To done.own
+  other_to : (done : JobResult) → DidOther heard here own done → To done.own
   other_to done (Is_copied_to number cell epochs holder _ h held newer step) =
       trim_to _ cell _ holder done step (Then own (effect.Is_copied cell (first_last number epochs)) As_it_was (Is_begun number epochs h)) (refl, refl)
   other_to done (Goes_on_trimming cell holder last _ held is step) = trim_to own cell last holder done step As_it_was (refl, refl)
@@ -262,7 +262,7 @@ module _ (heard : Body → Type 0) (here : Here) (own : Own) where
 
   -- ### Moves and sweeps
 
-  filler_to : (done : Done) → DidFiller heard here own done → To done.own
+  filler_to : (done : JobResult) → DidFiller heard here own done → To done.own
   filler_to _ (Is_filled key row posts h next fills) =
       let to : Key = record { map = row.map; block = key.block; epoch = key.epoch } in
       let filled : IsFilledAs heard here own row to = record { key = key; told = h; next = next; is = refl } in
@@ -270,11 +270,11 @@ module _ (heard : Body → Type 0) (here : Here) (own : Own) where
   filler_to _ (Is_out_of_slots key row h next) =
       Then own (effect.Is_full true) As_it_was (λ e. inr (record { key = key; row = row; said = h; next = next }))
 
-  sweep_to : (done : Done) → DidSweep here own done → To done.own
+  sweep_to : (done : JobResult) → DidSweep here own done → To done.own
   sweep_to _ (Sweeps (dead.Key key) seated next off) = Then own (effect.Drops key) As_it_was (refl, refl)
   sweep_to _ (Sweeps (dead.Mark which cell) seated next off) = Then own (effect.Unmarks which cell) As_it_was tt
 
-  pub effects_of : (done : Done) → Did heard here own done → Becomes heard here own done.own
+  pub effects_of : (done : JobResult) → Did heard here own done → Becomes heard here own done.own
   effects_of _ Ignores = As_it_was
   effects_of _ (Refuses to said is why held) = As_it_was
   effects_of _ (By_read done d) = subst To (sym (of_read heard here own done d).same) As_it_was
@@ -286,10 +286,10 @@ module _ (heard : Body → Type 0) (here : Here) (own : Own) where
   effects_of _ (By_sweep done d) = sweep_to done d
 
   -- what each effect keeps, the job keeps
-  module _ (P : Own → Type 0) (each : (now : Own) (e : Effect) → May heard here own now e → P now → P (applied now e)) (begun : P own) where
-    pub all_keep : (now : Own) → Becomes heard here own now → P now
+  module _ (P : PairState → Type 0) (each : (now : PairState) (e : Effect) → May heard here own now e → P now → P (applied now e)) (begun : P own) where
+    pub all_keep : (now : PairState) → Becomes heard here own now → P now
     all_keep _ As_it_was = begun
     all_keep _ (Then now e before may) = each now e may (all_keep now before)
 
-    pub job_keeps : (done : Done) → Did heard here own done → P done.own
+    pub job_keeps : (done : JobResult) → Did heard here own done → P done.own
     job_keeps done did = all_keep done.own (effects_of done did)

@@ -3,22 +3,22 @@ use Rattle.petal_base.specs.declared.cell.Cell.{Cell}
 use Rattle.petal_base.specs.declared.cell.Key.{Key}
 use Rattle.petal_table.specs.Table.{Table}
 use Rattle.petal_msg.specs.declared.body.Body.{Body}
-use Rattle.spec_rules.specs.Server.{Own, Here, Done}
+use Rattle.spec_rules.specs.Server.{PairState, JobContext, JobResult}
 use Rattle.spec_rules.specs.Store.{Chain, Store, Stored, chains_with, without_entry}
 use Rattle.law_steps.specs.Did.{Did}
 use Rattle.law_jobs.specs.Effects.{Becomes, Effect, IsPutFor, May, Drops, Puts, applied}
 use Rattle.law_jobs.proofs.JobsAreEffects.{all_keep, effects_of}
 
-module _ (P : Table Cell Chain → Type 0) (heard : Body → Type 0) (here : Here) (own : Own)
+module _ (P : Table Cell Chain → Type 0) (heard : Body → Type 0) (here : JobContext) (own : PairState)
     (puts : (chains : Table Cell Chain) (key : Key) (stored : Stored) → IsPutFor heard own key stored → P chains → P (chains_with chains key stored))
     (drops : (store : Store) (key : Key) → P store.chains → P (without_entry store key).chains) (all : P own.store.chains) where
-  each : (now : Own) (e : Effect) → May heard here own now e → P now.store.chains → P (applied now e).store.chains
+  each : (now : PairState) (e : Effect) → May heard here own now e → P now.store.chains → P (applied now e).store.chains
   each now (Puts key stored) may kept = puts now.store.chains key stored may.0 kept
   each now (Drops key) may kept = drops now.store key kept
   each now _ may kept = kept
 
-  pub becomes_keeps : (now : Own) → Becomes heard here own now → P now.store.chains
-  becomes_keeps now so = all_keep heard here own (λ (o : Own). P o.store.chains) each all now so
+  pub becomes_keeps : (now : PairState) → Becomes heard here own now → P now.store.chains
+  becomes_keeps now so = all_keep heard here own (λ (o : PairState). P o.store.chains) each all now so
 
-  pub chains_keep : (done : Done) → Did heard here own done → P done.own.store.chains
+  pub chains_keep : (done : JobResult) → Did heard here own done → P done.own.store.chains
   chains_keep done did = becomes_keeps done.own (effects_of heard here own done did)

@@ -21,7 +21,7 @@ use Rattle.spec_rules.specs.Copies.{cell_holder}
 use Rattle.spec_rules.specs.Fills.{fill_operation}
 use Rattle.spec_rules.specs.Lists.{In}
 use Rattle.spec_rules.specs.Progress.{last_copy}
-use Rattle.spec_rules.specs.Server.{Own, Here, Post, Done, post_to}
+use Rattle.spec_rules.specs.Server.{PairState, JobContext, Post, JobResult, post_to}
 use Rattle.spec_rules.specs.State.{live}
 use Rattle.spec_rules.specs.Writes.{acts, ends, gives_back, next_stage, operation, pending_on, tells, without_pending}
 use Rattle.spec_rules.proofs.CellTables.{cell_gone, cell_same}
@@ -37,9 +37,9 @@ use Rattle.law_steps.specs.DidHolder.{Begins_copy, Goes_on_copying}
 use Rattle.law_steps.specs.DidOther.{OtherReply, Replies, DidOther, TrimStep, Is_trimmed, Drops_entry, Answers_page, Has_entry, Has_no_slot, Is_copied_to}
 use Rattle.law_steps.specs.DidOther.{Goes_on_trimming, Puts_entry, first_last}
 use Rattle.law_steps.specs.Did.{Did, Ignores, Refuses, By_read, By_lead, By_second, By_holder, By_other, By_filler, By_sweep}
-use Rattle.law_steps.proofs.Leading.{dead_second}
+use Rattle.law_steps.proofs.WhoLeads.{dead_second}
 use Rattle.law_steps.proofs.Subjects.{of_sweep}
-use Rattle.law_steps.proofs.Taking.{taking}
+use Rattle.law_steps.proofs.TakenUpAlone.{taking}
 use Rattle.law_jobs.specs.Sayings as says
 use Rattle.law_jobs.specs.Effects.{Alone_has, Both_have, By_operation, Had_no_slot, HasEnded, Is_dead, Is_declined}
 use Rattle.law_jobs.specs.Sayings.{IsCopying, Says, to_server}
@@ -49,17 +49,17 @@ pub none_in : {A : Type 0} (post : Post) → In post [] → A
 unfolding In
 none_in post i = absurd i
 
-module _ (heard : Body → Type 0) (here : Here) (own : Own) where
-  abbrev AreSaid : Own → List Post → Type 0
+module _ (heard : Body → Type 0) (here : JobContext) (own : PairState) where
+  abbrev AreSaid : PairState → List Post → Type 0
   AreSaid new posts = (post : Post) → In post posts → Says heard here own new post
 
-  alone : (new : Own) (it : Post) → Says heard here own new it → AreSaid new (it ∷ [])
+  alone : (new : PairState) (it : Post) → Says heard here own new it → AreSaid new (it ∷ [])
   unfolding In
   alone new it so post (inl e) = subst (Says heard here own new) (sym e) so
   alone new it so post (inr none) = absurd none
 
   -- one letter, where there is a server to send it to
-  one : (new : Own) (to : Option ℕ) (what : Body) → ((n : ℕ) → to ≡ Some n → Says heard here own new (to_server n what)) → AreSaid new (post_to to what)
+  one : (new : PairState) (to : Option ℕ) (what : Body) → ((n : ℕ) → to ≡ Some n → Says heard here own new (to_server n what)) → AreSaid new (post_to to what)
   one new None what so post i = none_in post i
   one new (Some n) what so post i = alone new (to_server n what) (so n refl) post i
 
@@ -74,7 +74,7 @@ module _ (heard : Body → Type 0) (here : Here) (own : Own) where
   asks_said post (An_entry_to_move _ next) = says.Moves post refl next
   asks_said post (Of_the_log _ logged) = says.Of_the_log post logged
 
-  ends_said : (now : Own) (op : Pending) (of : OpKind) (how : Ending) → op.kind ≡ of → HasEnded heard here own op how → pending_on now op.cell ≡ None
+  ends_said : (now : PairState) (op : Pending) (of : OpKind) (how : Ending) → op.kind ≡ of → HasEnded heard here own op how → pending_on now op.cell ≡ None
       → now.pairs.finished ≡ own.pairs.finished → AreSaid (ends here now op of how).own (ends here now op of how).posts
   ends_said now op kind.Write how is ended none same =
       let last : Finished = record { seq = op.seq; ending = how } in
@@ -83,7 +83,7 @@ module _ (heard : Body → Type 0) (here : Here) (own : Own) where
   ends_said now op kind.Copy how is ended none same = λ post i. none_in post i
 
   -- a cell that is not live has no second server
-  acts_said : (now : Own) (op : Pending) → Taken own now op → live here.state op.cell ≡ false → (next : Action)
+  acts_said : (now : PairState) (op : Pending) → Taken own now op → live here.state op.cell ≡ false → (next : Action)
       → AreSaid (acts here now op next).own (acts here now op next).posts
   acts_said now op taken off action.Reserve = one _ _ _ (λ to so. none_some (dead_second here.state op.cell off) so)
   acts_said now op taken off (action.Mark which) = λ post i. none_in post i
@@ -95,7 +95,7 @@ module _ (heard : Body → Type 0) (here : Here) (own : Own) where
       (taking own now op taken).finished
   acts_said now op taken off action.Drop = λ post i. none_in post i
 
-  lead_said : (done : Done) → DidLead heard here own done → AreSaid done.own done.posts
+  lead_said : (done : JobResult) → DidLead heard here own done → AreSaid done.own done.posts
   lead_said _ (Asks_for posts h) = λ post i. asks_said post (h post i)
   lead_said _ (Repeats want last h lead is e) = alone _ _ (says.Repeats want last refl h lead is e)
   lead_said _ (Is_full want new no_room) = alone _ _ (says.Ends want.client _ (Had_no_slot want new no_room new.none) refl)
@@ -118,30 +118,30 @@ module _ (heard : Body → Type 0) (here : Here) (own : Own) where
   lead_said _ (Goes_on_dead now op taken off) = acts_said now op taken off (next_stage here.state here.me op)
   lead_said _ _ = λ post i. none_in post i
 
-  tells_said : (now : Own) (cell : Cell) (number : ℕ) (how : Far) → is_second here.state here.me cell ≡ true
+  tells_said : (now : PairState) (cell : Cell) (number : ℕ) (how : Far) → is_second here.state here.me cell ≡ true
       → AreSaid (tells here now cell number how).own (tells here now cell number how).posts
   tells_said now cell number far.Reserved follows = one _ _ _ (λ to so. says.Has_slot number cell to follows so)
   tells_said now cell number far.Replicated follows = one _ _ _ (λ to so. says.Has_copy number cell to follows so)
 
-  second_said : (done : Done) → DidSecond heard here own done → AreSaid done.own done.posts
+  second_said : (done : JobResult) → DidSecond heard here own done → AreSaid done.own done.posts
   second_said _ (Sets_apart number cell tickets h so le) = tells_said _ cell number far.Reserved so
   second_said _ (Promises number cell how so is) = tells_said own cell number how so
   second_said _ (Declines number cell h follows found) = one _ _ _ (λ to so. says.Has_no_slot number cell to refl h follows found so)
   second_said _ (Follows number key version bytes h so is) = tells_said _ (cell_of key) number far.Replicated so
 
-  step_said : (now : Own) (cell : Cell) (copy : Copying) (done : Done) → IsCopying heard here own cell now copy → CopyStep here now cell copy done
+  step_said : (now : PairState) (cell : Cell) (copy : Copying) (done : JobResult) → IsCopying heard here own cell now copy → CopyStep here now cell copy done
       → AreSaid done.own done.posts
   step_said now cell copy _ so (Asks_to_trim fresh) = one _ _ _ (λ to is. says.Trims cell copy to so fresh is)
   step_said now cell copy _ so (Sends row trimmed spot) = one _ _ _ (λ to is. says.Syncs cell copy row to so trimmed spot is)
   step_said now cell copy _ so _ = λ post i. none_in post i
 
-  holder_said : (done : Done) → DidHolder heard here own done → AreSaid done.own done.posts
+  holder_said : (done : JobResult) → DidHolder heard here own done → AreSaid done.own done.posts
   holder_said _ (Asks_page id row other held fresh) = alone _ _ (says.Asks_page row other refl held.other_is fresh)
   holder_said done (Begins_copy id row other cell _ held next step) = step_said _ cell _ done (says.Begins id row other held next) step
   holder_said done (Goes_on_copying cell now copy _ taken step) = step_said now cell copy done (says.Goes_on now copy taken) step
   holder_said _ _ = λ post i. none_in post i
 
-  trim_said : (now : Own) (cell : Cell) (last : LastCopy) (holder : ℕ) (done : Done) → cell_holder here cell ≡ Some holder
+  trim_said : (now : PairState) (cell : Cell) (last : LastCopy) (holder : ℕ) (done : JobResult) → cell_holder here cell ≡ Some holder
       → last_copy now cell ≡ Some last → TrimStep now cell last holder done → AreSaid done.own done.posts
   trim_said now cell last holder _ held is (Is_trimmed none) = alone _ _ (says.Is_trimmed cell last holder held is none)
   trim_said now cell last holder _ held is (Drops_entry epoch epochs more) = λ post i. none_in post i
@@ -151,18 +151,18 @@ module _ (heard : Body → Type 0) (here : Here) (own : Own) where
   reply_said _ _ (Has_entry entry holder last of_copy lt) = alone _ _ (says.Is_synced entry holder last of_copy)
   reply_said _ _ (Has_no_slot entry holder last of_copy spot full) = alone _ _ (says.Is_sync_full entry holder last refl of_copy spot full)
 
-  other_said : (done : Done) → DidOther heard here own done → AreSaid done.own done.posts
+  other_said : (done : JobResult) → DidOther heard here own done → AreSaid done.own done.posts
   other_said _ (Replies to said reply) = reply_said to said reply
   other_said done (Is_copied_to number cell epochs holder _ h held newer step) =
       trim_said _ cell (first_last number epochs) holder done held (cell_same own.copies.last cell (first_last number epochs)) step
   other_said done (Goes_on_trimming cell holder last _ held is step) = trim_said own cell last holder done held is step
   other_said _ (Puts_entry entry holder last of_copy spot room) = alone _ _ (says.Is_synced entry holder last of_copy)
 
-  read_said : (done : Done) → DidRead heard here own done → AreSaid done.own done.posts
+  read_said : (done : JobResult) → DidRead heard here own done → AreSaid done.own done.posts
   read_said _ (Shows client seq cell epoch may so) = alone _ _ (says.Shows client seq cell epoch may so)
   read_said _ (Not_here client seq cell epoch may comes none) = alone _ _ (says.Shows_nothing client seq cell epoch may comes none)
 
-  pub letters_of_job : (done : Done) → Did heard here own done → AreSaid done.own done.posts
+  pub letters_of_job : (done : JobResult) → Did heard here own done → AreSaid done.own done.posts
   letters_of_job _ Ignores = λ post i. none_in post i
   letters_of_job _ (Refuses to what is busy held) = alone _ _ (says.Refuses to what is busy held)
   letters_of_job _ (By_read done d) = read_said done d

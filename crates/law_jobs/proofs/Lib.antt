@@ -1,5 +1,5 @@
 pub mod Runs
-pub mod Sent
+pub mod LettersWereSent
 pub mod ChainsApart
 pub mod MarksApart
 pub mod JobsAreEffects

@@ -8,27 +8,27 @@ use Rattle.petal_msg.specs.declared.operation.Pending.{Pending}
 use Rattle.petal_msg.specs.declared.operation.Stage.{Stage}
 use Rattle.petal_table.specs.Table.{Table, at, put, without}
 use Rattle.petal_table.proofs.Rows.{at_apart, at_same}
-use Rattle.spec_rules.specs.Server.{Own, Here, Done}
+use Rattle.spec_rules.specs.Server.{PairState, JobContext, JobResult}
 use Rattle.spec_rules.specs.Store.{cell_cmp}
 use Rattle.spec_rules.proofs.CellTables.{cell_apart, cell_gone, cell_gone_apart, cell_same}
 use Rattle.spec_rules.proofs.Tests.{same_or_apart, same_some}
 use Rattle.law_steps.specs.Did.{Did}
 use Rattle.law_steps.proofs.Restages.{IsSame, Was, same_itself, same_on, stood, was_same}
-use Rattle.law_steps.proofs.Staged.{same_cell_or_apart}
+use Rattle.law_steps.proofs.OperationsRest.{same_cell_or_apart}
 use Rattle.law_jobs.specs.Effects.{By_operation, Closes, Counts, Effect, Finishes, Goes_on, Had_no_slot, Has_put, Is_opened, IsFinishedFor, IsOpening, IsSetFor, May, Sets, applied}
 use Rattle.law_jobs.proofs.JobsAreEffects.{job_keeps}
 
 pub restaged : (op : Pending) (version : ℕ) (stage : Stage) → IsSame op (record op { version = version; stage = stage })
 restaged op version stage = record { number = refl; kind = refl; client = refl; seq = refl; rev = refl; key = refl; bytes = refl }
 
-module _ (heard : Body → Type 0) (here : Here) (own : Own) where
+module _ (heard : Body → Type 0) (here : JobContext) (own : PairState) where
   -- ### What is pending
 
   pub data HasCome (next : ℕ) (cell : Cell) (op : Pending) : Type 0 where
     Stood : Was own cell op → HasCome next cell op
     Is_new : (first : Pending) → IsOpening heard here own first → cell ≡ first.cell → IsSame first op → own.pairs.next + 1 ≤ next → HasCome next cell op
 
-  abbrev HaveCome : Own → Type 0
+  abbrev HaveCome : PairState → Type 0
   HaveCome now = (cell : Cell) (op : Pending) → at cell_cmp now.pairs.pending cell ≡ Some op → HasCome now.pairs.next cell op
 
   further : (next : ℕ) (cell : Cell) (op later : Pending) → IsSame op later → HasCome next cell op → HasCome next cell later
@@ -36,7 +36,7 @@ module _ (heard : Body → Type 0) (here : Here) (own : Own) where
       Stood (record { was = was.was; is = was.is; same = same_on was.was op later was.same same })
   further next cell op later same (Is_new first opening at_cell old number) = Is_new first opening at_cell (same_on first op later old same) number
 
-  set_so : (now : Own) (op : Pending) → IsSetFor heard here own now op → HaveCome now → (cell : Cell) → cell ≡ op.cell
+  set_so : (now : PairState) (op : Pending) → IsSetFor heard here own now op → HaveCome now → (cell : Cell) → cell ≡ op.cell
       → HasCome now.pairs.next cell op
   set_so now _ (Is_opened op opening number) so cell e = Is_new op opening e (same_itself op) (omega arith)
   set_so now _ (Goes_on op stage is put) so cell e =
@@ -48,7 +48,7 @@ module _ (heard : Body → Type 0) (here : Here) (own : Own) where
   counted next cell op (Stood was) = Stood was
   counted next cell op (Is_new first opening at_cell same le) = Is_new first opening at_cell same (omega arith)
 
-  each_come : (now : Own) (e : Effect) → May heard here own now e → HaveCome now → HaveCome (applied now e)
+  each_come : (now : PairState) (e : Effect) → May heard here own now e → HaveCome now → HaveCome (applied now e)
   each_come now (Sets next) may so cell op there = elim (same_cell_or_apart cell next.cell) [
     | inl e ↦
         let t = now.pairs.pending in
@@ -60,7 +60,7 @@ module _ (heard : Body → Type 0) (here : Here) (own : Own) where
   each_come now Counts may so cell op there = counted now.pairs.next cell op (so cell op there)
   each_come now _ may so cell op there = so cell op there
 
-  pub did_come : (done : Done) → Did heard here own done → HaveCome done.own
+  pub did_come : (done : JobResult) → Did heard here own done → HaveCome done.own
   did_come = job_keeps heard here own HaveCome each_come (λ cell op is. Stood (was_same own cell op is))
 
   -- ### What is finished
@@ -85,16 +85,16 @@ module _ (heard : Body → Type 0) (here : Here) (own : Own) where
   after_closing f t cell (None_new same) = None_new same
   after_closing f t cell (Is_done client last why is) = Is_done client last (closed t cell client last why) is
 
-  abbrev F : Own → Type 0
+  abbrev F : PairState → Type 0
   F now = HasFinished now.pairs.finished now.pairs.pending
 
-  each_finish : (now : Own) (e : Effect) → May heard here own now e → F now → F (applied now e)
+  each_finish : (now : PairState) (e : Effect) → May heard here own now e → F now → F (applied now e)
   each_finish now (Sets op) may so = None_new may.1
   each_finish now (Closes cell) may so = after_closing now.pairs.finished now.pairs.pending cell so
   each_finish now (Finishes client last) may so = Is_done client last may.0 (ap (λ t. put nat_cmp t client last) may.1)
   each_finish now _ may so = so
 
-  pub did_finish : (done : Done) → Did heard here own done → F done.own
+  pub did_finish : (done : JobResult) → Did heard here own done → F done.own
   did_finish = job_keeps heard here own F each_finish (None_new refl)
 
   -- what is remembered of one client

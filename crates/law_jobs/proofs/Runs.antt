@@ -3,15 +3,15 @@ use Rattle.std.proofs.Common.{◌≡◌, List, [], ◌∷◌, ◌++◌, refl, sy
 use Rattle.std.proofs.lemmas.List.{append-nil}
 use Rattle.spec_history.specs.Steps.{Follows, stepped}
 use Rattle.spec_rules.specs.State.{State}
-use Rattle.law_state.specs.Below.{IsBelow}
+use Rattle.law_state.specs.LaterStates.{IsBelow}
 use Rattle.law_state.specs.Firm.{Firm}
 use Rattle.law_state.specs.Histories.{AreSteps, IsPrefix, IsSound, Record, Script, chosen_log, chosen_state, setting_of, start}
 use Rattle.law_state.specs.Moments.{IsMoment}
-use Rattle.law_log.proofs.Histories.{history_grows, history_is_firm}
-use Rattle.law_steps.specs.Happens.{Happens}
+use Rattle.law_log.proofs.LogInHistories.{history_grows, history_is_firm}
+use Rattle.law_steps.specs.DidStep.{Happens}
 use Rattle.law_steps.specs.Ready.{Ready, Rests}
-use Rattle.law_steps.proofs.Firms.{always_firm}
-use Rattle.law_steps.proofs.Histories.{front_legal, last_happens, ready_after, rests_after, start_rests, world_more}
+use Rattle.law_steps.proofs.WorldsAreFirm.{always_firm}
+use Rattle.law_steps.proofs.KindsInHistories.{front_legal, last_happens, ready_after, rests_after, start_rests, world_more}
 pub use Rattle.law_jobs.specs.Runs.{At, OneMore, Run, after, longer, run_of, setting_in}
 
 -- the part of a history before some of its records

@@ -23,7 +23,7 @@ use Rattle.spec_rules.specs.Copies.{Entry}
 use Rattle.spec_rules.specs.Fills.{Moving, fill_operation, with_filled}
 use Rattle.spec_rules.specs.Progress.{copying_on, last_copy, with_copying, without_copying, with_full, with_last_copy, with_progress}
 use Rattle.petal_msg.specs.declared.copying.LinkId.{LinkId}
-use Rattle.spec_rules.specs.Server.{Own, Here}
+use Rattle.spec_rules.specs.Server.{PairState, JobContext}
 use Rattle.spec_rules.specs.State.{in_both, is_alone_on, link_named, live}
 use Rattle.spec_rules.specs.Store.{Stored, cell_cmp, chain_in, free_of, with_mark_on, with_entry, without_entry, without_mark_on}
 use Rattle.spec_rules.specs.Writes.{Wanted, last_on, operation, pending_on, with_pending, without_pending}
@@ -54,7 +54,7 @@ pub data Effect : Type 0 where
   Is_full : Bool → Effect
   Fills : LinkRow → Key → Effect
 
-abbrev pub applied : Own → Effect → Own
+abbrev pub applied : PairState → Effect → PairState
 applied own (Sets op) = with_pending own op
 applied own (Closes cell) = without_pending own cell
 applied own Counts = record own { pairs = record own.pairs { next = own.pairs.next + 1 } }
@@ -73,7 +73,7 @@ applied own (Is_full full) = with_full own full
 applied own (Fills row key) = with_filled own row key
 
 -- of what comes an entry that is put
-pub data IsPutFor (heard : Body → Type 0) (own : Own) : Key → Stored → Type 0 where
+pub data IsPutFor (heard : Body → Type 0) (own : PairState) : Key → Stored → Type 0 where
   An_operation : (op : Pending) (version : ℕ) → pending_on own op.cell ≡ Some op
       → IsPutFor heard own op.key (record { version = version; bytes = op.bytes })
   A_lead : (number : ℕ) (key : Key) (told version : ℕ) (bytes : List ℕ) → heard (body.Replicate number key told bytes)
@@ -82,12 +82,12 @@ pub data IsPutFor (heard : Body → Type 0) (own : Own) : Key → Stored → Typ
       → IsPutFor heard own entry.key entry.stored
 
 -- for what an operation is opened under the next number
-pub data IsOpening (heard : Body → Type 0) (here : Here) (own : Own) : Pending → Type 0 where
+pub data IsOpening (heard : Body → Type 0) (here : JobContext) (own : PairState) : Pending → Type 0 where
   For_a_write : (want : Wanted) → IsNew heard here own want → IsOpening heard here own (operation here own.pairs.next want)
   For_a_fill : (moving : Moving) → IsNewFill heard here own moving → IsOpening heard here own (fill_operation here own.pairs.next moving)
 
 -- how an operation is set: it is new; or it goes on at another stage, put or not as it was; or its entry has been put
-pub data IsSetFor (heard : Body → Type 0) (here : Here) (own now : Own) : Pending → Type 0 where
+pub data IsSetFor (heard : Body → Type 0) (here : JobContext) (own now : PairState) : Pending → Type 0 where
   Is_opened : (op : Pending) → IsOpening heard here own op → now.pairs.next ≡ own.pairs.next + 1 → IsSetFor heard here own now op
   Goes_on : (op : Pending) (stage : Stage) → pending_on now op.cell ≡ Some op → stage.put ≡ op.stage.put
       → IsSetFor heard here own now (record op { stage = stage })
@@ -97,30 +97,30 @@ pub data IsSetFor (heard : Body → Type 0) (here : Here) (own now : Own) : Pend
 
 -- how an operation that was pending at its lead has ended: its second server has no slot for it, or it has been put where its copies are, or it
 -- is of a cell that is no longer live
-pub data HasEnded (heard : Body → Type 0) (here : Here) (own : Own) : Pending → Ending → Type 0 where
+pub data HasEnded (heard : Body → Type 0) (here : JobContext) (own : PairState) : Pending → Ending → Type 0 where
   Is_declined : (op : Pending) → heard (body.PairFull op.op op.cell) → pending_on own op.cell ≡ Some op → op.stage.reserved ≡ false
       → op.stage.put ≡ false → HasEnded heard here own op Full
   Both_have : (op : Pending) → pending_on own op.cell ≡ Some op → in_both here.state op.cell ≡ true → op.stage ≡ answering
       → HasEnded heard here own op Written
-  Alone_has : (now : Own) (op : Pending) → Taken own now op → is_alone_on here.state here.me op.cell ≡ true → op.stage.stale ≡ true
+  Alone_has : (now : PairState) (op : Pending) → Taken own now op → is_alone_on here.state here.me op.cell ≡ true → op.stage.stale ≡ true
       → op.stage.put ≡ true → op.stage.busy ≡ false → HasEnded heard here own op Written
-  Is_dead : (now : Own) (op : Pending) → Taken own now op → live here.state op.cell ≡ false → HasEnded heard here own op Written
+  Is_dead : (now : PairState) (op : Pending) → Taken own now op → live here.state op.cell ≡ false → HasEnded heard here own op Written
 
 -- with which request of a client a lead is done: a new one for which it has no slot, or that of an operation that has ended. Nothing is pending
 -- then on its cell
-pub data IsFinishedFor (heard : Body → Type 0) (here : Here) (own : Own) (pending : Table Cell Pending) : ℕ → Finished → Type 0 where
+pub data IsFinishedFor (heard : Body → Type 0) (here : JobContext) (own : PairState) (pending : Table Cell Pending) : ℕ → Finished → Type 0 where
   Had_no_slot : (want : Wanted) → IsNew heard here own want → free_of own.store ≡ 0 → at cell_cmp pending want.cell ≡ None
       → IsFinishedFor heard here own pending want.client (record { seq = want.seq; ending = Full })
   By_operation : (op : Pending) (how : Ending) → HasEnded heard here own op how → op.kind ≡ Write → at cell_cmp pending op.cell ≡ None
       → IsFinishedFor heard here own pending op.client (record { seq = op.seq; ending = how })
 
 -- how the last copy of a cell to this server is noted: the holder has begun it, or an entry of it has come
-pub data IsCopiedFor (heard : Body → Type 0) (own : Own) (cell : Cell) : LastCopy → Type 0 where
+pub data IsCopiedFor (heard : Body → Type 0) (own : PairState) (cell : Cell) : LastCopy → Type 0 where
   Is_begun : (number : ℕ) (epochs : List ℕ) → heard (body.Trim number cell epochs) → IsCopiedFor heard own cell (first_last number epochs)
   Is_further : (last : LastCopy) (index : ℕ) → last_copy own cell ≡ Some last → IsCopiedFor heard own cell (record last { index = index })
 
 -- the copy that is under way on a cell is told to have found no slot for its next entry
-pub record HearsFull (heard : Body → Type 0) (own : Own) : Type 0 where
+pub record HearsFull (heard : Body → Type 0) (own : PairState) : Type 0 where
   pub cell : Cell
   pub copy : Copying
   pub said : heard (body.SyncFull copy.op cell)
@@ -129,17 +129,17 @@ pub record HearsFull (heard : Body → Type 0) (own : Own) : Type 0 where
   pub left : copy.index < length (chain_in own.store.chains cell)
 
 -- or the next entry of a link that the server is to move
-pub record HearsFillFull (heard : Body → Type 0) (here : Here) (own : Own) : Type 0 where
+pub record HearsFillFull (heard : Body → Type 0) (here : JobContext) (own : PairState) : Type 0 where
   pub key : Key
   pub row : LinkRow
   pub said : heard (body.FillFull key)
   pub next : IsNextKey here own key row
 
-abbrev pub HearsNone : (heard : Body → Type 0) → Here → Own → Type 0
+abbrev pub HearsNone : (heard : Body → Type 0) → JobContext → PairState → Type 0
 HearsNone heard here own = HearsFull heard own ⊎ HearsFillFull heard here own
 
 -- a letter told that the next entry of a link has moved, and where it is at the old map
-pub record IsFilledAs (heard : Body → Type 0) (here : Here) (own : Own) (row : LinkRow) (old : Key) : Type 0 where
+pub record IsFilledAs (heard : Body → Type 0) (here : JobContext) (own : PairState) (row : LinkRow) (old : Key) : Type 0 where
   pub key : Key
   pub told : heard (body.Filled key)
   pub next : IsNextKey here own key row
@@ -147,7 +147,7 @@ pub record IsFilledAs (heard : Body → Type 0) (here : Here) (own : Own) (row :
 
 -- what was so when a server did it that handled only such letters as `heard` knows: by its own part as the job began, `own`, and as it is
 -- by now. A job puts one entry at most, and is done with one request
-abbrev pub May : (heard : Body → Type 0) (here : Here) (own now : Own) → Effect → Type 0
+abbrev pub May : (heard : Body → Type 0) (here : JobContext) (own now : PairState) → Effect → Type 0
 May heard here own now (Sets op) = IsSetFor heard here own now op × (now.pairs.finished ≡ own.pairs.finished)
 May heard here own now (Finishes client last) = IsFinishedFor heard here own now.pairs.pending client last × (now.pairs.finished ≡ own.pairs.finished)
 May heard here own now (Puts key stored) = IsPutFor heard own key stored × (now.store.chains ≡ own.store.chains)
@@ -160,6 +160,6 @@ May heard here own now (Fills row key) = IsFilledAs heard here own row key × (n
 May heard here own now _ = Unit {0}
 
 -- what a server's own part may become by effects, one after the other
-pub data Becomes (heard : Body → Type 0) (here : Here) (own : Own) : Own → Type 0 where
+pub data Becomes (heard : Body → Type 0) (here : JobContext) (own : PairState) : PairState → Type 0 where
   As_it_was : Becomes heard here own own
-  Then : (now : Own) (effect : Effect) → Becomes heard here own now → May heard here own now effect → Becomes heard here own (applied now effect)
+  Then : (now : PairState) (effect : Effect) → Becomes heard here own now → May heard here own now effect → Becomes heard here own (applied now effect)

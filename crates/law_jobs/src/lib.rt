@@ -9,19 +9,19 @@ ghost use Rattle.std.specs.Prelude.{ℕ};
 ghost use Rattle.law_jobs.specs.Effects.{Becomes};
 ghost use Rattle.law_jobs.specs.Sayings.{Says};
 ghost use Rattle.law_steps.specs.Did.{Did};
-ghost use Rattle.law_steps.specs.Happens.{Handled, own_place};
+ghost use Rattle.law_steps.specs.DidStep.{Handled, own_place};
 ghost use Rattle.spec_rules.specs.Lists.{In};
-ghost use Rattle.spec_rules.specs.Server.{Done, Post};
+ghost use Rattle.spec_rules.specs.Server.{JobResult, Post};
 ghost use Rattle.spec_rules.specs.World.{Setting, World};
 
 /// What a server's own part becomes by a job, it becomes by effects, one after the other, each of which the server may have had.
 pub fn a_job_is_a_list_of_effects()
-    ensures { (setting : Setting) (w : World) (n : ℕ) (done : Done) → Did (Handled w n) (own_place setting w n) (w.servers n).own done
+    ensures { (setting : Setting) (w : World) (n : ℕ) (done : JobResult) → Did (Handled w n) (own_place setting w n) (w.servers n).own done
         → Becomes (Handled w n) (own_place setting w n) (w.servers n).own done.own }
 {}
 
 /// Each letter of a job is one that the server may say.
 pub fn a_job_says_what_it_may()
-    ensures { (setting : Setting) (w : World) (n : ℕ) (done : Done) → Did (Handled w n) (own_place setting w n) (w.servers n).own done
+    ensures { (setting : Setting) (w : World) (n : ℕ) (done : JobResult) → Did (Handled w n) (own_place setting w n) (w.servers n).own done
         → (post : Post) → In post done.posts → Says (Handled w n) (own_place setting w n) (w.servers n).own done.own post }
 {}

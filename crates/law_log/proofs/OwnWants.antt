@@ -24,20 +24,20 @@ use Rattle.spec_rules.specs.World.{Setting, World}
 use Rattle.spec_rules.specs.declared.job.Job.{Job}
 use Rattle.spec_rules.proofs.ListLemmas.{in-append, put_same}
 use Rattle.spec_rules.proofs.Tests.{number_itself, by_test}
-use Rattle.law_log.specs.Logged.{Catches, IsReached, IsToldBefore}
-use Rattle.law_log.specs.Logged.{Logged, Minded, Returns, WasMinded}
-use Rattle.law_state.specs.Started.{HasFlag, is_flagged}
+use Rattle.law_log.specs.AgreedLog.{Catches, IsReached, IsToldBefore}
+use Rattle.law_log.specs.AgreedLog.{Logged, Minded, Returns, WasMinded}
+use Rattle.law_state.specs.StartedBallots.{HasFlag, is_flagged}
 use Rattle.global_tables.specs.declared.fence.Member.TheVariants as member
 use Rattle.law_state.specs.Tables.{IsPlainState}
 use Rattle.law_state.proofs.Ages.{may_by}
-use Rattle.law_state.proofs.Entries.{log_plain}
-use Rattle.law_log.proofs.Facts.{applied_plain}
-use Rattle.law_log.proofs.Catching.{caught_among, caught_may, caught_minded}
-use Rattle.law_log.proofs.Draining.{IsReport, report_among}
-use Rattle.law_log.proofs.Jobs.{start_wants}
-use Rattle.law_log.proofs.Lists.{got}
-use Rattle.law_log.proofs.Moving.{IsMove, move_among}
-use Rattle.law_log.proofs.Worlds.{ServerStep, before_of, Remembers}
+use Rattle.law_state.proofs.EntriesOnlyAdd.{log_plain}
+use Rattle.law_log.proofs.OneCommandEachPlace.{applied_plain}
+use Rattle.law_log.proofs.CaughtsWanted.{caught_among, caught_may, caught_minded}
+use Rattle.law_log.proofs.ReportsWanted.{IsReport, report_among}
+use Rattle.law_log.proofs.LogJobsInSchedule.{start_wants}
+use Rattle.law_log.proofs.ListPlaces.{got}
+use Rattle.law_log.proofs.MovedsWanted.{IsMove, move_among}
+use Rattle.law_log.proofs.ServersKeepWorlds.{ServerStep, before_of, Remembers}
 
 -- the next place is reached: what is applied before it was told
 pub reached_next : {Was : Minded} (setting : Setting) (w : World) (l : Logged Was setting w) (n : ℕ)

@@ -17,27 +17,27 @@ use Rattle.spec_paxos.specs.declared.phase.Phase.{Phase}
 use Rattle.spec_paxos.specs.declared.phase.Phase.TheVariants.{Idle, Collecting, Voting}
 use Rattle.spec_rules.specs.Agreement.{IsAskedFor}
 use Rattle.spec_rules.specs.Ballots.{ballot_posts, start_jobs}
-use Rattle.spec_rules.specs.Copies.{mend_jobs, waits_for_job}
+use Rattle.spec_rules.specs.Copies.{repair_jobs, waits_for_job}
 use Rattle.spec_rules.specs.Sweeping.{sweep_jobs}
 use Rattle.spec_state.specs.Command.{after}
 use Rattle.spec_state.specs.Place.{touches}
-use Rattle.spec_rules.specs.Crossing.{is_mended, jobs_by, link_jobs, stage_jobs, touches_cell}
+use Rattle.spec_rules.specs.Crossing.{is_repaired, jobs_by, link_jobs, stage_jobs, touches_cell}
 use Rattle.spec_rules.specs.Jobs.{tick_jobs}
 use Rattle.spec_rules.specs.Jobs.{wanted_by}
 use Rattle.spec_rules.specs.Lists.{In as Among}
 use Rattle.spec_rules.specs.Log.{Voter}
 use Rattle.spec_rules.specs.Posts.{Post}
-use Rattle.spec_rules.specs.Server.{Server, Own, Here}
+use Rattle.spec_rules.specs.Server.{Server, PairState, JobContext}
 use Rattle.spec_rules.specs.State.{State, id_of}
 use Rattle.spec_rules.specs.State.{is_in as seated}
 use Rattle.spec_rules.specs.declared.job.Job.{Job}
 use Rattle.spec_rules.specs.declared.job.Job.TheVariants as job
 use Rattle.spec_rules.proofs.ListLemmas.{in-append}
 use Rattle.spec_rules.proofs.Tests.{by_test}
-use Rattle.law_log.specs.Logged.{IsBacked}
-use Rattle.law_log.proofs.Filling.{no_sweep}
-use Rattle.law_log.proofs.Proposing.{all_backed}
-use Rattle.law_log.proofs.Turns.{no_posts}
+use Rattle.law_log.specs.AgreedLog.{IsBacked}
+use Rattle.law_log.proofs.FillJobsLeaveLog.{no_sweep}
+use Rattle.law_log.proofs.ProposersInSchedule.{all_backed}
+use Rattle.law_log.proofs.ScheduleTurns.{no_posts}
 
 pub job_here : (x : Job) (xs : List Job) → Among x (x ∷ xs)
 unfolding Among
@@ -80,21 +80,21 @@ pub no_jobs : {A : Type 0} (letter : Letter) → Among (job.Letter letter) [] �
 unfolding Among
 no_jobs letter h = absurd h
 
-no_mend : {A : Type 0} (rows : List LinkRow) (letter : Letter) → Among (job.Letter letter) (map (λ (row : LinkRow). job.Mend (id_of row)) rows) → A
+no_mend : {A : Type 0} (rows : List LinkRow) (letter : Letter) → Among (job.Letter letter) (map (λ (row : LinkRow). job.Repair (id_of row)) rows) → A
 unfolding Among
 no_mend [] letter h = absurd h
-no_mend (row ∷ rows) letter (inl e) = let f : job.Letter letter ≡ job.Mend (id_of row) = e in absurd cc
+no_mend (row ∷ rows) letter (inl e) = let f : job.Letter letter ≡ job.Repair (id_of row) = e in absurd cc
 no_mend (row ∷ rows) letter (inr h) = no_mend rows letter h
 
 -- nor among the jobs of a tick
-pub tick_only : (here : Here) (server : Server) (letter : Letter) → Among (job.Letter letter) (tick_jobs here server) → ⊥
+pub tick_only : (here : JobContext) (server : Server) (letter : Letter) → Among (job.Letter letter) (tick_jobs here server) → ⊥
 tick_only here server letter h =
     elim (in-append (job.Letter letter) (start_jobs server.log.phase (wanted_by here server))
-    (if seated here.state here.me here.inc then mend_jobs here server.own ++ sweep_jobs here server.own else []) h) [
+    (if seated here.state here.me here.inc then repair_jobs here server.own ++ sweep_jobs here server.own else []) h) [
       | inl start ↦ start_only server.log.phase (wanted_by here server) letter start
       | inr other ↦ by_test (λ (xs : List Job). Among (job.Letter letter) xs → ⊥) (seated here.state here.me here.inc)
-          (mend_jobs here server.own ++ sweep_jobs here server.own) []
-          (λ e i. elim (in-append (job.Letter letter) (mend_jobs here server.own) (sweep_jobs here server.own) i) [
+          (repair_jobs here server.own ++ sweep_jobs here server.own) []
+          (λ e i. elim (in-append (job.Letter letter) (repair_jobs here server.own) (sweep_jobs here server.own) i) [
             | inl mend ↦ no_mend (filter (λ row. waits_for_job here server.own row row.state) here.state.links) letter mend
             | inr sweep ↦ no_sweep here server.own letter sweep
           ])
@@ -108,10 +108,10 @@ no_stage [] letter h = absurd h
 no_stage (row ∷ rows) letter (inl e) = let f : job.Letter letter ≡ job.Stage row.0 = e in absurd cc
 no_stage (row ∷ rows) letter (inr h) = no_stage rows letter h
 
-pub stages_only : {A : Type 0} (state : State) (me : ℕ) (entry : Option Command) (own : Own) (letter : Letter)
+pub stages_only : {A : Type 0} (state : State) (me : ℕ) (entry : Option Command) (own : PairState) (letter : Letter)
     → Among (job.Letter letter) (jobs_by state me entry own) → A
 stages_only state me None own letter h = no_jobs letter h
 stages_only state me (Some entry) own letter h = elim (in-append (job.Letter letter) (stage_jobs state entry own) (link_jobs state entry me) h) [
   | inl stage ↦ no_stage (filter (λ row. touches_cell state entry row.0) own.pairs.pending) letter stage
-  | inr mend ↦ no_mend (filter (λ row. touches state entry row && is_mended (after state entry) me row row.state) (after state entry).links) letter mend
+  | inr mend ↦ no_mend (filter (λ row. touches state entry row && is_repaired (after state entry) me row row.state) (after state entry).links) letter mend
 ]

@@ -2,7 +2,7 @@
 use Rattle.std.proofs.Common.{◌≤◌, ◌<◌, ℕ, true}
 use Rattle.spec_paxos.specs.Schedule.{World}
 use Rattle.spec_rules.specs.Log.{Log, Voter}
-use Rattle.law_log.specs.Logged.{AreLow, IsBusyAs, IsSeenAt}
+use Rattle.law_log.specs.AgreedLog.{AreLow, IsBusyAs, IsSeenAt}
 
 -- such a log
 pub record RunningLog : Type 0 where

@@ -1,2 +1,2 @@
-pub mod Requested
-pub mod Logged
+pub mod ProposedCommands
+pub mod AgreedLog

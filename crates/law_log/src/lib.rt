@@ -21,8 +21,8 @@ ghost use Rattle.spec_rules.specs.World.{chosen_log, chosen_state};
 ghost use Rattle.spec_history.specs.Claims.{Agrees, Grows, IsPrefix};
 ghost use Rattle.law_state.specs.Histories.{AreSteps, IsSound, Record, Script, setting_of, start, world_after};
 ghost use Rattle.law_state.specs.Firm.{Firm};
-ghost use Rattle.law_log.specs.Requested.{HasBegun, HasStopped, IsCalledFor, IsCaughtAt, IsReportAt, NoneBoots, WasDraining};
-ghost use Rattle.law_log.specs.Requested.{WasMoving, WasReturning, WasStarted, WasWanted};
+ghost use Rattle.law_log.specs.ProposedCommands.{HasBegun, HasStopped, IsCalledFor, IsCaughtAt, IsReportAt, NoneBoots, WasDraining};
+ghost use Rattle.law_log.specs.ProposedCommands.{WasMoving, WasReturning, WasStarted, WasWanted};
 
 /// What a state device knows to be chosen stands in the chosen log at its place, and what is applied stands at its front.
 pub fn every_history_agrees()

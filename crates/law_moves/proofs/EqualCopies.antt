@@ -11,7 +11,7 @@ use Rattle.petal_table.proofs.Rows.{at-empty}
 use Rattle.petal_msg.specs.declared.operation.Pending.{Pending}
 use Rattle.script_lines.specs.declared.script.Script.{Script}
 use Rattle.spec_state.specs.CellState.{serves}
-use Rattle.spec_rules.specs.Server.{Own, Pairs}
+use Rattle.spec_rules.specs.Server.{PairState, Pairs}
 use Rattle.spec_rules.specs.Store.{Chain, Store, cell_cmp, chain_in}
 use Rattle.spec_rules.specs.World.{blank_joins_in, kept, setting_of}
 use Rattle.spec_rules.specs.Writes.{is_clients}
@@ -19,30 +19,30 @@ use Rattle.spec_rules.proofs.Tests.{by_bool, none_some, true_false}
 use Rattle.spec_history.specs.Steps.{AreSteps}
 use Rattle.spec_history.specs.Sound.{IsSound}
 use Rattle.spec_history.specs.declared.record.Record.{Record}
-use Rattle.law_log.proofs.Histories.{history_grows}
-use Rattle.law_state.specs.Below.{IsServing}
+use Rattle.law_log.proofs.LogInHistories.{history_grows}
+use Rattle.law_state.specs.LaterStates.{IsServing}
 use Rattle.law_state.specs.Homes.{stage_at}
 use Rattle.law_state.proofs.Roles.{secondary_is_one}
 use Rattle.law_steps.proofs.Fronts.{front_itself, front_long, front_on}
 use Rattle.law_steps.proofs.Records.{split_last}
 use Rattle.law_jobs.proofs.Runs.{At}
-use Rattle.law_copies.proofs.StoreWays.{before_last}
-use Rattle.law_copies.specs.Good.{AreTwins, pair_at}
+use Rattle.law_copies.proofs.StoresAlongRecords.{before_last}
+use Rattle.law_copies.specs.GoodCopies.{AreTwins, pair_at}
 use Rattle.law_copies.specs.Pair.{AreCopies, Working, far}
 use Rattle.law_copies.specs.Visits.{IsLinked, WasThere, half, place_by}
-use Rattle.law_copies.proofs.Places.{at_most_or_above}
-use Rattle.law_epochs.proofs.Histories.{place_timely}
+use Rattle.law_copies.proofs.PlacesByFronts.{at_most_or_above}
+use Rattle.law_epochs.proofs.EpochsInHistories.{place_timely}
 use Rattle.law_moves.specs.Fills.{Has, IsFrozen}
-use Rattle.law_moves.proofs.Frozen.{frozen_stays}
-use Rattle.law_moves.proofs.Knows.{WereKnown}
-use Rattle.law_moves.proofs.Leads.{half_store}
-use Rattle.law_moves.proofs.Moved.{filled_stays, moved_all}
-use Rattle.law_moves.proofs.Opened.{opened_within}
-use Rattle.law_moves.proofs.Over.{AllMoved}
-use Rattle.law_moves.proofs.There.{told_already}
-use Rattle.law_moves.proofs.Worlds.{chosen_twins, good, rests, row_serving}
-use Rattle.law_epochs.proofs.Scenes.{Run, OneMore, cut, ends_of}
-use Rattle.law_moves.proofs.Scenes.{FillsSo}
+use Rattle.law_moves.proofs.FrozenIsWhatCounted.{frozen_stays}
+use Rattle.law_moves.proofs.AllKeptOfMoves.{WereKnown}
+use Rattle.law_moves.proofs.LeadsHaveWhatServersHave.{half_store}
+use Rattle.law_moves.proofs.MovedsHadNothingLeft.{filled_stays, moved_all}
+use Rattle.law_moves.proofs.PendingWasOpened.{opened_within}
+use Rattle.law_moves.proofs.MovedRegionsHaveAll.{AllMoved}
+use Rattle.law_moves.proofs.ToldEntriesAreThere.{told_already}
+use Rattle.law_moves.proofs.MoveWorlds.{chosen_twins, good, rests, row_serving}
+use Rattle.law_epochs.proofs.EpochScenes.{Run, OneMore, cut, ends_of}
+use Rattle.law_moves.proofs.MoveScenes.{FillsSo}
 
 -- what is known of an entry that moves stays so
 pub frozen_on : (script : Script) (sound : IsSound script) (past later : List Record) (legal : AreSteps script (past ++ later)) (rev : ℕ) (key : Key)
@@ -85,7 +85,7 @@ module _ (it : OneMore) (all : WereKnown it) where
       abbrev place : ℕ
       place = place_by setting whole row
 
-      abbrev visit : ℕ → Option Own
+      abbrev visit : ℕ → Option PairState
       visit n = (good present).visits n place cell
 
       abbrev stores : ℕ → Store
@@ -99,7 +99,7 @@ module _ (it : OneMore) (all : WereKnown it) where
           let has = secondary_is_one row row.secondary refl in
           row_serving (By whole) row.secondary cell row is has (ap (serves row.secondary row) both ∙ has)
 
-      module _ (by : Own) (op : Pending) (there : visit row.primary ≡ Some by) (pending : at cell_cmp by.pairs.pending cell ≡ Some op) where
+      module _ (by : PairState) (op : Pending) (there : visit row.primary ≡ Some by) (pending : at cell_cmp by.pairs.pending cell ≡ Some op) where
         was : WasThere setting records row.primary place cell by.pairs
         was = (good present).came row.primary place cell by there
 
@@ -155,7 +155,7 @@ module _ (it : OneMore) (all : WereKnown it) where
           → op.op + op.op + 1 ≤ far (pair_at stores (good present).visits place cell row.primary row.secondary)
       has_followed op is_op = by (visit row.primary) refl is_op
         where
-          by : (o : Option Own) → visit row.primary ≡ o → at cell_cmp (half o (stores row.primary)).pairs.pending cell ≡ Some op
+          by : (o : Option PairState) → visit row.primary ≡ o → at cell_cmp (half o (stores row.primary)).pairs.pending cell ≡ Some op
               → op.op + op.op + 1 ≤ far (pair_at stores (good present).visits place cell row.primary row.secondary)
           by None e there = none_some (at-empty cell_cmp cell) there
           by (Some o) e there = by_bool (is_clients op.kind) (λ clients. absurd (no_write o op e there clients)) (λ fills. followed o op e there fills)

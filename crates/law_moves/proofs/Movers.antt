@@ -6,27 +6,27 @@ use Rattle.petal_base.specs.Cells.{key_at}
 use Rattle.petal_base.specs.declared.cell.Cell.{Cell}
 use Rattle.petal_command.specs.declared.command.Command.{Command}
 use Rattle.spec_state.specs.CellState.{cell_link, row_lead, target}
-use Rattle.spec_rules.specs.Server.{Own}
+use Rattle.spec_rules.specs.Server.{PairState}
 use Rattle.spec_rules.specs.State.{State, id_of}
 use Rattle.spec_rules.specs.Store.{chain_in}
 use Rattle.spec_rules.specs.World.{chosen_log, server_state}
 use Rattle.spec_rules.proofs.Tests.{is_the_one}
 use Rattle.spec_history.specs.Claims.{IsPrefix}
-use Rattle.law_state.specs.Below.{IsServing}
+use Rattle.law_state.specs.LaterStates.{IsServing}
 use Rattle.law_state.specs.Homes.{stage_at}
 use Rattle.law_state.specs.Plain.{IsPlainLog}
 use Rattle.law_state.proofs.Steady.{front_plain, log_steady}
-use Rattle.law_log.proofs.Histories.{history_is_firm}
-use Rattle.law_steps.proofs.Coming.{leaves_with, region_left, stage_facts}
+use Rattle.law_log.proofs.LogInHistories.{history_is_firm}
+use Rattle.law_steps.proofs.MovesAreOfComingCells.{leaves_with, region_left, stage_facts}
 use Rattle.law_steps.proofs.Fronts.{front_itself}
-use Rattle.law_steps.proofs.Resting.{on_row}
+use Rattle.law_steps.proofs.CopiesRest.{on_row}
 use Rattle.law_moves.specs.Fills.{IsOnWay, WasFilled}
-use Rattle.law_moves.specs.Left.{IsKept, IsKnown, IsOurs}
-use Rattle.law_moves.proofs.Knows.{Known}
-use Rattle.law_moves.proofs.Moved.{mover_leads}
-use Rattle.law_moves.proofs.Serving.{link_lead_serves}
-use Rattle.law_epochs.proofs.Scenes.{Run, end_of}
-use Rattle.law_moves.proofs.Scenes.{IsMover}
+use Rattle.law_moves.specs.LeftToMove.{IsKept, IsKnown, IsOurs}
+use Rattle.law_moves.proofs.AllKeptOfMoves.{Known}
+use Rattle.law_moves.proofs.MovedsHadNothingLeft.{mover_leads}
+use Rattle.law_moves.proofs.ServersOfLinks.{link_lead_serves}
+use Rattle.law_epochs.proofs.EpochScenes.{Run, end_of}
+use Rattle.law_moves.proofs.MoveScenes.{IsMover}
 
 module _ (it : Run) (known : Known it.script it.records) (y : ℕ) (mover : IsMover (end_of it).setting (end_of it).w y) where
   open it use {script, sound, records, legal}
@@ -39,7 +39,7 @@ module _ (it : Run) (known : Known it.script it.records) (y : ℕ) (mover : IsMo
   abbrev here : State
   here = server_state setting w y
 
-  abbrev own : Own
+  abbrev own : PairState
   own = (w.servers y).own
 
   lies : IsPrefix log (chosen_log setting w)

@@ -19,10 +19,10 @@ use Rattle.petal_table.specs.Table.{Table, at}
 use Rattle.petal_table.proofs.Rows.{at-empty}
 use Rattle.spec_rules.specs.Fills.{comes_before, comes_next, earlier, fill_left, fill_of, first_key, keys_in, keys_of, next_fill, region_to_move}
 use Rattle.spec_rules.specs.Lists.{In}
-use Rattle.spec_rules.specs.Server.{Own}
+use Rattle.spec_rules.specs.Server.{PairState}
 use Rattle.spec_rules.specs.State.{State, is_on}
 use Rattle.spec_rules.specs.Store.{Chain, Stored, cell_cmp}
-use Rattle.law_moves.specs.Left.{IsKept, IsKnown, IsNext, IsOurs, last_told}
+use Rattle.law_moves.specs.LeftToMove.{IsKept, IsKnown, IsNext, IsOurs, last_told}
 use Rattle.spec_rules.proofs.CellTables.{cell_cmp_same}
 use Rattle.spec_rules.proofs.ListLemmas.{in_former, in_later}
 use Rattle.spec_rules.proofs.Tests.{both_true, by_bool, by_test, none_some, number_itself, same_numbers, same_some, true_false}
@@ -219,7 +219,7 @@ at_in {K} {X} R (e ∷ es) q x same h =
       | Greater ↦ λ is k. inr (at_in R es q x same k)
     ] refl h
 
-module _ (state : State) (row : LinkRow) (region : ℕ) (own : Own) where
+module _ (state : State) (row : LinkRow) (region : ℕ) (own : PairState) where
   key_in : (cell : Cell) (epoch : ℕ) → IsOurs state row region cell → IsKept own cell epoch → In (key_at cell epoch) (keys_in state row region own)
   key_in cell epoch ours kept = by (at cell_cmp own.store.chains cell) refl
     where
@@ -288,6 +288,6 @@ module _ (state : State) (row : LinkRow) (region : ℕ) (own : Own) where
       }
 
 -- of a Moved that was wanted (law_log's WasMoving), nothing was left
-pub nothing_left : (state : State) (server region : ℕ) (row : LinkRow) (own : Own) → region_to_move state server row ≡ Some region
+pub nothing_left : (state : State) (server region : ℕ) (row : LinkRow) (own : PairState) → region_to_move state server row ≡ Some region
     → fill_of state server row own ≡ None → next_fill state row region own ≡ None
 nothing_left state server region row own moves left = sym (ap (fill_left state server row own) moves) ∙ left

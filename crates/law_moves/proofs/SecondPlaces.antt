@@ -10,39 +10,39 @@ use Rattle.petal_command.specs.declared.command.Command.{Command}
 use Rattle.petal_table.specs.Table.{at}
 use Rattle.spec_state.specs.CellState.{serves}
 use Rattle.spec_state.specs.State.{inc_of}
-use Rattle.spec_rules.specs.Server.{Own}
+use Rattle.spec_rules.specs.Server.{PairState}
 use Rattle.spec_rules.specs.State.{is_in}
 use Rattle.spec_rules.specs.Store.{cell_cmp}
 use Rattle.spec_rules.specs.World.{counted, server_state}
 use Rattle.spec_rules.proofs.Tests.{same_some}
 use Rattle.spec_history.specs.Claims.{IsPrefix}
 use Rattle.law_state.specs.Homes.{stage_at}
-use Rattle.law_state.specs.Places.{StaysSo}
-use Rattle.law_state.specs.Rows.{ByBoth, ByNone, ByOne}
-use Rattle.law_state.proofs.Again.{log_both_place}
+use Rattle.law_state.specs.LinkChanges.{StaysSo}
+use Rattle.law_state.specs.LinkRows.{ByBoth, ByNone, ByOne}
+use Rattle.law_state.proofs.CaughtsMadeBoth.{log_both_place}
 use Rattle.law_state.proofs.Ages.{up_some}
-use Rattle.law_state.proofs.Alone.{alone_row}
-use Rattle.law_state.proofs.Grown.{alone_not_both, lost_not_both}
+use Rattle.law_state.proofs.LoneHolders.{alone_row}
+use Rattle.law_state.proofs.GrownStates.{alone_not_both, lost_not_both}
 use Rattle.law_state.proofs.Roles.{secondary_is_one}
 use Rattle.law_state.proofs.Steady.{front_plain, log_steady}
 use Rattle.law_steps.specs.Operations.{progress}
 use Rattle.law_steps.proofs.Fronts.{front_on}
 use Rattle.law_steps.proofs.Ties.{running_fronts, stays_both}
-use Rattle.law_copies.specs.Good.{AreTwins, Good, pair_at}
+use Rattle.law_copies.specs.GoodCopies.{AreTwins, Good, pair_at}
 use Rattle.law_copies.specs.Pair.{far}
 use Rattle.law_copies.specs.Visits.{HasReached, IsLinked, half, place_by, store_by}
-use Rattle.law_copies.proofs.Later.{serves_alone}
-use Rattle.law_copies.proofs.Places.{fronts_meet, linked_between, one_place, one_row, places_up}
-use Rattle.law_moves.proofs.Steps.{knows_now}
-use Rattle.law_moves.proofs.Worlds.{good, up}
-use Rattle.law_epochs.proofs.Scenes.{OneMore, ends_of}
-use Rattle.law_moves.proofs.Scenes.{IsSecondAt}
+use Rattle.law_copies.proofs.ServedAtLaterFronts.{serves_alone}
+use Rattle.law_copies.proofs.PlacesByFronts.{fronts_meet, linked_between, one_place, one_row, places_up}
+use Rattle.law_moves.proofs.StepsTellEntries.{knows_now}
+use Rattle.law_moves.proofs.MoveWorlds.{good, up}
+use Rattle.law_epochs.proofs.EpochScenes.{OneMore, ends_of}
+use Rattle.law_moves.proofs.MoveScenes.{IsSecondAt}
 
 module _ (it : OneMore) where
   open it use {prior.{script}}
   open ends_of it use {setting, records, v, whole, By, plain, present}
 
-  abbrev far_of_last : Own → Cell → ℕ
+  abbrev far_of_last : PairState → Cell → ℕ
   far_of_last o q = progress (at cell_cmp o.pairs.last q)
 
   abbrev G : Good setting records whole (counted setting v)
@@ -58,7 +58,7 @@ module _ (it : OneMore) where
     abbrev place : ℕ
     place = place_by setting f row
 
-    abbrev visit : ℕ → Option Own
+    abbrev visit : ℕ → Option PairState
     visit n = G.visits n place cell
 
     abbrev far_is : ℕ
@@ -67,7 +67,7 @@ module _ (it : OneMore) where
     -- the link's place there, who was at it, and how far this server is
     pub record SecondPlace : Type 0 where
       pub place : ℕ
-      pub visit : ℕ → Option Own
+      pub visit : ℕ → Option PairState
       pub far_is : ℕ
 
     abbrev pub second_place : SecondPlace
@@ -134,7 +134,7 @@ module _ (it : OneMore) where
       pub seat_mine : is_in (server_state setting v m) m (v.servers m).life.inc ≡ true
       pub so_far : far_is ≡ far_of_last (v.servers m).own cell
 
-    pub there_so : (by : Own) → visit m ≡ Some by → IsThereNow
+    pub there_so : (by : PairState) → visit m ≡ Some by → IsThereNow
     there_so by e =
         let b = G.been m place cell by e in
         let b_f = front_on b.front mine_now f b.within on in
@@ -161,6 +161,6 @@ module _ (it : OneMore) where
           seat_mine = seat_mine;
           so_far = ap (λ k. progress (at cell_cmp (half (visit k) (store_by setting G.stores f k)).pairs.last cell)) second
               ∙ ap (λ o. progress (at cell_cmp (half o (store_by setting G.stores f m)).pairs.last cell)) e
-              ∙ ap (λ (o : Own). far_of_last o cell) by_is ∙ ap (λ (o : Own). far_of_last o cell) here_now.same;
+              ∙ ap (λ (o : PairState). far_of_last o cell) by_is ∙ ap (λ (o : PairState). far_of_last o cell) here_now.same;
         }
     -- an operation that the first server had put there, and that this one has not followed

@@ -20,7 +20,7 @@ use Rattle.spec_state.specs.Place.{touches}
 use Rattle.spec_rules.specs.Crossing.{crossed, dies, ends_cell, settled_by, touches_cell}
 use Rattle.spec_rules.specs.Returns.{proposed}
 use Rattle.spec_rules.specs.Lists.{In}
-use Rattle.spec_rules.specs.Server.{Own, Pairs, Server}
+use Rattle.spec_rules.specs.Server.{PairState, Pairs, Server}
 use Rattle.spec_rules.specs.State.{State, is_in, live}
 use Rattle.spec_rules.specs.Store.{cell_cmp}
 use Rattle.spec_rules.specs.World.{server_state}
@@ -30,26 +30,26 @@ use Rattle.spec_rules.proofs.Settled.{settling}
 use Rattle.spec_rules.proofs.Tests.{both_true, by_bool, some_or_none, true_false}
 use Rattle.spec_history.specs.Claims.{IsPrefix}
 use Rattle.law_state.specs.Homes.{stage_at}
-use Rattle.law_state.proofs.Touching.{places_grow}
-use Rattle.law_steps.specs.Happens.{Handled, is_between, own_place}
+use Rattle.law_state.proofs.EntriesTouchLinks.{places_grow}
+use Rattle.law_steps.specs.DidStep.{Handled, is_between, own_place}
 use Rattle.law_steps.specs.Operations.{progress}
 use Rattle.law_steps.proofs.Fronts.{front_on, front_within}
-use Rattle.law_steps.proofs.Histories.{proposed_pairs}
-use Rattle.law_steps.proofs.Leading.{live_stage, stage_live}
+use Rattle.law_steps.proofs.KindsInHistories.{proposed_pairs}
+use Rattle.law_steps.proofs.WhoLeads.{live_stage, stage_live}
 use Rattle.law_copies.specs.Visits.{IsLinked, place_by}
-use Rattle.law_copies.proofs.Places.{place_of_later, place_touched, state_next}
-use Rattle.law_epochs.proofs.Histories.{running_timely}
-use Rattle.law_epochs.proofs.Within.{is_of_entries}
+use Rattle.law_copies.proofs.PlacesByFronts.{place_of_later, place_touched, state_next}
+use Rattle.law_epochs.proofs.EpochsInHistories.{running_timely}
+use Rattle.law_epochs.proofs.EntryPredicates.{is_of_entries}
 use Rattle.law_jobs.proofs.CountsGrow.{did_follow}
-use Rattle.law_moves.proofs.Changes.{never_dead}
-use Rattle.law_moves.proofs.Kept.{before}
-use Rattle.law_moves.proofs.Knows.{Known, WereKnown}
-use Rattle.law_moves.proofs.Saying.{Asks_copy, Is_done, Is_done_alone, Is_neither, Is_there, Says, did_says, is_replicate}
-use Rattle.law_moves.proofs.Steps.{Awakes, Before, Enters, HasGone, IsPosted, Is_blanked, Other, Posted, Raises, Rests, Starts_ballot}
-use Rattle.law_moves.proofs.Steps.{Works, gone, here, sent}
-use Rattle.law_moves.proofs.Worlds.{good, rests, up}
-use Rattle.law_epochs.proofs.Scenes.{OneMore, ends_of}
-use Rattle.law_moves.proofs.Scenes.{AsksToPut, IsSecondAt}
+use Rattle.law_moves.proofs.ServedCellChanges.{never_dead}
+use Rattle.law_moves.proofs.LeavingCellsGainNothing.{before}
+use Rattle.law_moves.proofs.AllKeptOfMoves.{Known, WereKnown}
+use Rattle.law_moves.proofs.FillLetters.{Asks_copy, Is_done, Is_done_alone, Is_neither, Is_there, Says, did_says, is_replicate}
+use Rattle.law_moves.proofs.StepsTellEntries.{Awakes, Before, Enters, HasGone, IsPosted, Is_blanked, Other, Posted, Raises, Rests, Starts_ballot}
+use Rattle.law_moves.proofs.StepsTellEntries.{Works, gone, here, sent}
+use Rattle.law_moves.proofs.MoveWorlds.{good, rests, up}
+use Rattle.law_epochs.proofs.EpochScenes.{OneMore, ends_of}
+use Rattle.law_moves.proofs.MoveScenes.{AsksToPut, IsSecondAt}
 
 replicate_key : {number other v1 v2 : ℕ} {key one : Key} {b1 b2 : List ℕ} → body.Replicate number key v1 b1 ≡ body.Replicate other one v2 b2 → key ≡ one
 replicate_key e = cc
@@ -61,7 +61,7 @@ module _ (it : OneMore) (all : WereKnown it) where
   known : Known script front
   known = before it all
 
-  abbrev far_of_last : Own → Cell → ℕ
+  abbrev far_of_last : PairState → Cell → ℕ
   far_of_last o q = progress (at cell_cmp o.pairs.last q)
 
   -- ### How far a second server is
@@ -117,16 +117,16 @@ module _ (it : OneMore) (all : WereKnown it) where
     far_by to (Rests same) runs on place = let e = ap (λ (s : Server). far_of_last s.own cell) same in omega arith
     far_by to (Works job) runs on place =
         let le = did_follow (Handled w m) (own_place setting w m) (w.servers m).own cell job.done job.did in
-        let e = ap (λ (o : Own). far_of_last o cell) job.own_is in
+        let e = ap (λ (o : PairState). far_of_last o cell) job.own_is in
         omega arith
     far_by to (Starts_ballot ballot) runs on place =
-        let e = ap (λ (o : Own). far_of_last o cell) ballot.own_is in
+        let e = ap (λ (o : PairState). far_of_last o cell) ballot.own_is in
         let f : far_of_last (proposed (server_state setting w m) (w.servers m).own ballot.started) cell ≡ far_of_last (w.servers m).own cell =
         ap (λ (p : Pairs). progress (at cell_cmp p.last cell))
         (proposed_pairs (server_state setting w m) (w.servers m).own ballot.started) in
         omega arith
     far_by to (Enters entry) runs on place =
-        let e = ap (λ (o : Own). far_of_last o cell) entry.own_is in
+        let e = ap (λ (o : PairState). far_of_last o cell) entry.own_is in
         let s : far_of_last (settled_by (own_place setting w m) entry.entry (crossed (server_state setting w m) entry.entry (w.servers m).own)) cell
         ≡ far_of_last (crossed (server_state setting w m) entry.entry (w.servers m).own) cell =
         ap (λ (p : Pairs). progress (at cell_cmp p.last cell))

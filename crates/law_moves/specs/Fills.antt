@@ -23,7 +23,7 @@ use Rattle.spec_rules.specs.World.{Setting, World, chosen_log, chosen_state, kep
 use Rattle.spec_rules.specs.Writes.{is_clients}
 use Rattle.spec_state.specs.CellState.{cell_link, source, target}
 use Rattle.spec_state.specs.Command.{state_after}
-use Rattle.law_state.specs.Below.{IsServing}
+use Rattle.law_state.specs.LaterStates.{IsServing}
 use Rattle.law_state.specs.Homes.{stage_at}
 
 -- the chain has an entry of this epoch

@@ -1,5 +1,5 @@
-pub mod Left
-pub mod Still
+pub mod LeftToMove
+pub mod FrozenCopies
 pub mod Fills
-pub use Rattle.law_epochs.specs.Early
-pub use Rattle.law_epochs.specs.Timely
+pub use Rattle.law_epochs.specs.EntryEpochs
+pub use Rattle.law_epochs.specs.InTime

@@ -24,7 +24,7 @@ ghost use Rattle.spec_history.specs.Claims.{IsPrefix, Moves};
 ghost use Rattle.law_state.specs.Histories.{AreSteps, IsSound, Record, Script, setting_of, start, world_after};
 ghost use Rattle.law_copies.specs.Visits.{IsLinked, WasThere, place_by};
 ghost use Rattle.law_moves.specs.Fills.{AreFilled, HaveComeOver, IsFrozen};
-ghost use Rattle.law_moves.specs.Still.{AreStill};
+ghost use Rattle.law_moves.specs.FrozenCopies.{AreStill};
 ghost use Rattle.law_state.specs.Homes.{stage_at};
 
 /// While a cell is leaving, each server that serves its link by what is chosen has exactly what was frozen when its region's fence took

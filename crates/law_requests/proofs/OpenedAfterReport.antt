@@ -8,17 +8,17 @@ use Rattle.spec_rules.specs.Store.{cell_cmp}
 use Rattle.petal_command.specs.declared.command.Command.TheVariants.{Drained}
 use Rattle.script_lines.specs.declared.script.Script.{Script}
 use Rattle.spec_rules.specs.World.{Setting, World, chosen_log, server_state, setting_of, start}
-use Rattle.law_log.specs.Requested.{WasDraining}
-use Rattle.law_log.proofs.Draining.{report_among}
+use Rattle.law_log.specs.ProposedCommands.{WasDraining}
+use Rattle.law_log.proofs.ReportsWanted.{report_among}
 use Rattle.spec_rules.proofs.Tests.{true_false}
 use Rattle.spec_history.specs.Claims.{AreHeldAlong, IsPrefix, ReportsHold, WritesNothingSince}
 use Rattle.spec_history.specs.Steps.{AreSteps, world_after}
 use Rattle.spec_history.specs.Sound.{IsSound}
 use Rattle.spec_history.specs.declared.record.Record.{Record}
 use Rattle.law_steps.proofs.Fronts.{front_itself, front_on, front_within}
-use Rattle.law_requests.specs.Known.{AskingBy, KnowsReports, Lives}
-use Rattle.law_requests.proofs.Drained.{held_write}
-use Rattle.law_requests.proofs.Histories.{asking_along, reports_known}
+use Rattle.law_requests.specs.KnownRequests.{AskingBy, KnowsReports, Lives}
+use Rattle.law_requests.proofs.PendingHoldsReports.{held_write}
+use Rattle.law_requests.proofs.RequestsInHistories.{asking_along, reports_known}
 use Rattle.law_requests.specs.Reports.{WritesNothingHeld}
 
 nothing_held : (setting : Setting) (w : World) (lives : Lives) → AskingBy setting w lives → KnowsReports setting w lives → WritesNothingHeld setting w

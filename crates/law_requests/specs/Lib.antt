@@ -1,4 +1,4 @@
-pub mod Asked
-pub mod Known
-pub mod Still
+pub mod AskedRequests
+pub mod KnownRequests
+pub mod OpenRequests
 pub mod Reports

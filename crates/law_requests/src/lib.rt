@@ -11,8 +11,8 @@
 ghost use Rattle.std.specs.Prelude.{List};
 ghost use Rattle.spec_history.specs.Claims.{Requests};
 ghost use Rattle.law_state.specs.Histories.{AreSteps, IsSound, Record, Script, setting_of, start, world_after};
-ghost use Rattle.law_requests.specs.Known.{Asking};
-ghost use Rattle.law_requests.specs.Still.{AreOpen};
+ghost use Rattle.law_requests.specs.KnownRequests.{Asking};
+ghost use Rattle.law_requests.specs.OpenRequests.{AreOpen};
 
 mod reports;
 

@@ -28,23 +28,23 @@ use Rattle.spec_history.specs.Contents.{content_where, has_content_where}
 use Rattle.spec_history.specs.Events.{open_write, write_asked, change_by, freezes, takes, makes, make_of, look_of}
 use Rattle.spec_history.specs.declared.record.Record.{Record}
 use Rattle.law_steps.specs.Operations.{done_to}
-use Rattle.law_steps.specs.Happens.{Heard}
-use Rattle.law_steps.specs.Turned.{Turned}
+use Rattle.law_steps.specs.DidStep.{Heard}
+use Rattle.law_steps.specs.DidClient.{Turned}
 use Rattle.law_steps.proofs.Letters.{said}
-use Rattle.law_steps.proofs.Sending.{is_ask, turned_asks}
+use Rattle.law_steps.proofs.ClientLetters.{is_ask, turned_asks}
 use Rattle.spec_rules.proofs.Tests.{true_false, all_put_apart}
 use Rattle.law_copies.specs.Pair.{owns_of}
-use Rattle.law_requests.specs.Asked.{IsOpen}
-use Rattle.law_requests.specs.Known.{Known, EndKnownAt, seen}
-use Rattle.law_run.specs.Onward.{IsMindful, held_in, is_held, Seat}
-use Rattle.law_run.specs.Follow.{HasCounted, Is_told, Is_followed, Is_counted, Follow}
-use Rattle.law_run.proofs.Along.{rows_in, disks_now}
-use Rattle.law_run.proofs.Freezes.{no_freezes}
-use Rattle.law_run.proofs.Looks.{is_looked, no_look}
-use Rattle.law_run.proofs.Makes.{drop_all}
-use Rattle.law_run.proofs.Members.{all_empty}
-use Rattle.law_run.proofs.Takes.{no_takes}
-use Rattle.law_run.proofs.Scenes.{Followed}
+use Rattle.law_requests.specs.AskedRequests.{IsOpen}
+use Rattle.law_requests.specs.KnownRequests.{Known, EndKnownAt, seen}
+use Rattle.law_run.specs.WritesGoOn.{IsMindful, held_in, is_held, Seat}
+use Rattle.law_run.specs.MachineTies.{HasCounted, Is_told, Is_followed, Is_counted, Follow}
+use Rattle.law_run.proofs.ChosenDisks.{rows_in, disks_now}
+use Rattle.law_run.proofs.SnapshotsTaken.{no_freezes}
+use Rattle.law_run.proofs.ReadsLookWhereSent.{is_looked, no_look}
+use Rattle.law_run.proofs.DisksMade.{drop_all}
+use Rattle.law_run.proofs.ListMembers.{all_empty}
+use Rattle.law_run.proofs.ContentChanges.{no_takes}
+use Rattle.law_run.proofs.RunScenes.{Followed}
 
 -- ### What clients send has no data
 

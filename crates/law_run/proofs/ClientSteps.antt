@@ -31,16 +31,16 @@ use Rattle.spec_rules.specs.World.{World, reacts, next_line}
 use Rattle.spec_rules.proofs.ListLemmas.{put_same}
 use Rattle.spec_history.specs.Events as events
 use Rattle.spec_history.specs.Events.{open_write, write_asked, write_by, begun, end_by, end_of, change_by, freezes, takes, makes, told_with}
-use Rattle.law_steps.specs.Happens.{Heard}
-use Rattle.law_steps.specs.Turned.{StaysOpen, IsCalled, OnlySays, IsReason, By_verdict, By_witness, IsJudged, Goes_on, Begins, Reads, Ends, Shown, Judges}
-use Rattle.law_steps.specs.Turned.{IsSeenAs, Stops_it, Stops_at, Fails_it, Starts_it, Blanks_it, Has_no_space, Is_settled, answer_of, Is_told}
+use Rattle.law_steps.specs.DidStep.{Heard}
+use Rattle.law_steps.specs.DidClient.{StaysOpen, IsCalled, OnlySays, IsReason, By_verdict, By_witness, IsJudged, Goes_on, Begins, Reads, Ends, Shown, Judges}
+use Rattle.law_steps.specs.DidClient.{IsSeenAs, Stops_it, Stops_at, Fails_it, Starts_it, Blanks_it, Has_no_space, Is_settled, answer_of, Is_told}
 use Rattle.spec_rules.proofs.Tests.{by_bool, same_some, none_some}
-use Rattle.law_requests.specs.Asked.{IsOpen}
-use Rattle.law_run.specs.Onward.{held_in, is_held, Seat}
-use Rattle.law_run.specs.Follow.{Follow}
-use Rattle.law_run.proofs.Along.{rows_in}
+use Rattle.law_requests.specs.AskedRequests.{IsOpen}
+use Rattle.law_run.specs.WritesGoOn.{held_in, is_held, Seat}
+use Rattle.law_run.specs.MachineTies.{Follow}
+use Rattle.law_run.proofs.ChosenDisks.{rows_in}
 use Rattle.law_run.proofs.Machine.{disks_after, after_mindful, begin_seat, begin_others, end_seat, end_others}
-use Rattle.law_run.proofs.Takes.{open_own}
+use Rattle.law_run.proofs.ContentChanges.{open_own}
 use Rattle.law_run.proofs.ClientFrames.{ClientStep, TurnFollow, Turn, after_turn, no_looks, unwritten, nothing_taken, nothing_made}
 use Rattle.law_run.proofs.ClientFrames.{nothing_frozen, turn_follow, look_here}
 

@@ -10,7 +10,7 @@ use Rattle.spec_rules.specs.Boots.{awake, boots, raised, stays, wakes}
 use Rattle.spec_rules.specs.Entries.{applies}
 use Rattle.spec_rules.specs.Lists.{In}
 use Rattle.spec_rules.specs.Log.{LogDone, known, next_place, rev_of}
-use Rattle.spec_rules.specs.Server.{Server, Here, Sender, letters_of, no_pairs, sender}
+use Rattle.spec_rules.specs.Server.{Server, JobContext, Sender, letters_of, no_pairs, sender}
 use Rattle.spec_rules.specs.State.{State, servers_of}
 use Rattle.spec_rules.specs.Jobs.{Acted, here_of, works, job_done, crossing, entered, worked, stops, is_overfull, is_log_job}
 use Rattle.spec_rules.specs.Jobs.{voter_of, wanted_by, does, log_does, down_posts}
@@ -23,11 +23,11 @@ use Rattle.spec_rules.specs.declared.step.Step.TheVariants.{Deliver, Work, StopI
 use Rattle.spec_rules.specs.declared.step.WorkEnd.{WorkEnd}
 use Rattle.spec_rules.specs.declared.step.WorkEnd.TheVariants as work_end
 use Rattle.spec_rules.proofs.Tests.{by_test}
-use Rattle.law_steps.specs.Happens.{without_rev}
+use Rattle.law_steps.specs.DidStep.{without_rev}
 use Rattle.law_steps.proofs.LogJobs.{LogFrame, letter_frame_of, start_frame_of, applied_entry, applied_none}
-use Rattle.law_requests.proofs.Stepping.{proposed_pairs}
-use Rattle.law_run.proofs.Grounds.{proposed_store}
-use Rattle.law_run.proofs.Says.{downs_unended, is_reply, logged_unended}
+use Rattle.law_requests.proofs.StepsKeepRequests.{proposed_pairs}
+use Rattle.law_run.proofs.GroundGives.{proposed_store}
+use Rattle.law_run.proofs.DataLetters.{downs_unended, is_reply, logged_unended}
 use Rattle.law_steps.proofs.Letters.{said}
 
 -- what the step has done
@@ -41,7 +41,7 @@ pub data IsOfKind (server : Server) (acted : Acted) : Type 0 where
   Of_the_rest : acted.server.log.records ≡ server.log.records → IsOfKind server acted
 
 module _ (state : State) (me : ℕ) (server : Server) where
-  abbrev here : Here
+  abbrev here : JobContext
   here = here_of state me server
 
   abbrev K : Acted → Type 0

@@ -21,7 +21,7 @@ use Rattle.spec_machine.specs.Run.{IsOpen, Obeys, after, changed, written, repla
 use Rattle.spec_rules.specs.Lists.{In}
 use Rattle.spec_rules.proofs.Tests.{by_bool, same_or_apart, same_some, none_some, some_or_none, same_numbers, number_itself, nat_lists_same, true_false}
 use Rattle.spec_history.specs.Claims.{AreSnapshots, Holds}
-use Rattle.law_run.specs.Onward.{IsMindful, held_in, Onward, Seat}
+use Rattle.law_run.specs.WritesGoOn.{IsMindful, held_in, Onward, Seat}
 
 pub Obeys-append : (m : Plain) (es fs : List Event) → Obeys m es → Obeys (replay m es) fs → Obeys m (es ++ fs)
 Obeys-append m [] fs h g = g

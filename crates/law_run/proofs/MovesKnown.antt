@@ -25,23 +25,23 @@ use Rattle.spec_history.specs.Claims.{IsPrefix}
 use Rattle.spec_history.specs.Steps.{AreSteps, stepped}
 use Rattle.spec_history.specs.Sound.{IsSound}
 use Rattle.spec_history.specs.declared.record.Record.{Record}
-use Rattle.law_log.proofs.Histories.{history_is_firm}
+use Rattle.law_log.proofs.LogInHistories.{history_is_firm}
 use Rattle.law_state.specs.Firm.{Firm}
 use Rattle.law_state.specs.Homes.{stage_at}
-use Rattle.law_state.proofs.Reports.{log_unread}
-use Rattle.law_steps.proofs.Firms.{always_firm}
+use Rattle.law_state.proofs.ErasRiseAfterReports.{log_unread}
+use Rattle.law_steps.proofs.WorldsAreFirm.{always_firm}
 use Rattle.law_steps.proofs.Fronts.{front_long, one_front, front_itself}
-use Rattle.law_steps.proofs.Histories.{front_legal, rests_after, runs_now, start_rests, world_more}
+use Rattle.law_steps.proofs.KindsInHistories.{front_legal, rests_after, runs_now, start_rests, world_more}
 use Rattle.law_jobs.proofs.Runs.{At, after, by_run, run_of, setting_in}
 use Rattle.law_copies.specs.Visits.{WasThere}
-use Rattle.law_copies.proofs.Histories.{good_after}
-use Rattle.law_requests.proofs.Histories.{asking_along, reports_known}
-use Rattle.law_moves.proofs.Afterwards.{comes_after, dead_frozen, filling_after, over_after}
-use Rattle.law_moves.proofs.Histories.{known_after}
-use Rattle.law_moves.proofs.Seconds.{second_after}
-use Rattle.law_steps.proofs.Tables.{at_row}
+use Rattle.law_copies.proofs.CopiesInHistories.{good_after}
+use Rattle.law_requests.proofs.RequestsInHistories.{asking_along, reports_known}
+use Rattle.law_moves.proofs.KnownOfMoves.{comes_after, dead_frozen, filling_after, over_after}
+use Rattle.law_moves.proofs.MovesInHistories.{known_after}
+use Rattle.law_moves.proofs.FillsAtSeconds.{second_after}
+use Rattle.law_steps.proofs.TablesOfPuts.{at_row}
 use Rattle.std.specs.Cmp.{nat_cmp_total}
-use Rattle.law_run.specs.Follow.{IsFrozenSo, KnowMoves}
+use Rattle.law_run.specs.MachineTies.{IsFrozenSo, KnowMoves}
 
 -- ### Steps
 

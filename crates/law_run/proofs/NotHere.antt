@@ -29,28 +29,28 @@ use Rattle.spec_history.specs.Events.{NotThere, look_for, look_for_data, look_of
 use Rattle.spec_history.specs.Steps.{AreStepsFrom}
 use Rattle.law_state.specs.Homes.{HasStage, epoch_at, stage_at}
 use Rattle.law_state.proofs.Disks.{log_disks}
-use Rattle.law_state.proofs.Entries.{log_plain}
+use Rattle.law_state.proofs.EntriesOnlyAdd.{log_plain}
 use Rattle.law_state.proofs.Steady.{log_rev}
 use Rattle.law_steps.specs.DidRead.{IsReadable}
-use Rattle.law_steps.specs.Happens.{Handled, own_place}
-use Rattle.law_steps.proofs.Coming.{stage_facts}
+use Rattle.law_steps.specs.DidStep.{Handled, own_place}
+use Rattle.law_steps.proofs.MovesAreOfComingCells.{stage_facts}
 use Rattle.law_steps.proofs.Fronts.{front_itself, front_on, one_front}
-use Rattle.law_steps.proofs.Histories.{own_below, own_plain}
+use Rattle.law_steps.proofs.KindsInHistories.{own_below, own_plain}
 use Rattle.law_copies.specs.Pair.{owns_of}
 use Rattle.law_moves.specs.Fills.{Has}
-use Rattle.law_requests.specs.Asked.{IsRead}
-use Rattle.law_run.proofs.Along.{cell_comes, cell_lives, cell_old, content_is, disks_now, has_content_is, plain_now}
-use Rattle.law_run.proofs.Contents.{was_has, was_kept}
-use Rattle.law_run.proofs.Entries.{AreUpTo}
-use Rattle.law_run.proofs.Looks.{Accepts, AreGrounded, Looked, letter_looks}
-use Rattle.law_run.proofs.Named.{entry_over, has_over}
+use Rattle.law_requests.specs.AskedRequests.{IsRead}
+use Rattle.law_run.proofs.ChosenDisks.{cell_comes, cell_lives, cell_old, content_is, disks_now, has_content_is, plain_now}
+use Rattle.law_run.proofs.MachineTakesWrites.{was_has, was_kept}
+use Rattle.law_run.proofs.EntryAtEpoch.{AreUpTo}
+use Rattle.law_run.proofs.ReadsLookWhereSent.{Accepts, AreGrounded, Looked, letter_looks}
+use Rattle.law_run.proofs.ContentsByCells.{entry_over, has_over}
 use Rattle.law_run.proofs.OldReads.{IsFoundAt, found}
 use Rattle.law_run.proofs.Overlay.{entry_there, has_below}
-use Rattle.law_run.proofs.Reading.{IsAskedAt, IsKnownRead, IsOfDisk, known_read}
-use Rattle.law_run.proofs.Readers.{IsReading, entry_is, now_high, now_low, serving_now, shown_none, some_is}
-use Rattle.law_run.proofs.Shows.{AreCalm, all_looked, look_may, nothing_looked, of, row_has, same_above, same_chain}
-use Rattle.law_run.proofs.Sources.{source_here, source_stays}
-use Rattle.law_run.proofs.Steps.{LooksTold, ServerStep, ends_of, frozen_same, grounded, later_world, letters, look_here}
+use Rattle.law_run.proofs.ContentsAsked.{IsAskedAt, IsKnownRead, IsOfDisk, known_read}
+use Rattle.law_run.proofs.ReadersHaveContents.{IsReading, entry_is, now_high, now_low, serving_now, shown_none, some_is}
+use Rattle.law_run.proofs.ReadsShowContents.{AreCalm, all_looked, look_may, nothing_looked, of, row_has, same_above, same_chain}
+use Rattle.law_run.proofs.SourceCells.{source_here, source_stays}
+use Rattle.law_run.proofs.EventsOfServerSteps.{LooksTold, ServerStep, ends_of, frozen_same, grounded, later_world, letters, look_here}
 
 -- two reads of one request by the same state differ in whether the client was told to ask the old map
 record IsTwin (state : State) {lines : List Line} {client seq : ℕ} {told told_old : Bool} {cell old : Cell} {epoch epoch_old : ℕ}

@@ -12,7 +12,7 @@ use Rattle.spec_rules.specs.Boots.{awake, raised}
 use Rattle.spec_rules.specs.Jobs.{Acted, down_posts}
 use Rattle.spec_rules.specs.Log.{rev_of}
 use Rattle.spec_rules.specs.Lists.{In}
-use Rattle.spec_rules.specs.Server.{Done, Post, Sender, letters_of, sender}
+use Rattle.spec_rules.specs.Server.{JobResult, Post, Sender, letters_of, sender}
 use Rattle.spec_rules.specs.State.{State, leaving, servers_of}
 use Rattle.spec_rules.specs.Store.{chain_in, entry_at, bytes_of}
 use Rattle.spec_rules.specs.World.{Setting, World, acts, chosen_log, chosen_state, server_state, server_step, stamped}
@@ -31,24 +31,24 @@ use Rattle.law_state.specs.Steady.{IsSteady}
 use Rattle.law_state.proofs.Steady.{log_below, log_rev}
 use Rattle.law_steps.specs.Did.{By_read, Did}
 use Rattle.law_steps.specs.DidRead.{IsReadable, Not_here, Shows}
-use Rattle.law_steps.specs.Happens.{By_ballot, By_entry, By_job, Ends, Fails, Goes, Handled, Serving, Stays, Wakes}
-use Rattle.law_steps.specs.Happens.{own_place, without_rev}
-use Rattle.law_steps.proofs.Coming.{stage_facts}
+use Rattle.law_steps.specs.DidStep.{By_ballot, By_entry, By_job, Ends, Fails, Goes, Handled, Serving, Stays, Wakes}
+use Rattle.law_steps.specs.DidStep.{own_place, without_rev}
+use Rattle.law_steps.proofs.MovesAreOfComingCells.{stage_facts}
 use Rattle.law_steps.proofs.Fronts.{front_itself, front_on}
-use Rattle.law_steps.proofs.Histories.{own_plain, own_steady}
+use Rattle.law_steps.proofs.KindsInHistories.{own_plain, own_steady}
 use Rattle.law_steps.proofs.Letters.{one_post, said}
-use Rattle.law_steps.proofs.Serving.{server_serves}
+use Rattle.law_steps.proofs.ServerStepKinds.{server_serves}
 use Rattle.law_copies.specs.Pair.{owns_of}
-use Rattle.law_requests.specs.Asked.{IsRead}
-use Rattle.law_run.specs.Follow.{Ground}
-use Rattle.law_moves.proofs.Chains.{NeverDead}
-use Rattle.law_run.proofs.Entries.{AreUpTo}
-use Rattle.law_run.proofs.Grounds.{never_dead}
-use Rattle.law_run.proofs.Looks.{Accepts, AreGrounded, ground_now, is_looked, who_accepts}
-use Rattle.law_run.proofs.Names.{one_actor}
-use Rattle.law_run.proofs.Reading.{known_read, own_up_to, reader_serves, reads_old_is}
-use Rattle.law_run.proofs.Says.{IsUnended, downs_unended, glances_unended, logged_unended, quiet_data, unended_no_data}
-use Rattle.law_run.proofs.Scenes.{Grounded}
+use Rattle.law_requests.specs.AskedRequests.{IsRead}
+use Rattle.law_run.specs.MachineTies.{Ground}
+use Rattle.law_moves.proofs.JobsChangeOneChain.{NeverDead}
+use Rattle.law_run.proofs.EntryAtEpoch.{AreUpTo}
+use Rattle.law_run.proofs.GroundGives.{never_dead}
+use Rattle.law_run.proofs.ReadsLookWhereSent.{Accepts, AreGrounded, ground_now, is_looked, who_accepts}
+use Rattle.law_run.proofs.LetterNames.{one_actor}
+use Rattle.law_run.proofs.ContentsAsked.{known_read, own_up_to, reader_serves, reads_old_is}
+use Rattle.law_run.proofs.DataLetters.{IsUnended, downs_unended, glances_unended, logged_unended, quiet_data, unended_no_data}
+use Rattle.law_run.proofs.RunScenes.{Grounded}
 
 -- ### What a step sends with data
 
@@ -80,7 +80,7 @@ module _ (g : Grounded) (steady : IsSteady g.state) (y stamp : ℕ) (letter : Le
       → In letter (stamped stamp (letters_of who 0 posts)) → S
   not_unended who posts all h = true_false (ap is_looked says) (unended_no_data who stamp posts all letter h)
 
-  job_shows : (done : Done) → Did (Handled u y) (own_place setting u y) (owns_of u y) done → (u.servers y).life.running ≡ true
+  job_shows : (done : JobResult) → Did (Handled u y) (own_place setting u y) (owns_of u y) done → (u.servers y).life.running ≡ true
       → In letter (stamped stamp (letters_of (sender (own_place setting u y)) 0 done.posts)) → S
   job_shows _ (By_read _ (Shows client seq' cell epoch readable there)) runs h =
       let s = said (sender (own_place setting u y)) stamp 0 _ letter h in

@@ -18,9 +18,9 @@ use Rattle.spec_history.specs.Claims.{HasNewer}
 use Rattle.spec_history.specs.Contents.{first_entry}
 use Rattle.law_moves.specs.Fills.{Has}
 use Rattle.law_steps.specs.Ready.{IsRising}
-use Rattle.law_steps.proofs.Tables.{at_row, put_rises}
-use Rattle.law_run.proofs.Entries.{entry_below, first_so, within}
-use Rattle.law_run.proofs.Members.{row_at}
+use Rattle.law_steps.proofs.TablesOfPuts.{at_row, put_rises}
+use Rattle.law_run.proofs.EntryAtEpoch.{entry_below, first_so, within}
+use Rattle.law_run.proofs.ListMembers.{row_at}
 
 -- ### The entry of an epoch, as the last one not above it
 

@@ -3,16 +3,16 @@
 use Rattle.std.proofs.Common.{◌≡◌, ◌≢◌, ◌<◌, ℕ, true, Some, is_some, sym, ap, ◌∙◌, subst, inl, inr, ◌&&◌, ◌||◌}
 use Rattle.std.proofs.Common.{Bool, List, Option, None, false, refl, arith}
 use Rattle.std.specs.Prelude.{option_and_then}
-use Rattle.law_steps.proofs.Staged.{same_cell_or_apart}
+use Rattle.law_steps.proofs.OperationsRest.{same_cell_or_apart}
 use Rattle.spec_rules.specs.Lists.{In}
 use Rattle.law_moves.specs.Fills.{IsFrozen}
 use Rattle.law_state.specs.Homes.{stage_at, epoch_at}
 use Rattle.law_state.specs.Tables.{IsPlainState}
 use Rattle.law_state.specs.Disks.{AreDisks}
-use Rattle.law_run.proofs.Fills.{fill_there}
-use Rattle.law_run.proofs.Sources.{source_stays}
+use Rattle.law_run.proofs.FillsComeInTurn.{fill_there}
+use Rattle.law_run.proofs.SourceCells.{source_stays}
 use Rattle.law_run.proofs.Overlay.{IsFill, fill_same}
-use Rattle.law_run.proofs.Named.{entry_over, has_over, is_between}
+use Rattle.law_run.proofs.ContentsByCells.{entry_over, has_over, is_between}
 use Rattle.std.specs.Ordering.{nat_cmp}
 use Rattle.petal_base.specs.declared.cell.Cell.{Cell}
 use Rattle.petal_base.specs.declared.cell.Key.{Key}
@@ -31,19 +31,19 @@ use Rattle.spec_rules.proofs.CellTables.{cell_same}
 use Rattle.spec_history.specs.Contents.{entry_before, entry_by, entry_of, first_entry, old_cell}
 use Rattle.spec_history.specs.Events.{change_by}
 use Rattle.law_steps.specs.Ready.{IsRising}
-use Rattle.law_copies.specs.Waiting.{IsOwn}
+use Rattle.law_copies.specs.WaitingStores.{IsOwn}
 use Rattle.law_copies.specs.Visits.{AliveIn}
 use Rattle.law_jobs.proofs.ChainsApart.{chain_apart, chain_put}
-use Rattle.law_run.specs.Onward.{is_held, Onward}
-use Rattle.law_run.proofs.Along.{HasDisk, cell_comes, cell_named, content_is, disk_here, disks_now, has_content_is, named_epoch}
-use Rattle.law_run.proofs.Along.{named_high, named_map_is, one_row_of, plain_now, rows_in}
-use Rattle.law_run.proofs.Contents.{IsGiven, AreGiven, Taken, all_given, given_held, takes_of, was_kept, now_has, now_kept, StaysAt, was_has}
-use Rattle.law_run.proofs.Entries.{entry_below, entry_put}
-use Rattle.law_run.proofs.Frames.{OwnFollow, SaysOk, CountsOk}
-use Rattle.law_run.proofs.Placed.{Placed, placed_given}
-use Rattle.law_run.proofs.Steps.{ServerStep, TakesTold, ends_of, frozen_same, grounded, joined_now, joined_then, kept_here, later_world, new}
-use Rattle.law_run.proofs.Steps.{own_after, same_entry}
-use Rattle.law_run.proofs.Takes.{block_there}
+use Rattle.law_run.specs.WritesGoOn.{is_held, Onward}
+use Rattle.law_run.proofs.ChosenDisks.{HasDisk, cell_comes, cell_named, content_is, disk_here, disks_now, has_content_is, named_epoch}
+use Rattle.law_run.proofs.ChosenDisks.{named_high, named_map_is, one_row_of, plain_now, rows_in}
+use Rattle.law_run.proofs.MachineTakesWrites.{IsGiven, AreGiven, Taken, all_given, given_held, takes_of, was_kept, now_has, now_kept, StaysAt, was_has}
+use Rattle.law_run.proofs.EntryAtEpoch.{entry_below, entry_put}
+use Rattle.law_run.proofs.ServerFrames.{OwnFollow, SaysOk, CountsOk}
+use Rattle.law_run.proofs.OpenWritesAreOnDisks.{Placed, placed_given}
+use Rattle.law_run.proofs.EventsOfServerSteps.{ServerStep, TakesTold, ends_of, frozen_same, grounded, joined_now, joined_then, kept_here, later_world, new}
+use Rattle.law_run.proofs.EventsOfServerSteps.{own_after, same_entry}
+use Rattle.law_run.proofs.ContentChanges.{block_there}
 
 module _ (this : ServerStep) (same : chosen_log this.setting (later_world this) ≡ chosen_log this.setting this.w) where
   open ends_of this use {v, chosen, own, here}

@@ -12,7 +12,7 @@ use Rattle.petal_script.specs.Operator.{stop_at, stop_of, fault_of, boot_of, ope
 use Rattle.petal_script.specs.Script.{TextLine, script_of, text_lines, lines_after, first_line, servers_line, net_line}
 use Rattle.petal_script.specs.Text.{pieces, words_of}
 use Rattle.law_script.specs.Laws.{Does, skipped, nets, waits, asks, Asks, line_at, Follows}
-use Rattle.law_script.proofs.Doing.{is_accepted}
+use Rattle.law_script.proofs.TakenLines.{is_accepted}
 use Rattle.petal_script.specs.declared.cause.Cause.{Cause}
 use Rattle.petal_script.specs.declared.cause.Cause.TheVariants.{BadNumber, BadTuple}
 use Rattle.script_lines.specs.declared.request.Line.{Line}

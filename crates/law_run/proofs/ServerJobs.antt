@@ -1,6 +1,6 @@
 -- Each kind of job shows what it has to, where the write of what it has put where it counts has had its bytes.
 use Rattle.std.proofs.Common.{◌≡◌, ◌≢◌, ℕ, true, Some, refl, sym, ap, ◌∙◌, subst, ◌⊎◌, inl, inr}
-use Rattle.law_steps.proofs.Leading.{lead_links}
+use Rattle.law_steps.proofs.WhoLeads.{lead_links}
 use Rattle.law_steps.specs.DidSweep.{Sweeps}
 use Rattle.std.specs.Ordering.{nat_cmp}
 use Rattle.global_tables.specs.declared.link.LinkRow.{LinkRow}
@@ -14,38 +14,38 @@ use Rattle.petal_msg.specs.declared.operation.Finished.{Finished}
 use Rattle.petal_msg.specs.declared.operation.Pending.{Pending}
 use Rattle.spec_rules.specs.State.{is_lead, is_second, live}
 use Rattle.spec_rules.specs.Store.{Chain, Store, cell_cmp, chain_in}
-use Rattle.spec_rules.specs.Server.{Own, Done, Pairs}
+use Rattle.spec_rules.specs.Server.{PairState, JobResult, Pairs}
 use Rattle.spec_rules.specs.Writes.{is_clients}
 use Rattle.spec_rules.specs.World.{chosen_state, kept}
 use Rattle.spec_rules.proofs.Tests.{is_the_one, same_some, true_false}
 use Rattle.law_state.specs.Steady.{IsSteady}
-use Rattle.law_state.proofs.Cells.{led_by, second_by}
+use Rattle.law_state.proofs.CellsByLinkRows.{led_by, second_by}
 use Rattle.law_steps.specs.DidSecond.{DidSecond, Follows}
 use Rattle.law_steps.specs.DidOther.{DidOther}
 use Rattle.law_steps.specs.Did.{Did, Ignores, Refuses, By_read, By_lead, By_second, By_holder, By_other, By_filler, By_sweep}
-use Rattle.law_steps.specs.Happens.{IsSeated}
+use Rattle.law_steps.specs.DidStep.{IsSeated}
 use Rattle.law_steps.proofs.CopyFrames.{of_holder, of_other}
-use Rattle.law_steps.proofs.Histories.{own_steady}
-use Rattle.law_steps.proofs.Staged.{same_cell_or_apart}
+use Rattle.law_steps.proofs.KindsInHistories.{own_steady}
+use Rattle.law_steps.proofs.OperationsRest.{same_cell_or_apart}
 use Rattle.law_steps.proofs.Subjects.{of_read, of_second, of_filler}
 use Rattle.law_jobs.proofs.OperationsCome.{did_finish, finished_of}
-use Rattle.law_copies.specs.Waiting.{IsOwn}
+use Rattle.law_copies.specs.WaitingStores.{IsOwn}
 use Rattle.law_copies.specs.Pair.{owns_of}
 use Rattle.law_copies.specs.Visits.{AliveIn}
 use Rattle.law_jobs.proofs.ChainsApart.{chain_apart}
-use Rattle.law_copies.proofs.Others.{held_not_lead}
-use Rattle.law_requests.proofs.Leads.{one_lead}
-use Rattle.law_requests.specs.Asked.{IsOpen}
-use Rattle.law_run.specs.Onward.{is_held, Onward}
-use Rattle.law_moves.proofs.Chains.{Drops, NeverDead, StoresSo, Nothing_new, An_own, An_asked, A_copy, Of_the_dead, OtherStores, PutsAsked, PutsCopy, PutsOwn}
-use Rattle.law_moves.proofs.Chains.{copied_apart, did_stores, holder_chains, other_changes, second_stores, swept}
-use Rattle.law_run.proofs.Copies.{copied_unfollowed}
-use Rattle.law_run.proofs.Frames.{OwnFollow}
-use Rattle.law_run.proofs.Grounds.{dropped_same, followed}
-use Rattle.law_run.proofs.Seats.{IsSharing, one_place_of, op_lead, op_leads, op_seat, place_of}
-use Rattle.law_run.proofs.Seats.{visit_here, alive_here}
-use Rattle.law_run.proofs.Steps.{ServerStep, ends_of, grounded, joined_now, joined_then, kept_here, later_world, new as own_left, own_after}
-use Rattle.law_run.proofs.LeadJobs.{Held, Counted, PutHeld, was_held, lead_pending, old_finished, finish_held}
+use Rattle.law_copies.proofs.OtherIsNotHolder.{held_not_lead}
+use Rattle.law_requests.proofs.LeadsAtTwoPlaces.{one_lead}
+use Rattle.law_requests.specs.AskedRequests.{IsOpen}
+use Rattle.law_run.specs.WritesGoOn.{is_held, Onward}
+use Rattle.law_moves.proofs.JobsChangeOneChain.{Drops, NeverDead, StoresSo, Nothing_new, An_own, An_asked, A_copy, Of_the_dead, OtherStores, PutsAsked, PutsCopy, PutsOwn}
+use Rattle.law_moves.proofs.JobsChangeOneChain.{copied_apart, did_stores, holder_chains, other_changes, second_stores, swept}
+use Rattle.law_run.proofs.CopiesThatDontCount.{copied_unfollowed}
+use Rattle.law_run.proofs.ServerFrames.{OwnFollow}
+use Rattle.law_run.proofs.GroundGives.{dropped_same, followed}
+use Rattle.law_run.proofs.OwnPlacesAreLatest.{IsSharing, one_place_of, op_lead, op_leads, op_seat, place_of}
+use Rattle.law_run.proofs.OwnPlacesAreLatest.{visit_here, alive_here}
+use Rattle.law_run.proofs.EventsOfServerSteps.{ServerStep, ends_of, grounded, joined_now, joined_then, kept_here, later_world, new as own_left, own_after}
+use Rattle.law_run.proofs.LeadPutsThatCount.{Held, Counted, PutHeld, was_held, lead_pending, old_finished, finish_held}
 
 module _ (this : ServerStep) (k : Plain) where
   open ends_of this use {own, here, hears}
@@ -72,21 +72,21 @@ module _ (this : ServerStep) (k : Plain) where
               ∙ ap (λ (r : LinkRow). r.state) (same_some (sym held.is ∙ b.0.is)) ∙ b.0.so in absurd cc)
         ]
 
-    asked_beside : (new : Own) (a : PutsAsked hears here own new) → (cell : Cell) → Leads cell → chain_in new.store.chains cell ≡ mine cell
+    asked_beside : (new : PairState) (a : PutsAsked hears here own new) → (cell : Cell) → Leads cell → chain_in new.store.chains cell ≡ mine cell
     asked_beside new a cell lead = ap (λ c. chain_in c cell) a.chains
         ∙ chain_apart own.store.chains (cell_of a.key) _ cell
         (λ e. led_alone cell lead (subst (λ (c : Cell). is_second here.state this.n c ≡ true) (sym e) a.seconds))
 
-    copy_beside : (new : Own) (c : PutsCopy hears here own new) → (cell : Cell) → Leads cell → chain_in new.store.chains cell ≡ mine cell
+    copy_beside : (new : PairState) (c : PutsCopy hears here own new) → (cell : Cell) → Leads cell → chain_in new.store.chains cell ≡ mine cell
     copy_beside new c cell lead = copied_apart hears own c.cell new.store.chains c.how cell
         (λ e. held_not_lead here steady_here c.cell c.holder c.held (subst (λ (q : Cell). Leads q) e lead))
 
     -- a cell that the server leads keeps its chain, but for an operation of its own
-    abbrev IsNoOwn : {new : Own} → StoresSo hears here own new → Type 0
+    abbrev IsNoOwn : {new : PairState} → StoresSo hears here own new → Type 0
     IsNoOwn (An_own p) = ⊥
     IsNoOwn _ = Unit {0}
 
-    led_chain : (new : Own) (s : StoresSo hears here own new) → IsNoOwn s → (cell : Cell) → Leads cell
+    led_chain : (new : PairState) (s : StoresSo hears here own new) → IsNoOwn s → (cell : Cell) → Leads cell
         → chain_in new.store.chains cell ≡ mine cell
     led_chain new (Nothing_new kept) none cell lead = ap (λ c. chain_in c cell) kept
     led_chain new (An_own p) none cell lead = absurd none
@@ -95,7 +95,7 @@ module _ (this : ServerStep) (k : Plain) where
     led_chain new (Of_the_dead d) none cell lead = d.others cell (λ e. true_false (lead_links here.state this.n cell lead).0 (ap (live here.state) e ∙ d.off))
 
     -- operations that stay pending
-    stays_pending : (new : Own) (s : StoresSo hears here own new) → IsNoOwn s → new.pairs.pending ≡ own.pairs.pending
+    stays_pending : (new : PairState) (s : StoresSo hears here own new) → IsNoOwn s → new.pairs.pending ≡ own.pairs.pending
         → (cell : Cell) (o : Pending)
         → at cell_cmp new.pairs.pending cell ≡ Some o → Counted this k cell o (chain_in new.store.chains cell) → Held this k o
     stays_pending new s none kept cell o is counted =
@@ -114,10 +114,10 @@ module _ (this : ServerStep) (k : Plain) where
       abbrev theirs : Chain
       theirs = chain_in (kept this.setting this.w p).chains cell
 
-      abbrev Followed_or_held : Own → Type 0
+      abbrev Followed_or_held : PairState → Type 0
       Followed_or_held new = theirs ≡ chain_in new.store.chains cell → (theirs ≡ mine cell) ⊎ (is_held k op.client ≡ true)
 
-      own_second : (new : Own) (o : PutsOwn own new) → Followed_or_held new
+      own_second : (new : PairState) (o : PutsOwn own new) → Followed_or_held new
       own_second new o same =
           let s = (this.ground.ready.rests.pending this.n).staged o.op.cell o.op o.is in
           inl (same ∙ ap (λ c. chain_in c cell) o.chains
@@ -128,7 +128,7 @@ module _ (this : ServerStep) (k : Plain) where
           (op_leads (grounded this) p cell op shares.runs is)
           (op_leads (grounded this) this.n cell o.op runs there))))
 
-      asked_second : (new : Own) (a : PutsAsked hears here own new) → PutHeld this k {new = new} (An_asked a) → Followed_or_held new
+      asked_second : (new : PairState) (a : PutsAsked hears here own new) → PutHeld this k {new = new} (An_asked a) → Followed_or_held new
       asked_second new a held same = elim (same_cell_or_apart cell (cell_of a.key)) [
         | inr ne ↦ inl (same ∙ ap (λ c. chain_in c cell) a.chains ∙ chain_apart own.store.chains (cell_of a.key) _ cell ne)
         | inl e ↦
@@ -151,13 +151,13 @@ module _ (this : ServerStep) (k : Plain) where
             inr (ap (λ (o : Pending). is_held k o.client) op_is ∙ held f (ap (λ (o : Pending). is_clients o.kind) (sym op_is) ∙ clients))
       ]
 
-      copy_second : (new : Own) (c : PutsCopy hears here own new) → Followed_or_held new
+      copy_second : (new : PairState) (c : PutsCopy hears here own new) → Followed_or_held new
       copy_second new c same = inl (same ∙ copied_apart hears own c.cell new.store.chains c.how cell
           (λ e. copied_unfollowed (grounded this) this.n runs new c
           (subst (AliveIn (chosen_state this.setting this.w)) e shares.alive) p row
           (subst (λ (q : Cell). IsSharing (grounded this) p q row) e shares) not_itself))
 
-      dead_second : (new : Own) → Drops here own new → Followed_or_held new
+      dead_second : (new : PairState) → Drops here own new → Followed_or_held new
       dead_second new d same = inl (same ∙ dropped_same (grounded this) this.along.steady this.n new d cell
           shares.alive)
 
@@ -166,19 +166,19 @@ module _ (this : ServerStep) (k : Plain) where
       Followed_now = theirs ≡ chain_in (kept this.setting (later_world this) this.n).chains cell
           → (theirs ≡ chain_in (kept this.setting this.w this.n).chains cell) ⊎ (is_held k op.client ≡ true)
 
-      by_own : (new_own : Own) → own_left this ≡ new_own → joined_now this this.n ≡ joined_then this this.n → IsOwn this.setting this.w this.n
+      by_own : (new_own : PairState) → own_left this ≡ new_own → joined_now this this.n ≡ joined_then this this.n → IsOwn this.setting this.w this.n
           → Followed_or_held new_own → Followed_now
       by_own new_own is_new as_before counts follows same =
           elim (follows (same ∙ ap (λ (s : Store). chain_in s.chains cell) (own_after this counts as_before)
-          ∙ ap (λ (o : Own). chain_in o.store.chains cell) is_new)) [
+          ∙ ap (λ (o : PairState). chain_in o.store.chains cell) is_new)) [
             | inl before ↦ inl (before ∙ ap (λ (s : Store). chain_in s.chains cell) (sym (counts own.store)))
             | inr held ↦ inr held
           ]
 
-      did_second : (new_own : Own) → own_left this ≡ new_own → joined_now this this.n ≡ joined_then this this.n
+      did_second : (new_own : PairState) → own_left this ≡ new_own → joined_now this this.n ≡ joined_then this this.n
           → (s : StoresSo hears here own new_own) → PutHeld this k s → Followed_now
       did_second new_own is_new as_before (Nothing_new stays) held same =
-          inl (same ∙ ap (λ c. chain_in c cell) (kept_here this (ap (λ (o : Own). o.store.chains) is_new ∙ stays) as_before))
+          inl (same ∙ ap (λ c. chain_in c cell) (kept_here this (ap (λ (o : PairState). o.store.chains) is_new ∙ stays) as_before))
       did_second new_own is_new as_before (An_own o) held same =
           by_own new_own is_new as_before
           (this.ground.own this.n runs (op_seat (grounded this) this.n o.op.cell o.op runs o.is))
@@ -192,7 +192,7 @@ module _ (this : ServerStep) (k : Plain) where
 
     -- ### All of it
 
-    did_finished : (done : Done) → Did hears here own done → (c : ℕ) (last : Finished) → at nat_cmp done.own.pairs.finished c ≡ Some last
+    did_finished : (done : JobResult) → Did hears here own done → (c : ℕ) (last : Finished) → at nat_cmp done.own.pairs.finished c ≡ Some last
         → last.ending ≡ ending.Written → IsOpen (this.w.clients c) last.seq → is_held k c ≡ true
     did_finished done d c last is written still =
         elim (finished_of hears here own done.own.pairs.finished done.own.pairs.pending (did_finish hears here own done d) c last is) [
@@ -200,18 +200,18 @@ module _ (this : ServerStep) (k : Plain) where
           | inr why ↦ finish_held this k runs onward never done.own.pairs.pending c last why written still
         ]
 
-    second_no_own : (done : Done) (seated : IsSeated here own done) (d : DidSecond hears here own done)
+    second_no_own : (done : JobResult) (seated : IsSeated here own done) (d : DidSecond hears here own done)
         → IsNoOwn (second_stores hears here own never done seated d)
     second_no_own done (inl seat) (Follows number key version bytes h s is) = tt
     second_no_own done (inr apart) (Follows number key version bytes h s is) = tt
     second_no_own _ seated _ = tt
 
-    other_pending : (done : Done) → DidOther hears here own done → OtherStores hears here own never done.own → (cell : Cell) (o : Pending)
+    other_pending : (done : JobResult) → DidOther hears here own done → OtherStores hears here own never done.own → (cell : Cell) (o : Pending)
         → at cell_cmp done.own.pairs.pending cell ≡ Some o → Counted this k cell o (chain_in done.own.store.chains cell) → Held this k o
     other_pending done d (inl same) = stays_pending done.own (Nothing_new same) tt (of_other hears here own done d).pending
     other_pending done d (inr copy) = stays_pending done.own (A_copy copy) tt (of_other hears here own done d).pending
 
-    did_pending : (done : Done) (seated : IsSeated here own done) (d : Did hears here own done)
+    did_pending : (done : JobResult) (seated : IsSeated here own done) (d : Did hears here own done)
         → PutHeld this k (did_stores hears here own never done seated d)
         → (cell : Cell) (o : Pending)
         → at cell_cmp done.own.pairs.pending cell ≡ Some o → Counted this k cell o (chain_in done.own.store.chains cell) → Held this k o
@@ -219,7 +219,7 @@ module _ (this : ServerStep) (k : Plain) where
     did_pending _ seated (Refuses to said is why back) held = λ cell o is. was_held this k runs onward never cell o is
     did_pending _ seated (By_read done d) held =
         let same = (of_read hears here own done d).same in
-        stays_pending done.own (Nothing_new (ap (λ (x : Own). x.store.chains) same)) tt (ap (λ (x : Own). x.pairs.pending) same)
+        stays_pending done.own (Nothing_new (ap (λ (x : PairState). x.store.chains) same)) tt (ap (λ (x : PairState). x.pairs.pending) same)
     did_pending _ seated (By_lead done d) held = lead_pending this k runs onward never done d held
     did_pending _ seated (By_second done d) held =
         stays_pending done.own (second_stores hears here own never done seated d) (second_no_own done seated d)
@@ -233,7 +233,7 @@ module _ (this : ServerStep) (k : Plain) where
     did_pending _ seated (By_sweep _ (Sweeps what seat next off)) held =
         stays_pending _ (Of_the_dead (swept hears here own never what seat off)) tt refl
 
-    pub did_job : (done : Done) (seated : IsSeated here own done) (d : Did hears here own done)
+    pub did_job : (done : JobResult) (seated : IsSeated here own done) (d : Did hears here own done)
         → PutHeld this k (did_stores hears here own never done seated d)
         → own_left this ≡ done.own → OwnFollow this k done.own
     did_job done seated d held is_new = record {

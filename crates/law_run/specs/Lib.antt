@@ -1,2 +1,2 @@
-pub mod Onward
-pub mod Follow
+pub mod WritesGoOn
+pub mod MachineTies

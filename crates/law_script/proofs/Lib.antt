@@ -1,4 +1,4 @@
-pub mod Firsts
-pub mod Doing
-pub mod Faulting
-pub mod Runs
+pub mod FirstRefusedLine
+pub mod TakenLines
+pub mod FirstFaults
+pub mod ByteRuns

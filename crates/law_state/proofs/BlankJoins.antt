@@ -10,7 +10,7 @@ use Rattle.spec_rules.specs.Blanked.{blank_joins_from, joins_blank}
 use Rattle.spec_rules.specs.State.{State}
 use Rattle.spec_rules.proofs.Tests.{both_true, by_bool, number_itself, same_numbers, true_false}
 use Rattle.law_state.specs.Joins.{CountsJoins, HasJoinedSince}
-use Rattle.law_state.proofs.Touching.{counted}
+use Rattle.law_state.proofs.EntriesTouchLinks.{counted}
 
 pub joins_on : (n : ℕ) (s : State) (front more : List Command)
     → blank_joins_from s (front ++ more) n ≡ blank_joins_from s front n + blank_joins_from (fold after s front) more n

@@ -13,12 +13,12 @@ use Rattle.spec_state.specs.Place.{touches}
 use Rattle.spec_state.specs.State.{State, is_up, is_up_as}
 use Rattle.spec_rules.proofs.Tests.{by_bool, by_test, both_true, number_itself, same_numbers, same_some, true_false}
 use Rattle.law_state.specs.Ages.{age_of}
-use Rattle.law_state.specs.Rows.{IsHeldOn, IsLater, IsLostOn, IsServed, IsServedBy, IsServedOn, ByBoth, ByNone, ByOne}
+use Rattle.law_state.specs.LinkRows.{IsHeldOn, IsLater, IsLostOn, IsServed, IsServedBy, IsServedOn, ByBoth, ByNone, ByOne}
 use Rattle.law_state.specs.Tables.{IsPlainState}
 use Rattle.law_state.proofs.Ages.{in_up, no_less}
 use Rattle.law_state.proofs.Fences.{Acted, queued_on, requeued_itself}
-use Rattle.law_state.proofs.Grown.{later_itself}
-use Rattle.law_state.proofs.Changing.{changing, link_changed}
+use Rattle.law_state.proofs.GrownStates.{later_itself}
+use Rattle.law_state.proofs.MembershipChanges.{changing, link_changed}
 
 -- the state after the link is in Both again
 abbrev pub caught_by : State → (of link : ℕ) → State

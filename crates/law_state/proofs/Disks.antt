@@ -29,14 +29,14 @@ use Rattle.law_state.proofs.Ages.{in_once, in_up, up_some}
 use Rattle.law_state.proofs.Caughts.{act_caught}
 use Rattle.law_state.proofs.Joins.{joined_by, was_out}
 use Rattle.law_state.proofs.Joins.{in_beside as joined_beside}
-use Rattle.law_state.proofs.Moves.{act_moved, act_note, act_start}
+use Rattle.law_state.proofs.MovesOfDisks.{act_moved, act_note, act_start}
 use Rattle.law_state.proofs.Owners.{owned}
-use Rattle.law_state.proofs.Places.{find_here, found_at, get_in, in_get, get_replicate, text_itself}
+use Rattle.law_state.proofs.ListLookups.{find_here, found_at, get_in, in_get, get_replicate, text_itself}
 use Rattle.law_state.proofs.Leaves.{left_by, in_beside}
-use Rattle.law_state.proofs.Passing.{in_settled}
-use Rattle.law_state.proofs.Snaps.{act_drained, act_snap}
+use Rattle.law_state.proofs.FencesPass.{in_settled}
+use Rattle.law_state.proofs.SnapsQueueFences.{act_drained, act_snap}
 use Rattle.law_state.proofs.Steady.{front_plain, in_first, linked_owner, unlinked}
-use Rattle.law_state.proofs.Entries.{entering, log_plain}
+use Rattle.law_state.proofs.EntriesOnlyAdd.{entering, log_plain}
 
 module _ (servers : ℕ) (s : State) (p : IsPlainState servers s) where
   at : (row : DiskRow) → In row s.disks.rows → disk_at s.disks.rows row.id ≡ Some row

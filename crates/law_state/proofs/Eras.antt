@@ -25,7 +25,7 @@ use Rattle.law_state.specs.Homes.{epoch_at, era_by, new_stage, stage_at, stage_o
 use Rattle.law_state.proofs.Fences.{Acted, IsUnsettled}
 use Rattle.law_state.proofs.Homes.{has_stage, row_or_none}
 use Rattle.law_state.proofs.Owners.{epoch_in, epoch_is, home, home_later, kept_by, no_home, owner_is, stage_in, stage_is}
-use Rattle.law_state.proofs.Places.{get_set_beside}
+use Rattle.law_state.proofs.ListLookups.{get_set_beside}
 
 -- ### Eras
 

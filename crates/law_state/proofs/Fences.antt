@@ -27,10 +27,10 @@ use Rattle.spec_rules.proofs.Tests.{both_true, by_bool, none_some, same_numbers,
 use Rattle.law_state.specs.Homes.{stage_at}
 pub use Rattle.law_state.specs.Tables.{AreQueued, IsUnsettled}
 use Rattle.law_state.specs.Tables.{IsForRegion, IsForSnapshot, IsLinkOf, HasLinkOf, IsFence, IsGrown, IsPlainState, IsShape, Of_disk, Of_region}
-use Rattle.law_state.specs.Rows.{IsServed}
+use Rattle.law_state.specs.LinkRows.{IsServed}
 use Rattle.law_state.proofs.Ages.{no_less}
-use Rattle.law_state.proofs.Places.{get_last}
-use Rattle.law_state.proofs.Grown.{grown_still, later_disk_itself, Step, grown_itself, grown_on}
+use Rattle.law_state.proofs.ListLookups.{get_last}
+use Rattle.law_state.proofs.GrownStates.{grown_still, later_disk_itself, Step, grown_itself, grown_on}
 
 -- the state is so, and has grown from this one
 pub record Acted (servers : ℕ) (s t : State) : Type 0 where

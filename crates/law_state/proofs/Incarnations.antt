@@ -25,13 +25,13 @@ use Rattle.law_state.specs.Plain.{IsPlain, IsPlainLog}
 use Rattle.law_state.specs.Tables.{IsPlainState}
 use Rattle.law_state.proofs.Ages.{in_age, may_by}
 use Rattle.law_state.proofs.Caughts.{act_caught}
-use Rattle.law_state.proofs.Entries.{entering, in_at_start, log_plain}
+use Rattle.law_state.proofs.EntriesOnlyAdd.{entering, in_at_start, log_plain}
 use Rattle.law_state.proofs.Joins.{joined_by, in_now}
 use Rattle.law_state.proofs.Joins.{in_beside as joined_beside}
 use Rattle.law_state.proofs.Leaves.{left_by, in_before}
-use Rattle.law_state.proofs.Passing.{in_settled}
-use Rattle.law_state.proofs.Moves.{act_moved, act_note, act_start}
-use Rattle.law_state.proofs.Snaps.{act_drained, act_snap}
+use Rattle.law_state.proofs.FencesPass.{in_settled}
+use Rattle.law_state.proofs.MovesOfDisks.{act_moved, act_note, act_start}
+use Rattle.law_state.proofs.SnapsQueueFences.{act_drained, act_snap}
 use Rattle.law_state.proofs.Steady.{front_plain, log_below}
 
 -- the entry is the Join of this incarnation, which acts

@@ -19,15 +19,15 @@ use Rattle.spec_state.specs.Command.{may_join}
 use Rattle.spec_state.specs.State.{State, inc_of, is_up, is_up_as}
 use Rattle.spec_rules.proofs.Tests.{by_bool, same_some, same_or_apart, same_numbers, true_false}
 use Rattle.law_state.specs.Ages.{age, age_of}
-use Rattle.law_state.specs.Places.{IsHeldStill, row_joined}
-use Rattle.law_state.specs.Rows.{IsBetween, IsHeldOn, IsLater, IsLostOn, IsServed, IsServedBy, IsServedOn, ByBoth, ByNone, ByOne}
+use Rattle.law_state.specs.LinkChanges.{IsHeldStill, row_joined}
+use Rattle.law_state.specs.LinkRows.{IsBetween, IsHeldOn, IsLater, IsLostOn, IsServed, IsServedBy, IsServedOn, ByBoth, ByNone, ByOne}
 use Rattle.law_state.specs.Tables.{IsPlainState}
 use Rattle.law_state.proofs.Ages.{in_up, may_by}
-use Rattle.law_state.proofs.Changing.{changed_by, changing, link_changed}
+use Rattle.law_state.proofs.MembershipChanges.{changed_by, changing, link_changed}
 use Rattle.law_state.proofs.Fences.{Acted, queued_on, requeued_itself}
-use Rattle.law_state.proofs.Grown.{between_later, later_itself, one_before}
-use Rattle.law_state.proofs.Links.{either_false, or_true}
-use Rattle.law_state.proofs.Places.{get_set_here, get_set_beside}
+use Rattle.law_state.proofs.GrownStates.{between_later, later_itself, one_before}
+use Rattle.law_state.proofs.NewMapLinks.{either_false, or_true}
+use Rattle.law_state.proofs.ListLookups.{get_set_here, get_set_beside}
 
 -- ### The row of a link
 

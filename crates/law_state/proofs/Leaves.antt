@@ -17,14 +17,14 @@ use Rattle.spec_state.specs.CellState.{serves}
 use Rattle.spec_state.specs.State.{State, inc_of, is_up, is_up_as}
 use Rattle.spec_rules.proofs.Tests.{by_bool, by_test, same_some, same_or_apart, same_numbers, number_itself, true_false}
 use Rattle.law_state.specs.Ages.{age, age_of}
-use Rattle.law_state.specs.Rows.{IsHeldOn, IsLostOn, IsServed, IsServedOn, IsBetween, IsLater, ByBoth, ByNone, ByOne}
+use Rattle.law_state.specs.LinkRows.{IsHeldOn, IsLostOn, IsServed, IsServedOn, IsBetween, IsLater, ByBoth, ByNone, ByOne}
 use Rattle.law_state.specs.Tables.{IsPlainState}
 use Rattle.law_state.proofs.Ages.{in_up, out_not}
 use Rattle.law_state.proofs.Fences.{Acted, head_awaiting, queued_on, requeued_awaiting, waits_present}
-use Rattle.law_state.proofs.Grown.{later_itself}
-use Rattle.law_state.proofs.Changing.{changing, link_changed}
-use Rattle.law_state.proofs.Links.{either_false}
-use Rattle.law_state.proofs.Places.{get_set_here, get_set_beside}
+use Rattle.law_state.proofs.GrownStates.{later_itself}
+use Rattle.law_state.proofs.MembershipChanges.{changing, link_changed}
+use Rattle.law_state.proofs.NewMapLinks.{either_false}
+use Rattle.law_state.proofs.ListLookups.{get_set_here, get_set_beside}
 
 pub either_true : (a b : Bool) → (a || b) ≡ true → a ≡ false → b ≡ true
 either_true true b e f = let g : true ≡ false = f in absurd cc

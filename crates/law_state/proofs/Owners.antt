@@ -14,7 +14,7 @@ use Rattle.spec_rules.specs.State.{State}
 use Rattle.spec_rules.proofs.Tests.{by_bool, none_some, number_itself, same_numbers, same_some, some_or_none, true_false}
 use Rattle.law_state.specs.Homes.{epoch_at, stage_at, stage_by, stage_of, stage_under}
 use Rattle.law_state.specs.Tables.{HasHome, HasLaterDisk, IsRowAt}
-use Rattle.law_state.proofs.Places.{find_here, find_none}
+use Rattle.law_state.proofs.ListLookups.{find_here, find_none}
 
 -- the row of the disk for which the map was made
 abbrev pub home : State → ℕ → Option DiskRow

@@ -15,15 +15,15 @@ use Rattle.spec_rules.proofs.Tests.{by_bool, is_the_one, is_the_so, none_some, n
 use Rattle.spec_history.specs.Claims.{IsPrefix}
 use Rattle.law_state.specs.Ages.{age_of}
 use Rattle.law_state.specs.Plain.{IsPlainLog}
-use Rattle.law_state.specs.Rows.{IsLater, ByBoth, ByNone, ByOne}
+use Rattle.law_state.specs.LinkRows.{IsLater, ByBoth, ByNone, ByOne}
 use Rattle.law_state.specs.Steady.{IsSteady}
-use Rattle.law_state.specs.Below.{IsBelow, HasComeSecond, KeepsRoles}
+use Rattle.law_state.specs.LaterStates.{IsBelow, HasComeSecond, KeepsRoles}
 use Rattle.law_state.specs.Homes.{HasDied}
-use Rattle.law_state.proofs.Cells.{IsInBoth, IsHeldBy, alone_leads, alone_leads_none, both_leads, link_led_by, lost_leads}
-use Rattle.law_state.proofs.Grown.{alone_not_both, lost_not_alone, one_before}
+use Rattle.law_state.proofs.CellsByLinkRows.{IsInBoth, IsHeldBy, alone_leads, alone_leads_none, both_leads, link_led_by, lost_leads}
+use Rattle.law_state.proofs.GrownStates.{alone_not_both, lost_not_alone, one_before}
 use Rattle.law_state.proofs.Ages.{in_up, out_same}
 use Rattle.law_state.proofs.Leaves.{either_true}
-use Rattle.law_state.proofs.Links.{or_true}
+use Rattle.law_state.proofs.NewMapLinks.{or_true}
 use Rattle.law_state.proofs.Steady.{front_plain, log_below, log_steady}
 
 pub primary_is_one : (row : LinkRow) (n : ℕ) → row.primary ≡ n → has_server n row ≡ true

@@ -17,7 +17,7 @@ use Rattle.spec_rules.specs.State.{State}
 use Rattle.spec_rules.proofs.Tests.{by_test, same_or_apart, some_or_none, true_false}
 use Rattle.law_state.specs.Homes.{new_stage, old_stage, stage_at, stage_by, stage_of, stage_under}
 use Rattle.law_state.specs.Tables.{IsShape}
-use Rattle.law_state.proofs.Places.{get_replicate, get_set_beside, get_set_here}
+use Rattle.law_state.proofs.ListLookups.{get_replicate, get_set_beside, get_set_here}
 
 -- ### No stage is above 4
 

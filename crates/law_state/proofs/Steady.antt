@@ -33,17 +33,17 @@ use Rattle.spec_rules.proofs.Tests.{by_bool, none_some, same_some, some_or_none,
 use Rattle.spec_history.specs.Claims.{IsPrefix}
 use Rattle.law_state.specs.Plain.{IsPlainLog}
 use Rattle.law_state.specs.Steady.{HasLink, IsLinked, IsSteady}
-use Rattle.law_state.specs.Below.{HasLaterView, IsBelow}
+use Rattle.law_state.specs.LaterStates.{HasLaterView, IsBelow}
 use Rattle.law_state.specs.Homes.{HasDied, epoch_at, new_stage, old_stage, stage_at, stage_by}
 use Rattle.law_state.specs.Tables.{IsGone, IsGrown, IsLaterDisk, IsPlainState}
 use Rattle.law_state.proofs.Homes.{era_grows}
 use Rattle.law_state.proofs.Owners.{disk_at_is, either_of, epochs_later, no_owner, owned}
 use Rattle.law_state.proofs.Stages.{new_most}
-use Rattle.law_state.proofs.Places.{find_here, found_at, find_front, text_itself}
-use Rattle.law_state.proofs.Snaps.{disk_is, disk_stands}
-use Rattle.law_state.proofs.Links.{proper}
-use Rattle.law_state.proofs.Grown.{gone_on}
-use Rattle.law_state.proofs.Entries.{folding, log_plain}
+use Rattle.law_state.proofs.ListLookups.{find_here, found_at, find_front, text_itself}
+use Rattle.law_state.proofs.SnapsQueueFences.{disk_is, disk_stands}
+use Rattle.law_state.proofs.NewMapLinks.{proper}
+use Rattle.law_state.proofs.GrownStates.{gone_on}
+use Rattle.law_state.proofs.EntriesOnlyAdd.{folding, log_plain}
 
 pub below : (block many : ℕ) → 2 ≤ many → block % many < many
 below block many two = omega arith

@@ -8,7 +8,7 @@ use Rattle.spec_rules.specs.State.{is_in}
 use Rattle.spec_rules.specs.World.{Setting, World, chosen_log, chosen_state}
 use Rattle.spec_rules.specs.Lists.{In}
 use Rattle.law_state.specs.Plain.{IsPlainLog}
-use Rattle.law_state.specs.Started.{HasStarted, is_caught}
+use Rattle.law_state.specs.StartedBallots.{HasStarted, is_caught}
 
 -- what servers and clients have applied stands at the front of the chosen log, whose entries are plain; who runs, and is In as
 -- itself by some front of the log, is so by all that is chosen; of a Caught that is chosen the holder started the ballot after the

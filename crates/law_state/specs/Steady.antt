@@ -5,7 +5,7 @@ use Rattle.global_tables.specs.declared.link.LinkRow.{LinkRow}
 use Rattle.spec_state.specs.declared.answer.DiskView.{DiskView}
 use Rattle.spec_state.specs.CellState.{cell_asked, cell_link}
 use Rattle.spec_rules.specs.State.{State, find, live, servers_of}
-use Rattle.law_state.specs.Rows.{IsServed}
+use Rattle.law_state.specs.LinkRows.{IsServed}
 
 -- the link of a cell is between two servers, and served
 pub record IsLinked (state : State) (cell : Cell) (row : LinkRow) : Type 0 where

@@ -23,7 +23,7 @@ use Rattle.spec_rules.specs.Lists.{In}
 use Rattle.spec_rules.specs.State.{State}
 use Rattle.law_state.specs.Ages.{age_of}
 use Rattle.law_state.specs.Homes.{stage_at, stage_of}
-use Rattle.law_state.specs.Rows.{GoesOn, IsServed}
+use Rattle.law_state.specs.LinkRows.{GoesOn, IsServed}
 
 -- the regions of a move, of which this one is next: those before it are at the new map, and those after it at the old one
 pub record IsShape (regions : List RegionState) (next : ℕ) (now : RegionState) : Type 0 where

@@ -13,24 +13,24 @@ use Rattle.petal_msg.specs.declared.copying.LinkId.{LinkId}
 use Rattle.petal_msg.specs.declared.copying.Progress.{Progress}
 use Rattle.petal_msg.specs.declared.letter.Letter.{Letter}
 use Rattle.spec_state.specs.CellState.{cell_link}
-use Rattle.spec_rules.specs.Copies.{begins_copy, mend_after, page_wanted, with_copied, with_page}
+use Rattle.spec_rules.specs.Copies.{begins_copy, repair_after, page_wanted, with_copied, with_page}
 use Rattle.spec_rules.specs.Lists.{In}
 use Rattle.spec_rules.specs.Progress.{progress_on, with_last_copy, with_progress, without_copying}
-use Rattle.spec_rules.specs.Server.{Own, Pairs, Here, Post, Done}
+use Rattle.spec_rules.specs.Server.{PairState, Pairs, JobContext, Post, JobResult}
 use Rattle.spec_rules.specs.Store.{cell_cmp, chain_in, epochs_of}
 use Rattle.spec_rules.specs.declared.job.Job.TheVariants as job
 use Rattle.spec_rules.proofs.CellTables.{cell_cmp_total}
 use Rattle.spec_rules.proofs.Tests.{by_test}
-use Rattle.law_log.proofs.Flags.{caught_put}
+use Rattle.law_log.proofs.BallotFlags.{caught_put}
 use Rattle.law_steps.specs.Ready.{IsRising}
-use Rattle.law_steps.proofs.Tables.{put_rises, without_rises}
+use Rattle.law_steps.proofs.TablesOfPuts.{put_rises, without_rises}
 use Rattle.law_steps.specs.DidHolder.{DidHolder, CopyStep, Asks_to_trim, Sends, Unmarks_copied, Closes_copy, TakenCopy, Copy_as_is, Copy_trimmed, Copy_synced}
 use Rattle.law_steps.specs.DidHolder.{Asks_page, Turns_page, Begins_copy, Goes_on_copying, Finds_it_full, Tidies}
 use Rattle.law_steps.specs.DidOther.{OtherReply, Replies, DidOther, first_last, TrimStep, Is_trimmed, Drops_entry, Answers_page, Is_copied_to}
 use Rattle.law_steps.specs.DidOther.{Goes_on_trimming, Puts_entry}
 use Rattle.law_steps.proofs.Letters.{posted}
 
-pub record CopyFrame (own : Own) (done : Done) : Type 0 where
+pub record CopyFrame (own : PairState) (done : JobResult) : Type 0 where
   pub pending : done.own.pairs.pending ≡ own.pairs.pending
   pub finished : done.own.pairs.finished ≡ own.pairs.finished
   pub last : done.own.pairs.last ≡ own.pairs.last
@@ -53,17 +53,17 @@ unfolding In
 one_stage cell letter (inl e) = let f : job.Letter letter ≡ job.Stage cell = e in absurd cc
 one_stage cell letter (inr h) = h
 
-one_mend : (id : LinkId) (letter : Letter) → In (job.Letter letter) (job.Mend id ∷ []) → ⊥
+one_mend : (id : LinkId) (letter : Letter) → In (job.Letter letter) (job.Repair id ∷ []) → ⊥
 unfolding In
-one_mend id letter (inl e) = let f : job.Letter letter ≡ job.Mend id = e in absurd cc
+one_mend id letter (inl e) = let f : job.Letter letter ≡ job.Repair id = e in absurd cc
 one_mend id letter (inr h) = h
 
-after_mend : (row : Option LinkRow) (letter : Letter) → In (job.Letter letter) (mend_after row) → ⊥
+after_mend : (row : Option LinkRow) (letter : Letter) → In (job.Letter letter) (repair_after row) → ⊥
 after_mend None letter h = no_jobs letter h
 after_mend (Some row) letter h = one_mend _ letter h
 
 -- the pairs stay
-abbrev same : (own : Own) (done : Done) → done.own.pairs ≡ own.pairs
+abbrev same : (own : PairState) (done : JobResult) → done.own.pairs ≡ own.pairs
     → ((row : LinkRow) → (progress_on done.own row).caught ≡ (progress_on own row).caught)
     → (IsRising cell_cmp own.copies.pending → IsRising cell_cmp done.own.copies.pending)
     → ((post : Post) → In post done.posts → subject_of post.body ≡ Copied)
@@ -80,42 +80,42 @@ same own done e caught rises says none = record {
 }
 
 -- what a link's progress does not change, a block that is copied leaves
-pub copied_same : {X : Type 0} (f : Own → X) (row : Option LinkRow) (own : Own) (block : ℕ)
+pub copied_same : {X : Type 0} (f : PairState → X) (row : Option LinkRow) (own : PairState) (block : ℕ)
     → ((r : LinkRow) (p : Progress) → f (with_progress own r p) ≡ f own) → f (with_copied row own block) ≡ f own
 copied_same f None own block same = refl
-copied_same f (Some row) own block same = by_test (λ (left : Own). f left ≡ f own) (above (progress_on own row).copied block)
+copied_same f (Some row) own block same = by_test (λ (left : PairState). f left ≡ f own) (above (progress_on own row).copied block)
     (with_progress own row (record (progress_on own row) { copied = Some block })) own (λ t. same row (record (progress_on own row) { copied = Some block }))
     (λ t. refl)
 
-copied_pairs : (row : Option LinkRow) (own : Own) (block : ℕ) → (with_copied row own block).pairs ≡ own.pairs
+copied_pairs : (row : Option LinkRow) (own : PairState) (block : ℕ) → (with_copied row own block).pairs ≡ own.pairs
 copied_pairs row own block = copied_same (λ o. o.pairs) row own block (λ r p. refl)
 
-page_pairs : (own : Own) (row : LinkRow) (before : Progress) (block : Option ℕ) → (with_page own row before block).pairs ≡ own.pairs
+page_pairs : (own : PairState) (row : LinkRow) (before : Progress) (block : Option ℕ) → (with_page own row before block).pairs ≡ own.pairs
 page_pairs own row before None = refl
 page_pairs own row before (Some block) = refl
 
-copied_pending : (row : Option LinkRow) (own : Own) (block : ℕ) → (with_copied row own block).copies.pending ≡ own.copies.pending
+copied_pending : (row : Option LinkRow) (own : PairState) (block : ℕ) → (with_copied row own block).copies.pending ≡ own.copies.pending
 copied_pending row own block = copied_same (λ o. o.copies.pending) row own block (λ r p. refl)
 
-page_pending : (own : Own) (row : LinkRow) (before : Progress) (block : Option ℕ) → (with_page own row before block).copies.pending ≡ own.copies.pending
+page_pending : (own : PairState) (row : LinkRow) (before : Progress) (block : Option ℕ) → (with_page own row before block).copies.pending ≡ own.copies.pending
 page_pending own row before None = refl
 page_pending own row before (Some block) = refl
 
-copied_caught : (row : Option LinkRow) (own : Own) (block : ℕ) (other : LinkRow)
+copied_caught : (row : Option LinkRow) (own : PairState) (block : ℕ) (other : LinkRow)
     → (progress_on (with_copied row own block) other).caught ≡ (progress_on own other).caught
 copied_caught None own block other = refl
 copied_caught (Some row) own block other =
-    by_test (λ (left : Own). (progress_on left other).caught ≡ (progress_on own other).caught) (above (progress_on own row).copied block)
+    by_test (λ (left : PairState). (progress_on left other).caught ≡ (progress_on own other).caught) (above (progress_on own row).copied block)
     (with_progress own row (record (progress_on own row) { copied = Some block })) own
     (λ t. caught_put own row (record (progress_on own row) { copied = Some block }) other refl) (λ t. refl)
 
-page_caught : (own : Own) (row : LinkRow) (block : Option ℕ) (other : LinkRow)
+page_caught : (own : PairState) (row : LinkRow) (block : Option ℕ) (other : LinkRow)
     → (progress_on (with_page own row (progress_on own row) block) other).caught ≡ (progress_on own other).caught
 page_caught own row None other = caught_put own row (record (progress_on own row) { paged = true }) other refl
 page_caught own row (Some block) other = caught_put own row (record (progress_on own row) { after = Some block }) other refl
 
 -- where the copy was changed first
-frame_from : (own now : Own) (done : Done) → now.pairs.pending ≡ own.pairs.pending → now.pairs.finished ≡ own.pairs.finished → now.pairs.last ≡ own.pairs.last
+frame_from : (own now : PairState) (done : JobResult) → now.pairs.pending ≡ own.pairs.pending → now.pairs.finished ≡ own.pairs.finished → now.pairs.last ≡ own.pairs.last
     → own.pairs.next ≤ now.pairs.next → (IsRising cell_cmp own.copies.pending → IsRising cell_cmp now.copies.pending)
     → ((row : LinkRow) → (progress_on now row).caught ≡ (progress_on own row).caught) → CopyFrame now done → CopyFrame own done
 frame_from own now done pending finished last le rises caught f = record {
@@ -129,7 +129,7 @@ frame_from own now done pending finished last le rises caught f = record {
   no_letters = f.no_letters;
 }
 
-step_frame : (here : Here) (own : Own) (cell : Cell) (copy : Copying) (done : Done) → CopyStep here own cell copy done → CopyFrame own done
+step_frame : (here : JobContext) (own : PairState) (cell : Cell) (copy : Copying) (done : JobResult) → CopyStep here own cell copy done → CopyFrame own done
 step_frame here own cell copy _ (Asks_to_trim fresh) = same own _ refl (λ r. refl) (λ h. h)
     (λ post i. ap subject_of (posted _ (body.Trim copy.op cell (epochs_of (chain_in own.store.chains cell))) post i)) no_jobs
 step_frame here own cell copy _ (Sends row trimmed is) = same own _ refl (λ r. refl) (λ h. h)
@@ -143,7 +143,7 @@ step_frame here own cell copy _ (Closes_copy synced left) =
     (without_rises cell_cmp own.copies.pending cell h))
     (λ post i. no_posts post i) (after_mend (cell_link here.state cell))
 
-taken_frame : (heard : Body → Type 0) (own : Own) (cell : Cell) (now : Own) (copy : Copying) (done : Done)
+taken_frame : (heard : Body → Type 0) (own : PairState) (cell : Cell) (now : PairState) (copy : Copying) (done : JobResult)
     → TakenCopy heard own cell now copy → CopyFrame now done
     → CopyFrame own done
 taken_frame heard own cell now copy done (Copy_as_is _ is) f = f
@@ -152,7 +152,7 @@ taken_frame heard own cell now copy done (Copy_trimmed old h is fresh) f =
 taken_frame heard own cell now copy done (Copy_synced old h is trimmed lt) f =
     frame_from own now done refl refl refl (omega arith) (λ r. put_rises cell_cmp_total own.copies.pending cell _ r) (λ row. refl) f
 
-pub of_holder : (heard : Body → Type 0) (here : Here) (own : Own) (done : Done) → DidHolder heard here own done → CopyFrame own done
+pub of_holder : (heard : Body → Type 0) (here : JobContext) (own : PairState) (done : JobResult) → DidHolder heard here own done → CopyFrame own done
 of_holder heard here own _ (Asks_page id row other held fresh) = same own _ refl (λ r. refl) (λ h. h)
     (λ post i. ap subject_of (posted (Some other) (page_wanted own row) post i)) no_jobs
 of_holder heard here own _ (Turns_page id row other after block h held fresh at) =
@@ -169,18 +169,18 @@ of_holder heard here own _ (Finds_it_full cell copy h is trimmed lt) = same own 
 of_holder heard here own _ (Tidies id row block kind is both idle left) = same own _ refl (λ r. refl) (λ h. h)
     (λ post i. no_posts post i) (one_mend _)
 
-trim_frame : (own : Own) (cell : Cell) (last : LastCopy) (holder : ℕ) (done : Done) → TrimStep own cell last holder done → CopyFrame own done
+trim_frame : (own : PairState) (cell : Cell) (last : LastCopy) (holder : ℕ) (done : JobResult) → TrimStep own cell last holder done → CopyFrame own done
 trim_frame own cell last holder _ (Is_trimmed none) = same own _ refl (λ r. refl) (λ h. h)
     (λ post i. ap subject_of (posted (Some holder) (body.Trimmed last.op cell) post i)) no_jobs
 trim_frame own cell last holder _ (Drops_entry epoch epochs is) = same own _ refl (λ r. refl) (λ h. h)
     (λ post i. no_posts post i) (one_stage cell)
 
 -- what it answers is of copies
-reply_copied : (heard : Body → Type 0) (here : Here) (own : Own) (to : Option ℕ) (said : Body) → OtherReply heard here own to said → subject_of said ≡ Copied
+reply_copied : (heard : Body → Type 0) (here : JobContext) (own : PairState) (to : Option ℕ) (said : Body) → OtherReply heard here own to said → subject_of said ≡ Copied
 reply_copied heard here own _ _ (Answers_page id row after h is) = refl
 reply_copied heard here own _ _ _ = refl
 
-pub of_other : (heard : Body → Type 0) (here : Here) (own : Own) (done : Done) → DidOther heard here own done → CopyFrame own done
+pub of_other : (heard : Body → Type 0) (here : JobContext) (own : PairState) (done : JobResult) → DidOther heard here own done → CopyFrame own done
 of_other heard here own _ (Replies to said reply) = same own _ refl (λ r. refl) (λ h. h)
     (λ post i. ap subject_of (posted to said post i) ∙ reply_copied heard here own to said reply) no_jobs
 of_other heard here own done (Is_copied_to number cell epochs holder _ h held newer step) =

@@ -6,11 +6,11 @@ use Rattle.petal_command.specs.declared.command.Command.{Command}
 use Rattle.spec_history.specs.Claims.{IsPrefix}
 use Rattle.spec_rules.specs.State.{State}
 use Rattle.spec_rules.proofs.Tests.{same_some}
-use Rattle.law_state.specs.Below.{IsBelow}
+use Rattle.law_state.specs.LaterStates.{IsBelow}
 use Rattle.law_state.specs.Ages.{age_of}
 use Rattle.law_state.specs.Homes.{epoch_at, era_at, stage_at}
 use Rattle.law_state.proofs.Ages.{no_less}
-use Rattle.law_state.proofs.Grown.{goes_on_itself, goes_on_on}
+use Rattle.law_state.proofs.GrownStates.{goes_on_itself, goes_on_on}
 
 pub front_itself : (log : List Command) → IsPrefix log log
 front_itself log = record { later = []; is = sym (append-nil log) }

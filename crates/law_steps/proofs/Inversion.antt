@@ -10,7 +10,7 @@ use Rattle.petal_msg.specs.declared.letter.Actor.TheVariants as actor
 use Rattle.petal_msg.specs.declared.letter.Letter.{Letter}
 use Rattle.petal_msg.specs.declared.operation.Pending.{Pending}
 use Rattle.spec_rules.specs.State.{is_in, is_second}
-use Rattle.spec_rules.specs.Server.{Own, Here, Done}
+use Rattle.spec_rules.specs.Server.{PairState, JobContext, JobResult}
 use Rattle.spec_rules.specs.Copies.{copies_on}
 use Rattle.spec_rules.specs.Progress.{copying_on, has_proposed}
 use Rattle.spec_rules.specs.Writes.{goes_on, pending_on, on_reserve, on_reserved, on_pair_full, on_replicate, on_replicated}
@@ -29,9 +29,9 @@ use Rattle.law_steps.proofs.InvertSecond.{did_reserve, did_replicate}
 use Rattle.law_steps.proofs.InvertHolder.{did_copies, did_mends, did_hello, did_trimmed, did_synced, did_sync_full}
 use Rattle.law_steps.proofs.InvertOther.{did_hello_ask, did_trim, did_trims, did_sync}
 
-module _ (heard : Body → Type 0) (here : Here) (own : Own) (steady : IsSteady here.state)
+module _ (heard : Body → Type 0) (here : JobContext) (own : PairState) (steady : IsSteady here.state)
     (staged : (cell : Cell) (op : Pending) → pending_on own cell ≡ Some op → IsStaged here.state here.me (has_proposed here.state own) cell op) where
-  abbrev D : Done → Type 0
+  abbrev D : JobResult → Type 0
   D done = Did heard here own done
 
   did_handle : is_in here.state here.me here.inc ≡ true → (said : Body) → heard said → D (handles here own said)
@@ -87,7 +87,7 @@ module _ (heard : Body → Type 0) (here : Here) (own : Own) (steady : IsSteady 
       (λ s. by_test D (is_some (copying_on own cell)) _ _ (λ u. did_copies heard here own cell (copying_on own cell) refl)
       (λ u. did_trims heard here own cell)))
       (λ t. Ignores)
-  did (job.Mend link) h = by_test D (is_in here.state here.me here.inc) _ _ (λ t. did_mends heard here own link) (λ t. Ignores)
+  did (job.Repair link) h = by_test D (is_in here.state here.me here.inc) _ _ (λ t. did_mends heard here own link) (λ t. Ignores)
   did job.Sweep h = by_test D (is_in here.state here.me here.inc) _ _ (λ t. did_sweeps heard here own t) (λ t. Ignores)
   did job.Apply h = Ignores
   did job.Start h = Ignores

@@ -16,18 +16,18 @@ use Rattle.spec_state.specs.CellState.{cell_link, source, target}
 use Rattle.spec_rules.specs.Fills.{fill_left, fill_of, fills_row, hears_fill_full, hears_filled, is_next, link_before, next_fill}
 use Rattle.spec_rules.specs.Fills.{on_fill_full, on_filled, region_to_move, sends_key, sends_moving}
 use Rattle.spec_rules.specs.Lists.{In}
-use Rattle.spec_rules.specs.Server.{Own, Here, Post, Done, post_to}
+use Rattle.spec_rules.specs.Server.{PairState, JobContext, Post, JobResult, post_to}
 use Rattle.spec_rules.specs.State.{State, is_in, lead}
 use Rattle.spec_rules.specs.Store.{Stored, chain_in}
 use Rattle.spec_rules.proofs.Tests.{both_true, by_test, none_some, same_numbers, true_false}
-use Rattle.law_state.proofs.Places.{found_at}
-use Rattle.law_log.proofs.Lists.{among_at}
+use Rattle.law_state.proofs.ListLookups.{found_at}
+use Rattle.law_log.proofs.ListPlaces.{among_at}
 use Rattle.law_steps.specs.Did.{Did, Ignores, By_filler}
 use Rattle.law_steps.specs.DidFiller.{IsNextKey, Is_filled, Is_out_of_slots, filled_to}
 use Rattle.law_steps.specs.DidLead.{IsNextFill}
 
 -- what is next of a link is so in the region that the server is to move
-next_of : (here : Here) (own : Own) (row : LinkRow) (key : Key) → fill_of here.state here.me row own ≡ Some key
+next_of : (here : JobContext) (own : PairState) (row : LinkRow) (key : Key) → fill_of here.state here.me row own ≡ Some key
     → (region : ℕ) × (region_to_move here.state here.me row ≡ Some region) × (next_fill here.state row region own ≡ Some key)
 next_of here own row key = by (region_to_move here.state here.me row) refl
   where
@@ -51,7 +51,7 @@ linked_in state key row = by (source state (cell_of key))
     by (Some old) e = of_tuple old (tuple_of state.maps old.map) e
 
 -- what goes out of a link is its next entry
-pub row_fills : (here : Here) (own : Own) → is_in here.state here.me here.inc ≡ true → (row : LinkRow) → In row here.state.links → (post : Post)
+pub row_fills : (here : JobContext) (own : PairState) → is_in here.state here.me here.inc ≡ true → (row : LinkRow) → In row here.state.links → (post : Post)
     → In post (fills_row here own row) → IsNextFill here own post
 unfolding In
 row_fills here own seated row there post = by_key (fill_of here.state here.me row own) refl
@@ -93,8 +93,8 @@ row_fills here own seated row there post = by_key (fill_of here.state here.me ro
     by_key (Some key) e i =
         by_entry key e (at nat_cmp (chain_in own.store.chains (cell_of key)) key.epoch) refl (target here.state (cell_of key)) refl i
 
-module _ (heard : Body → Type 0) (here : Here) (own : Own) (seated : is_in here.state here.me here.inc ≡ true) where
-  abbrev D : Done → Type 0
+module _ (heard : Body → Type 0) (here : JobContext) (own : PairState) (seated : is_in here.state here.me here.inc ≡ true) where
+  abbrev D : JobResult → Type 0
   D done = Did heard here own done
 
   next_key : (key : Key) (row : LinkRow) → link_before here.state key ≡ Some row → is_next (fill_of here.state here.me row own) key ≡ true
@@ -118,7 +118,7 @@ module _ (heard : Body → Type 0) (here : Here) (own : Own) (seated : is_in her
           }
 
   -- what is heard of a key is of the old link, where there is one
-  of_old_link : (key : Key) (hears : Option LinkRow → Done) → D (hears None)
+  of_old_link : (key : Key) (hears : Option LinkRow → JobResult) → D (hears None)
       → ((row : LinkRow) → link_before here.state key ≡ Some row → D (hears (Some row))) → D (hears (link_before here.state key))
   of_old_link key hears none some = by (link_before here.state key) refl
     where

@@ -17,17 +17,17 @@ use Rattle.petal_msg.specs.declared.copying.LinkId.{LinkId}
 use Rattle.petal_msg.specs.declared.copying.NextCopy.{NextCopy}
 use Rattle.petal_msg.specs.declared.copying.NextCopy.TheVariants.{Ask, Block, Wait, Nothing}
 use Rattle.spec_rules.specs.Copies.{begins_copy, blocks_left, catches_up, cell_at, copies_on, copies_with, copy_acts, copy_stage, goes_for, hears_hello}
-use Rattle.spec_rules.specs.Copies.{hears_page, hears_sync_full, hears_synced, hears_trimmed, idle_mark, is_link_under_way, is_syncing, least, mends}
-use Rattle.spec_rules.specs.Copies.{mends_found, mends_row, next_block, next_copy, on_hello, on_sync_full, on_synced, on_trimmed, same_block}
-use Rattle.spec_rules.specs.Copies.{sends_entry, takes_mark, tidies}
+use Rattle.spec_rules.specs.Copies.{hears_page, hears_sync_full, hears_synced, hears_trimmed, idle_mark, is_link_under_way, is_syncing, least, repairs}
+use Rattle.spec_rules.specs.Copies.{mends_found, repairs_row, next_block, next_copy, on_hello, on_sync_full, on_synced, on_trimmed, same_block}
+use Rattle.spec_rules.specs.Copies.{sends_entry, takes_mark, clears_old_marks}
 use Rattle.spec_rules.specs.Progress.{copying_on, progress_on, with_copying}
-use Rattle.spec_rules.specs.Server.{Own, Here, Done}
+use Rattle.spec_rules.specs.Server.{PairState, JobContext, JobResult}
 use Rattle.spec_rules.specs.State.{State, link_named, other_in}
 use Rattle.spec_rules.specs.Store.{chain_in, mark_left}
 use Rattle.spec_rules.specs.Writes.{is_under_way}
 use Rattle.spec_rules.proofs.CellTables.{cell_same}
 use Rattle.spec_rules.proofs.Tests.{both_true, by_test, not_true, same_numbers}
-use Rattle.law_state.proofs.Places.{get_within}
+use Rattle.law_state.proofs.ListLookups.{get_within}
 use Rattle.law_steps.specs.Did.{Did, Ignores, By_holder}
 use Rattle.law_steps.specs.DidHolder.{CopyStep, Asks_to_trim, Sends, Unmarks_copied, Closes_copy, IsHeldWith, IsSynced, first_copy, Copy_as_is, Copy_trimmed}
 use Rattle.law_steps.specs.DidHolder.{Copy_synced, Asks_page, Turns_page, Begins_copy, Goes_on_copying, Finds_it_full, Tidies}
@@ -44,7 +44,7 @@ untrue false e = sym e
 
 -- ### A copy's next stage
 
-module _ (here : Here) (own : Own) (cell : Cell) (copy : Copying) where
+module _ (here : JobContext) (own : PairState) (cell : Cell) (copy : Copying) where
   abbrev Step : CopyAction → Type 0
   Step what = CopyStep here own cell copy (copy_acts here own cell copy what)
 
@@ -66,18 +66,18 @@ module _ (here : Here) (own : Own) (cell : Cell) (copy : Copying) where
       (λ past. unmarks_or_closes (mark_left own.store cell) refl
       (record { trimmed = trimmed; past = no_less copy.index (length (chain_in own.store.chains cell)) past })))
 
-pub copy_goes : (here : Here) (now : Own) (cell : Cell) (copy : Copying) → copying_on now cell ≡ Some copy
+pub copy_goes : (here : JobContext) (now : PairState) (cell : Cell) (copy : Copying) → copying_on now cell ≡ Some copy
     → CopyStep here now cell copy (copies_on here now cell)
 unfolding copies_on
 copy_goes here now cell copy is = subst (λ o. CopyStep here now cell copy (copies_with here now cell o)) (sym is) (copy_step here now cell copy)
 
 -- the copy that was put last is there
-now_copying : (own : Own) (cell : Cell) (copy : Copying) → copying_on (with_copying own cell copy) cell ≡ Some copy
+now_copying : (own : PairState) (cell : Cell) (copy : Copying) → copying_on (with_copying own cell copy) cell ≡ Some copy
 now_copying own cell copy = cell_same own.copies.pending cell copy
 
 -- ### What is next of a link
 
-next_asks_not : {A : Type 0} (state : State) (row : LinkRow) (own : Own) (o : Option ℕ) → next_block state row own o ≡ Ask → A
+next_asks_not : {A : Type 0} (state : State) (row : LinkRow) (own : PairState) (o : Option ℕ) → next_block state row own o ≡ Ask → A
 next_asks_not {A} state row own None e =
     by_test (λ (n : NextCopy). n ≡ Ask → A) (is_link_under_way state row own) Wait Nothing
     (λ t f. let g : Wait ≡ Ask = f in absurd cc) (λ t f. let g : Nothing ≡ Ask = f in absurd cc) e
@@ -85,15 +85,15 @@ next_asks_not {A} state row own (Some block) e =
     by_test (λ (n : NextCopy). n ≡ Ask → A) (is_under_way own (cell_at row block)) Wait (Block (cell_at row block))
     (λ t f. let g : Wait ≡ Ask = f in absurd cc) (λ t f. let g : Block (cell_at row block) ≡ Ask = f in absurd cc) e
 
-pub unpaged : (state : State) (row : LinkRow) (own : Own) → next_copy state row own ≡ Ask → (progress_on own row).paged ≡ false
+pub unpaged : (state : State) (row : LinkRow) (own : PairState) → next_copy state row own ≡ Ask → (progress_on own row).paged ≡ false
 unfolding next_copy
 unpaged state row own =
     by_test (λ (n : NextCopy). n ≡ Ask → (progress_on own row).paged ≡ false) (progress_on own row).paged
     (next_block state row own (least (blocks_left state row own))) Ask
     (λ t e. next_asks_not state row own (least (blocks_left state row own)) e) (λ f e. f)
 
-module _ (heard : Body → Type 0) (here : Here) (own : Own) where
-  abbrev D : Done → Type 0
+module _ (heard : Body → Type 0) (here : JobContext) (own : PairState) where
+  abbrev D : JobResult → Type 0
   D done = Did heard here own done
 
   pub did_copies : (cell : Cell) (o : Option Copying) → copying_on own cell ≡ o → D (copies_with here own cell o)
@@ -122,11 +122,11 @@ module _ (heard : Body → Type 0) (here : Here) (own : Own) where
   did_takes id row block is both idle (Some kind) e = By_holder _ (Tidies id row block kind is both idle e)
 
   did_tidies : (id : LinkId) (row : LinkRow) → link_named here.state id ≡ Some row → row.state ≡ Both → (o : Option ℕ) → idle_mark here.state row own ≡ o
-      → D (tidies own row o)
+      → D (clears_old_marks own row o)
   did_tidies id row is both None e = Ignores
   did_tidies id row is both (Some block) e = did_takes id row block is both e (mark_left own.store (cell_at row block)) refl
 
-  did_row : (id : LinkId) (row : LinkRow) → link_named here.state id ≡ Some row → (state : LinkState) → row.state ≡ state → D (mends_row here own row state)
+  did_row : (id : LinkId) (row : LinkRow) → link_named here.state id ≡ Some row → (state : LinkState) → row.state ≡ state → D (repairs_row here own row state)
   did_row id row is Both e = did_tidies id row is e (idle_mark here.state row own) refl
   did_row id row is (Only holder whole) e = did_catches id row is (other_in here.state here.me row) refl
   did_row id row is Lost e = Ignores
@@ -135,8 +135,8 @@ module _ (heard : Body → Type 0) (here : Here) (own : Own) where
   did_found id None e = Ignores
   did_found id (Some row) e = did_row id row e row.state refl
 
-  pub did_mends : (id : LinkId) → D (mends here own id)
-  unfolding mends
+  pub did_mends : (id : LinkId) → D (repairs here own id)
+  unfolding repairs
   did_mends id = did_found id (link_named here.state id) refl
 
   -- ### Letters

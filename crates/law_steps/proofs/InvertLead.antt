@@ -19,7 +19,7 @@ use Rattle.spec_rules.specs.Lists.{In}
 use Rattle.spec_rules.specs.Progress.{copying_on, has_proposed}
 use Rattle.spec_rules.specs.State.{held, second, is_in, is_lead, leads_link, live, in_both}
 use Rattle.spec_rules.specs.Store.{chain_in, free_of}
-use Rattle.spec_rules.specs.Server.{Own, Here, Post, Done, post_to, says}
+use Rattle.spec_rules.specs.Server.{PairState, JobContext, Post, JobResult, post_to, says}
 use Rattle.spec_rules.specs.Writes.{Wanted, Older, Again, Newer, standing, next_stage, both_action, alone_action, acts, goes_on, goes_on_with}
 use Rattle.spec_rules.specs.Writes.{pending_on, with_pending, with_reserved, with_paired, with_opened, opened, operation, opens, takes, takes_newer}
 use Rattle.spec_rules.specs.Writes.{is_kept_back, is_under_way, is_writes_held, is_pending_for, is_reserving, is_replicating, hears_reserved}
@@ -27,15 +27,15 @@ use Rattle.spec_rules.specs.Writes.{hears_pair_full, hears_replicated, on_write}
 use Rattle.spec_rules.specs.Reads.{said}
 use Rattle.spec_rules.proofs.CellTables.{cell_same}
 use Rattle.law_state.specs.Steady.{IsSteady}
-use Rattle.law_state.proofs.Links.{either_false}
+use Rattle.law_state.proofs.NewMapLinks.{either_false}
 use Rattle.law_steps.specs.Operations.{IsStaged, AtRest, Waiting, Putting, Copying, Answering, waiting, putting, copying, answering, done_to}
 use Rattle.law_steps.specs.DidLead.{Asks_for, Repeats, Is_full, Opens, Marks, Puts, Gives_up, Unmarks, Closes, Opens_alone, Marks_alone, Puts_alone}
 use Rattle.law_steps.specs.DidLead.{Unmarks_alone, Closes_alone, Opens_fill, Opens_fill_alone, Has_fill, Has_no_room, Goes_on_dead, Asks, A_slot}
 use Rattle.law_steps.specs.DidLead.{A_copy, IsNew, IsNewFill, Taken, As_it_is, As_told, IsIdleFill}
 use Rattle.law_steps.specs.Did.{Did, Ignores, Refuses, For_a_write, By_copy_for_a_write, A_write, By_lead}
 use Rattle.spec_rules.proofs.Tests.{by_test, by_bool, both_true, not_true, true_false, same_numbers, only}
-use Rattle.law_steps.proofs.Busy.{busy_not_held, busy_seq, held_not_busy, held_seq}
-use Rattle.law_steps.proofs.Leading.{lead_links, link_alone}
+use Rattle.law_steps.proofs.BusyLetters.{busy_not_held, busy_seq, held_not_busy, held_seq}
+use Rattle.law_steps.proofs.WhoLeads.{lead_links, link_alone}
 
 is_waiting : (stage : Stage) → AtRest stage → stage.reserved ≡ false → stage ≡ waiting
 is_waiting stage (Waiting e) f = e
@@ -70,9 +70,9 @@ either_one false b e = inr e
 newer : (last : Finished) (seq : ℕ) → nat_lt seq last.seq ≡ false → (seq == last.seq) ≡ false → last.seq + 1 ≤ seq
 newer last seq e f = grind (arith, nat_tests)
 
-module _ (heard : Body → Type 0) (here : Here) (own : Own) (steady : IsSteady here.state)
+module _ (heard : Body → Type 0) (here : JobContext) (own : PairState) (steady : IsSteady here.state)
     (staged : (cell : Cell) (op : Pending) → pending_on own cell ≡ Some op → IsStaged here.state here.me (has_proposed here.state own) cell op) where
-  abbrev D : Done → Type 0
+  abbrev D : JobResult → Type 0
   D done = Did heard here own done
 
   leads : (cell : Cell) → is_lead here.state here.me cell ≡ true → leads_link here.state here.me cell ≡ true
@@ -109,7 +109,7 @@ module _ (heard : Body → Type 0) (here : Here) (own : Own) (steady : IsSteady 
       ∙ ap (λ b. if b then both_action op.stage else alone_action op.stage) apart
 
   -- at a holder that is alone an operation goes on by its flags
-  did_alone : (now : Own) (op : Pending) → Taken own now op → leads_link here.state here.me op.cell ≡ true → in_both here.state op.cell ≡ false
+  did_alone : (now : PairState) (op : Pending) → Taken own now op → leads_link here.state here.me op.cell ≡ true → in_both here.state op.cell ≡ false
       → D (acts here now op (next_stage here.state here.me op))
   did_alone now op taken lead apart =
       let alone = link_alone here.state here.me op.cell lead apart in

@@ -12,7 +12,7 @@ use Rattle.petal_msg.specs.declared.copying.LinkId.{LinkId}
 use Rattle.spec_rules.specs.Copies.{Entry, answers_page, cell_holder, epochs_beyond, hears_entry, hears_sync, hears_trim, hears_trim_of, on_hello_ask, on_sync}
 use Rattle.spec_rules.specs.Copies.{on_trim, puts_entry, trims_again, trims_first, trims_for, trims_newly, trims_on}
 use Rattle.spec_rules.specs.Progress.{last_copy, with_last_copy}
-use Rattle.spec_rules.specs.Server.{Own, Here, Done}
+use Rattle.spec_rules.specs.Server.{PairState, JobContext, JobResult}
 use Rattle.spec_rules.specs.State.{link_named}
 use Rattle.spec_rules.specs.Store.{free_of}
 use Rattle.spec_rules.proofs.CellTables.{cell_same}
@@ -29,13 +29,13 @@ newer_copy : (last number : ℕ) → nat_lt number last ≡ false → (number ==
 newer_copy last number e f = grind (arith, nat_tests)
 
 -- what the last copy does next
-trim_step : (own : Own) (cell : Cell) (last : LastCopy) (holder : ℕ) (epochs : List ℕ) → epochs_beyond own cell last.epochs ≡ epochs
+trim_step : (own : PairState) (cell : Cell) (last : LastCopy) (holder : ℕ) (epochs : List ℕ) → epochs_beyond own cell last.epochs ≡ epochs
     → TrimStep own cell last holder (trims_first own cell last.op holder epochs)
 trim_step own cell last holder [] e = Is_trimmed e
 trim_step own cell last holder (epoch ∷ epochs) e = Drops_entry epoch epochs e
 
 -- a copy that is remembered trims
-newly_step : (here : Here) (own : Own) (number : ℕ) (cell : Cell) (epochs : List ℕ) (holder : ℕ) → cell_holder here cell ≡ Some holder
+newly_step : (here : JobContext) (own : PairState) (number : ℕ) (cell : Cell) (epochs : List ℕ) (holder : ℕ) → cell_holder here cell ≡ Some holder
     → TrimStep (with_last_copy own cell (first_last number epochs)) cell (first_last number epochs) holder (trims_newly here own number cell epochs)
 unfolding trims_on
 newly_step here own number cell epochs holder held =
@@ -45,8 +45,8 @@ newly_step here own number cell epochs holder held =
     (λ i. (sym held i, sym (cell_same own.copies.last cell last) i))
     (trim_step now cell last holder (epochs_beyond now cell last.epochs) refl)
 
-module _ (heard : Body → Type 0) (here : Here) (own : Own) where
-  abbrev D : Done → Type 0
+module _ (heard : Body → Type 0) (here : JobContext) (own : PairState) where
+  abbrev D : JobResult → Type 0
   D done = Did heard here own done
 
   -- ### Pages

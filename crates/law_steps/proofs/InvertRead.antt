@@ -10,17 +10,17 @@ use Rattle.petal_msg.specs.declared.operation.Pending.{Pending}
 use Rattle.petal_msg.specs.declared.operation.Reply.TheVariants as reply
 use Rattle.spec_rules.specs.State.{coming, held, is_in, is_lead, readable}
 use Rattle.spec_rules.specs.Store.{Stored, chain_in, entry_at, bytes_of}
-use Rattle.spec_rules.specs.Server.{Own, Here, Done, says}
+use Rattle.spec_rules.specs.Server.{PairState, JobContext, JobResult, says}
 use Rattle.spec_rules.specs.Progress.{copying_on}
 use Rattle.spec_rules.specs.Writes.{is_under_way, pending_on}
 use Rattle.spec_rules.specs.Reads.{is_all_held, on_read, reply_of, said}
 use Rattle.law_steps.specs.DidRead.{IsReadable, Not_here, Shows}
 use Rattle.law_steps.specs.Did.{Did, Ignores, Refuses, For_a_read, By_copy_for_a_read, A_read, By_read}
 use Rattle.spec_rules.proofs.Tests.{by_test, none_some, true_false}
-use Rattle.law_steps.proofs.Busy.{busy_not_held, busy_seq, held_not_busy, held_seq}
+use Rattle.law_steps.proofs.BusyLetters.{busy_not_held, busy_seq, held_not_busy, held_seq}
 
-module _ (heard : Body → Type 0) (here : Here) (own : Own) (seated : is_in here.state here.me here.inc ≡ true) where
-  abbrev D : Done → Type 0
+module _ (heard : Body → Type 0) (here : JobContext) (own : PairState) (seated : is_in here.state here.me here.inc ≡ true) where
+  abbrev D : JobResult → Type 0
   D done = Did heard here own done
 
   -- an operation or a copy at the lead keeps it back

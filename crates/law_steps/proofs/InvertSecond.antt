@@ -12,7 +12,7 @@ use Rattle.petal_msg.specs.declared.operation.Far.TheVariants as far
 use Rattle.petal_msg.specs.declared.operation.LastOp.{LastOp}
 use Rattle.spec_rules.specs.State.{is_second}
 use Rattle.spec_rules.specs.Store.{free_of}
-use Rattle.spec_rules.specs.Server.{Own, Here, Done}
+use Rattle.spec_rules.specs.Server.{PairState, JobContext, JobResult}
 use Rattle.spec_rules.specs.Writes.{hears_reserve, hears_replicate, reserves, follows_once, has_slot, last_on}
 use Rattle.law_steps.specs.Operations.{progress}
 use Rattle.law_steps.specs.DidSecond.{Sets_apart, Promises, Declines, Follows}
@@ -35,12 +35,12 @@ later_op last number e f = by last.far (grind (arith, nat_tests))
     by far.Replicated lt = omega arith
 
 -- the operation before this one on the cell is older, and its slot is left over or not
-record IsPast (own : Own) (cell : Cell) (number : ℕ) (has : Bool) : Type 0 where
+record IsPast (own : PairState) (cell : Cell) (number : ℕ) (has : Bool) : Type 0 where
   newer : (last : LastOp) → last_on own cell ≡ Some last → last.op < number
   slot : (last : LastOp) → last_on own cell ≡ Some last → has_slot last.far ≡ has
 
-module _ (heard : Body → Type 0) (here : Here) (own : Own) where
-  abbrev D : Done → Type 0
+module _ (heard : Body → Type 0) (here : JobContext) (own : PairState) where
+  abbrev D : JobResult → Type 0
   D done = Did heard here own done
 
   no_past : (cell : Cell) (number : ℕ) → last_on own cell ≡ None → IsPast own cell number false

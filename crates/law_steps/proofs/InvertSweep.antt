@@ -5,7 +5,7 @@ use Rattle.petal_base.specs.declared.cell.Cell.{Cell}
 use Rattle.petal_msg.specs.declared.body.Body.{Body}
 use Rattle.petal_msg.specs.declared.dead.Dead.{Dead}
 use Rattle.petal_msg.specs.declared.dead.Dead.TheVariants as dead
-use Rattle.spec_rules.specs.Server.{Own, Here}
+use Rattle.spec_rules.specs.Server.{PairState, JobContext}
 use Rattle.spec_rules.specs.State.{State, is_in, live}
 use Rattle.spec_rules.specs.Store.{Chain, Store}
 use Rattle.spec_rules.specs.Sweeping.{dead_in, dead_key, dead_mark, next_dead, sweeps, sweeps_with}
@@ -41,7 +41,7 @@ pub next_out : (state : State) (store : Store) (what : Dead) → next_dead state
 unfolding next_dead
 next_out state store what = chains_out state store.chains (dead_mark state store.marks) what (mark_out state store.marks what)
 
-pub did_sweeps : (heard : Body → Type 0) (here : Here) (own : Own) → is_in here.state here.me here.inc ≡ true → Did heard here own (sweeps here own)
+pub did_sweeps : (heard : Body → Type 0) (here : JobContext) (own : PairState) → is_in here.state here.me here.inc ≡ true → Did heard here own (sweeps here own)
 unfolding sweeps
 did_sweeps heard here own seated = by (next_dead here.state own.store) refl
   where

@@ -2,11 +2,11 @@
 use Rattle.std.proofs.Common.{ℕ}
 use Rattle.petal_msg.specs.declared.body.Body.{Body}
 use Rattle.spec_rules.specs.Log.{Log}
-use Rattle.spec_rules.specs.Server.{Here, Own, Server}
+use Rattle.spec_rules.specs.Server.{JobContext, PairState, Server}
 use Rattle.spec_rules.specs.World.{Setting, World, server_state}
 use Rattle.law_state.specs.Firm.{Firm}
 use Rattle.law_state.specs.Steady.{IsSteady}
-use Rattle.law_steps.specs.Happens.{Handled, own_place}
+use Rattle.law_steps.specs.DidStep.{Handled, own_place}
 use Rattle.law_steps.specs.Ready.{Rests}
 
 -- such a server, with the stamp of its step
@@ -21,9 +21,9 @@ pub record KnownServer : Type 0 where
 
 -- where it is, what it has, and what it handles
 pub record Parts : Type 1 where
-  pub here : Here
+  pub here : JobContext
   pub server : Server
-  pub own : Own
+  pub own : PairState
   pub log : Log
   pub hears_server : Body → Type 0
 

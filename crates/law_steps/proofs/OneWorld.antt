@@ -15,7 +15,7 @@ use Rattle.spec_state.specs.CellState.{cell_link, serves}
 use Rattle.spec_state.specs.Command.{state_after}
 use Rattle.spec_history.specs.Claims.{IsPrefix}
 use Rattle.spec_rules.specs.Lists.{In}
-use Rattle.spec_rules.specs.Server.{Own}
+use Rattle.spec_rules.specs.Server.{PairState}
 use Rattle.spec_rules.specs.Returns.{holds_link, proposed}
 use Rattle.spec_rules.specs.Progress.{has_proposed}
 use Rattle.spec_rules.specs.State.{State, id_of, in_both, is_alone_on, is_in, leads_link, link_named, live}
@@ -24,25 +24,25 @@ use Rattle.spec_rules.specs.World.{Setting, World, server_state}
 use Rattle.spec_rules.specs.World.{client_state, chosen_log, chosen_state}
 use Rattle.spec_rules.specs.declared.job.Job.{Job}
 use Rattle.spec_rules.proofs.Tests.{by_bool, number_itself, true_false}
-use Rattle.law_state.specs.Below.{HasLater, IsBelow}
+use Rattle.law_state.specs.LaterStates.{HasLater, IsBelow}
 use Rattle.law_state.specs.Homes.{HasDied, stage_at}
 use Rattle.law_state.specs.Firm.{Firm}
 use Rattle.law_state.specs.Plain.{IsPlainLog}
 use Rattle.law_state.specs.Steady.{IsSteady}
-use Rattle.law_state.specs.Places.{IsCaughtStill}
-use Rattle.law_state.specs.Started.{HasStarted}
-use Rattle.law_state.proofs.Again.{log_alone}
+use Rattle.law_state.specs.LinkChanges.{IsCaughtStill}
+use Rattle.law_state.specs.StartedBallots.{HasStarted}
+use Rattle.law_state.proofs.CaughtsMadeBoth.{log_alone}
 use Rattle.law_state.proofs.Ages.{between, in_once, in_up}
-use Rattle.law_state.proofs.Alone.{alone_not_both, alone_row, so_alone, so_both}
-use Rattle.law_state.proofs.Cells.{IsHeldBy}
+use Rattle.law_state.proofs.LoneHolders.{alone_not_both, alone_row, so_alone, so_both}
+use Rattle.law_state.proofs.CellsByLinkRows.{IsHeldBy}
 use Rattle.law_state.proofs.Roles.{holder_is_one, log_roles}
 use Rattle.law_state.proofs.Steady.{log_steady, log_below, front_plain}
-use Rattle.law_steps.specs.Happens.{AreQueued}
+use Rattle.law_steps.specs.DidStep.{AreQueued}
 use Rattle.law_steps.specs.Ready.{IsReady, Rests}
 use Rattle.law_steps.specs.Operations.{AtRest}
-use Rattle.law_steps.proofs.Leading.{link_alone, live_stage, stage_live}
+use Rattle.law_steps.proofs.WhoLeads.{link_alone, live_stage, stage_live}
 use Rattle.law_steps.proofs.Fronts.{front_itself, front_long, front_more, front_on}
-use Rattle.law_steps.proofs.Minds.{held_as_flag}
+use Rattle.law_steps.proofs.HeldBackForCaughts.{held_as_flag}
 
 pub past_max : (clock got stamp : ℕ) → max clock got + 1 ≤ stamp → clock < stamp
 past_max clock got stamp h = omega arith
@@ -267,8 +267,8 @@ chosen_below setting w v firm grows = log_below setting.servers _ _ firm.plain g
 -- ### A ballot leaves pairs and copies as they are
 
 -- what no ballot changes of a server's own part, whatever it is of it
-pub proposed_as : {X : Type 0} (of : Own → X) → ((own : Own) (row : LinkRow) → of (holds_link own (Some row)) ≡ of own)
-    → (state : State) (own : Own) (o : Option Command) → of (proposed state own o) ≡ of own
+pub proposed_as : {X : Type 0} (of : PairState → X) → ((own : PairState) (row : LinkRow) → of (holds_link own (Some row)) ≡ of own)
+    → (state : State) (own : PairState) (o : Option Command) → of (proposed state own o) ≡ of own
 proposed_as of same state own (Some (Caught map link holder inc other other_inc)) = by (link_named state (record { map = map; link = link }))
   where
     by : (o : Option LinkRow) → of (holds_link own o) ≡ of own
@@ -277,8 +277,8 @@ proposed_as of same state own (Some (Caught map link holder inc other other_inc)
 proposed_as of same state own (Some _) = refl
 proposed_as of same state own None = refl
 
-pub proposed_pairs : (state : State) (own : Own) (o : Option Command) → (proposed state own o).pairs ≡ own.pairs
-proposed_pairs state own o = proposed_as (λ (x : Own). x.pairs) (λ own row. refl) state own o
+pub proposed_pairs : (state : State) (own : PairState) (o : Option Command) → (proposed state own o).pairs ≡ own.pairs
+proposed_pairs state own o = proposed_as (λ (x : PairState). x.pairs) (λ own row. refl) state own o
 
-pub proposed_copies : (state : State) (own : Own) (o : Option Command) → (proposed state own o).copies.pending ≡ own.copies.pending
-proposed_copies state own o = proposed_as (λ (x : Own). x.copies.pending) (λ own row. refl) state own o
+pub proposed_copies : (state : State) (own : PairState) (o : Option Command) → (proposed state own o).copies.pending ≡ own.copies.pending
+proposed_copies state own o = proposed_as (λ (x : PairState). x.copies.pending) (λ own row. refl) state own o

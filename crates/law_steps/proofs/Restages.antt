@@ -9,15 +9,15 @@ use Rattle.petal_msg.specs.declared.operation.Ending.TheVariants.{Written}
 use Rattle.petal_msg.specs.declared.operation.Pending.{Pending}
 use Rattle.spec_rules.specs.Lists.{In}
 use Rattle.spec_rules.specs.Store.{cell_cmp, chain_in, version_of}
-use Rattle.spec_rules.specs.Server.{Here, Own, Pairs, Post, Done}
+use Rattle.spec_rules.specs.Server.{JobContext, PairState, Pairs, Post, JobResult}
 use Rattle.spec_rules.specs.Writes.{acts, gives_back, pending_on, with_pending, without_pending, with_reserved}
 use Rattle.spec_rules.specs.Writes.{with_paired, with_mark_at, marks, puts, unmarks}
 use Rattle.spec_rules.proofs.CellTables.{cell_same, cell_apart, cell_gone, cell_gone_apart}
 use Rattle.spec_rules.proofs.Tests.{by_test, none_some, same_some}
 use Rattle.law_steps.specs.DidLead.{Taken}
-use Rattle.law_steps.proofs.Staged.{same_cell_or_apart}
+use Rattle.law_steps.proofs.OperationsRest.{same_cell_or_apart}
 use Rattle.law_steps.proofs.Subjects.{of_ending}
-use Rattle.law_steps.proofs.Taking.{taking}
+use Rattle.law_steps.proofs.TakenUpAlone.{taking}
 
 -- two operations differ in stage and version alone
 pub record IsSame (old new : Pending) : Type 0 where
@@ -44,12 +44,12 @@ same_on a b c one two = record {
 }
 
 -- the operation was pending on the cell, in whatever stage
-pub record Was (own : Own) (cell : Cell) (op : Pending) : Type 0 where
+pub record Was (own : PairState) (cell : Cell) (op : Pending) : Type 0 where
   pub was : Pending
   pub is : at cell_cmp own.pairs.pending cell ≡ Some was
   pub same : IsSame was op
 
-pub was_same : (own : Own) (cell : Cell) (op : Pending) → at cell_cmp own.pairs.pending cell ≡ Some op → Was own cell op
+pub was_same : (own : PairState) (cell : Cell) (op : Pending) → at cell_cmp own.pairs.pending cell ≡ Some op → Was own cell op
 was_same own cell op is = record { was = op; is = is; same = same_itself op }
 
 -- what stands at a cell after a removal stood there before
@@ -60,7 +60,7 @@ stood t cell q x is = elim (same_cell_or_apart q cell) [
 ]
 
 -- what a job leaves that takes an operation to its next stage. It sends nothing
-pub record Restages (own : Own) (done : Done) : Type 0 where
+pub record Restages (own : PairState) (done : JobResult) : Type 0 where
   pub was : (cell : Cell) (op : Pending) → at cell_cmp done.own.pairs.pending cell ≡ Some op → Was own cell op
   pub finished : done.own.pairs.finished ≡ own.pairs.finished
   pub last : done.own.pairs.last ≡ own.pairs.last
@@ -69,7 +69,7 @@ pub record Restages (own : Own) (done : Done) : Type 0 where
 
 -- ### By a server that has the operation pending
 
-module _ (own : Own) (op : Pending) (is : at cell_cmp own.pairs.pending op.cell ≡ Some op) where
+module _ (own : PairState) (op : Pending) (is : at cell_cmp own.pairs.pending op.cell ≡ Some op) where
   -- the operation of a cell is put again
   was_put : (t : Table Cell Pending) (now : Pending) → IsSame op now
       → ((q : Cell) → q ≢ op.cell → at cell_cmp t q ≡ at cell_cmp own.pairs.pending q)
@@ -87,7 +87,7 @@ module _ (own : Own) (op : Pending) (is : at cell_cmp own.pairs.pending op.cell 
   was_put_twice one now same = was_put (put cell_cmp own.pairs.pending op.cell one) now same (λ q ne. cell_apart own.pairs.pending op.cell one q ne)
 
   -- of the pairs such a job leaves all else
-  stays_else : (done : Done) (pending : Table Cell Pending) → done.own.pairs ≡ record own.pairs { pending = pending }
+  stays_else : (done : JobResult) (pending : Table Cell Pending) → done.own.pairs ≡ record own.pairs { pending = pending }
       → ((cell : Cell) (o : Pending) → at cell_cmp pending cell ≡ Some o → Was own cell o) → ((post : Post) → In post done.posts → ⊥) → Restages own done
   stays_else done pending is was silent = record {
     was = λ cell o there. was cell o (ap (λ (p : Pairs). at cell_cmp p.pending cell) (sym is) ∙ there);
@@ -117,7 +117,7 @@ module _ (own : Own) (op : Pending) (is : at cell_cmp own.pairs.pending op.cell 
 
 -- ### By a holder that is alone, which takes an operation up
 
-module _ (own now : Own) (op : Pending) (taken : Taken own now op) where
+module _ (own now : PairState) (op : Pending) (taken : Taken own now op) where
   -- it was pending
   pub was_taken : Was own op.cell op
   was_taken =
@@ -159,7 +159,7 @@ module _ (own now : Own) (op : Pending) (taken : Taken own now op) where
         | inr ne ↦ was_before cell o (sym (cell_apart u op.cell new cell ne) ∙ there)
       ]
 
-  restaged : (done : Done) (new : Pending) → IsSame op new → done.own.pairs.pending ≡ put cell_cmp now.pairs.pending op.cell new
+  restaged : (done : JobResult) (new : Pending) → IsSame op new → done.own.pairs.pending ≡ put cell_cmp now.pairs.pending op.cell new
       → done.own.pairs.finished ≡ now.pairs.finished → done.own.pairs.last ≡ now.pairs.last → done.own.pairs.next ≡ now.pairs.next
       → ((post : Post) → In post done.posts → ⊥) → Restages own done
   restaged done new same pending finished last next silent =
@@ -197,7 +197,7 @@ module _ (own now : Own) (op : Pending) (taken : Taken own now op) where
   was_gone : (cell : Cell) (o : Pending) → at cell_cmp (without cell_cmp now.pairs.pending op.cell) cell ≡ Some o → Was own cell o
   was_gone cell o there = was_before cell o (stood now.pairs.pending op.cell cell o there)
 
-  pub was_acted : (here : Here) (next : Action) (cell : Cell) (o : Pending)
+  pub was_acted : (here : JobContext) (next : Action) (cell : Cell) (o : Pending)
       → at cell_cmp (acts here now op next).own.pairs.pending cell ≡ Some o → Was own cell o
   was_acted here action.Reserve cell o there = was_before cell o there
   was_acted here (action.Mark which) cell o there =
@@ -213,5 +213,5 @@ module _ (own now : Own) (op : Pending) (taken : Taken own now op) where
   was_acted here action.Answer cell o there =
       was_gone cell o (ap (λ t. at cell_cmp t cell) (sym (of_ending here (without_pending now op.cell) op op.kind Written).pending) ∙ there)
   was_acted here action.Drop cell o there =
-      by_test (λ (left : Own). at cell_cmp left.pairs.pending cell ≡ Some o → Was own cell o) op.stage.put (without_pending now op.cell)
+      by_test (λ (left : PairState). at cell_cmp left.pairs.pending cell ≡ Some o → Was own cell o) op.stage.put (without_pending now op.cell)
       (gives_back (without_pending now op.cell)) (λ put h. was_gone cell o h) (λ fresh h. was_gone cell o h) there

@@ -21,7 +21,7 @@ use Rattle.spec_rules.specs.Lists.{In}
 use Rattle.spec_state.specs.CellState.{cell_link}
 use Rattle.petal_table.specs.Table.{at}
 use Rattle.spec_rules.specs.Progress.{has_proposed, no_progress, progress_on}
-use Rattle.spec_rules.specs.Server.{Own, Copies, Here, Post, Done}
+use Rattle.spec_rules.specs.Server.{PairState, Copies, JobContext, Post, JobResult}
 use Rattle.spec_rules.specs.State.{State, id_of, link_cmp}
 use Rattle.spec_rules.specs.Store.{cell_cmp}
 use Rattle.law_steps.specs.Ready.{IsRising}
@@ -38,7 +38,7 @@ use Rattle.law_steps.specs.Did.{Did, Ignores, Refuses, By_read, By_lead, By_seco
 use Rattle.spec_rules.proofs.Tests.{by_test}
 use Rattle.law_steps.proofs.CopyFrames.{of_holder, of_other}
 use Rattle.law_steps.proofs.Letters.{one_post, posted}
-use Rattle.law_steps.proofs.Taking.{taking}
+use Rattle.law_steps.proofs.TakenUpAlone.{taking}
 
 -- the letter is a read's answer
 pub record HasData (post : Post) : Type 0 where
@@ -52,13 +52,13 @@ pub record HasNothing (post : Post) : Type 0 where
   pub is : post.body ≡ body.NotHere seq
 
 -- a read's job leaves the server's own part, and sends nothing but data, or that there is nothing
-pub record ReadFrame (own : Own) (done : Done) : Type 0 where
+pub record ReadFrame (own : PairState) (done : JobResult) : Type 0 where
   pub same : done.own ≡ own
   pub no_jobs : done.jobs ≡ []
   pub says : (post : Post) → In post done.posts → HasData post ⊎ HasNothing post
 
 -- a second server's job leaves what the server remembers as a lead, and speaks to the lead of the pair alone
-pub record SecondFrame (own : Own) (done : Done) : Type 0 where
+pub record SecondFrame (own : PairState) (done : JobResult) : Type 0 where
   pub pending : done.own.pairs.pending ≡ own.pairs.pending
   pub next : done.own.pairs.next ≡ own.pairs.next
   pub finished : done.own.pairs.finished ≡ own.pairs.finished
@@ -67,14 +67,14 @@ pub record SecondFrame (own : Own) (done : Done) : Type 0 where
   pub says : (post : Post) → In post done.posts → subject_of post.body ≡ Paired
 
 -- a lead's job leaves what the server remembers as a second server, and no letter follows it up
-pub record LeadFrame (own : Own) (done : Done) : Type 0 where
+pub record LeadFrame (own : PairState) (done : JobResult) : Type 0 where
   pub last : done.own.pairs.last ≡ own.pairs.last
   pub copies : done.own.copies ≡ own.copies
   pub no_letters : (letter : Letter) → In (job.Letter letter) done.jobs → ⊥
 
 -- the job of a lead of a link of an old map leaves its pairs and store, and of copies whether one found no slot alone may change; it speaks
 -- of entries that move
-pub record FillerFrame (own : Own) (done : Done) : Type 0 where
+pub record FillerFrame (own : PairState) (done : JobResult) : Type 0 where
   pub pairs : done.own.pairs ≡ own.pairs
   pub store : done.own.store ≡ own.store
   pub progress : done.own.copies.progress ≡ own.copies.progress
@@ -84,7 +84,7 @@ pub record FillerFrame (own : Own) (done : Done) : Type 0 where
   pub says : (post : Post) → In post done.posts → subject_of post.body ≡ Filling
 
 -- a sweep changes the store alone, and says nothing
-pub record SweepFrame (own : Own) (done : Done) : Type 0 where
+pub record SweepFrame (own : PairState) (done : JobResult) : Type 0 where
   pub pairs : done.own.pairs ≡ own.pairs
   pub copies : done.own.copies ≡ own.copies
   pub filled : done.own.filled ≡ own.filled
@@ -92,7 +92,7 @@ pub record SweepFrame (own : Own) (done : Done) : Type 0 where
   pub silent : (post : Post) → In post done.posts → ⊥
 
 -- what ends an operation changes at most which requests are finished
-pub record EndsFrame (own : Own) (done : Done) : Type 0 where
+pub record EndsFrame (own : PairState) (done : JobResult) : Type 0 where
   pub pending : done.own.pairs.pending ≡ own.pairs.pending
   pub last : done.own.pairs.last ≡ own.pairs.last
   pub next : done.own.pairs.next ≡ own.pairs.next
@@ -101,27 +101,27 @@ pub record EndsFrame (own : Own) (done : Done) : Type 0 where
   pub store : done.own.store ≡ own.store
   pub no_jobs : done.jobs ≡ []
 
-pub of_ending : (here : Here) (own : Own) (op : Pending) (of : OpKind) (how : Ending) → EndsFrame own (ends here own op of how)
+pub of_ending : (here : JobContext) (own : PairState) (op : Pending) (of : OpKind) (how : Ending) → EndsFrame own (ends here own op of how)
 of_ending here own op kind.Write how = record { pending = refl; last = refl; next = refl; copies = refl; filled = refl; store = refl; no_jobs = refl }
 of_ending here own op kind.Fill how = record { pending = refl; last = refl; next = refl; copies = refl; filled = refl; store = refl; no_jobs = refl }
 of_ending here own op kind.Copy how = record { pending = refl; last = refl; next = refl; copies = refl; filled = refl; store = refl; no_jobs = refl }
 
 -- an end's job brings no letter
-no_ending : (done : Done) → done.jobs ≡ [] → (letter : Letter) → In (job.Letter letter) done.jobs → ⊥
+no_ending : (done : JobResult) → done.jobs ≡ [] → (letter : Letter) → In (job.Letter letter) done.jobs → ⊥
 unfolding In
 no_ending done e letter i = let none : In (job.Letter letter) [] = subst (λ (jobs : List Job). In (job.Letter letter) jobs) e i in none
 
-ends_frame : (here : Here) (own : Own) (op : Pending) (of : OpKind) (how : Ending) → LeadFrame own (ends here own op of how)
+ends_frame : (here : JobContext) (own : PairState) (op : Pending) (of : OpKind) (how : Ending) → LeadFrame own (ends here own op of how)
 ends_frame here own op of how =
     let f = of_ending here own op of how in
     record { last = f.last; copies = f.copies; no_letters = no_ending (ends here own op of how) f.no_jobs }
 
 -- where the job took the operation up first, or removed it
-frame_on : (own now : Own) (done : Done) → now.pairs.last ≡ own.pairs.last → now.copies ≡ own.copies → LeadFrame now done → LeadFrame own done
+frame_on : (own now : PairState) (done : JobResult) → now.pairs.last ≡ own.pairs.last → now.copies ≡ own.copies → LeadFrame now done → LeadFrame own done
 frame_on own now done last copies f = record { last = f.last ∙ last; copies = f.copies ∙ copies; no_letters = f.no_letters }
 
 -- whatever an operation does next
-pub acts_frame : (here : Here) (own : Own) (op : Pending) (next : Action) → LeadFrame own (acts here own op next)
+pub acts_frame : (here : JobContext) (own : PairState) (op : Pending) (next : Action) → LeadFrame own (acts here own op next)
 unfolding In
 acts_frame here own op action.Reserve = record { last = refl; copies = refl; no_letters = λ letter i. i }
 acts_frame here own op (action.Mark which) = record { last = refl; copies = refl; no_letters = λ letter i. elim i [ inl e ↦ cc | inr none ↦ none ] }
@@ -131,20 +131,20 @@ acts_frame here own op (action.Unmark which) = record { last = refl; copies = re
 acts_frame here own op action.Answer =
     frame_on own (without_pending own op.cell) _ refl refl (ends_frame here (without_pending own op.cell) op op.kind Written)
 acts_frame here own op action.Drop = record {
-  last = by_test (λ (o : Own). o.pairs.last ≡ own.pairs.last) op.stage.put (without_pending own op.cell)
+  last = by_test (λ (o : PairState). o.pairs.last ≡ own.pairs.last) op.stage.put (without_pending own op.cell)
       (gives_back (without_pending own op.cell)) (λ t. refl) (λ t. refl);
-  copies = by_test (λ (o : Own). o.copies ≡ own.copies) op.stage.put (without_pending own op.cell)
+  copies = by_test (λ (o : PairState). o.copies ≡ own.copies) op.stage.put (without_pending own op.cell)
       (gives_back (without_pending own op.cell)) (λ t. refl) (λ t. refl);
   no_letters = λ letter i. i;
 }
 
 -- what a second server tells of an operation leaves its own part
-pub told_own : (here : Here) (new : Own) (cell : Cell) (number : ℕ) (how : Far) → (tells here new cell number how).own ≡ new
+pub told_own : (here : JobContext) (new : PairState) (cell : Cell) (number : ℕ) (how : Far) → (tells here new cell number how).own ≡ new
 told_own here new cell number far.Reserved = refl
 told_own here new cell number far.Replicated = refl
 
-module _ (heard : Body → Type 0) (here : Here) (own : Own) where
-  pub of_read : (done : Done) → DidRead heard here own done → ReadFrame own done
+module _ (heard : Body → Type 0) (here : JobContext) (own : PairState) where
+  pub of_read : (done : JobResult) → DidRead heard here own done → ReadFrame own done
   of_read _ (Shows client seq cell epoch may there) = record {
     same = refl;
     no_jobs = refl;
@@ -156,7 +156,7 @@ module _ (heard : Body → Type 0) (here : Here) (own : Own) where
     says = λ post i. inr (record { seq = seq; is = (one_post _ _ post i).1 });
   }
 
-  pub of_lead : (done : Done) → DidLead heard here own done → LeadFrame own done
+  pub of_lead : (done : JobResult) → DidLead heard here own done → LeadFrame own done
   unfolding In
   of_lead _ (Repeats want last h lead is e) = record { last = refl; copies = refl; no_letters = λ letter i. i }
   of_lead _ (Gives_up op h is reserved put) =
@@ -195,7 +195,7 @@ module _ (heard : Body → Type 0) (here : Here) (own : Own) where
   of_lead _ _ = record { last = refl; copies = refl; no_letters = λ letter i. i }
 
   -- what a second server tells the lead
-  told : (new : Own) (cell : Cell) (number : ℕ) (how : Far) → new.pairs.pending ≡ own.pairs.pending → new.pairs.next ≡ own.pairs.next
+  told : (new : PairState) (cell : Cell) (number : ℕ) (how : Far) → new.pairs.pending ≡ own.pairs.pending → new.pairs.next ≡ own.pairs.next
       → new.pairs.finished ≡ own.pairs.finished → new.copies ≡ own.copies
       → SecondFrame own (tells here new cell number how)
   told new cell number far.Reserved pending next finished copies =
@@ -203,26 +203,26 @@ module _ (heard : Body → Type 0) (here : Here) (own : Own) where
   told new cell number far.Replicated pending next finished copies =
       record { pending = pending; next = next; finished = finished; copies = copies; no_jobs = refl; says = λ post i. ap subject_of (posted _ _ post i) }
 
-  pub of_second : (done : Done) → DidSecond heard here own done → SecondFrame own done
+  pub of_second : (done : JobResult) → DidSecond heard here own done → SecondFrame own done
   of_second _ (Sets_apart number cell tickets h s le) = told _ cell number far.Reserved refl refl refl refl
   of_second _ (Promises number cell how s is) = told own cell number how refl refl refl refl
   of_second _ (Declines number cell h s no_room) =
       record { pending = refl; next = refl; finished = refl; copies = refl; no_jobs = refl; says = λ post i. ap subject_of (posted _ _ post i) }
   of_second _ (Follows number key version bytes h s is) = told _ _ number far.Replicated refl refl refl refl
 
-  filled : (to : Own) (posts : List Post) → to.pairs ≡ own.pairs → to.store ≡ own.store → to.copies.progress ≡ own.copies.progress
+  filled : (to : PairState) (posts : List Post) → to.pairs ≡ own.pairs → to.store ≡ own.store → to.copies.progress ≡ own.copies.progress
       → to.copies.pending ≡ own.copies.pending → to.copies.last ≡ own.copies.last
       → ((post : Post) → In post posts → subject_of post.body ≡ Filling) → FillerFrame own (record { own = to; posts = posts; jobs = [] })
   filled to posts pairs store progress pending last says =
       record { pairs = pairs; store = store; progress = progress; pending = pending; last = last; no_jobs = refl; says = says }
 
-  pub of_filler : (done : Done) → DidFiller heard here own done → FillerFrame own done
+  pub of_filler : (done : JobResult) → DidFiller heard here own done → FillerFrame own done
   unfolding In
   of_filler _ (Is_filled key row posts h next fills) =
       filled _ posts refl refl refl refl refl (λ post i. ap (λ (p : Post). subject_of p.body) (fills post i).is)
   of_filler _ (Is_out_of_slots key row h next) = filled _ [] refl refl refl refl refl (λ post i. absurd i)
 
-  pub of_sweep : (done : Done) → DidSweep here own done → SweepFrame own done
+  pub of_sweep : (done : JobResult) → DidSweep here own done → SweepFrame own done
   unfolding In
   of_sweep _ (Sweeps what seated next off) = record {
     pairs = refl;
@@ -232,11 +232,11 @@ module _ (heard : Body → Type 0) (here : Here) (own : Own) where
     silent = λ post i. i;
   }
 
-  same_copies : (done : Done) → done.own.copies ≡ own.copies → (state : State) (cell : Cell) → has_proposed state done.own cell ≡ has_proposed state own cell
+  same_copies : (done : JobResult) → done.own.copies ≡ own.copies → (state : State) (cell : Cell) → has_proposed state done.own cell ≡ has_proposed state own cell
   same_copies done e state cell =
       ap (λ (c : Copies). option_map_or (λ (row : LinkRow). (unwrap_or (at link_cmp c.progress (id_of row)) no_progress).caught) (cell_link state cell) false) e
 
-  same_caught : (done : Done) → ((row : LinkRow) → (progress_on done.own row).caught ≡ (progress_on own row).caught) → (state : State) (cell : Cell)
+  same_caught : (done : JobResult) → ((row : LinkRow) → (progress_on done.own row).caught ≡ (progress_on own row).caught) → (state : State) (cell : Cell)
       → has_proposed state done.own cell ≡ has_proposed state own cell
   same_caught done e state cell = by (cell_link state cell)
     where
@@ -245,10 +245,10 @@ module _ (heard : Body → Type 0) (here : Here) (own : Own) where
       by (Some row) = e row
 
   -- copies under way stand in the order of their cells
-  pub copies_rise : (done : Done) → Did heard here own done → IsRising cell_cmp own.copies.pending → IsRising cell_cmp done.own.copies.pending
+  pub copies_rise : (done : JobResult) → Did heard here own done → IsRising cell_cmp own.copies.pending → IsRising cell_cmp done.own.copies.pending
   copies_rise _ Ignores h = h
   copies_rise _ (Refuses to said is busy held) h = h
-  copies_rise _ (By_read done d) h = subst (λ (o : Own). IsRising cell_cmp o.copies.pending) (sym (of_read done d).same) h
+  copies_rise _ (By_read done d) h = subst (λ (o : PairState). IsRising cell_cmp o.copies.pending) (sym (of_read done d).same) h
   copies_rise _ (By_lead done d) h = subst (λ (c : Copies). IsRising cell_cmp c.pending) (sym (of_lead done d).copies) h
   copies_rise _ (By_second done d) h = subst (λ (c : Copies). IsRising cell_cmp c.pending) (sym (of_second done d).copies) h
   copies_rise _ (By_holder done d) h = (of_holder heard here own done d).rises h
@@ -257,11 +257,11 @@ module _ (heard : Body → Type 0) (here : Here) (own : Own) where
   copies_rise _ (By_sweep done d) h = subst (λ (c : Copies). IsRising cell_cmp c.pending) (sym (of_sweep done d).copies) h
 
   -- no job starts a ballot for a Caught
-  pub unheld_stays : (done : Done) → Did heard here own done → (state : State) (cell : Cell) → has_proposed state own cell ≡ false
+  pub unheld_stays : (done : JobResult) → Did heard here own done → (state : State) (cell : Cell) → has_proposed state own cell ≡ false
       → has_proposed state done.own cell ≡ false
   unheld_stays _ Ignores state cell e = e
   unheld_stays _ (Refuses to said is busy held) state cell e = e
-  unheld_stays _ (By_read done d) state cell e = ap (λ (o : Own). has_proposed state o cell) (of_read done d).same ∙ e
+  unheld_stays _ (By_read done d) state cell e = ap (λ (o : PairState). has_proposed state o cell) (of_read done d).same ∙ e
   unheld_stays _ (By_lead done d) state cell e = same_copies done (of_lead done d).copies state cell ∙ e
   unheld_stays _ (By_second done d) state cell e = same_copies done (of_second done d).copies state cell ∙ e
   unheld_stays _ (By_holder done d) state cell e = same_caught done (of_holder heard here own done d).caught state cell ∙ e
@@ -271,7 +271,7 @@ module _ (heard : Body → Type 0) (here : Here) (own : Own) where
   unheld_stays _ (By_sweep done d) state cell e = same_copies done (of_sweep done d).copies state cell ∙ e
 
   -- what follows a job up is a stage, and no letter
-  pub no_letters : (done : Done) → Did heard here own done → (letter : Letter) → In (job.Letter letter) done.jobs → ⊥
+  pub no_letters : (done : JobResult) → Did heard here own done → (letter : Letter) → In (job.Letter letter) done.jobs → ⊥
   unfolding In
   no_letters _ Ignores letter i = i
   no_letters _ (Refuses to said is busy held) letter i = i

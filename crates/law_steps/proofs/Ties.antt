@@ -14,22 +14,22 @@ use Rattle.spec_rules.specs.Progress.{has_proposed}
 use Rattle.spec_rules.specs.State.{State, id_of, is_in, is_alone_on}
 use Rattle.spec_rules.specs.World.{Setting, World, chosen_log, server_state}
 use Rattle.spec_rules.proofs.Tests.{none_some, same_numbers, same_some, true_false}
-use Rattle.law_state.specs.Below.{HasLater}
+use Rattle.law_state.specs.LaterStates.{HasLater}
 use Rattle.law_state.specs.Firm.{Firm}
 use Rattle.law_state.specs.Homes.{stage_at}
-use Rattle.law_state.specs.Places.{IsCaughtIn, StaysSo}
-use Rattle.law_state.specs.Rows.{ByBoth, ByNone, ByOne}
-use Rattle.law_state.specs.Started.{HasStarted}
-use Rattle.law_state.proofs.Again.{log_both}
+use Rattle.law_state.specs.LinkChanges.{IsCaughtIn, StaysSo}
+use Rattle.law_state.specs.LinkRows.{ByBoth, ByNone, ByOne}
+use Rattle.law_state.specs.StartedBallots.{HasStarted}
+use Rattle.law_state.proofs.CaughtsMadeBoth.{log_both}
 use Rattle.law_state.proofs.Ages.{in_once}
-use Rattle.law_state.proofs.Alone.{so_alone}
-use Rattle.law_state.proofs.Grown.{alone_not_both}
+use Rattle.law_state.proofs.LoneHolders.{so_alone}
+use Rattle.law_state.proofs.GrownStates.{alone_not_both}
 use Rattle.law_state.proofs.Steady.{front_plain, log_below, log_steady}
-use Rattle.law_state.proofs.Touching.{same_place}
+use Rattle.law_state.proofs.EntriesTouchLinks.{same_place}
 use Rattle.law_steps.specs.Ties.{StaysAloneOrCaught, StaysInBoth}
 use Rattle.law_steps.proofs.Fronts.{front_long, front_more, front_on, one_front}
-use Rattle.law_steps.proofs.Histories.{runs_at}
-use Rattle.law_steps.proofs.Minds.{held_as_flag}
+use Rattle.law_steps.proofs.KindsInHistories.{runs_at}
+use Rattle.law_steps.proofs.HeldBackForCaughts.{held_as_flag}
 
 -- a server that runs, and two fronts of what is chosen that go on from its own entries; by the first one it is In as itself
 pub record RunningFronts : Type 0 where

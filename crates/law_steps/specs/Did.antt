@@ -10,7 +10,7 @@ use Rattle.petal_msg.specs.declared.operation.Pending.{Pending}
 use Rattle.spec_rules.specs.Progress.{copying_on, has_proposed}
 use Rattle.spec_rules.specs.Reads.{is_all_held}
 use Rattle.spec_rules.specs.State.{held, is_lead}
-use Rattle.spec_rules.specs.Server.{Own, Here, Done, silent, says}
+use Rattle.spec_rules.specs.Server.{PairState, JobContext, JobResult, silent, says}
 use Rattle.spec_rules.specs.Writes.{Wanted, is_for, is_writes_held, pending_on}
 use Rattle.law_steps.specs.DidRead.{DidRead}
 use Rattle.law_steps.specs.DidLead.{DidLead}
@@ -31,7 +31,7 @@ pub record IsRefusal (said : Body) : Type 0 where
   pub other : is_not_here said ≡ false
 
 -- why a client is told that the block is busy: another operation is pending on it at its lead, or a copy is under way
-pub data IsBusy (heard : Body → Type 0) (here : Here) (own : Own) (seq : ℕ) : Type 0 where
+pub data IsBusy (heard : Body → Type 0) (here : JobContext) (own : PairState) (seq : ℕ) : Type 0 where
   For_a_write : (want : Wanted) (op : Pending) → heard (body.Write want.client want.seq want.cell want.epoch want.bytes) → want.seq ≡ seq
       → is_lead here.state here.me want.cell ≡ true → pending_on own want.cell ≡ Some op → is_for op want ≡ false → IsBusy heard here own seq
   For_a_read : (client : ℕ) (cell : Cell) (epoch : ℕ) (op : Pending) → heard (body.Read client seq cell epoch)
@@ -43,7 +43,7 @@ pub data IsBusy (heard : Body → Type 0) (here : Here) (own : Own) (seq : ℕ) 
 
 -- why a client is told that its request is held: a fence holds the cell's writes, or its reads; or the lead has started a ballot for the
 -- Caught of the cell's link
-pub data IsHeldBack (heard : Body → Type 0) (here : Here) (own : Own) (seq : ℕ) : Type 0 where
+pub data IsHeldBack (heard : Body → Type 0) (here : JobContext) (own : PairState) (seq : ℕ) : Type 0 where
   A_write : (want : Wanted) → heard (body.Write want.client want.seq want.cell want.epoch want.bytes) → want.seq ≡ seq
       → is_lead here.state here.me want.cell ≡ true
       → (is_writes_held (held here.state want.cell) ≡ true) ⊎ (has_proposed here.state own want.cell ≡ true) → IsHeldBack heard here own seq
@@ -52,15 +52,15 @@ pub data IsHeldBack (heard : Body → Type 0) (here : Here) (own : Own) (seq : �
 
 -- what a server may have done that handled only such letters as `heard` knows: nothing, a refusal, what its subject's rules
 -- say. All is by its own state, `here.state`
-pub data Did (heard : Body → Type 0) (here : Here) (own : Own) : Done → Type 0 where
+pub data Did (heard : Body → Type 0) (here : JobContext) (own : PairState) : JobResult → Type 0 where
   Ignores : Did heard here own (silent own)
   Refuses : (to : Actor) (said : Body) → IsRefusal said → ((seq : ℕ) → said ≡ body.BlockBusy seq → IsBusy heard here own seq)
       → ((seq : ℕ) → said ≡ body.Held seq → IsHeldBack heard here own seq)
       → Did heard here own (says own to said)
-  By_read : (done : Done) → DidRead heard here own done → Did heard here own done
-  By_lead : (done : Done) → DidLead heard here own done → Did heard here own done
-  By_second : (done : Done) → DidSecond heard here own done → Did heard here own done
-  By_holder : (done : Done) → DidHolder heard here own done → Did heard here own done
-  By_other : (done : Done) → DidOther heard here own done → Did heard here own done
-  By_filler : (done : Done) → DidFiller heard here own done → Did heard here own done
-  By_sweep : (done : Done) → DidSweep here own done → Did heard here own done
+  By_read : (done : JobResult) → DidRead heard here own done → Did heard here own done
+  By_lead : (done : JobResult) → DidLead heard here own done → Did heard here own done
+  By_second : (done : JobResult) → DidSecond heard here own done → Did heard here own done
+  By_holder : (done : JobResult) → DidHolder heard here own done → Did heard here own done
+  By_other : (done : JobResult) → DidOther heard here own done → Did heard here own done
+  By_filler : (done : JobResult) → DidFiller heard here own done → Did heard here own done
+  By_sweep : (done : JobResult) → DidSweep here own done → Did heard here own done

@@ -8,12 +8,12 @@ use Rattle.petal_msg.specs.declared.body.Body.TheVariants as body
 use Rattle.spec_rules.specs.Fills.{link_before, next_fill, region_to_move, with_filled}
 use Rattle.spec_rules.specs.Lists.{In}
 use Rattle.spec_rules.specs.Progress.{with_full}
-use Rattle.spec_rules.specs.Server.{Own, Here, Post, Done, silent}
+use Rattle.spec_rules.specs.Server.{PairState, JobContext, Post, JobResult, silent}
 use Rattle.spec_rules.specs.State.{is_in}
 use Rattle.law_steps.specs.DidLead.{IsNextFill}
 
 -- the key, of the new map, is the next one of a link of the old map that this server is to move
-pub record IsNextKey (here : Here) (own : Own) (key : Key) (row : LinkRow) : Type 0 where
+pub record IsNextKey (here : JobContext) (own : PairState) (key : Key) (row : LinkRow) : Type 0 where
   pub seated : is_in here.state here.me here.inc ≡ true
   pub is : link_before here.state key ≡ Some row
   pub region : ℕ
@@ -24,11 +24,11 @@ pub record IsNextKey (here : Here) (own : Own) (key : Key) (row : LinkRow) : Typ
   pub epoch : next.epoch ≡ key.epoch
 
 -- that the new map has the key is remembered, and the link's move is not out of slots
-abbrev pub filled_to : Own → LinkRow → Key → Own
+abbrev pub filled_to : PairState → LinkRow → Key → PairState
 filled_to own row key = with_full (with_filled own row (record { map = row.map; block = key.block; epoch = key.epoch })) false
 
 -- what the old lead may have done that handled only such letters as `heard` knows
-pub data DidFiller (heard : Body → Type 0) (here : Here) (own : Own) : Done → Type 0 where
+pub data DidFiller (heard : Body → Type 0) (here : JobContext) (own : PairState) : JobResult → Type 0 where
   Is_filled : (key : Key) (row : LinkRow) (posts : List Post) → heard (body.Filled key) → IsNextKey here own key row
       → ((post : Post) → In post posts → IsNextFill here (filled_to own row key) post)
       → DidFiller heard here own (record { own = filled_to own row key; posts = posts; jobs = [] })

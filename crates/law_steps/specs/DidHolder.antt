@@ -13,13 +13,13 @@ use Rattle.petal_msg.specs.declared.copying.LinkId.{LinkId}
 use Rattle.petal_msg.specs.declared.copying.NextCopy.TheVariants.{Block}
 use Rattle.spec_rules.specs.Copies.{begins_copy, cell_at, closes, idle_mark, next_copy, page_wanted, same_block, tells_other, turns_page}
 use Rattle.spec_rules.specs.Progress.{copying_on, progress_on, with_copying, without_copying, with_full}
-use Rattle.spec_rules.specs.Server.{Own, Here, Done, silent, says_to}
+use Rattle.spec_rules.specs.Server.{PairState, JobContext, JobResult, silent, says_to}
 use Rattle.spec_rules.specs.State.{id_of, link_named, other_in}
 use Rattle.spec_rules.specs.Store.{Stored, chain_in, epochs_of, mark_left, without_mark_on}
 use Rattle.spec_rules.specs.declared.job.Job.TheVariants as job
 
 -- the link of this name, which the server holds alone, and whose other server, this one, is In
-pub record IsHeldWith (here : Here) (id : LinkId) (row : LinkRow) (other : ℕ) : Type 0 where
+pub record IsHeldWith (here : JobContext) (id : LinkId) (row : LinkRow) (other : ℕ) : Type 0 where
   pub is : link_named here.state id ≡ Some row
   pub other_is : other_in here.state here.me row ≡ Some other
 
@@ -28,13 +28,13 @@ abbrev pub first_copy : ℕ → Copying
 first_copy number = record { op = number; trimmed = false; index = 0 }
 
 -- all entries of the cell have been put at the other server
-pub record IsSynced (own : Own) (cell : Cell) (copy : Copying) : Type 0 where
+pub record IsSynced (own : PairState) (cell : Cell) (copy : Copying) : Type 0 where
   pub trimmed : copy.trimmed ≡ true
   pub past : length (chain_in own.store.chains cell) ≤ copy.index
 
 -- what a copy that is under way does next: the other server is asked to drop what is not the holder's, or is sent the next entry; then
 -- the block's marks are taken away here, and the copy is done
-pub data CopyStep (here : Here) (own : Own) (cell : Cell) (copy : Copying) : Done → Type 0 where
+pub data CopyStep (here : JobContext) (own : PairState) (cell : Cell) (copy : Copying) : JobResult → Type 0 where
   Asks_to_trim : copy.trimmed ≡ false
       → CopyStep here own cell copy (tells_other here own cell (body.Trim copy.op cell (epochs_of (chain_in own.store.chains cell))))
   Sends : (row : ℕ × Stored) → copy.trimmed ≡ true → slice_get (chain_in own.store.chains cell) copy.index ≡ Some row
@@ -44,7 +44,7 @@ pub data CopyStep (here : Here) (own : Own) (cell : Cell) (copy : Copying) : Don
   Closes_copy : IsSynced own cell copy → mark_left own.store cell ≡ None → CopyStep here own cell copy (closes here own cell)
 
 -- a copy is taken up as it is, or with what a letter of the other server told of it
-pub data TakenCopy (heard : Body → Type 0) (own : Own) (cell : Cell) : Own → Copying → Type 0 where
+pub data TakenCopy (heard : Body → Type 0) (own : PairState) (cell : Cell) : PairState → Copying → Type 0 where
   Copy_as_is : (copy : Copying) → copying_on own cell ≡ Some copy → TakenCopy heard own cell own copy
   Copy_trimmed : (copy : Copying) → heard (body.Trimmed copy.op cell) → copying_on own cell ≡ Some copy → copy.trimmed ≡ false
       → TakenCopy heard own cell (with_copying own cell (record copy { trimmed = true })) (record copy { trimmed = true })
@@ -53,15 +53,15 @@ pub data TakenCopy (heard : Body → Type 0) (own : Own) (cell : Cell) : Own →
       → TakenCopy heard own cell (with_copying own cell (record copy { index = copy.index + 1 })) (record copy { index = copy.index + 1 })
 
 -- what the holder may have done that handled only such letters as `heard` knows
-pub data DidHolder (heard : Body → Type 0) (here : Here) (own : Own) : Done → Type 0 where
+pub data DidHolder (heard : Body → Type 0) (here : JobContext) (own : PairState) : JobResult → Type 0 where
   Asks_page : (id : LinkId) (row : LinkRow) (other : ℕ) → IsHeldWith here id row other → (progress_on own row).paged ≡ false
       → DidHolder heard here own (says_to own (Some other) (page_wanted own row))
   Turns_page : (id : LinkId) (row : LinkRow) (other : ℕ) (after block : Option ℕ) → heard (body.Hello id.map id.link after block) → IsHeldWith here id row other
       → (progress_on own row).paged ≡ false → same_block after (progress_on own row).after ≡ true
       → DidHolder heard here own (turns_page own row (progress_on own row) block)
-  Begins_copy : (id : LinkId) (row : LinkRow) (other : ℕ) (cell : Cell) (done : Done) → IsHeldWith here id row other → next_copy here.state row own ≡ Block cell
+  Begins_copy : (id : LinkId) (row : LinkRow) (other : ℕ) (cell : Cell) (done : JobResult) → IsHeldWith here id row other → next_copy here.state row own ≡ Block cell
       → CopyStep here (begins_copy own cell) cell (first_copy own.pairs.next) done → DidHolder heard here own done
-  Goes_on_copying : (cell : Cell) (now : Own) (copy : Copying) (done : Done) → TakenCopy heard own cell now copy → CopyStep here now cell copy done
+  Goes_on_copying : (cell : Cell) (now : PairState) (copy : Copying) (done : JobResult) → TakenCopy heard own cell now copy → CopyStep here now cell copy done
       → DidHolder heard here own done
   Finds_it_full : (cell : Cell) (copy : Copying) → heard (body.SyncFull copy.op cell) → copying_on own cell ≡ Some copy → copy.trimmed ≡ true
       → copy.index < length (chain_in own.store.chains cell)
@@ -71,5 +71,5 @@ pub data DidHolder (heard : Body → Type 0) (here : Here) (own : Own) : Done �
       → DidHolder heard here own (record {
         own = record own { store = without_mark_on own.store kind (cell_at row block) };
         posts = [];
-        jobs = job.Mend (id_of row) ∷ [];
+        jobs = job.Repair (id_of row) ∷ [];
       })

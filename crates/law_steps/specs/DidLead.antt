@@ -24,18 +24,18 @@ use Rattle.spec_rules.specs.Lists.{In}
 use Rattle.spec_rules.specs.Progress.{copying_on, has_proposed, progress_on}
 use Rattle.spec_rules.specs.State.{held, second, is_in, is_lead, lead, live, in_both, is_alone_on, other_in}
 use Rattle.spec_rules.specs.Store.{Stored, chain_in, epochs_of, free_of}
-use Rattle.spec_rules.specs.Server.{Own, Here, Post, Done, says, says_to}
+use Rattle.spec_rules.specs.Server.{PairState, JobContext, Post, JobResult, says, says_to}
 use Rattle.spec_rules.specs.Writes.{Wanted, is_writes_held, operation, pending_on, with_pending, without_pending, gives_back, with_reserved, with_paired}
 use Rattle.spec_rules.specs.Writes.{with_opened, opened, old_lead, next_stage, acts, ends, marks, puts, unmarks, finishes, ended}
 use Rattle.law_steps.specs.Operations.{waiting, putting, copying, answering, done_to}
 
 -- to the other server of a cell's link, which this one holds alone, where that is In
-abbrev pub other_on : Here → Cell → Option ℕ
+abbrev pub other_on : JobContext → Cell → Option ℕ
 other_on here cell = option_and_then (other_in here.state here.me) (cell_link here.state cell)
 
 -- the next entry of a link that this server, which is In as itself, is to move: the first of the link and the region that the new map is not
 -- known to have. It goes to the lead of the new map's cell
-pub record IsNextFill (here : Here) (own : Own) (post : Post) : Type 0 where
+pub record IsNextFill (here : JobContext) (own : PairState) (post : Post) : Type 0 where
   pub seated : is_in here.state here.me here.inc ≡ true
   pub row : LinkRow
   pub there : In row here.state.links
@@ -53,7 +53,7 @@ pub record IsNextFill (here : Here) (own : Own) (post : Post) : Type 0 where
 
 -- what a pending operation asks of the second server, a copy or a page of the other one, an entry that moves of the new lead, or what speaks
 -- of the agreed log
-pub data Asks (here : Here) (own : Own) : Post → Type 0 where
+pub data Asks (here : JobContext) (own : PairState) : Post → Type 0 where
   A_slot : (op : Pending) (to : ℕ) → pending_on own op.cell ≡ Some op → op.stage ≡ waiting → second here.state op.cell ≡ Some to
       → Asks here own (record { to = actor.Server to; body = body.Reserve op.op op.cell })
   A_copy : (op : Pending) (to : ℕ) → pending_on own op.cell ≡ Some op → op.stage ≡ copying → second here.state op.cell ≡ Some to
@@ -70,7 +70,7 @@ pub data Asks (here : Here) (own : Own) : Post → Type 0 where
 
 -- the write's request is new to the lead, nothing is under way on its cell, no fence holds the cell's writes, and the lead wants no Caught of
 -- the cell's link
-pub record IsNew (heard : Body → Type 0) (here : Here) (own : Own) (want : Wanted) : Type 0 where
+pub record IsNew (heard : Body → Type 0) (here : JobContext) (own : PairState) (want : Wanted) : Type 0 where
   pub wanted : heard (body.Write want.client want.seq want.cell want.epoch want.bytes)
   pub lead : is_lead here.state here.me want.cell ≡ true
   pub newer : done_to (at nat_cmp own.pairs.finished want.client) ≤ want.seq
@@ -80,7 +80,7 @@ pub record IsNew (heard : Body → Type 0) (here : Here) (own : Own) (want : Wan
   pub unheld : has_proposed here.state own want.cell ≡ false
 
 -- the lead, which is In as itself, was asked to take an entry that moves, and nothing is under way on its cell
-pub record IsIdleFill (heard : Body → Type 0) (here : Here) (own : Own) (moving : Moving) : Type 0 where
+pub record IsIdleFill (heard : Body → Type 0) (here : JobContext) (own : PairState) (moving : Moving) : Type 0 where
   pub wanted : heard (body.Fill moving.key moving.bytes)
   pub seated : is_in here.state here.me here.inc ≡ true
   pub lead : is_lead here.state here.me (cell_of moving.key) ≡ true
@@ -88,14 +88,14 @@ pub record IsIdleFill (heard : Body → Type 0) (here : Here) (own : Own) (movin
   pub uncopied : copying_on own (cell_of moving.key) ≡ None
 
 -- it is new to the lead: the chain has nothing of its epoch, and the lead wants no Caught of the cell's link
-pub record IsNewFill (heard : Body → Type 0) (here : Here) (own : Own) (moving : Moving) : Type 0 where
+pub record IsNewFill (heard : Body → Type 0) (here : JobContext) (own : PairState) (moving : Moving) : Type 0 where
   pub idle : IsIdleFill heard here own moving
   pub open idle use *
   pub lacks : at nat_cmp (chain_in own.store.chains (cell_of moving.key)) moving.key.epoch ≡ None
   pub unheld : has_proposed here.state own (cell_of moving.key) ≡ false
 
 -- it is there
-pub record IsFilled (heard : Body → Type 0) (here : Here) (own : Own) (moving : Moving) : Type 0 where
+pub record IsFilled (heard : Body → Type 0) (here : JobContext) (own : PairState) (moving : Moving) : Type 0 where
   pub idle : IsIdleFill heard here own moving
   pub open idle use *
   pub has : is_some (at nat_cmp (chain_in own.store.chains (cell_of moving.key)) moving.key.epoch) ≡ true
@@ -105,13 +105,13 @@ abbrev pub told : Pending → (reserved paired : Bool) → Pending
 told op reserved paired = record op { stage = record op.stage { reserved = reserved; paired = paired } }
 
 -- a pending operation is taken up as it is, or with what a late letter of the second server told of it
-pub data Taken (own : Own) : Own → Pending → Type 0 where
+pub data Taken (own : PairState) : PairState → Pending → Type 0 where
   As_it_is : (op : Pending) → pending_on own op.cell ≡ Some op → Taken own own op
   As_told : (op : Pending) (reserved paired : Bool) → pending_on own op.cell ≡ Some op
       → Taken own (with_pending own (told op reserved paired)) (told op reserved paired)
 
 -- what the lead may have done that handled only such letters as `heard` knows
-pub data DidLead (heard : Body → Type 0) (here : Here) (own : Own) : Done → Type 0 where
+pub data DidLead (heard : Body → Type 0) (here : JobContext) (own : PairState) : JobResult → Type 0 where
   Asks_for : (posts : List Post) → ((post : Post) → In post posts → Asks here own post)
       → DidLead heard here own (record { own = own; posts = posts; jobs = [] })
   Repeats : (want : Wanted) (last : Finished) → heard (body.Write want.client want.seq want.cell want.epoch want.bytes)
@@ -136,15 +136,15 @@ pub data DidLead (heard : Body → Type 0) (here : Here) (own : Own) : Done → 
       → DidLead heard here own (ends here (without_pending own op.cell) op op.kind ending.Written)
   Opens_alone : (want : Wanted) → IsNew heard here own want → is_alone_on here.state here.me want.cell ≡ true
       → DidLead heard here own (marks (opened here own want) (operation here own.pairs.next want) Stale)
-  Marks_alone : (now : Own) (op : Pending) → Taken own now op → is_alone_on here.state here.me op.cell ≡ true → op.stage.stale ≡ false
+  Marks_alone : (now : PairState) (op : Pending) → Taken own now op → is_alone_on here.state here.me op.cell ≡ true → op.stage.stale ≡ false
       → DidLead heard here own (marks now op Stale)
-  Puts_alone : (now : Own) (op : Pending) → Taken own now op → is_alone_on here.state here.me op.cell ≡ true → op.stage.stale ≡ true
+  Puts_alone : (now : PairState) (op : Pending) → Taken own now op → is_alone_on here.state here.me op.cell ≡ true → op.stage.stale ≡ true
       → op.stage.put ≡ false
       → DidLead heard here own (puts now op)
-  Unmarks_alone : (now : Own) (op : Pending) → Taken own now op → is_alone_on here.state here.me op.cell ≡ true → op.stage.stale ≡ true
+  Unmarks_alone : (now : PairState) (op : Pending) → Taken own now op → is_alone_on here.state here.me op.cell ≡ true → op.stage.stale ≡ true
       → op.stage.put ≡ true → op.stage.busy ≡ true
       → DidLead heard here own (unmarks now op Busy)
-  Closes_alone : (now : Own) (op : Pending) → Taken own now op → is_alone_on here.state here.me op.cell ≡ true → op.stage.stale ≡ true
+  Closes_alone : (now : PairState) (op : Pending) → Taken own now op → is_alone_on here.state here.me op.cell ≡ true → op.stage.stale ≡ true
       → op.stage.put ≡ true → op.stage.busy ≡ false
       → DidLead heard here own (ends here (without_pending now op.cell) op op.kind ending.Written)
   Opens_fill : (moving : Moving) → IsNewFill heard here own moving → 0 < free_of own.store → in_both here.state (cell_of moving.key) ≡ true
@@ -158,5 +158,5 @@ pub data DidLead (heard : Body → Type 0) (here : Here) (own : Own) : Done → 
       → DidLead heard here own (says_to own (old_lead here.state (cell_of moving.key)) (body.Filled moving.key))
   Has_no_room : (moving : Moving) → IsNewFill heard here own moving → free_of own.store ≡ 0
       → DidLead heard here own (says_to own (old_lead here.state (cell_of moving.key)) (body.FillFull moving.key))
-  Goes_on_dead : (now : Own) (op : Pending) → Taken own now op → live here.state op.cell ≡ false
+  Goes_on_dead : (now : PairState) (op : Pending) → Taken own now op → live here.state op.cell ≡ false
       → DidLead heard here own (acts here now op (next_stage here.state here.me op))

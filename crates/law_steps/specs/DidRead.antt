@@ -7,12 +7,12 @@ use Rattle.petal_msg.specs.declared.letter.Actor.TheVariants as actor
 use Rattle.spec_rules.specs.Reads.{is_all_held}
 use Rattle.spec_rules.specs.State.{coming, held, is_in, is_lead, readable}
 use Rattle.spec_rules.specs.Store.{chain_in, entry_at, bytes_of}
-use Rattle.spec_rules.specs.Server.{Own, Here, Done, says}
+use Rattle.spec_rules.specs.Server.{PairState, JobContext, JobResult, says}
 use Rattle.spec_rules.specs.Writes.{is_under_way}
 
 -- a read that may be answered: the server is In as itself and may read the cell, whose reads no fence holds, and at the cell's lead nothing is
 -- under way there
-pub record IsReadable (heard : Body → Type 0) (here : Here) (own : Own) (client seq : ℕ) (cell : Cell) (epoch : ℕ) : Type 0 where
+pub record IsReadable (heard : Body → Type 0) (here : JobContext) (own : PairState) (client seq : ℕ) (cell : Cell) (epoch : ℕ) : Type 0 where
   pub asked : heard (body.Read client seq cell epoch)
   pub seated : is_in here.state here.me here.inc ≡ true
   pub readable : readable here.state here.me cell ≡ true
@@ -20,7 +20,7 @@ pub record IsReadable (heard : Body → Type 0) (here : Here) (own : Own) (clien
   pub idle : is_lead here.state here.me cell ≡ true → is_under_way own cell ≡ false
 
 -- it shows the entry, or zeros where there is none; but in a region that is on its way it says that the new map has nothing
-pub data DidRead (heard : Body → Type 0) (here : Here) (own : Own) : Done → Type 0 where
+pub data DidRead (heard : Body → Type 0) (here : JobContext) (own : PairState) : JobResult → Type 0 where
   Shows : (client seq : ℕ) (cell : Cell) (epoch : ℕ) → IsReadable heard here own client seq cell epoch
       → (entry_at (chain_in own.store.chains cell) epoch ≡ None → coming here.state cell ≡ false)
       → DidRead heard here own (says own (actor.Client client) (body.Data seq (bytes_of (entry_at (chain_in own.store.chains cell) epoch))))

@@ -10,23 +10,23 @@ use Rattle.petal_msg.specs.declared.operation.Far.TheVariants as far
 use Rattle.petal_msg.specs.declared.operation.LastOp.{LastOp}
 use Rattle.spec_rules.specs.State.{first, is_second}
 use Rattle.spec_rules.specs.Store.{free_of}
-use Rattle.spec_rules.specs.Server.{Own, Here, Done, says_to}
+use Rattle.spec_rules.specs.Server.{PairState, JobContext, JobResult, says_to}
 use Rattle.spec_rules.specs.Writes.{last_on, with_last, tells, follows}
 use Rattle.law_steps.specs.Operations.{progress}
 
 -- an operation of this number found no slot at its second server: none is free, and the operation is newer than the last one
 -- that the server took part in on the cell, of which no slot is left over
-pub record FoundNoSlot (own : Own) (cell : Cell) (number : ℕ) : Type 0 where
+pub record FoundNoSlot (own : PairState) (cell : Cell) (number : ℕ) : Type 0 where
   pub none_free : free_of own.store ≡ 0
   pub newer : (last : LastOp) → last_on own cell ≡ Some last → last.op < number
   pub none_left : (last : LastOp) → last_on own cell ≡ Some last → last.far ≡ far.Replicated
 
 -- so many slots are set apart
-abbrev pub with_tickets : Own → ℕ → Own
+abbrev pub with_tickets : PairState → ℕ → PairState
 with_tickets own tickets = record own { store = record own.store { tickets = tickets } }
 
 -- what the second server may have done that handled only such letters as `heard` knows
-pub data DidSecond (heard : Body → Type 0) (here : Here) (own : Own) : Done → Type 0 where
+pub data DidSecond (heard : Body → Type 0) (here : JobContext) (own : PairState) : JobResult → Type 0 where
   Sets_apart : (number : ℕ) (cell : Cell) (tickets : ℕ) → heard (body.Reserve number cell) → is_second here.state here.me cell ≡ true
       → progress (last_on own cell) ≤ number + number
       → DidSecond heard here own (tells here (with_last (with_tickets own tickets) cell number far.Reserved) cell number far.Reserved)

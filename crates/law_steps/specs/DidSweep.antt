@@ -4,7 +4,7 @@ use Rattle.petal_base.specs.Cells.{cell_of}
 use Rattle.petal_base.specs.declared.cell.Cell.{Cell}
 use Rattle.petal_msg.specs.declared.dead.Dead.{Dead}
 use Rattle.petal_msg.specs.declared.dead.Dead.TheVariants as dead
-use Rattle.spec_rules.specs.Server.{Own, Here, Done}
+use Rattle.spec_rules.specs.Server.{PairState, JobContext, JobResult}
 use Rattle.spec_rules.specs.State.{is_in, live}
 use Rattle.spec_rules.specs.Sweeping.{next_dead, without_dead}
 use Rattle.spec_rules.specs.declared.job.Job.TheVariants as job
@@ -15,7 +15,7 @@ cell_swept (dead.Key key) = cell_of key
 cell_swept (dead.Mark kind cell) = cell
 
 -- the server is In as itself; what it drops is of a cell that is not live
-pub data DidSweep (here : Here) (own : Own) : Done → Type 0 where
+pub data DidSweep (here : JobContext) (own : PairState) : JobResult → Type 0 where
   Sweeps : (what : Dead) → is_in here.state here.me here.inc ≡ true → next_dead here.state own.store ≡ Some what
       → live here.state (cell_swept what) ≡ false
       → DidSweep here own (record { own = record own { store = without_dead own.store what }; posts = []; jobs = job.Sweep ∷ [] })

@@ -7,11 +7,11 @@ pub mod DidOther
 pub mod DidFiller
 pub mod DidSweep
 pub mod Did
-pub mod Turned
-pub mod Happens
-pub mod Resting
+pub mod DidClient
+pub mod DidStep
+pub mod RestingCopies
 pub mod Ready
 pub mod Ties
-pub mod Waking
-pub mod Coming
-pub use Rattle.law_log.specs.Requested
+pub mod WakingServers
+pub mod ComingCells
+pub use Rattle.law_log.specs.ProposedCommands

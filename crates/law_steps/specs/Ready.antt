@@ -13,11 +13,11 @@ use Rattle.spec_rules.specs.World.{Setting, World, server_state, chosen_log, cho
 use Rattle.spec_history.specs.Claims.{IsPrefix}
 use Rattle.spec_history.specs.Steps.{stepped}
 use Rattle.spec_history.specs.declared.record.Record.{Record}
-use Rattle.law_state.specs.Below.{IsBelow}
+use Rattle.law_state.specs.LaterStates.{IsBelow}
 use Rattle.law_state.specs.Firm.{Firm}
 use Rattle.law_steps.specs.Operations.{IsStaged}
-use Rattle.law_steps.specs.Resting.{AreResting}
-use Rattle.law_steps.specs.Happens.{AreQueued}
+use Rattle.law_steps.specs.RestingCopies.{AreResting}
+use Rattle.law_steps.specs.DidStep.{AreQueued}
 
 -- each row is below those after it
 abbrev pub IsRising : {K X : Type 0} → (K → K → Ordering) → Table K X → Type 0

@@ -8,7 +8,7 @@ use Rattle.spec_state.specs.Command.{state_after}
 use Rattle.spec_rules.specs.Progress.{has_proposed}
 use Rattle.spec_rules.specs.State.{is_alone_on}
 use Rattle.spec_rules.specs.World.{Setting, World, server_state}
-use Rattle.law_state.specs.Places.{StaysSo}
+use Rattle.law_state.specs.LinkChanges.{StaysSo}
 
 -- of one that was in Both: nothing has touched it, or the server holds it alone
 abbrev pub StaysInBoth : Setting → (n : ℕ) → (front more : List Command) → Cell → LinkRow → Type 0

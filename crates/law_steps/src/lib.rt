@@ -16,11 +16,11 @@ ghost use Rattle.spec_state.specs.Command.{state_after};
 ghost use Rattle.spec_rules.specs.State.{State, is_in};
 ghost use Rattle.spec_rules.specs.Progress.{has_proposed};
 ghost use Rattle.law_state.specs.Histories.{AreSteps, IsPrefix, IsSound, Record, Script, chosen_log, chosen_state, server_state, setting_of, start, world_after};
-ghost use Rattle.law_state.specs.Below.{IsBelow};
+ghost use Rattle.law_state.specs.LaterStates.{IsBelow};
 ghost use Rattle.law_state.specs.Homes.{stage_at};
 ghost use Rattle.law_state.specs.Steady.{IsSteady};
-ghost use Rattle.law_steps.specs.Coming.{AreComing};
-ghost use Rattle.law_steps.specs.Happens.{Happens};
+ghost use Rattle.law_steps.specs.ComingCells.{AreComing};
+ghost use Rattle.law_steps.specs.DidStep.{Happens};
 ghost use Rattle.law_steps.specs.Ready.{IsReady, Rests};
 ghost use Rattle.law_steps.specs.Ties.{StaysAloneOrCaught, StaysInBoth};
 

@@ -10,7 +10,7 @@ use Rattle.global_tables.specs.declared.link.LinkRow.{LinkRow}
 use Rattle.petal_base.specs.declared.cell.Cell.{Cell}
 use Rattle.petal_table.specs.Table.{Table}
 use Rattle.spec_rules.specs.Copies.{cell_at, idle_mark, is_kept_on, least}
-use Rattle.spec_rules.specs.Server.{Own}
+use Rattle.spec_rules.specs.Server.{PairState}
 use Rattle.spec_rules.specs.State.{State, is_on, is_whole}
 use Rattle.spec_rules.specs.Store.{Chain}
 use Rattle.spec_rules.specs.Writes.{is_under_way}
@@ -64,7 +64,7 @@ stored_is state row (r ∷ rs) =
     ]
 
 -- the least mark on which nothing is under way
-pub idle_is : (state : State) (row : LinkRow) (own : Own)
+pub idle_is : (state : State) (row : LinkRow) (own : PairState)
     → least (filter (above None) (filter (idle_on state row own) (marked_in row.map own.store.marks))) ≡ idle_mark state row own
 idle_is state row own =
     ap least (

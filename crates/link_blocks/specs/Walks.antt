@@ -6,11 +6,11 @@ use Rattle.global_tables.specs.declared.link.LinkRow.{LinkRow}
 use Rattle.petal_base.specs.declared.cell.Cell.{Cell}
 use Rattle.petal_table.specs.Table.{Table}
 use Rattle.spec_rules.specs.Copies.{cell_at, is_kept_on}
-use Rattle.spec_rules.specs.Server.{Own}
+use Rattle.spec_rules.specs.Server.{PairState}
 use Rattle.spec_rules.specs.State.{State, is_whole}
 use Rattle.spec_rules.specs.Store.{Chain, Store}
 use Rattle.spec_rules.specs.Writes.{is_under_way}
-use Rattle.pair_memory.specs.Side.{Side, pairs_of}
+use Rattle.pair_memory.specs.PairMemory.{PairMemory, pairs_of}
 
 -- the link's blocks among marks
 abbrev pub marked_on : State → LinkRow → List Mark → List ℕ
@@ -30,11 +30,11 @@ abbrev pub on_link : State → LinkRow → ℕ → Bool
 on_link state row block = is_kept_on state row (cell_at row block)
 
 -- a side's part with a store
-abbrev pub side_own : Side → Store → Own
+abbrev pub side_own : PairMemory → Store → PairState
 side_own side store = record { pairs = pairs_of side; copies = side.copies; filled = side.filled; store = store }
 
 -- and nothing is under way on it
-abbrev pub idle_on : State → LinkRow → Own → ℕ → Bool
+abbrev pub idle_on : State → LinkRow → PairState → ℕ → Bool
 idle_on state row own block = is_kept_on state row (cell_at row block) && not (is_under_way own (cell_at row block))
 
 -- how many numbers of blocks are above this one

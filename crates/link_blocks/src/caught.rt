@@ -4,13 +4,13 @@ ghost use Rattle.std.specs.Prelude.{◌≡◌, ◌++◌, IfOk, OnOk};
 ghost use Rattle.spec_rules.specs.Returns as returns;
 ghost use Rattle.spec_state.specs.State.{inc_of};
 ghost use Rattle.spec_rules.specs.State.{other_in};
-ghost use Rattle.pair_memory.specs.Side.{own_of};
+ghost use Rattle.pair_memory.specs.PairMemory.{own_of};
 ghost use Rattle.link_blocks.specs.Found.{listed};
 
 use crate::next::next_copy;
 use crate::roles::other_in;
 use global_state::LinkRow;
-use pair_memory::{Here, Side, Store};
+use pair_memory::{JobContext, PairMemory, Store};
 use petal_base::{NoMemory, ServerId};
 use petal_command::{Command, LinkNumber, ServerNumber};
 use petal_disk::Disk;
@@ -26,7 +26,7 @@ fn is_nothing(next: NextCopy) -> bool
 }
 
 /// The link's Caught, where the other server is In.
-fn caught_as(here: &Here, row: &LinkRow, other: ServerId) -> Result<Option<Command>, NoMemory>
+fn caught_as(here: &JobContext, row: &LinkRow, other: ServerId) -> Result<Option<Command>, NoMemory>
     ensures { IfOk result (λ found. listed found ≡ returns.caught_as here.now row.now other (inc_of here.now.state other)) }
 {
     let Some(other_inc) = here.state().inc_in(other) else {
@@ -44,8 +44,8 @@ fn caught_as(here: &Here, row: &LinkRow, other: ServerId) -> Result<Option<Comma
 
 /// The link's Caught, where this server holds the link alone and nothing of it is left to copy.
 fn caught_of<D: Disk>(
-    here: &Here,
-    side: &Side,
+    here: &JobContext,
+    side: &PairMemory,
     store: &Store<D>,
     row: &LinkRow,
 ) -> Result<Option<Command>, NoMemory>
@@ -76,8 +76,8 @@ fn with_found(wants: &mut Vec<Command>, found: Option<Command>) -> Result<(), No
 /// # Errors
 /// Out of memory, or where a link or a server has no number that a command can name.
 pub fn caught_links<D: Disk>(
-    here: &Here,
-    side: &Side,
+    here: &JobContext,
+    side: &PairMemory,
     store: &Store<D>,
 ) -> Result<Vec<Command>, NoMemory>
     ensures { IfOk result (λ wants. wants.items ≡ returns.caught_links here.now (own_of side.now store.now)) }

@@ -2,14 +2,14 @@
 
 ghost use Rattle.std.specs.Prelude.{◌≡◌, []};
 
-use pair_memory::{Done, FollowUp, Here};
+use pair_memory::{JobResult, FollowUp, JobContext};
 use petal_base::Sequence;
 
 /// No letter is sent, and this job follows the job up.
-pub fn followed(here: &Here, follow: Option<FollowUp>) -> Done
+pub fn followed(here: &JobContext, follow: Option<FollowUp>) -> JobResult
     ensures { result ≡ record { letters = []; follow = follow } }
 {
-    Done {
+    JobResult {
         letters: Sequence::new(here.alloc()),
         follow,
     }

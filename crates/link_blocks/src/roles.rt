@@ -6,11 +6,11 @@ ghost use Rattle.spec_rules.specs.Copies as copies;
 ghost use Rattle.spec_rules.specs.State as rules;
 
 use global_state::{LinkRow, LinkState, holder_of};
-use pair_memory::Here;
+use pair_memory::JobContext;
 use petal_base::{Cell, ServerId};
 
 /// For the server that holds the cell's link alone, the other one, where that is In.
-pub fn other_on(here: &Here, cell: Cell) -> Option<ServerId>
+pub fn other_on(here: &JobContext, cell: Cell) -> Option<ServerId>
     ensures { result ≡ option_and_then (rules.other_in here.now.state here.now.me) (cell_link here.now.state cell) }
 {
     match here.state().cell_row(cell) {
@@ -20,7 +20,7 @@ pub fn other_on(here: &Here, cell: Cell) -> Option<ServerId>
 }
 
 /// For the other server of the cell's link, the one that holds it alone.
-pub fn holder_on(here: &Here, cell: Cell) -> Option<ServerId>
+pub fn holder_on(here: &JobContext, cell: Cell) -> Option<ServerId>
     ensures { result ≡ copies.cell_holder here.now cell }
 {
     match here.state().cell_row(cell) {
@@ -40,7 +40,7 @@ pub fn is_whole(state: LinkState) -> bool
 }
 
 /// For the holder of the link, the other one, where that is In.
-pub fn other_in(here: &Here, row: &LinkRow) -> Option<ServerId>
+pub fn other_in(here: &JobContext, row: &LinkRow) -> Option<ServerId>
     ensures { result ≡ rules.other_in here.now.state here.now.me row.now }
 {
     here.state().other_in(here.me(), row)

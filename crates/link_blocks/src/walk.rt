@@ -5,12 +5,12 @@ ghost use Rattle.busy_marks.specs.Marks.{above};
 ghost use Rattle.spec_rules.specs.Copies as copies;
 ghost use Rattle.spec_rules.specs.Copies.{least};
 ghost use Rattle.pair_memory.specs.Kept.{chains_of};
-ghost use Rattle.pair_memory.specs.Side.{own_of};
+ghost use Rattle.pair_memory.specs.PairMemory.{own_of};
 ghost use Rattle.spec_rules.specs.Store.{Store as Stored};
 ghost use Rattle.link_blocks.specs.Walks.{idle_on, marked_on, on_link, side_own, stored_on};
 
 use global_state::LinkRow;
-use pair_memory::{Here, Side, Store, next_marked, next_stored};
+use pair_memory::{JobContext, PairMemory, Store, next_marked, next_stored};
 use petal_base::{BlockNo, Cell};
 use petal_disk::Disk;
 
@@ -25,7 +25,7 @@ pub fn cell_at(row: &LinkRow, block: BlockNo) -> Cell
 }
 
 /// Whether the block lies on the link, and its cell is live.
-fn is_kept(here: &Here, row: &LinkRow, block: BlockNo) -> bool
+fn is_kept(here: &JobContext, row: &LinkRow, block: BlockNo) -> bool
     ensures value { result ≡ on_link here.now.state row.now block }
     ensures fits { block < 2 ^ 64 }
 {
@@ -35,7 +35,7 @@ fn is_kept(here: &Here, row: &LinkRow, block: BlockNo) -> bool
 
 /// The least live block of the link above `after` that is marked here, of either kind.
 pub fn marked_above<D: Disk>(
-    here: &Here,
+    here: &JobContext,
     store: &Store<D>,
     row: &LinkRow,
     after: Option<BlockNo>,
@@ -54,7 +54,7 @@ pub fn marked_above<D: Disk>(
 
 /// The least live block of the link above `after` that has an entry here.
 pub fn stored_above<D: Disk>(
-    here: &Here,
+    here: &JobContext,
     store: &Store<D>,
     row: &LinkRow,
     after: Option<BlockNo>,
@@ -72,7 +72,7 @@ pub fn stored_above<D: Disk>(
 }
 
 /// Whether the block lies on the link, its cell is live, and nothing is under way on it.
-fn is_idle(here: &Here, side: &Side, row: &LinkRow, block: BlockNo) -> bool
+fn is_idle(here: &JobContext, side: &PairMemory, row: &LinkRow, block: BlockNo) -> bool
     ensures value { (store : Stored) → result ≡ idle_on here.now.state row.now (side_own side.now store) block }
     ensures fits { block < 2 ^ 64 }
 {
@@ -81,8 +81,8 @@ fn is_idle(here: &Here, side: &Side, row: &LinkRow, block: BlockNo) -> bool
 
 /// The least live block of the link that is marked here and on which nothing is under way: a mark that an earlier life left.
 pub fn idle_mark<D: Disk>(
-    here: &Here,
-    side: &Side,
+    here: &JobContext,
+    side: &PairMemory,
     store: &Store<D>,
     row: &LinkRow,
 ) -> Option<BlockNo>

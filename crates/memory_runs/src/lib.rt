@@ -17,10 +17,10 @@ pub use parts::{Parts, play_parts};
 use petal_base::{Cell, NoMemory, Sequence, ServerId, SharedBlock};
 use petal_script::{Script, read_script};
 use petal_world::{Record, World, are_in_order};
-use random_runs::{Chance, Count, Habit, Tale, script_by, simulate};
+use random_runs::{Random, Count, Habit, Tale, script_by, simulate};
 use std::alloc::Global;
 use std::test::Fail;
-use step_runner::{FirstHosts, Row, Run, play_row};
+use step_runner::{FirstHosts, Row, Run, play_case};
 use world_probe::{Copy, held};
 
 /// Servers with disks in memory.
@@ -76,7 +76,7 @@ pub fn start(alloc: Global, text: &str) -> Result<Run<MemServer>, Fail> {
 
 /// Plays a row.
 pub fn play(alloc: Global, row: &Row) -> Result<(), Fail> {
-    play_row(alloc, &Memory, row, start(alloc, row.script)?)
+    play_case(alloc, &Memory, row, start(alloc, row.script)?)
 }
 
 /// Plays these rows, one after the other.
@@ -101,10 +101,10 @@ pub fn play_steps(alloc: Global, shows: &str, script: &str, steps: &str) -> Resu
 pub const SEEDS: u32 = 20;
 
 fn simulate_seed(alloc: Global, tale: Tale, habit: Habit, seed: u32) -> Result<Count, Fail> {
-    let mut chance = Chance::new(seed);
-    let text = script_by(alloc, &mut chance, tale)?;
+    let mut random = Random::new(seed);
+    let text = script_by(alloc, &mut random, tale)?;
     let run = start(alloc, text.as_str())?;
-    simulate(alloc, &Memory, seed, habit, chance, run)
+    simulate(alloc, &Memory, seed, habit, random, run)
 }
 
 /// Steps by chance, from each seed, a world whose script tells such a tale. Gives what was counted in all of them.

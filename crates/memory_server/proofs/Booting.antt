@@ -4,7 +4,7 @@ use Rattle.std.specs.Prelude.{not, if◌then◌else◌}
 use Rattle.kept_chains.specs.Kept.{store_of}
 use Rattle.server_log.specs.Done as logs
 use Rattle.pair_memory.proofs.Blank.{blank}
-use Rattle.pair_memory.specs.Done.{HoldsAt}
+use Rattle.pair_memory.specs.JobResult.{HoldsAt}
 use Rattle.pair_memory.specs.declared.error.WorkError.TheVariants.{JournalFull}
 use Rattle.petal_disk.specs.declared.disk.Disk.{Ghosts}
 use Rattle.petal_msg.specs.declared.letter.Letter.{Letter}
@@ -20,7 +20,7 @@ use Rattle.spec_rules.specs.declared.step.Step.TheVariants.{Boot}
 use Rattle.spec_rules.specs.declared.step.WorkEnd.{WorkEnd}
 use Rattle.spec_rules.specs.declared.step.WorkEnd.TheVariants.{Done, Fault}
 use Rattle.server_core.specs.Boots.{IsBoot, next_voter, raised_core, raised_records, shut}
-use Rattle.server_core.specs.Core.{Core, acted, here_in, server_of}
+use Rattle.server_core.specs.ServerView.{ServerView, acted, here_in, server_of}
 use Rattle.server_core.proofs.Boots.{raised_are, room}
 use Rattle.server_core.proofs.Rooms.{few_records, few_stored}
 use Rattle.server_store.specs.Holdings.{Holdings}
@@ -43,15 +43,15 @@ left_alike old new off still inc store records =
     ∙ sym (left_stopped old.life.inc old.log old.own old.queue old.life.running off)
 
 -- a stopped server whose incarnation is raised stays stopped
-ends_off : (end : CommitEnd) (old new : Core) → new ≡ core_at end old → old.running ≡ false → new.running ≡ false
-ends_off Before old new same off = ap (λ (it : Core). it.running) same ∙ off
-ends_off After old new same off = ap (λ (it : Core). it.running) same ∙ off
+ends_off : (end : CommitEnd) (old new : ServerView) → new ≡ core_at end old → old.running ≡ false → new.running ≡ false
+ends_off Before old new same off = ap (λ (it : ServerView). it.running) same ∙ off
+ends_off After old new same off = ap (λ (it : ServerView). it.running) same ∙ off
 
 -- what a boot leaves on the devices, where the incarnation is raised
 abbrev pub raised_in : {D : Type 0} → Holdings D → Keeping D → Shown
 raised_in store state = record { store = store_of store; records = raised_records state.records }
 
-module _ {D : Type 0} (old : Mounted D) (core : Core) (store : Holdings D) (state : Keeping D) where
+module _ {D : Type 0} (old : Mounted D) (core : ServerView) (store : Holdings D) (state : Keeping D) where
   abbrev was : Server
   was = server_of old.core (store_of old.store) old.state.records
 
@@ -75,8 +75,8 @@ module _ {D : Type 0} (old : Mounted D) (core : Core) (store : Holdings D) (stat
   stayed_site same off stored records = λ i. record {
     me = (same i).log.voter.me;
     servers = (same i).log.voter.servers;
-    server = left_alike was (server_of core (store_of store) state.records) off (ap (λ (it : Core). it.running) same ∙ off)
-        (ap (λ (it : Core). it.log.voter.inc) same) (ap on_device stored) records i;
+    server = left_alike was (server_of core (store_of store) state.records) off (ap (λ (it : ServerView). it.running) same ∙ off)
+        (ap (λ (it : ServerView). it.log.voter.inc) same) (ap on_device stored) records i;
   }
 
   -- one whose journal has no room for the incarnation
@@ -96,8 +96,8 @@ module _ {D : Type 0} (old : Mounted D) (core : Core) (store : Holdings D) (stat
       = room old.core (store_of old.store) old.state.records known (subst (λ (s : Store). s.records ≤ journal_records) stored few)
       (subst (λ (rs : List StateRecord). length rs ≤ journal_records) records few_log) in
       let left : left_of (server_of core (store_of store) state.records) ≡ left_of (raised was)
-      = left_alike (raised was) (server_of core (store_of store) state.records) off (ap (λ (it : Core). it.running) same ∙ off)
-      (ap (λ (it : Core). it.log.voter.inc) same) (ap on_device stored)
+      = left_alike (raised was) (server_of core (store_of store) state.records) off (ap (λ (it : ServerView). it.running) same ∙ off)
+      (ap (λ (it : ServerView). it.log.voter.inc) same) (ap on_device stored)
       (records ∙ sym (raised_are old.core (store_of old.store) old.state.records known)) in
       λ i. record {
         me = (same i).log.voter.me;
@@ -133,7 +133,7 @@ module _ {D : Type 0} (device : Ghosts D) (told : device.told) (old : Mounted D)
   closed : store_of old.store ≡ shut (store_of old.store)
   closed = ap (λ (ts : List ℕ). record (store_of old.store) { tickets = length ts }) opened
 
-  pub boot_done : (core : Core) (state : Keeping D) (letters : List Letter) → IsBoot device old.core core old.state state (Ok letters)
+  pub boot_done : (core : ServerView) (state : Keeping D) (letters : List Letter) → IsBoot device old.core core old.state state (Ok letters)
       → device.came_to old.store.disk old.store.disk
       → Booted device old (record { core = core; store = old.store; state = state }) Done letters
   boot_done core state letters boot rests =
@@ -146,13 +146,13 @@ module _ {D : Type 0} (device : Ghosts D) (told : device.told) (old : Mounted D)
         run = record { run = rests; state_run = boot.run };
       }
 
-  pub boot_full : (core : Core) (state : Keeping D) → IsBoot device old.core core old.state state (Err JournalFull)
+  pub boot_full : (core : ServerView) (state : Keeping D) → IsBoot device old.core core old.state state (Err JournalFull)
       → device.came_to old.store.disk old.store.disk
       → Booted device old (record { core = core; store = old.store; state = state }) Done []
   boot_full core state boot rests =
       let full = boot.full refl in
       let is = full.stays told kept (store_of old.store) in
-      let still : core.running ≡ false = ap (λ (it : Core). it.running) full.same.0 ∙ off in
+      let still : core.running ≡ false = ap (λ (it : ServerView). it.running) full.same.0 ∙ off in
       record {
         site = full_site old core old.store state full.same.0 off closed (ap (λ (k : Keeping D). k.records) full.same.1) is;
         sends = full_letters old is;
@@ -166,7 +166,7 @@ module _ {D : Type 0} (device : Ghosts D) (told : device.told) (old : Mounted D)
       }
 
   -- the devices were opened again, and show whether the incarnation was raised
-  pub boot_failed : (end : CommitEnd) (core : Core) (store : Holdings D) (state : Keeping D) → core ≡ core_at end old.core
+  pub boot_failed : (end : CommitEnd) (core : ServerView) (store : Holdings D) (state : Keeping D) → core ≡ core_at end old.core
       → old.core.log.voter.inc ≡ inc_of old.state.records
       → Shows end (shown_in old.store old.state) (raised_in old.store old.state) (store_of store) state.records
       → HoldsAt device store → logs.HoldsAt device state → HasFailed device old (record { core = core; store = store; state = state })
@@ -214,7 +214,7 @@ module _ {D : Type 0} {device : Ghosts D} (old : Mounted D) (store : Holdings D)
 
 -- ### A blank device
 
-module _ {D : Type 0} (device : Ghosts D) (core : Core) (store : Holdings D) (state : Keeping D) (disk : D) (kept : logs.HoldsAt device state) where
+module _ {D : Type 0} (device : Ghosts D) (core : ServerView) (store : Holdings D) (state : Keeping D) (disk : D) (kept : logs.HoldsAt device state) where
   abbrev empty : Mounted D
   empty = record { core = core; store = store_on disk store; state = state }
 

@@ -3,7 +3,7 @@ use Rattle.std.proofs.Common.{◌≡◌, ◌≤◌, inl, inr, ℕ, Bool, true, f
 use Rattle.std.specs.Prelude.{if◌then◌else◌}
 use Rattle.kept_chains.specs.Kept.{store_of}
 use Rattle.server_log.specs.Done as logs
-use Rattle.pair_memory.specs.Done.{HoldsAt}
+use Rattle.pair_memory.specs.JobResult.{HoldsAt}
 use Rattle.pair_memory.specs.declared.error.WorkError.TheVariants.{Failed}
 use Rattle.petal_disk.specs.declared.disk.Disk.{Ghosts}
 use Rattle.global_tables.specs.declared.link.LinkRow.{LinkRow}
@@ -14,7 +14,7 @@ use Rattle.spec_rules.specs.Entries.{applies, applies_known}
 use Rattle.spec_rules.specs.Jobs.{Acted, does, entered, faults, is_log_job, job_done, journal_records, log_does, stops, voter_of, worked, works}
 use Rattle.spec_rules.specs.Log.{Log, Voter, first_log, known, next_place}
 use Rattle.spec_rules.specs.Returns.{holds_link, proposed}
-use Rattle.spec_rules.specs.Server.{Here, Own, Server, no_copies, no_pairs, stopped}
+use Rattle.spec_rules.specs.Server.{JobContext, PairState, Server, no_copies, no_pairs, stopped}
 use Rattle.spec_rules.specs.State.{State, link_named}
 use Rattle.spec_rules.specs.Store.{Store}
 use Rattle.spec_rules.specs.declared.job.Job.{Job}
@@ -23,7 +23,7 @@ use Rattle.spec_rules.specs.declared.step.CommitEnd.{CommitEnd}
 use Rattle.spec_rules.specs.declared.step.CommitEnd.TheVariants.{Before, After}
 use Rattle.spec_rules.specs.declared.step.Step.TheVariants.{Work}
 use Rattle.spec_rules.specs.declared.step.WorkEnd.TheVariants.{Fault}
-use Rattle.server_core.specs.Core.{Core, HasFaults, after_first, here_in, left_by_first, server_of}
+use Rattle.server_core.specs.ServerView.{ServerView, HasFaults, after_first, here_in, left_by_first, server_of}
 use Rattle.server_core.specs.Farewell.{farewell_of}
 use Rattle.server_core.proofs.Rooms.{few_records, few_stored}
 use Rattle.server_core.proofs.Stops.{stopped_with}
@@ -43,12 +43,12 @@ applies_records : (log : Log) (next : Option Command) → (applies_known log nex
 applies_records log None = refl
 applies_records log (Some entry) = refl
 
-held_store : (own : Own) (found : Option LinkRow) → (holds_link own found).store ≡ own.store
+held_store : (own : PairState) (found : Option LinkRow) → (holds_link own found).store ≡ own.store
 held_store own None = refl
 held_store own (Some row) = refl
 
 -- a ballot that starts leaves the store
-proposed_store : (state : State) (own : Own) (found : Option Command) → (proposed state own found).store ≡ own.store
+proposed_store : (state : State) (own : PairState) (found : Option Command) → (proposed state own found).store ≡ own.store
 proposed_store state own (Some (Caught of link holder holder_inc other other_inc)) =
     held_store own (link_named state (record { map = of; link = link }))
 proposed_store state own _ = refl
@@ -58,23 +58,23 @@ record Commits (server left : Server) : Type 0 where
   once : CommitsOnce (shown_of server) (shown_of left)
   life : left.life ≡ server.life
 
-one_part : (here : Here) (server : Server) (first : Job) (rest : List Job) (of_log : Bool)
+one_part : (here : JobContext) (server : Server) (first : Job) (rest : List Job) (of_log : Bool)
     → Commits server (if of_log then entered here server rest (log_does (voter_of here) server.log first)
     else worked here server rest (does here server.own first)).server
 one_part here server first rest true = record { once = inr refl; life = refl }
 one_part here server first rest false = record { once = inl refl; life = refl }
 
-commits : (here : Here) (server : Server) (queue : List Job) → Commits server (after_first here server queue)
+commits : (here : JobContext) (server : Server) (queue : List Job) → Commits server (after_first here server queue)
 unfolding applies
 commits here server [] = record { once = inl refl; life = refl }
 commits here server (job.Apply ∷ rest) = record { once = inl (applies_records server.log (known server.log (next_place server.log))); life = refl }
 commits here server (job.Letter letter ∷ rest) = one_part here server (job.Letter letter) rest (is_log_job (job.Letter letter))
 commits here server (job.Stage cell ∷ rest) = one_part here server (job.Stage cell) rest false
-commits here server (job.Mend link ∷ rest) = one_part here server (job.Mend link) rest false
+commits here server (job.Repair link ∷ rest) = one_part here server (job.Repair link) rest false
 commits here server (job.Sweep ∷ rest) = one_part here server job.Sweep rest false
 commits here server (job.Start ∷ rest) = record { once = inr (ap on_device (proposed_store here.state server.own _)); life = refl }
 
-works_is : (here : Here) (server : Server) (queue : List Job) → (after_first here server queue).own.store.records ≤ journal_records
+works_is : (here : JobContext) (server : Server) (queue : List Job) → (after_first here server queue).own.store.records ≤ journal_records
     → length (after_first here server queue).log.records ≤ journal_records → (works here server queue).server ≡ after_first here server queue
 works_is here server [] few few_log = refl
 works_is here server (first ∷ rest) few few_log = ap (λ (left : Acted). left.server) (fits here server (job_done here server first rest) few few_log)
@@ -90,7 +90,7 @@ left_with inc store records = record {
   queue = [];
 }
 
-fault_left : (here : Here) (server : Server) (queue : List Job) (end : CommitEnd) (store : Store) (records : List StateRecord)
+fault_left : (here : JobContext) (server : Server) (queue : List Job) (end : CommitEnd) (store : Store) (records : List StateRecord)
     → Shows end (shown_of server) (shown_of (after_first here server queue)) store records → store.records ≤ journal_records → length records ≤ journal_records
     → left_with server.life.inc store records ≡ left_of (faults here server queue end).server
 fault_left here server queue Before store records shows few few_log = λ i. left_with server.life.inc (shows.store_is i) (shows.records_are i)
@@ -108,13 +108,13 @@ pub fault_commits : {D : Type 0} (old : Mounted D)
     (shown_of (left_by_first old.core (store_of old.store) old.state.records))
 fault_commits old = (commits (here_in old.core) (server_of old.core (store_of old.store) old.state.records) old.core.queue).once
 
-pub left_stopped : (inc : ℕ) (log : Log) (own : Own) (queue : List Job) (running : Bool) → running ≡ false
+pub left_stopped : (inc : ℕ) (log : Log) (own : PairState) (queue : List Job) (running : Bool) → running ≡ false
     → left_of (record { life = record { running = running; inc = inc }; log = log; own = own; queue = queue }) ≡ left_with inc own.store log.records
 left_stopped inc log own queue true off = absurd (cc)
 left_stopped inc log own queue false off = refl
 
 -- a server that has stopped, and whose devices show how its job ended
-pub fault_site : {D : Type 0} (old : Mounted D) (core : Core) (store : Holdings D) (state : Keeping D) (end : CommitEnd)
+pub fault_site : {D : Type 0} (old : Mounted D) (core : ServerView) (store : Holdings D) (state : Keeping D) (end : CommitEnd)
     → core.running ≡ false → core.log.voter ≡ old.core.log.voter
     → Shows end (record { store = store_of old.store; records = old.state.records })
     (shown_of (left_by_first old.core (store_of old.store) old.state.records)) (store_of store) state.records
@@ -134,16 +134,16 @@ fault_site old core store state end off voter shows few few_log =
 
 -- ### What it sends
 
-faults_say : (here : Here) (server : Server) (queue : List Job) (end : CommitEnd) → (faults here server queue end).letters ≡ (stops here server).letters
+faults_say : (here : JobContext) (server : Server) (queue : List Job) (end : CommitEnd) → (faults here server queue end).letters ≡ (stops here server).letters
 faults_say here server queue Before = refl
 faults_say here server queue After = refl
 
-stops_say : (core : Core) (store : Store) (records : List StateRecord)
+stops_say : (core : ServerView) (store : Store) (records : List StateRecord)
     → (stops (here_in core) (server_of core store records)).letters ≡ farewell_of core.log.voter
 stops_say core store records = sym (ap (λ (left : Acted). left.letters) (stopped_with core store records (farewell_of core.log.voter) refl))
 
 -- a server that stops says the same, whatever it has in memory
-pub stops_letters : (core old : Core) (store : Store) (records : List StateRecord) → core.log.voter ≡ old.log.voter
+pub stops_letters : (core old : ServerView) (store : Store) (records : List StateRecord) → core.log.voter ≡ old.log.voter
     → (stops (here_in core) (server_of core store records)).letters ≡ (stops (here_in old) (server_of old store records)).letters
 stops_letters core old store records voter = stops_say core store records ∙ ap farewell_of voter ∙ sym (stops_say old store records)
 
@@ -162,7 +162,7 @@ module _ {D : Type 0} {device : Ghosts D} {old : Mounted D} (stands : Stands dev
 -- ### Counts of faults
 
 -- a device failed in the job, and both were opened again
-pub has_failed : {D T : Type 0} (device : Ghosts D) (old : Mounted D) (store : Holdings D) (state : Keeping D) (core : Core)
+pub has_failed : {D T : Type 0} (device : Ghosts D) (old : Mounted D) (store : Holdings D) (state : Keeping D) (core : ServerView)
     (again : Holdings D) (kept : Keeping D)
     → HasFaults {T = T} (device.faults old.store.disk) (device.faults store.disk) (device.faults old.state.disk) (device.faults state.disk) (Err Failed)
     → (device.faults store.disk ≤ device.faults again.disk) × (device.faults state.disk ≤ device.faults kept.disk)

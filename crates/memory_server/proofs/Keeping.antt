@@ -2,7 +2,7 @@
 use Rattle.std.proofs.Common.{◌≡◌, ◌≤◌, Bool, false, Option, None, Some, refl, sym, ap, ◌∙◌}
 use Rattle.std.specs.Prelude.{is_some}
 use Rattle.petal_disk.specs.declared.disk.Disk.{Ghosts}
-use Rattle.server_core.specs.Core.{Core}
+use Rattle.server_core.specs.ServerView.{ServerView}
 use Rattle.server_store.specs.Holdings.{Holdings}
 use Rattle.server_store.specs.Slots.{slot_start}
 use Rattle.state_store.specs.Device.{Keeping}
@@ -12,14 +12,14 @@ pub none_there : {A : Type 0} (found : Option A) → is_some found ≡ false →
 none_there None is = refl
 none_there (Some x) is = absurd (cc)
 
-module _ {D : Type 0} (device : Ghosts D) {over : Bool} {blank : Option D} {core : Core} {store : Holdings D} {state : Keeping D}
+module _ {D : Type 0} (device : Ghosts D) {over : Bool} {blank : Option D} {core : ServerView} {store : Holdings D} {state : Keeping D}
     (kept : IsKept device over blank (record { core = core; store = store; state = state })) where
   -- while the stores are what their devices show and the device isn't blank, all stands
   pub stands_now : over ≡ false → blank ≡ None → Stands device (record { core = core; store = store; state = state })
   stands_now on none = kept.stands on (ap is_some none)
 
   -- of a server that runs no less with the same slots set apart
-  pub kept_running : (new : Core) → new.running ≡ core.running → new.side ≡ core.side
+  pub kept_running : (new : ServerView) → new.running ≡ core.running → new.side ≡ core.side
       → IsKept device over blank (record { core = new; store = store; state = state })
   kept_running new running side = record {
     stands = λ on none.
@@ -31,7 +31,7 @@ module _ {D : Type 0} (device : Ghosts D) {over : Bool} {blank : Option D} {core
   }
 
   -- of one that has stopped
-  pub kept_stopped : (new : Core) → new.running ≡ false → IsKept device over blank (record { core = new; store = store; state = state })
+  pub kept_stopped : (new : ServerView) → new.running ≡ false → IsKept device over blank (record { core = new; store = store; state = state })
   kept_stopped new off = record {
     stands = λ on none.
         let stands = kept.stands on none in record { tickets = λ runs. absurd (cc); store = stands.store; state = stands.state };

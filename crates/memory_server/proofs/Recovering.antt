@@ -1,7 +1,7 @@
 -- Which of two stores a device shows that was opened again, and which records.
 use Rattle.std.proofs.Common.{◌≡◌, ◌⊎◌, inl, inr, ⊎_elim, ◌+◌, ◌<◌, ◌^◌, ℕ, Bool, List, [], length, sym, ap, ◌∙◌, arith}
 use Rattle.server_log.specs.Done as logs
-use Rattle.pair_memory.specs.Done.{HoldsAt}
+use Rattle.pair_memory.specs.JobResult.{HoldsAt}
 use Rattle.petal_disk.specs.declared.disk.Disk.{Ghosts}
 use Rattle.spec_paxos.specs.declared.record.StateRecord.{StateRecord}
 use Rattle.spec_rules.specs.Store.{Store}

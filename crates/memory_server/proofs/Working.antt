@@ -2,8 +2,8 @@
 use Rattle.std.proofs.Common.{◌≡◌, false, List, [], None, sym, ap, subst, ◌∙◌}
 use Rattle.kept_chains.specs.Kept.{store_of}
 use Rattle.server_log.specs.Done as logs
-use Rattle.pair_memory.specs.Done.{HoldsAt}
-use Rattle.pair_memory.specs.Side.{HasTicketsAt}
+use Rattle.pair_memory.specs.JobResult.{HoldsAt}
+use Rattle.pair_memory.specs.PairMemory.{HasTicketsAt}
 use Rattle.petal_disk.specs.declared.disk.Disk.{Ghosts}
 use Rattle.petal_msg.specs.declared.letter.Letter.{Letter}
 use Rattle.spec_rules.specs.Jobs.{Acted, stops, works}
@@ -11,7 +11,7 @@ use Rattle.spec_paxos.specs.declared.record.StateRecord.{StateRecord}
 use Rattle.spec_rules.specs.Store.{Store}
 use Rattle.spec_rules.specs.declared.step.Step.TheVariants.{Work}
 use Rattle.spec_rules.specs.declared.step.WorkEnd.TheVariants.{Done}
-use Rattle.server_core.specs.Core.{Core, IsWork, acted, here_in, server_of}
+use Rattle.server_core.specs.ServerView.{ServerView, IsWork, acted, here_in, server_of}
 use Rattle.server_core.specs.Work.{IsFullWork}
 use Rattle.server_store.specs.Holdings.{Holdings}
 use Rattle.state_store.specs.Device.{Keeping}
@@ -50,15 +50,15 @@ module _ {D : Type 0} (device : Ghosts D) (told : device.told) (old : Mounted D)
       ∙ sym (ap (works (here_in old.core) (server_of old.core (store_of old.store) old.state.records)) is.0)
 
   -- the server stopped, since a journal had no room for its record
-  pub full_done : (core new : Core) (store : Holdings D) (state : Keeping D) (letters : List Letter)
+  pub full_done : (core new : ServerView) (store : Holdings D) (state : Keeping D) (letters : List Letter)
       → IsFullWork device device old.core core old.store store old.state state
       → ((kept : Store) (records : List StateRecord) → acted new kept records letters ≡ stops (here_in core) (server_of core kept records))
       → new ≡ record core { running = false; queue = [] }
       → Ran device old (record { core = new; store = store; state = state })
       → Worked device old (record { core = new; store = store; state = state }) Done letters
   full_done core new store state letters full step rest run =
-      let off : new.running ≡ false = ap (λ (it : Core). it.running) rest in
-      let voter : new.log.voter ≡ old.core.log.voter = ap (λ (it : Core). it.log.voter) rest ∙ ap (λ (it : Core). it.log.voter) full.same.0 in
+      let off : new.running ≡ false = ap (λ (it : ServerView). it.running) rest in
+      let voter : new.log.voter ≡ old.core.log.voter = ap (λ (it : ServerView). it.log.voter) rest ∙ ap (λ (it : ServerView). it.log.voter) full.same.0 in
       let stored : store_of store ≡ store_of old.store = ap store_of full.same.1 in
       let recorded : state.records ≡ old.state.records = ap (λ (k : Keeping D). k.records) full.same.2 in
       let is : acted new (store_of store) state.records letters

@@ -8,12 +8,12 @@ use Rattle.spec_rules.specs.declared.step.Step.{Step}
 use Rattle.spec_rules.specs.declared.step.Step.TheVariants.{Boot, Work}
 use Rattle.spec_rules.specs.declared.step.WorkEnd.{WorkEnd}
 use Rattle.server_core.specs.Boots.{raised_core}
-use Rattle.server_core.specs.Core.{Core}
+use Rattle.server_core.specs.ServerView.{ServerView}
 use Rattle.server_host.specs.Desks.{IsFault, acted_at, as_end, end_in}
 use Rattle.memory_server.specs.Server.{HasFailed, IsKept, Mounted, Ran, Stands, left_at, site_of, store_at, whole_after, whole_of}
 
 -- the core of a stopped server, after a boot in which its state device failed
-abbrev pub core_at : CommitEnd → Core → Core
+abbrev pub core_at : CommitEnd → ServerView → ServerView
 core_at Before core = core
 core_at After core = raised_core core
 

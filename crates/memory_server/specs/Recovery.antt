@@ -2,7 +2,7 @@
 use Rattle.std.specs.Prelude.{◌≡◌, ◌⊎◌, List, []}
 use Rattle.kept_chains.specs.Kept.{store_of}
 use Rattle.server_log.specs.Done as logs
-use Rattle.pair_memory.specs.Done.{HoldsAt}
+use Rattle.pair_memory.specs.JobResult.{HoldsAt}
 use Rattle.petal_disk.specs.declared.disk.Disk.{Ghosts}
 use Rattle.spec_paxos.specs.declared.record.StateRecord.{StateRecord}
 use Rattle.spec_rules.specs.Store.{Store}

@@ -3,10 +3,10 @@ use Rattle.std.specs.Prelude.{◌≡◌, ◌<◌, ◌≤◌, ◌+◌, ℕ, Bool,
 use Rattle.kept_chains.specs.Kept.{store_of}
 use Rattle.spec_rules.specs.declared.step.Step.{Step}
 use Rattle.server_host.specs.Desks.{Site, acted_at, left_of}
-use Rattle.server_core.specs.Core.{Core, server_of}
+use Rattle.server_core.specs.ServerView.{ServerView, server_of}
 use Rattle.server_log.specs.Done as logs
-use Rattle.pair_memory.specs.Done.{HoldsAt}
-use Rattle.pair_memory.specs.Side.{HasTicketsAt}
+use Rattle.pair_memory.specs.JobResult.{HoldsAt}
+use Rattle.pair_memory.specs.PairMemory.{HasTicketsAt}
 use Rattle.petal_disk.specs.declared.disk.Disk.{Ghosts}
 use Rattle.server_store.specs.Holdings.{Holdings}
 use Rattle.server_store.specs.Slots.{slot_start}
@@ -24,7 +24,7 @@ store_at (Some disk) store = store_on disk store
 
 -- a server's core, its store and its state store
 pub record Mounted (D : Type 0) : Type 0 where
-  pub core : Core
+  pub core : ServerView
   pub store : Holdings D
   pub state : Keeping D
 

@@ -7,7 +7,7 @@ ghost use Rattle.memory_server.specs.Ends.{job_end};
 
 use petal_base::Sequence;
 use petal_msg::Letter;
-use server_host::{StepEnd, Taken};
+use server_host::{StepEnd, HostResult};
 use spec_rules::{CommitEnd, WorkEnd};
 
 /// What a job or a boot comes to that was tried.
@@ -40,20 +40,20 @@ impl Attempt {
     }
 
     /// The job's step, in which a plan that stops the server was met, or none was.
-    pub fn job_taken(self, stopped: bool) -> Taken
+    pub fn job_taken(self, stopped: bool) -> HostResult
         ensures { result ≡ record { letters = self.letters; end = job_end self.end stopped } }
     {
-        Taken {
+        HostResult {
             letters: self.letters,
             end: job_end(self.end, stopped),
         }
     }
 
     /// The boot's step.
-    pub fn boot_taken(self) -> Taken
+    pub fn boot_taken(self) -> HostResult
         ensures { result ≡ record { letters = self.letters; end = as_end self.end } }
     {
-        Taken {
+        HostResult {
             letters: self.letters,
             end: boot_end(self.end),
         }

@@ -2,7 +2,7 @@
 
 ghost use Rattle.std.specs.Prelude.{◌≡◌, ◌<◌, ◌≤◌, [], false, is_some, None, IfOk, IfSome, OnErr};
 ghost use Rattle.server_log.specs.Done as logs;
-ghost use Rattle.pair_memory.specs.Done.{HoldsAt};
+ghost use Rattle.pair_memory.specs.JobResult.{HoldsAt};
 ghost use Rattle.spec_paxos.specs.Kept.{inc_of};
 ghost use Rattle.spec_rules.specs.World.{greatest_u32};
 ghost use Rattle.server_store.specs.Slots.{slot_start};

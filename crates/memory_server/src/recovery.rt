@@ -4,7 +4,7 @@ ghost use Rattle.std.specs.Prelude.{◌≡◌, ◌<◌, ◌≤◌, ◌^◌, ℕ,
 ghost use Rattle.kept_chains.specs.Kept.{store_of};
 ghost use Rattle.kept_chains.specs.Standing.{StandsAsEither};
 ghost use Rattle.server_log.specs.Done as logs;
-ghost use Rattle.pair_memory.specs.Done.{HoldsAt};
+ghost use Rattle.pair_memory.specs.JobResult.{HoldsAt};
 ghost use Rattle.state_store.specs.Device.{StandsForEither};
 ghost use Rattle.memory_server.specs.Recovery.{CommitsOnce, IsReread, Shown, Shows};
 

@@ -22,7 +22,7 @@ use petal_base::{Inc, NoMemory, Rev, Sequence, ServerId};
 use petal_disk::{DeviceError, Disk, MemDisk, Plan, Planned, Which};
 use petal_msg::Letter;
 use server_core::ServerCore;
-use server_host::{Host, Taken};
+use server_host::{Host, HostResult};
 use server_store::{DATA_START, SLOT_BYTES, Store};
 use spec_rules::Step;
 use state_store::{DEVICE_BYTES, StateStore};
@@ -220,7 +220,7 @@ impl MemServer {
 
     /// Does the first job of the queue, where it runs. It stops the server where a plan was met that does: then a device tells so
     /// that did not before.
-    fn work(&mut self, alloc: Global) -> Result<Taken, NoMemory>
+    fn work(&mut self, alloc: Global) -> Result<HostResult, NoMemory>
         ensures site { IfOk result (λ taken. site_of self.new ≡ left_at (whole_after (whole_of self.old) (job_ended taken.end))) }
         ensures letters { IfOk result (λ taken. taken.letters ≡ (acted_at (whole_of self.old) (job_ended taken.end)).letters) }
         ensures end { IfOk result (λ taken. taken.end ≡ end_in (job_ended taken.end)) }
@@ -234,7 +234,7 @@ impl MemServer {
     }
 
     /// A tick, in which the data device may fail; then all is as before.
-    fn tick_once(&mut self, alloc: Global) -> Result<Taken, DeviceError>
+    fn tick_once(&mut self, alloc: Global) -> Result<HostResult, DeviceError>
         ensures site { OnOk result (whole_of self.new ≡ whole_after (whole_of self.old) Tick) }
         ensures taken { IfOk result (λ taken. taken ≡ record { letters = (acted_at (whole_of self.old) Tick).letters; end = Done }) }
         ensures err { OnErr result (whole_of self.new ≡ whole_of self.old) }
@@ -248,7 +248,7 @@ impl MemServer {
     }
 
     /// A tick. A data device that fails in it is asked once more; where it fails again no step is taken.
-    fn tick(&mut self, alloc: Global) -> Result<Taken, NoMemory>
+    fn tick(&mut self, alloc: Global) -> Result<HostResult, NoMemory>
         ensures site { OnOk result (whole_of self.new ≡ whole_after (whole_of self.old) Tick) }
         ensures taken { IfOk result (λ taken. taken ≡ record { letters = (acted_at (whole_of self.old) Tick).letters; end = Done }) }
         ensures run { BothCameTo self.old self.new }
@@ -299,7 +299,7 @@ impl MemServer {
     }
 
     /// It boots, where it is stopped and its incarnation can be raised. A plan that stops the server fails the boot.
-    fn boot(&mut self, alloc: Global) -> Result<Taken, NoMemory>
+    fn boot(&mut self, alloc: Global) -> Result<HostResult, NoMemory>
         ensures site { IfOk result (λ taken. site_of self.new ≡ left_at (whole_after (whole_of self.old) (Boot (boot_end taken.end)))) }
         ensures letters { IfOk result (λ taken. taken.letters ≡ (acted_at (whole_of self.old) (Boot (boot_end taken.end))).letters) }
         ensures end { IfOk result (λ taken. taken.end ≡ end_in (Boot (boot_end taken.end))) }
@@ -311,7 +311,7 @@ impl MemServer {
     }
 
     /// Takes the step, whatever it has in memory.
-    fn act(&mut self, alloc: Global, step: &Step) -> Result<Taken, NoMemory>
+    fn act(&mut self, alloc: Global, step: &Step) -> Result<HostResult, NoMemory>
         ensures site { IfOk result (λ taken. site_of self.new ≡ left_at (whole_after (whole_of self.old) (ended step.now taken.end))) }
         ensures letters { IfOk result (λ taken. taken.letters ≡ (acted_at (whole_of self.old) (ended step.now taken.end)).letters) }
         ensures end { IfOk result (λ taken. taken.end ≡ end_in (ended step.now taken.end)) }
@@ -364,7 +364,7 @@ impl Host for MemServer {
 
     ghost armed = { armed_of };
 
-    fn step(&mut self, alloc: Global, step: &Step) -> Result<Taken, NoMemory> {
+    fn step(&mut self, alloc: Global, step: &Step) -> Result<HostResult, NoMemory> {
         if !self.may_take(step) {
             return Err(NoMemory);
         }

@@ -5,13 +5,13 @@ ghost use Rattle.server_host.specs.declared.step_end.StepEnd.TheVariants as step
 
 use petal_base::Sequence;
 use petal_msg::Letter;
-use server_host::{StepEnd, Taken};
+use server_host::{StepEnd, HostResult};
 
 /// A step that is no job and no boot.
-pub fn done(letters: Sequence<Letter>) -> Taken
+pub fn done(letters: Sequence<Letter>) -> HostResult
     ensures { result ≡ record { letters = letters; end = step_end.Done } }
 {
-    Taken {
+    HostResult {
         letters,
         end: StepEnd::Done,
     }

@@ -2,7 +2,7 @@
 
 ghost use Rattle.std.specs.Prelude.{◌≡◌, [], true, false, IfOk};
 ghost use Rattle.kept_chains.specs.Kept.{store_of};
-ghost use Rattle.server_core.specs.Core.{is_spent};
+ghost use Rattle.server_core.specs.ServerView.{is_spent};
 ghost use Rattle.memory_server.specs.Booted.{Worked};
 ghost use Rattle.memory_server.specs.Server.{Stands};
 

@@ -48,7 +48,7 @@ impl Contents {
             return Ok(());
         }
         self.contents.push(Content {
-            disk: write.disk.again(),
+            disk: write.disk.copy(),
             block: write.block,
             bytes,
         })?;

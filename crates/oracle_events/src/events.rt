@@ -13,7 +13,7 @@ use crate::operations::{
 use crate::reads::{accepted, is_by_old_map, old_data, since_boot};
 use crate::stores::{Looks, Stores, counted};
 use crate::told::Told;
-use crate::writes::{Writers, again};
+use crate::writes::{Writers, copy_write};
 use oracle_state::{Choices, Disks, Done, Link};
 use petal_base::{ClientId, Key, NoMemory, OPERATOR, Seq, ServerId, SharedBlock};
 use petal_msg::{Actor, Body, Letter};
@@ -155,8 +155,8 @@ fn look_by(request: &Request, bytes: &SharedBlock) -> Result<Option<Event>, NoMe
         return Ok(None);
     };
     Ok(Some(Event::Look {
-        disk: name.again(),
-        snap: snap.as_ref().map(|snap| snap.again()),
+        disk: name.copy(),
+        snap: snap.as_ref().map(|snap| snap.copy()),
         block: *block,
         bytes: bytes.share()?,
     }))
@@ -169,7 +169,7 @@ impl<'a, S: Stores> Telling<'a, S> {
     }
 
     // What the commands do that the step chose.
-    fn chooses(&mut self, here: &Here) -> Result<Done, NoMemory> {
+    fn choose(&mut self, here: &Here) -> Result<Done, NoMemory> {
         let before = self.choices.note_all(here.own.sent.as_slice())?;
         let mut done = Done::new(self.alloc);
         for command in self.choices.chosen_from(before) {
@@ -179,7 +179,7 @@ impl<'a, S: Stores> Telling<'a, S> {
     }
 
     // The disks that were made, and then the snapshots that were taken.
-    fn makes(&mut self, step: usize, done: Done) -> Result<(), NoMemory> {
+    fn make(&mut self, step: usize, done: Done) -> Result<(), NoMemory> {
         for disk in done.made {
             self.tell(step, Some(Event::Make { disk }))?;
         }
@@ -249,7 +249,7 @@ impl<'a, S: Stores> Telling<'a, S> {
     }
 
     // A second server says for the first time that it has put its copy.
-    fn takes_second(&mut self, here: &Here, letter: &Letter) -> Result<(), NoMemory> {
+    fn take_second(&mut self, here: &Here, letter: &Letter) -> Result<(), NoMemory> {
         match replicated_by(letter) {
             Some(operation) if !is_replicated_in(self.beside(here, operation), operation) => {
                 self.take_entry(here, operation)
@@ -259,7 +259,7 @@ impl<'a, S: Stores> Telling<'a, S> {
     }
 
     // A server that has put a write says for the first time in its life that it is written: its bytes stand in their block.
-    fn takes_last(&mut self, here: &Here, letter: &Letter) -> Result<(), NoMemory> {
+    fn take_last(&mut self, here: &Here, letter: &Letter) -> Result<(), NoMemory> {
         let Some((client, seq)) = written_by(here.before, letter) else {
             return Ok(());
         };
@@ -275,7 +275,7 @@ impl<'a, S: Stores> Telling<'a, S> {
         for client in 0..OPERATOR {
             if let Some(write) = self.writers.of(client) {
                 if !self.contents.has(write) {
-                    missing.push(again(write)?)?;
+                    missing.push(copy_write(write)?)?;
                 }
             }
         }
@@ -305,7 +305,7 @@ impl<'a, S: Stores> Telling<'a, S> {
     }
 
     // What the server has put that it was asked for in these records takes effect: of several writes of the same bytes one does.
-    fn takes_held(
+    fn take_held(
         &mut self,
         here: &Here,
         asked: &[Record],
@@ -333,24 +333,24 @@ impl<'a, S: Stores> Telling<'a, S> {
     }
 
     // The copies of the link's primary count from now on: what it has put ahead of its second server takes effect.
-    fn takes_ahead(&mut self, here: &Here, link: &Link) -> Result<(), NoMemory> {
+    fn take_ahead(&mut self, here: &Here, link: &Link) -> Result<(), NoMemory> {
         let asked = from(here.before, link.since);
         for operation in ahead_on(self.alloc, asked, link)? {
             self.take_entry(here, operation)?;
         }
-        self.takes_held(here, asked, link.primary)
+        self.take_held(here, asked, link.primary)
     }
 
     fn takes(&mut self, here: &Here, done: &Done) -> Result<(), NoMemory> {
         for letter in here.own.sent.as_slice() {
-            self.takes_second(here, letter.get())?;
-            self.takes_last(here, letter.get())?;
+            self.take_second(here, letter.get())?;
+            self.take_last(here, letter.get())?;
         }
         if let Some(server) = self.looked_into(here.own) {
-            self.takes_held(here, since_boot(here.before, server), server)?;
+            self.take_held(here, since_boot(here.before, server), server)?;
         }
         for link in &done.passed {
-            self.takes_ahead(here, link)?;
+            self.take_ahead(here, link)?;
         }
         Ok(())
     }
@@ -416,9 +416,9 @@ fn tell_all<S: Stores>(telling: &mut Telling<S>, records: &[Record]) -> Result<(
             all: records,
         };
         telling.begins(&here)?;
-        let done = telling.chooses(&here)?;
+        let done = telling.choose(&here)?;
         telling.takes(&here, &done)?;
-        telling.makes(here.step, done)?;
+        telling.make(here.step, done)?;
         telling.looks(&here)?;
         telling.ends(&here)?;
     }

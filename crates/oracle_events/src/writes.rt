@@ -36,18 +36,18 @@ fn write_by(
     Ok(Some(Write {
         client,
         seq,
-        disk: name.again(),
+        disk: name.copy(),
         block: *block,
         bytes: SharedBlock::new(alloc, pattern.block(alloc)?)?,
     }))
 }
 
 /// The same write again.
-pub fn again(write: &Write) -> Result<Write, NoMemory> {
+pub fn copy_write(write: &Write) -> Result<Write, NoMemory> {
     Ok(Write {
         client: write.client,
         seq: write.seq,
-        disk: write.disk.again(),
+        disk: write.disk.copy(),
         block: write.block,
         bytes: write.bytes.share()?,
     })
@@ -79,7 +79,7 @@ impl Writers {
         writer.called = writer.called.saturating_add(1);
         writer.open = write_by(alloc, client, writer.called, request)?;
         match &writer.open {
-            Some(write) => Ok(Some(again(write)?)),
+            Some(write) => Ok(Some(copy_write(write)?)),
             None => Ok(None),
         }
     }
@@ -99,7 +99,7 @@ impl Writers {
         for writer in &self.writers {
             if let Some(write) = &writer.open {
                 if write.disk == *disk && write.block == block && write.bytes == *bytes {
-                    return Ok(Some(again(write)?));
+                    return Ok(Some(copy_write(write)?));
                 }
             }
         }
@@ -109,7 +109,7 @@ impl Writers {
     /// The client's open write, where it has this number.
     pub fn numbered(&self, client: ClientId, seq: Seq) -> Result<Option<Write>, NoMemory> {
         match self.of(client) {
-            Some(write) if write.seq == seq => Ok(Some(again(write)?)),
+            Some(write) if write.seq == seq => Ok(Some(copy_write(write)?)),
             _ => Ok(None),
         }
     }

@@ -51,7 +51,7 @@ impl Choices {
         self.tallies.push(Tally {
             place,
             ballot,
-            command: command.again(),
+            command: command.copy(),
             voters,
         })?;
         Ok(())
@@ -89,7 +89,7 @@ impl Choices {
     fn chosen_at(&self, place: usize) -> Option<Command> {
         for tally in &self.tallies {
             if tally.place as usize == place && tally.voters.len() >= self.majority {
-                return Some(tally.command.again());
+                return Some(tally.command.copy());
             }
         }
         None

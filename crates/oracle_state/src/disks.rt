@@ -277,10 +277,10 @@ impl Disks {
         let place = self.disks.len();
         self.add_map(place, tuple)?;
         self.disks.push(Disk {
-            name: name.again(),
+            name: name.copy(),
             epoch: 0,
         })?;
-        done.made.push(name.again())?;
+        done.made.push(name.copy())?;
         Ok(())
     }
 
@@ -357,7 +357,7 @@ impl Disks {
         match scope {
             Scope::Whole(disk, name) => {
                 if let Some(disk) = self.disks.get(disk) {
-                    let disk = disk.name.again();
+                    let disk = disk.name.copy();
                     done.frozen.push(Frozen { disk, name })?;
                 }
             }

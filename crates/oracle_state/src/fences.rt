@@ -78,9 +78,9 @@ impl Fences {
         }
         self.asked.push(Snapshot {
             disk,
-            name: name.again(),
+            name: name.copy(),
         })?;
-        self.add(Scope::Whole(disk, name.again()), members)
+        self.add(Scope::Whole(disk, name.copy()), members)
     }
 
     /// The turn of the disk's region comes to move.

@@ -29,7 +29,7 @@ use Rattle.kept_chains.specs.Tickets as store
 use Rattle.kept_chains.proofs.Puts.{tied}
 use Rattle.pair_memory.specs.Ended.{cell_ends, copies_left}
 use Rattle.pair_memory.specs.Crossed.{AreFreed, IsCrossed}
-use Rattle.pair_memory.specs.Side.{Side, HasTicketsAt, needs_apart, pairs_of, times}
+use Rattle.pair_memory.specs.PairMemory.{PairMemory, HasTicketsAt, needs_apart, pairs_of, times}
 use Rattle.pair_memory.specs.Slots.{IsOutAt}
 use Rattle.kept_chains.specs.Kept.{store_of}
 use Rattle.pair_memory.proofs.Tickets.{contained, counted_in, counted_own, length_less, one_at, slot_by, times_less, times_without, with_tickets}
@@ -259,7 +259,7 @@ same_cells p t u sorted other same =
 -- ### What is given back
 
 -- each slot of the second table is out
-pub apart_below : {D : Type 0} (side : Side) (held : Holdings D) → HasTicketsAt side held → (slot : ℕ)
+pub apart_below : {D : Type 0} (side : PairMemory) (held : Holdings D) → HasTicketsAt side held → (slot : ℕ)
     → times slot (values_of side.apart) ≤ times slot held.tickets
 apart_below side held h slot = let all = h.out slot in omega (arith, all)
 
@@ -334,7 +334,7 @@ module _ (state next : State) (entry : Command) (made : next ≡ commands.after 
   ends_is : ending ≡ ends_cell state entry
   ends_is = ap (λ (n : State). cell_ends state n entry) made
 
-  module _ {D : Type 0} (old : Side) (before after : Holdings D) (h : HasTicketsAt old before) (last : Table Cell LastOp) (apart : Table Cell ℕ)
+  module _ {D : Type 0} (old : PairMemory) (before after : Holdings D) (h : HasTicketsAt old before) (last : Table Cell LastOp) (apart : Table Cell ℕ)
       (sorted : IsStrictlySortedBy cell_cmp (keys_of old.apart)) (other : IsStrictlySortedBy cell_cmp (keys_of old.last))
       (freed : AreFreed ending old.apart apart before after) (dropped : last ≡ left ending old.last) where
     lost_is : length (taken ending old.apart) ≡ length (filter (loses_slot state entry) old.last)

@@ -7,7 +7,7 @@ use Rattle.petal_command.specs.declared.command.Command.{Command}
 use Rattle.petal_disk.specs.Disk.{LeavesOnly}
 use Rattle.petal_disk.specs.declared.disk.Disk.{Ghosts}
 use Rattle.spec_rules.specs.Crossing.{crossed, crossed_by, is_blank_join}
-use Rattle.spec_rules.specs.Server.{Here, Own}
+use Rattle.spec_rules.specs.Server.{JobContext, PairState}
 use Rattle.spec_rules.specs.Store.{Store, settled}
 use Rattle.kept_chains.specs.Errors.{IsCommitError}
 use Rattle.kept_chains.specs.Holdings.{Holdings}
@@ -16,17 +16,17 @@ use Rattle.kept_chains.specs.Kept.{store_of}
 use Rattle.kept_chains.specs.Marking.{IsCommit}
 use Rattle.kept_chains.specs.Standing.{StandsAsEither}
 use Rattle.pair_memory.specs.Crossed.{IsCrossed, IsEntered, lacks_room}
-use Rattle.pair_memory.specs.Done.{HoldsAt}
-use Rattle.pair_memory.specs.Side.{Side, HasTicketsAt, own_of}
+use Rattle.pair_memory.specs.JobResult.{HoldsAt}
+use Rattle.pair_memory.specs.PairMemory.{PairMemory, HasTicketsAt, own_of}
 use Rattle.pair_memory.specs.declared.error.WorkError.TheVariants.{Failed}
 use Rattle.petal_base.specs.Limits.{journal_records}
 
 -- the own part with a store that waits no more
-abbrev settled_own : Own → Own
+abbrev settled_own : PairState → PairState
 settled_own own = record own { store = settled own.store }
 
 -- where the journal has no room, the rule has one record more than that
-pub lacking : {D : Type 0} (here : Here) (entry : Option Command) (side : Side) (before : Holdings D) → lacks_room here.me here.inc entry before ≡ true
+pub lacking : {D : Type 0} (here : JobContext) (entry : Option Command) (side : PairMemory) (before : Holdings D) → lacks_room here.me here.inc entry before ≡ true
     → (before.log.region.count ≡ journal_records) × ((crossed_by here entry (own_of side before)).store.records ≡ length before.log.records + 1)
 lacking here None side before is = absurd (cc)
 lacking here (Some entry) side before is =
@@ -37,9 +37,9 @@ lacking here (Some entry) side before is =
 
 module _ {D : Type 0} (device : Ghosts D) (stays : (d : D) → device.came_to d d)
     (only_now : (d : D) (c : List ℕ) → device.left_since d (device.moment d) c → device.may_leave d c)
-    (here : Here) (entry : Command) (old new : Side) (before mid : Holdings D)
+    (here : JobContext) (entry : Command) (old new : PairMemory) (before mid : Holdings D)
     (cross : IsCrossed here.state entry old new before mid) where
-  abbrev rule : Own
+  abbrev rule : PairState
   rule = crossed_by here (Some entry) (own_of old before)
 
   same_disk : mid.disk ≡ before.disk
@@ -78,7 +78,7 @@ module _ {D : Type 0} (device : Ghosts D) (stays : (d : D) → device.came_to d 
     moments_of : Leaves mid → LeavesOnly device.moment device.left_since before.disk after.disk (StandsAsEither (store_of before) rule.store)
     moments_of left =
         subst (λ (s : Store). LeavesOnly device.moment device.left_since before.disk after.disk (StandsAsEither (store_of before) s))
-        (ap (λ (own : Own). own.store) ruled)
+        (ap (λ (own : PairState). own.store) ruled)
         (subst (λ (m : Holdings D). LeavesOnly device.moment device.left_since m.disk after.disk (StandsAsEither (store_of m) (settled (store_of mid))))
         cross.store left)
 
@@ -141,7 +141,7 @@ module _ {D : Type 0} (device : Ghosts D) (stays : (d : D) → device.came_to d 
 -- where no entry is known nothing is done
 pub entered_nothing : {D T : Type 0} (device : Ghosts D) → ((d : D) → device.came_to d d)
     → ((d : D) (c : List ℕ) → device.left_since d (device.moment d) c → device.may_leave d c)
-    → (here : Here) (side : Side) (held : Holdings D) (done : T) → HasTicketsAt side held
+    → (here : JobContext) (side : PairMemory) (held : Holdings D) (done : T) → HasTicketsAt side held
     → IsEntered device here None side side held held (Ok done)
 entered_nothing device stays only_now here side held done keeps = record {
   own = λ _. refl;

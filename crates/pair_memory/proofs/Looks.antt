@@ -14,7 +14,7 @@ use Rattle.petal_disk.specs.declared.disk.Disk.{Ghosts}
 use Rattle.petal_disk.proofs.Keeping.{keeps_all, keeps_on}
 use Rattle.kept_chains.specs.Holdings.{Holdings}
 use Rattle.device_faults.specs.declared.failure.DeviceError.{DeviceError}
-use Rattle.pair_memory.specs.Done.{HoldsAt}
+use Rattle.pair_memory.specs.JobResult.{HoldsAt}
 use Rattle.pair_memory.specs.Letters.{IsLook}
 
 -- nothing of the store changed so far, and the device keeps it

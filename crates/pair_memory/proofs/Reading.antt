@@ -6,15 +6,15 @@ use Rattle.kept_chains.specs.Standing.{StandsAsEither}
 use Rattle.petal_disk.specs.Disk.{LeavesOnly}
 use Rattle.petal_disk.specs.Keeping.{KeepsDevice}
 use Rattle.petal_disk.specs.declared.disk.Disk.{Ghosts}
-use Rattle.spec_rules.specs.Server.{Here}
+use Rattle.spec_rules.specs.Server.{JobContext}
 use Rattle.spec_rules.specs.Server as rules
 use Rattle.spec_rules.specs.Store.{Store}
 use Rattle.kept_chains.specs.Holdings.{Holdings}
 use Rattle.pair_memory.specs.declared.error.WorkError.{WorkError}
 use Rattle.pair_memory.specs.declared.error.WorkError.TheVariants.{NoMemory}
-use Rattle.pair_memory.specs.declared.done.Done.{Done}
-use Rattle.pair_memory.specs.Side.{Side, own_of}
-use Rattle.pair_memory.specs.Done.{HoldsAt, IsBy, IsDone, IsSaid}
+use Rattle.pair_memory.specs.declared.job_result.JobResult.{JobResult}
+use Rattle.pair_memory.specs.PairMemory.{PairMemory, own_of}
+use Rattle.pair_memory.specs.JobResult.{HoldsAt, IsBy, IsDone, IsSaid}
 
 module _ {D : Type 0} (device : Ghosts D) (only_now : (d : D) (c : List ℕ) → device.left_since d (device.moment d) c → device.may_leave d c) where
   -- a device that is kept leaves the store as it is, at any moment
@@ -36,14 +36,14 @@ module _ {D : Type 0} (device : Ghosts D) (only_now : (d : D) (c : List ℕ) →
         ];
       }
 
-  module _ (here : Here) (side after : Side) (old new : Holdings D) (same : new ≡ record old { disk = new.disk })
+  module _ (here : JobContext) (side after : PairMemory) (old new : Holdings D) (same : new ≡ record old { disk = new.disk })
       (keeps : KeepsDevice device.size device.seen device.may_leave device.moment device.left_since old.disk new.disk)
       (shown : device.told → HoldsAt device old → HoldsAt device new) (run : device.came_to old.disk new.disk) where
     -- what is said after a read is a job from before it
-    pub after_read : (result : Result Done WorkError) (rule rule' : rules.Done) → device.faults old.disk ≤ device.faults new.disk
+    pub after_read : (result : Result JobResult WorkError) (rule rule' : rules.JobResult) → device.faults old.disk ≤ device.faults new.disk
         → (device.told → rule ≡ rule') → IsSaid here side after new new result rule → IsDone device here side after old new result rule'
     after_read (Ok out) rule rule' later is said = record {
-      done = λ t. subst (λ (r : rules.Done). IsBy here (own_of after new) out r) (is t) said.done;
+      done = λ t. subst (λ (r : rules.JobResult). IsBy here (own_of after new) out r) (is t) said.done;
       keeps = said.keeps;
       holds = shown;
       moments = λ _. kept_moments old new rule'.own.store keeps;

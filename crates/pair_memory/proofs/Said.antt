@@ -1,15 +1,15 @@
 -- A job without a call of the device is one that may have made one.
 use Rattle.std.proofs.Common.{◌≡◌, ℕ, List, Result, Ok, Err, refl, sym, subst, ap, ◌∙◌, arith}
 use Rattle.petal_disk.specs.declared.disk.Disk.{Ghosts}
-use Rattle.spec_rules.specs.Server.{Here}
+use Rattle.spec_rules.specs.Server.{JobContext}
 use Rattle.spec_rules.specs.Server as rules
 use Rattle.kept_chains.specs.Holdings.{Holdings}
 use Rattle.kept_chains.proofs.Commits.{still_moments}
 use Rattle.pair_memory.specs.declared.error.WorkError.{WorkError}
 use Rattle.pair_memory.specs.declared.error.WorkError.TheVariants.{JournalFull, NoMemory}
-use Rattle.pair_memory.specs.declared.done.Done.{Done}
-use Rattle.pair_memory.specs.Side.{Side}
-use Rattle.pair_memory.specs.Done.{HoldsAt, IsFull, IsSaid, IsDone}
+use Rattle.pair_memory.specs.declared.job_result.JobResult.{JobResult}
+use Rattle.pair_memory.specs.PairMemory.{PairMemory}
+use Rattle.pair_memory.specs.JobResult.{HoldsAt, IsFull, IsSaid, IsDone}
 
 module _ {D : Type 0} (device : Ghosts D) (stays : (d : D) → device.came_to d d)
     (only_now : (d : D) (c : List ℕ) → device.left_since d (device.moment d) c → device.may_leave d c) where
@@ -27,7 +27,7 @@ module _ {D : Type 0} (device : Ghosts D) (stays : (d : D) → device.came_to d 
   shown_still : (old new : Holdings D) → new ≡ record old { tickets = new.tickets } → HoldsAt device old → HoldsAt device new
   shown_still old new is holds = subst (HoldsAt device) (sym is) holds
 
-  pub said_done : (here : Here) (old new : Side) (old_store new_store : Holdings D) (answer : Result Done WorkError) (rule : rules.Done)
+  pub said_done : (here : JobContext) (old new : PairMemory) (old_store new_store : Holdings D) (answer : Result JobResult WorkError) (rule : rules.JobResult)
       → IsSaid here old new old_store new_store answer rule → IsDone device here old new old_store new_store answer rule
   said_done here old new old_store new_store (Ok out) rule said = record {
     done = λ _. said.done;
@@ -58,7 +58,7 @@ module _ {D : Type 0} (device : Ghosts D) (stays : (d : D) → device.came_to d 
   }
 
   -- a job for whose record the journal has no room
-  pub full_done : (here : Here) (old new : Side) (before after : Holdings D) (rule : rules.Done) → IsFull old new before after rule
+  pub full_done : (here : JobContext) (old new : PairMemory) (before after : Holdings D) (rule : rules.JobResult) → IsFull old new before after rule
       → IsDone device here old new before after (Err JournalFull) rule
   full_done here old new before after rule full =
       let disk : after.disk ≡ before.disk = ap (λ (s : Holdings D). s.disk) full.same.1 in
@@ -76,6 +76,6 @@ module _ {D : Type 0} (device : Ghosts D) (stays : (d : D) → device.came_to d 
       }
 
 -- what was refused for memory left all as it was
-pub all_same : {D : Type 0} (here : Here) (old new : Side) (old_store new_store : Holdings D) (rule : rules.Done) → new ≡ old → new_store ≡ old_store
+pub all_same : {D : Type 0} (here : JobContext) (old new : PairMemory) (old_store new_store : Holdings D) (rule : rules.JobResult) → new ≡ old → new_store ≡ old_store
     → IsSaid here old new old_store new_store (Err NoMemory) rule
 all_same here old new old_store new_store rule same held = rw (same, held) (record { done = tt; keeps = tt; err = (refl, refl, refl); store = refl })

@@ -26,7 +26,7 @@ use Rattle.kept_chains.specs.Kept.{chains_of, store_of}
 use Rattle.kept_chains.proofs.Kept.{placed_is}
 use Rattle.kept_chains.specs.Tickets as store
 use Rattle.kept_chains.proofs.Chains.{cell_cases}
-use Rattle.pair_memory.specs.Side.{HasTickets, times, needs_own, needs_apart}
+use Rattle.pair_memory.specs.PairMemory.{HasTickets, times, needs_own, needs_apart}
 
 -- 1 where the numbers are the same
 abbrev pub one_at : ℕ → ℕ → ℕ

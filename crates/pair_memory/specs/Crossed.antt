@@ -7,15 +7,15 @@ use Rattle.petal_disk.specs.Disk.{LeavesOnly}
 use Rattle.petal_disk.specs.declared.disk.Disk.{Ghosts}
 use Rattle.petal_table.specs.Table.{Table}
 use Rattle.spec_rules.specs.Crossing.{crossed, crossed_by, is_blank_join}
-use Rattle.spec_rules.specs.Server.{Here}
+use Rattle.spec_rules.specs.Server.{JobContext}
 use Rattle.spec_rules.specs.State.{State}
 use Rattle.kept_chains.specs.Holdings.{Holdings}
 use Rattle.kept_chains.specs.Kept.{store_of}
 use Rattle.kept_chains.specs.Standing.{StandsAsEither}
 use Rattle.pair_memory.specs.declared.error.WorkError.{WorkError}
 use Rattle.pair_memory.specs.declared.error.WorkError.TheVariants.{Failed}
-use Rattle.pair_memory.specs.Done.{HasFault, HoldsAt}
-use Rattle.pair_memory.specs.Side.{Side, HasTicketsAt, own_of, times}
+use Rattle.pair_memory.specs.JobResult.{HasFault, HoldsAt}
+use Rattle.pair_memory.specs.PairMemory.{PairMemory, HasTicketsAt, own_of, times}
 use Rattle.petal_base.specs.Limits.{journal_records}
 
 -- the tickets on the cells that a test takes were given back, and no other
@@ -27,7 +27,7 @@ pub record AreFreed {D : Type 0} (test : Cell → Bool) (apart left : Table Cell
 
 module _ {D : Type 0} (state : State) (entry : Command) where
   -- a server's own part is what the rule says, and the tickets stand where they are needed
-  pub record IsCrossed (old new : Side) (before after : Holdings D) : Type 0 where
+  pub record IsCrossed (old new : PairMemory) (before after : Holdings D) : Type 0 where
     pub own : own_of new after ≡ crossed state entry (own_of old before)
     pub keeps : HasTicketsAt new after
     pub store : after ≡ record before { tickets = after.tickets }
@@ -40,7 +40,7 @@ lacks_room me inc (Some entry) store = is_blank_join entry me inc && (store.fres
 module _ {D T : Type 0} where
   -- a server's own part is what the rule says of the entry, if there is one, where the device tells its bytes, and the tickets
   -- stand where they are needed. A crash at any moment leaves the store before, or the rule's after it
-  pub record IsEntered (device : Ghosts D) (here : Here) (entry : Option Command) (old new : Side) (before after : Holdings D)
+  pub record IsEntered (device : Ghosts D) (here : JobContext) (entry : Option Command) (old new : PairMemory) (before after : Holdings D)
       (result : Result T WorkError) : Type 0 where
     pub own : OnOk result (device.told → own_of new after ≡ crossed_by here entry (own_of old before))
     pub keeps : HasTicketsAt new after

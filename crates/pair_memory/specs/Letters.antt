@@ -7,7 +7,7 @@ use Rattle.spec_rules.specs.Server.{Post, post_to}
 use Rattle.kept_chains.specs.Holdings.{Holdings}
 use Rattle.kept_chains.specs.Reading.{IsReadFault}
 use Rattle.device_faults.specs.declared.failure.DeviceError.{DeviceError}
-use Rattle.pair_memory.specs.Done.{HoldsAt}
+use Rattle.pair_memory.specs.JobResult.{HoldsAt}
 
 -- one letter to a server, if any
 abbrev pub posts_of : Option (ℕ × Body) → List Post

@@ -1,7 +1,7 @@
 pub mod Copies
 pub mod Ended
-pub mod Side
-pub mod Done
+pub mod PairMemory
+pub mod JobResult
 pub mod Refusals
 pub mod Slots
 pub mod Crossed

@@ -11,8 +11,8 @@ ghost use Rattle.spec_rules.specs.Store.{cell_cmp};
 ghost use Rattle.pair_memory.specs.Copies as copies;
 ghost use Rattle.pair_memory.specs.Ended.{cell_ends, copies_left};
 
-use crate::ends::{drops_cells, ends_cell};
-use crate::here::Here;
+use crate::ends::{drop_cells, ends_cell};
+use crate::job_context::JobContext;
 use crate::links::{LinkTable, link_id};
 use global_state::GlobalState;
 use petal_base::{Cell, NoMemory};
@@ -45,7 +45,7 @@ impl Model for Copies {
 
 /// The copy is under way on a cell on which one was. It takes no memory.
 #[tactic(auto, unfolding(petal_table::specs::Table::at, petal_table::specs::Table::put))]
-fn replaces(pending: &mut BTreeMap<Cell, Copying>, cell: Cell, copy: Copying)
+fn replace_copy(pending: &mut BTreeMap<Cell, Copying>, cell: Cell, copy: Copying)
     requires { IsSome (at cell_cmp pending.old.entries cell) }
     ensures { pending.new.entries ≡ put cell_cmp pending.old.entries cell copy }
 {
@@ -54,7 +54,7 @@ fn replaces(pending: &mut BTreeMap<Cell, Copying>, cell: Cell, copy: Copying)
     }
 }
 
-fn ends(pending: &mut BTreeMap<Cell, Copying>, cell: Cell)
+fn end(pending: &mut BTreeMap<Cell, Copying>, cell: Cell)
     ensures { pending.new.entries ≡ without cell_cmp pending.old.entries cell }
 {
     // What `len` promises tells the proof that the rows rise by cell.
@@ -62,8 +62,8 @@ fn ends(pending: &mut BTreeMap<Cell, Copying>, cell: Cell)
     let _ = pending.remove(&cell);
 }
 
-fn drops_pending(
-    here: &Here,
+fn drop_pending(
+    here: &JobContext,
     entry: &Command,
     next: &GlobalState,
     pending: &mut BTreeMap<Cell, Copying>,
@@ -110,7 +110,7 @@ impl Copies {
     }
 
     /// Whether a ballot was started for the `Caught` of the cell's link.
-    pub fn has_proposed(&self, here: &Here, cell: Cell) -> bool
+    pub fn has_proposed(&self, here: &JobContext, cell: Cell) -> bool
         ensures { result ≡ copies.has_proposed_in here.now.state self.now cell }
     {
         match here.state().cell_row(cell) {
@@ -182,14 +182,14 @@ impl Copies {
         requires { IsSome (at cell_cmp self.old.pending cell) }
         ensures { self.new ≡ copies.with_copying self.old cell copy }
     {
-        replaces(&mut self.pending, cell, copy);
+        replace_copy(&mut self.pending, cell, copy);
     }
 
     /// No copy is under way on the cell from now on.
     pub fn end_copying(&mut self, cell: Cell)
         ensures { self.new ≡ copies.without_copying self.old cell }
     {
-        ends(&mut self.pending, cell);
+        end(&mut self.pending, cell);
     }
 
     /// The last copy of the cell to this server.
@@ -233,11 +233,11 @@ impl Copies {
     }
 
     /// Nothing is left of the copies of which nothing is kept after the entry, which makes this next state. It takes no memory.
-    pub fn crosses(&mut self, here: &Here, entry: &Command, next: &GlobalState)
+    pub fn cross(&mut self, here: &JobContext, entry: &Command, next: &GlobalState)
         ensures { self.new ≡ copies_left here.now.state next.now entry.now self.old }
     {
         self.progress.drop_ended(here, entry, next);
-        drops_pending(here, entry, next, &mut self.pending);
-        drops_cells(here, entry, next, &mut self.last);
+        drop_pending(here, entry, next, &mut self.pending);
+        drop_cells(here, entry, next, &mut self.last);
     }
 }

@@ -12,13 +12,13 @@ ghost use Rattle.spec_rules.specs.Store.{Store as Stored, cell_cmp};
 ghost use Rattle.spec_rules.specs.declared.job.Job.TheVariants as job;
 ghost use Rattle.pair_memory.specs.Ended.{cell_ends};
 ghost use Rattle.pair_memory.specs.Crossed.{AreFreed, IsCrossed, IsEntered, lacks_room};
-ghost use Rattle.pair_memory.specs.Side.{HasTicketsAt, pairs_of, times};
+ghost use Rattle.pair_memory.specs.PairMemory.{HasTicketsAt, pairs_of, times};
 
-use crate::ends::{drops_cells, ends_cell};
+use crate::ends::{drop_cells, ends_cell};
 use crate::error::WorkError;
-use crate::here::Here;
+use crate::job_context::JobContext;
 use crate::links::link_id;
-use crate::side::Side;
+use crate::side::PairMemory;
 use crate::slots::give_back;
 use global_state::{GlobalState, LinkRow, LinkState};
 use kept_chains::{Store, Ticket, settle};
@@ -32,7 +32,7 @@ use spec_rules::Job;
 use std::alloc::{AllocError, Global};
 
 fn first_ended(
-    here: &Here,
+    here: &JobContext,
     entry: &Command,
     next: &GlobalState,
     table: &Table<Cell, Ticket>,
@@ -47,8 +47,8 @@ fn first_ended(
 }
 
 /// The slots set apart for others on the cells that end with the entry are free again.
-fn frees<D: Disk>(
-    here: &Here,
+fn free<D: Disk>(
+    here: &JobContext,
     entry: &Command,
     next: &GlobalState,
     apart: &mut Table<Cell, Ticket>,
@@ -68,25 +68,25 @@ fn frees<D: Disk>(
 /// What others asked of this server on the cells that end with the entry is dropped with all that is remembered of copies there,
 /// and the slots set apart for others are free; what is known of fills is dropped with their map. The state is that before the
 /// entry, which makes the next one. It takes no memory.
-fn crosses<D: Disk>(
-    here: &Here,
+fn cross<D: Disk>(
+    here: &JobContext,
     entry: &Command,
     next: &GlobalState,
-    side: &mut Side,
+    side: &mut PairMemory,
     store: &mut Store<D>,
 )
     requires tickets { HasTicketsAt side.old store.old }
     requires next { next.now ≡ after here.now.state entry.now }
     ensures { IsCrossed here.now.state entry.now side.old side.new store.old store.new }
 {
-    frees(here, entry, next, &mut side.apart, store);
-    drops_cells(here, entry, next, &mut side.last);
-    side.copies.crosses(here, entry, next);
+    free(here, entry, next, &mut side.apart, store);
+    drop_cells(here, entry, next, &mut side.last);
+    side.copies.cross(here, entry, next);
     side.filled.keep_live(next);
 }
 
 /// Whether the entry is this incarnation's own Join with an empty store.
-fn is_blank_join(here: &Here, entry: &Command) -> bool
+fn is_blank_join(here: &JobContext, entry: &Command) -> bool
     ensures { result ≡ rules.is_blank_join entry.now here.now.me here.now.inc }
 {
     match entry {
@@ -98,7 +98,7 @@ fn is_blank_join(here: &Here, entry: &Command) -> bool
 }
 
 /// Whether the store is to wait for nobody any more by the entry, and its journal has no room for that.
-pub fn lacks_room<D: Disk>(here: &Here, entry: &Command, store: &Store<D>) -> bool
+pub fn lacks_room<D: Disk>(here: &JobContext, entry: &Command, store: &Store<D>) -> bool
     ensures { result ≡ lacks_room here.now.me here.now.inc (Some entry.now) store.now }
 {
     is_blank_join(here, entry) && store.fresh() && store.is_full()
@@ -110,11 +110,11 @@ pub fn lacks_room<D: Disk>(here: &Here, entry: &Command, store: &Store<D>) -> bo
 ///
 /// # Errors
 /// `Failed`, where the device failed.
-pub fn enters<D: Disk>(
-    here: &Here,
+pub fn enter_all<D: Disk>(
+    here: &JobContext,
     entry: &Command,
     next: &GlobalState,
-    side: &mut Side,
+    side: &mut PairMemory,
     store: &mut Store<D>,
 ) -> Result<(), WorkError>
     requires tickets { HasTicketsAt side.old store.old }
@@ -122,7 +122,7 @@ pub fn enters<D: Disk>(
     requires room { lacks_room here.now.me here.now.inc (Some entry.now) store.old ≡ false }
     ensures { IsEntered D.Disk here.now (Some entry.now) side.old side.new store.old store.new result }
 {
-    crosses(here, entry, next, side, store);
+    cross(here, entry, next, side, store);
     if !is_blank_join(here, entry) {
         return Ok(());
     }
@@ -134,7 +134,7 @@ pub fn enters<D: Disk>(
 
 fn stages(
     alloc: Global,
-    here: &Here,
+    here: &JobContext,
     entry: &Command,
     locks: &PairLock,
 ) -> Result<Vec<Job>, AllocError>
@@ -149,8 +149,8 @@ fn stages(
 }
 
 /// Whether the server has something to mend of the link, as this state has it.
-fn is_mended(state: &GlobalState, me: ServerId, row: &LinkRow) -> bool
-    ensures { result ≡ rules.is_mended state.now me row.now row.now.state }
+fn is_repaired(state: &GlobalState, me: ServerId, row: &LinkRow) -> bool
+    ensures { result ≡ rules.is_repaired state.now me row.now row.now.state }
 {
     match row.state {
         LinkState::Both => has_server(me, row),
@@ -159,19 +159,19 @@ fn is_mended(state: &GlobalState, me: ServerId, row: &LinkRow) -> bool
     }
 }
 
-fn mends(
+fn jobs_to_repair(
     alloc: Global,
-    here: &Here,
+    here: &JobContext,
     entry: &Command,
     next: &GlobalState,
 ) -> Result<Vec<Job>, AllocError>
-    ensures { IfOk result (λ jobs. jobs.items ≡ map (λ row. job.Mend (id_of row))
-        (filter (λ row. touches here.now.state entry.now row && rules.is_mended next.now here.now.me row row.state) next.now.links)) }
+    ensures { IfOk result (λ jobs. jobs.items ≡ map (λ row. job.Repair (id_of row))
+        (filter (λ row. touches here.now.state entry.now row && rules.is_repaired next.now here.now.me row row.state) next.now.links)) }
 {
     next.links()
         .iter()
-        .filter(|row| { here.state().touches(entry, row) && is_mended(next, here.me(), row) })
-        .map(|row| Job::Mend(link_id(row)))
+        .filter(|row| { here.state().touches(entry, row) && is_repaired(next, here.me(), row) })
+        .map(|row| Job::Repair(link_id(row)))
         .collect(alloc)
 }
 
@@ -181,9 +181,9 @@ fn mends(
 /// # Errors
 /// Out of memory.
 pub fn entry_jobs(
-    here: &Here,
+    here: &JobContext,
     entry: &Command,
-    side: &Side,
+    side: &PairMemory,
     next: &GlobalState,
 ) -> Result<Vec<Job>, NoMemory>
     requires { next.now ≡ after here.now.state entry.now }
@@ -191,7 +191,7 @@ pub fn entry_jobs(
         (record { pairs = pairs_of side.now; copies = side.now.copies; filled = side.now.filled; store = store })) }
 {
     let mut jobs = stages(here.alloc(), here, entry, &side.locks)?;
-    let mut links = mends(here.alloc(), here, entry, next)?;
+    let mut links = jobs_to_repair(here.alloc(), here, entry, next)?;
     jobs.append(&mut links)?;
     Ok(jobs)
 }

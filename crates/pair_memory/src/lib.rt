@@ -8,10 +8,10 @@
 
 mod copies;
 mod crossing;
-mod done;
+mod job_result;
 mod ends;
 mod error;
-mod here;
+mod job_context;
 mod links;
 mod replies;
 mod sending;
@@ -19,13 +19,13 @@ mod side;
 mod slots;
 
 pub use copies::Copies;
-pub use crossing::{enters, entry_jobs, lacks_room};
-pub use done::{Done, FollowUp, only};
+pub use crossing::{enter_all, entry_jobs, lacks_room};
+pub use job_result::{JobResult, FollowUp, only};
 pub use error::WorkError;
-pub use here::Here;
+pub use job_context::JobContext;
 pub use kept_chains::{Store, next_marked, next_stored};
 pub use links::link_id;
-pub use replies::{ended, finishes, says, says_to, silent};
+pub use replies::{ended, finish, say, say_to, silent};
 pub use sending::with_letter;
-pub use side::Side;
+pub use side::PairMemory;
 pub use slots::{give_back, keep, put_new, spend};

@@ -8,7 +8,7 @@ ghost use Rattle.spec_rules.specs.State.{id_of, link_cmp, link_named};
 ghost use Rattle.pair_memory.specs.Copies.{id_of_key, key_of};
 ghost use Rattle.pair_memory.specs.Ended.{link_ends};
 
-use crate::here::Here;
+use crate::job_context::JobContext;
 use global_state::{GlobalState, LinkRow};
 use petal_base::{MapId, NoMemory};
 use petal_command::Command;
@@ -60,7 +60,7 @@ pub fn link_id(row: &LinkRow) -> LinkId
 }
 
 /// Whether what is kept of the link ends with the entry, which makes this next state.
-fn ends(here: &Here, entry: &Command, next: &GlobalState, key: LinkKey) -> bool
+fn end(here: &JobContext, entry: &Command, next: &GlobalState, key: LinkKey) -> bool
     ensures { result ≡ link_ends here.now.state next.now entry.now (id_of_key key) }
 {
     here.touches_link(entry, key.map, key.link) || next.link_row(key.map, key.link).is_none()
@@ -112,10 +112,10 @@ impl<X: Copy + Drop> LinkTable<X> {
     }
 
     /// Nothing stands from now on at the links of which nothing is kept after the entry, which makes this next state.
-    pub fn drop_ended(&mut self, here: &Here, entry: &Command, next: &GlobalState)
+    pub fn drop_ended(&mut self, here: &JobContext, entry: &Command, next: &GlobalState)
         ensures { self.new ≡ filter (λ row. not (link_ends here.now.state next.now entry.now row.0)) self.old }
     {
-        self.rows.retain(|key, _| !ends(here, entry, next, *key));
+        self.rows.retain(|key, _| !end(here, entry, next, *key));
     }
 
     /// Only what stands at links of this state's live maps stays.

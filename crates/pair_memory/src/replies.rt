@@ -3,20 +3,20 @@
 ghost use Rattle.std.specs.Prelude.{◌≡◌};
 ghost use Rattle.spec_rules.specs.Server as rules;
 ghost use Rattle.spec_rules.specs.Writes as writes;
-ghost use Rattle.pair_memory.specs.Side.{own_of, HasTicketsAt};
-ghost use Rattle.pair_memory.specs.Done.{IsSaid};
+ghost use Rattle.pair_memory.specs.PairMemory.{own_of, HasTicketsAt};
+ghost use Rattle.pair_memory.specs.JobResult.{IsSaid};
 
-use crate::done::{Done, only};
+use crate::job_result::{JobResult, only};
 use crate::error::WorkError;
-use crate::here::Here;
-use crate::side::Side;
+use crate::job_context::JobContext;
+use crate::side::PairMemory;
 use kept_chains::Store;
 use petal_base::{ClientId, Seq, Sequence, ServerId};
 use petal_disk::Disk;
 use petal_msg::{Actor, Body, Ending, Finished};
 
 /// Nothing is sent.
-pub fn silent<D: Disk>(here: &Here, side: &Side, store: &Store<D>) -> Result<Done, WorkError>
+pub fn silent<D: Disk>(here: &JobContext, side: &PairMemory, store: &Store<D>) -> Result<JobResult, WorkError>
     requires { HasTicketsAt side.now store.now }
     ensures { IsSaid here.now side.now side.now store.now store.now result (rules.silent (own_of side.now store.now)) }
 {
@@ -24,31 +24,31 @@ pub fn silent<D: Disk>(here: &Here, side: &Side, store: &Store<D>) -> Result<Don
 }
 
 /// One letter is sent.
-pub fn says<D: Disk>(
-    here: &Here,
-    side: &Side,
+pub fn say<D: Disk>(
+    here: &JobContext,
+    side: &PairMemory,
     store: &Store<D>,
     to: Actor,
     body: Body,
-) -> Result<Done, WorkError>
+) -> Result<JobResult, WorkError>
     requires { HasTicketsAt side.now store.now }
     ensures { IsSaid here.now side.now side.now store.now store.now result (rules.says (own_of side.now store.now) to body) }
 {
-    Ok(only(here.says(to, body)?))
+    Ok(only(here.say(to, body)?))
 }
 
 /// One letter is sent to a server, where there is one.
-pub fn says_to<D: Disk>(
-    here: &Here,
-    side: &Side,
+pub fn say_to<D: Disk>(
+    here: &JobContext,
+    side: &PairMemory,
     store: &Store<D>,
     to: Option<ServerId>,
     body: Body,
-) -> Result<Done, WorkError>
+) -> Result<JobResult, WorkError>
     requires { HasTicketsAt side.now store.now }
     ensures { IsSaid here.now side.now side.now store.now store.now result (rules.says_to (own_of side.now store.now) to body) }
 {
-    Ok(only(here.says_to(to, body)?))
+    Ok(only(here.say_to(to, body)?))
 }
 
 /// The reply that ended a request.
@@ -62,18 +62,18 @@ pub fn ended(seq: Seq, ending: Ending) -> Body
 }
 
 /// A client's request is done with, which is remembered, and its client is told.
-pub fn finishes<D: Disk>(
-    here: &Here,
-    side: &mut Side,
+pub fn finish<D: Disk>(
+    here: &JobContext,
+    side: &mut PairMemory,
     store: &Store<D>,
     client: ClientId,
     seq: Seq,
     ending: Ending,
-) -> Result<Done, WorkError>
+) -> Result<JobResult, WorkError>
     requires { HasTicketsAt side.old store.now }
     ensures { IsSaid here.now side.old side.new store.now store.now result (writes.finishes (own_of side.old store.now) client seq ending) }
 {
-    let letters = here.says(Actor::Client(client), ended(seq, ending))?;
+    let letters = here.say(Actor::Client(client), ended(seq, ending))?;
     side.finished.put(client, Finished { seq, ending })?;
     Ok(only(letters))
 }

@@ -4,13 +4,13 @@ ghost use Rattle.std.specs.Prelude.{◌≡◌, ◌+◌, ◌++◌, length, IfOk};
 ghost use Rattle.spec_rules.specs.Server.{letters_of, sender};
 ghost use Rattle.pair_memory.specs.Letters.{posts_of};
 
-use crate::here::Here;
+use crate::job_context::JobContext;
 use petal_base::{NoMemory, Sequence, ServerId};
 use petal_msg::{Actor, Body, Letter};
 
 /// The letters of the step so far with one letter more, if any, and the number of the next letter.
 pub fn with_letter(
-    here: &Here,
+    here: &JobContext,
     mut letters: Sequence<Letter>,
     nth: u32,
     found: Option<(ServerId, Body)>,

@@ -6,7 +6,7 @@ ghost use Rattle.std.specs.Map.{keys_of};
 ghost use Rattle.std.specs.Ordering.{nat_cmp};
 ghost use Rattle.petal_table.specs.Table.{at};
 ghost use Rattle.spec_rules.specs.Store.{cell_cmp};
-ghost use Rattle.pair_memory.specs.Side.{new_side};
+ghost use Rattle.pair_memory.specs.PairMemory.{new_side};
 
 use crate::copies::Copies;
 use crate::links::LinkTable;
@@ -22,7 +22,7 @@ use std::marker::Model;
 /// client, the last operation that it followed on each cell, what it remembers of copies, the last key of each link that the new
 /// map is known to have, and the tickets for the slots set apart, for operations of its own and for the leads of cells.
 #[derive(Drop)]
-pub struct Side {
+pub struct PairMemory {
     pub next: Op,
     pub locks: PairLock,
     pub finished: Table<ClientId, Finished>,
@@ -33,10 +33,10 @@ pub struct Side {
     pub apart: Table<Cell, Ticket>,
 }
 
-impl Model for Side {
-    ghost use Rattle.pair_memory.specs.Side as sides;
+impl Model for PairMemory {
+    ghost use Rattle.pair_memory.specs.PairMemory as sides;
 
-    ghost Value = { sides.Side };
+    ghost Value = { sides.PairMemory };
 
     ghost view = { λ s. record {
       next = s.next;
@@ -50,12 +50,12 @@ impl Model for Side {
     } };
 }
 
-impl Side {
+impl PairMemory {
     /// Nothing was done yet. It takes no memory.
-    pub fn new(alloc: Global) -> Side
+    pub fn new(alloc: Global) -> PairMemory
         ensures { result ≡ new_side }
     {
-        Side {
+        PairMemory {
             next: 1,
             locks: PairLock::new(alloc),
             finished: Table::new(alloc),

@@ -11,7 +11,7 @@ ghost use Rattle.kept_chains.specs.Kept.{store_of};
 ghost use Rattle.kept_chains.specs.Marking.{IsChange};
 ghost use Rattle.kept_chains.specs.Standing.{StandsAsEither};
 ghost use Rattle.pair_memory.specs.declared.error.WorkError.TheVariants as error;
-ghost use Rattle.pair_memory.specs.Done.{HasFault, HoldsAt};
+ghost use Rattle.pair_memory.specs.JobResult.{HasFault, HoldsAt};
 ghost use Rattle.pair_memory.specs.Slots.{IsKept, IsStop, IsOutAt, with_new};
 ghost use Rattle.petal_base.specs.Limits.{journal_records};
 

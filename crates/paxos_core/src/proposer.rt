@@ -183,7 +183,7 @@ fn collect(
     let accept = Pax::Accept {
         place,
         ballot,
-        command: command.again(),
+        command: command.copy(),
     };
     let phase = Phase::Voting {
         place,
@@ -209,7 +209,7 @@ fn count(
     let said = if !has_majority(servers, &before) && has_majority(servers, &heard) {
         Heard::Chosen {
             place,
-            command: command.again(),
+            command: command.copy(),
         }
     } else {
         Heard::Nothing
@@ -270,7 +270,7 @@ fn higher(
     }
     match accepted {
         None => None,
-        Some((ballot, command)) => Some((*ballot, command.again())),
+        Some((ballot, command)) => Some((*ballot, command.copy())),
     }
 }
 

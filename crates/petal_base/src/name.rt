@@ -53,7 +53,7 @@ impl Name {
     }
 
     /// The same name again. It takes no memory.
-    pub fn again(&self) -> Name
+    pub fn copy(&self) -> Name
         ensures { result ≡ self.now }
     {
         Name {
@@ -110,6 +110,6 @@ impl Clone for Name {
     ghost is_clone = { λ x y. y ≡ x };
 
     fn clone(&self) -> Result<Self, AllocError> {
-        Ok(self.again())
+        Ok(self.copy())
     }
 }

@@ -54,7 +54,7 @@ impl Tuple {
     }
 
     /// The same tuple again. It takes no memory.
-    pub fn again(&self) -> Tuple
+    pub fn copy(&self) -> Tuple
         ensures { result ≡ self.now }
     {
         Tuple {
@@ -111,6 +111,6 @@ impl Clone for Tuple {
     ghost is_clone = { λ x y. y ≡ x };
 
     fn clone(&self) -> Result<Self, AllocError> {
-        Ok(self.again())
+        Ok(self.copy())
     }
 }

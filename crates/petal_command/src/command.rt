@@ -75,7 +75,7 @@ impl Command {
     ghost use Rattle.std.specs.Prelude.{◌≡◌};
 
     /// The same command again. It takes no memory.
-    pub fn again(&self) -> Command
+    pub fn copy(&self) -> Command
         ensures { result ≡ self.now }
     {
         match self {
@@ -111,8 +111,8 @@ impl Command {
             } => Command::MakeDisk {
                 client: *client,
                 seq: *seq,
-                name: name.again(),
-                tuple: tuple.again(),
+                name: name.copy(),
+                tuple: tuple.copy(),
             },
             Command::Snap {
                 client,
@@ -122,8 +122,8 @@ impl Command {
             } => Command::Snap {
                 client: *client,
                 seq: *seq,
-                disk: disk.again(),
-                name: name.again(),
+                disk: disk.copy(),
+                name: name.copy(),
             },
             Command::StartMove {
                 client,
@@ -133,8 +133,8 @@ impl Command {
             } => Command::StartMove {
                 client: *client,
                 seq: *seq,
-                disk: disk.again(),
-                tuple: tuple.again(),
+                disk: disk.copy(),
+                tuple: tuple.copy(),
             },
             Command::Drained { server, inc, fence } => Command::Drained {
                 server: *server,
@@ -161,6 +161,6 @@ impl Clone for Command {
     ghost is_clone = { λ x y. y ≡ x };
 
     fn clone(&self) -> Result<Self, AllocError> {
-        Ok(self.again())
+        Ok(self.copy())
     }
 }

@@ -47,7 +47,7 @@ impl Pax {
     ghost use Rattle.std.specs.Prelude.{◌≡◌};
 
     /// The same body again. It takes no memory.
-    pub fn again(&self) -> Pax
+    pub fn copy(&self) -> Pax
         ensures { result ≡ self.now }
     {
         match self {
@@ -64,7 +64,7 @@ impl Pax {
                 ballot: *ballot,
                 accepted: match accepted {
                     None => None,
-                    Some((before, command)) => Some((*before, command.again())),
+                    Some((before, command)) => Some((*before, command.copy())),
                 },
             },
             Pax::Accept {
@@ -74,7 +74,7 @@ impl Pax {
             } => Pax::Accept {
                 place: *place,
                 ballot: *ballot,
-                command: command.again(),
+                command: command.copy(),
             },
             Pax::Accepted { place, ballot } => Pax::Accepted {
                 place: *place,
@@ -91,7 +91,7 @@ impl Pax {
             },
             Pax::Chosen { place, command } => Pax::Chosen {
                 place: *place,
-                command: command.again(),
+                command: command.copy(),
             },
         }
     }
@@ -103,6 +103,6 @@ impl Clone for Pax {
     ghost is_clone = { λ x y. y ≡ x };
 
     fn clone(&self) -> Result<Self, AllocError> {
-        Ok(self.again())
+        Ok(self.copy())
     }
 }

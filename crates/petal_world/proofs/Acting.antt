@@ -7,7 +7,7 @@ use Rattle.petal_msg.specs.declared.letter.Actor.TheVariants as actor
 use Rattle.spec_rules.specs.World.{Setting, World, MayStep, step, clock_of}
 use Rattle.spec_rules.specs.declared.step.Step.{Step}
 use Rattle.petal_world.specs.declared.seat.Seat.{Seat}
-use Rattle.petal_world.specs.declared.stepped.Stepped.{Stepped}
+use Rattle.petal_world.specs.declared.step_result.StepResult.{StepResult}
 use Rattle.server_host.specs.Desks.{Desk, Equipped, LeavesPlansAt, desk_of, end_in, ended}
 use Rattle.server_host.proofs.Plans.{get_equipped}
 use Rattle.server_host.specs.declared.step_end.StepEnd.{StepEnd}
@@ -38,20 +38,20 @@ module _ (setting : Setting) (w : World) (actors : Actors) (who : Actor) (what :
 -- ### Steps
 
 -- a server took the step
-abbrev ServedAt : Actors → ℕ → Step → ℕ → Actors → Stepped → Type 0
+abbrev ServedAt : Actors → ℕ → Step → ℕ → Actors → StepResult → Type 0
 ServedAt actors n what stamp new told = (own : Equipped) → slice_get actors.desks n ≡ Some own
     → (told ≡ record { letters = server_letters own.desk what stamp; answer = None; end = end_in what }) × IsServed actors n own.desk what stamp new
 
 -- the step with the end that is told
-abbrev ServedSo : Actors → ℕ → Step → ℕ → Actors → Stepped → Type 0
+abbrev ServedSo : Actors → ℕ → Step → ℕ → Actors → StepResult → Type 0
 ServedSo actors n what stamp new told = ServedAt actors n (ended what told.end) stamp new told
 
-abbrev ReactedSo : Actors → ℕ → Step → ℕ → Actors → Stepped → Type 0
+abbrev ReactedSo : Actors → ℕ → Step → ℕ → Actors → StepResult → Type 0
 ReactedSo actors c what stamp new told = (seat : Seat) → slice_get actors.seats c ≡ Some seat
     → (told ≡ record { letters = client_letters seat what stamp; answer = (reacted_at seat what).1.answer; end = Done })
     × (new ≡ with_client actors c seat what stamp)
 
-module _ (setting : Setting) (w : World) (actors : Actors) (h : Shows setting w actors) (what : Step) (stamp : ℕ) (new : Actors) (told : Stepped) where
+module _ (setting : Setting) (w : World) (actors : Actors) (h : Shows setting w actors) (what : Step) (stamp : ℕ) (new : Actors) (told : StepResult) where
   serves_so : (n : ℕ) → MayStep setting w (actor.Server n) what → clock_of w (actor.Server n) < stamp
       → ServedAt actors n what stamp new told → Leaves setting w (actor.Server n) what stamp new told
   serves_so n may less told_so =
@@ -97,19 +97,19 @@ module _ (setting : Setting) (w : World) (actors : Actors) (h : Shows setting w 
       subst (λ (a : Actor). MayStep setting w a (ended what end) → clock_of w a < stamp → Leaves setting w a (ended what end) stamp new told) (sym is)
       (λ may less. reacts_at c end told_so may less)
 
-pub serves_ok : {E : Type 0} (r : Result Stepped E) (actors : Actors) (who : Actor) (n : ℕ) (what : Step) (stamp : ℕ) (new : Actors) → who ≡ actor.Server n
+pub serves_ok : {E : Type 0} (r : Result StepResult E) (actors : Actors) (who : Actor) (n : ℕ) (what : Step) (stamp : ℕ) (new : Actors) → who ≡ actor.Server n
     → IfOk r (ServedSo actors n what stamp new) → IfOk r (λ told. LeavesIn actors who (ended what told.end) stamp new told)
 serves_ok r actors who n what stamp new is =
     IfOk-weaker r (ServedSo actors n what stamp new) (λ told. LeavesIn actors who (ended what told.end) stamp new told)
     (λ told so setting w h may less. serves setting w actors h (ended what told.end) stamp new told who n is so may less)
 
-pub reacts_ok : {E : Type 0} (r : Result Stepped E) (actors : Actors) (who : Actor) (c : ℕ) (what : Step) (stamp : ℕ) (new : Actors) → who ≡ actor.Client c
+pub reacts_ok : {E : Type 0} (r : Result StepResult E) (actors : Actors) (who : Actor) (c : ℕ) (what : Step) (stamp : ℕ) (new : Actors) → who ≡ actor.Client c
     → IfOk r (ReactedSo actors c what stamp new) → IfOk r (λ told. LeavesIn actors who (ended what told.end) stamp new told)
 reacts_ok r actors who c what stamp new is =
     IfOk-weaker r (ReactedSo actors c what stamp new) (λ told. LeavesIn actors who (ended what told.end) stamp new told)
     (λ told so setting w h may less. reacts setting w actors h what stamp new told who c told.end is so may less)
 
-pub plans_of_server : {E : Type 0} (r : Result Stepped E) (actors : Actors) (who : Actor) (n : ℕ) (what : Step) (new : Actors) → who ≡ actor.Server n
+pub plans_of_server : {E : Type 0} (r : Result StepResult E) (actors : Actors) (who : Actor) (n : ℕ) (what : Step) (new : Actors) → who ≡ actor.Server n
     → IfOk r (λ told. LeavesPlansAt n (ended what told.end) actors.desks new.desks)
     → IfOk r (λ told. LeavesPlansBy who (ended what told.end) actors.desks new.desks)
 plans_of_server r actors who n what new is =
@@ -117,7 +117,7 @@ plans_of_server r actors who n what new is =
     (λ told. LeavesPlansBy who (ended what told.end) actors.desks new.desks)
     (λ told so. subst (λ (a : Actor). LeavesPlansBy a (ended what told.end) actors.desks new.desks) (sym is) so)
 
-pub plans_of_client : {E : Type 0} (r : Result Stepped E) (actors : Actors) (who : Actor) (c : ℕ) (what : Step) (new : Actors) → who ≡ actor.Client c
+pub plans_of_client : {E : Type 0} (r : Result StepResult E) (actors : Actors) (who : Actor) (c : ℕ) (what : Step) (new : Actors) → who ≡ actor.Client c
     → IfOk r (λ told. new.desks ≡ actors.desks) → IfOk r (λ told. LeavesPlansBy who (ended what told.end) actors.desks new.desks)
 plans_of_client r actors who c what new is =
     IfOk-weaker r (λ told. new.desks ≡ actors.desks) (λ told. LeavesPlansBy who (ended what told.end) actors.desks new.desks)

@@ -6,7 +6,7 @@ use Rattle.petal_msg.specs.declared.letter.Actor.TheVariants as actor
 use Rattle.script_lines.specs.declared.request.Line.{Line}
 use Rattle.spec_rules.specs.World.{Setting, World, MayCall, MayClient, MayServer, MayStep, received, greatest_u64}
 use Rattle.spec_rules.specs.declared.step.Step.{Step}
-use Rattle.client_core.specs.Core as client
+use Rattle.client_core.specs.ClientView as client
 use Rattle.petal_world.specs.declared.seat.Seat.{Seat}
 use Rattle.server_host.specs.Desks.{Desk, Equipped, desk_of}
 use Rattle.server_host.proofs.Plans.{get_bare, none_bare}

@@ -11,7 +11,7 @@ use Rattle.server_host.specs.Desks.{Desk, desk_of}
 use Rattle.server_host.proofs.Left.{left_life, left_runs}
 use Rattle.spec_rules.specs.Jobs.{operator}
 use Rattle.spec_rules.proofs.Tests.{none_some, number_itself, same_numbers, same_some, true_false}
-use Rattle.client_core.specs.Core.{ordered}
+use Rattle.client_core.specs.ClientView.{ordered}
 use Rattle.client_core.specs.Orders.{order_in, order_of}
 use Rattle.client_core.specs.declared.order.Order.{Order}
 use Rattle.client_core.specs.declared.order.Order.TheVariants.{Arm, Stop, Start, Blank}

@@ -17,9 +17,9 @@ use Rattle.spec_history.specs.Failures.{UsesAt, UsesWhere}
 use Rattle.spec_history.specs.Legal.{IsLegal}
 use Rattle.spec_history.specs.Steps.{Follows, InPhase, CallsInPhase, world_after, stepped}
 use Rattle.spec_history.specs.declared.record.Record.{Record}
-use Rattle.client_core.specs.Core.{is_spent}
+use Rattle.client_core.specs.ClientView.{is_spent}
 use Rattle.petal_world.specs.declared.seat.Seat.{Seat}
-use Rattle.petal_world.specs.declared.stepped.Stepped.{Stepped}
+use Rattle.petal_world.specs.declared.step_result.StepResult.{StepResult}
 use Rattle.server_host.specs.Desks.{Equipped, LeavesPlansAt, desk_of, ended}
 use Rattle.server_host.specs.declared.step_end.StepEnd.{StepEnd}
 use Rattle.petal_world.specs.Play.{ArePlanned, Play, IsKept, errand_in, world_of, record_of, played, told_by}
@@ -160,7 +160,7 @@ module _ (play : Play) (actors new : Actors) (who : Actor) (what : Step) (own : 
 
 -- ### What is kept
 
-module _ (play : Play) (actors new : Actors) (who : Actor) (what : Step) (stamp phase : ℕ) (told : Stepped) (errand next : Errand)
+module _ (play : Play) (actors new : Actors) (who : Actor) (what : Step) (stamp phase : ℕ) (told : StepResult) (errand next : Errand)
     (h : IsKept play actors errand) (going : play.over ≡ false) (may : MayStep (setting_of play.script) (world_of play) who what)
     (obeys : play.free ≡ false → Obeys who what (world_of play) (errand_in play))
     (at : stamp ≡ stamp_of play.floor (world_of play) who what) (during : phase ≡ phase_for what who (setting_of play.script) (world_of play) play.phase)
@@ -207,7 +207,7 @@ module _ (play : Play) (actors : Actors) (errand : Errand) (who : Actor) (what :
   can_so = can (setting_of play.script) (world_of play) actors who what (h.shows going) may
 
   -- with the end that its job had
-  module _ (new : Actors) (end : StepEnd) (stamp phase : ℕ) (told : Stepped) (next : Errand)
+  module _ (new : Actors) (end : StepEnd) (stamp phase : ℕ) (told : StepResult) (next : Errand)
       (at : (setting : Setting) (w : World) → Shows setting w actors → MayStep setting w who what → stamp ≡ stamp_of play.floor w who what)
       (during : (setting : Setting) (w : World) → Shows setting w actors → MayStep setting w who what → phase ≡ phase_for what who setting w play.phase)
       (left : LeavesIn actors who (ended what end) stamp new told) (plans : LeavesPlansBy who (ended what end) actors.desks new.desks)

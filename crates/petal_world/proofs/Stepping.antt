@@ -11,14 +11,14 @@ use Rattle.script_lines.specs.declared.request.Line.{Line}
 use Rattle.spec_rules.specs.Lists.{In, put_at}
 use Rattle.spec_rules.specs.State.{State, servers_of}
 use Rattle.spec_rules.specs.Log.{LogDone, rev_of, state_in}
-use Rattle.spec_rules.specs.Server.{Done, Here, Post, Sender, Server, letters_of, sender}
+use Rattle.spec_rules.specs.Server.{JobResult, JobContext, Post, Sender, Server, letters_of, sender}
 use Rattle.spec_rules.specs.Ballots.{starts}
 use Rattle.spec_rules.specs.Boots.{awake, boots, raised, stays, wakes}
 use Rattle.spec_rules.specs.Entries.{applies}
 use Rattle.spec_rules.specs.Jobs.{Acted, does, down_posts, entered, faults, glance_sender, glances, here_of, operator, shown, is_log_job}
 use Rattle.spec_rules.specs.Jobs.{is_overfull, job_done, log_does, stops, voter_of, wanted_by, worked, works}
 use Rattle.spec_rules.specs.Clients.{Reaction, client_sender}
-use Rattle.spec_rules.specs.World.{Setting, World, Control, Stepped, MayServer, controls, step, stamped, clock_of, with_answer, client_step}
+use Rattle.spec_rules.specs.World.{Setting, World, Control, StepResult, MayServer, controls, step, stamped, clock_of, with_answer, client_step}
 use Rattle.spec_rules.specs.World.{server_step, next_line, lines_of, client_state, server_state}
 use Rattle.spec_rules.specs.declared.job.Job.{Job}
 use Rattle.spec_rules.specs.declared.job.Job.TheVariants as job
@@ -102,7 +102,7 @@ module _ (setting : Setting) (w : World) (actors : Actors) (h : Shows setting w 
   abbrev seat : Seat
   seat = seat_of setting w c
 
-  abbrev by_client : Stepped
+  abbrev by_client : StepResult
   by_client = step (actor.Client c) what setting w stamp
 
   client_posts : ArePosted (actor.Client c) stamp (client_letters seat what stamp)
@@ -171,12 +171,12 @@ module _ (setting : Setting) (w : World) (actors : Actors) (h : Shows setting w 
 
 -- ### A server's step
 
-by_kind : (b : Bool) (here : Here) (server : Server) (rest : List Job) (log : LogDone) (done : Done) (stamp : ℕ)
+by_kind : (b : Bool) (here : JobContext) (server : Server) (rest : List Job) (log : LogDone) (done : JobResult) (stamp : ℕ)
     → ArePosted (actor.Server here.me) stamp (stamped stamp (if b then entered here server rest log else worked here server rest done).letters)
 by_kind true here server rest log done stamp = record { sender = sender here; posts = log.posts; from = refl; are = refl }
 by_kind false here server rest log done stamp = record { sender = sender here; posts = done.posts; from = refl; are = refl }
 
-done_posts : (first : Job) (here : Here) (server : Server) (rest : List Job) (stamp : ℕ)
+done_posts : (first : Job) (here : JobContext) (server : Server) (rest : List Job) (stamp : ℕ)
     → ArePosted (actor.Server here.me) stamp (stamped stamp (job_done here server first rest).letters)
 done_posts job.Apply here server rest stamp = record { sender = sender here; posts = (applies server.log).posts; from = refl; are = refl }
 done_posts (job.Letter letter) here server rest stamp =
@@ -184,30 +184,30 @@ done_posts (job.Letter letter) here server rest stamp =
     (does here server.own (job.Letter letter)) stamp
 done_posts (job.Stage cell) here server rest stamp =
     by_kind (is_log_job (job.Stage cell)) here server rest (log_does (voter_of here) server.log (job.Stage cell)) (does here server.own (job.Stage cell)) stamp
-done_posts (job.Mend link) here server rest stamp =
-    by_kind (is_log_job (job.Mend link)) here server rest (log_does (voter_of here) server.log (job.Mend link))
-    (does here server.own (job.Mend link)) stamp
+done_posts (job.Repair link) here server rest stamp =
+    by_kind (is_log_job (job.Repair link)) here server rest (log_does (voter_of here) server.log (job.Repair link))
+    (does here server.own (job.Repair link)) stamp
 done_posts job.Sweep here server rest stamp =
     by_kind (is_log_job job.Sweep) here server rest (log_does (voter_of here) server.log job.Sweep) (does here server.own job.Sweep) stamp
 done_posts job.Start here server rest stamp =
     record { sender = sender here; posts = (starts (voter_of here) server.log (wanted_by here server)).posts; from = refl; are = refl }
 
-stop_posts : (here : Here) (server : Server) (stamp : ℕ) → ArePosted (actor.Server here.me) stamp (stamped stamp (stops here server).letters)
+stop_posts : (here : JobContext) (server : Server) (stamp : ℕ) → ArePosted (actor.Server here.me) stamp (stamped stamp (stops here server).letters)
 stop_posts here server stamp = record { sender = record { from = actor.Server here.me; inc = here.inc; rev = 0 }; posts = _; from = refl; are = refl }
 
 -- a full journal stops the server
-room_posts : (full : Bool) (here : Here) (server : Server) (acted : Acted) (stamp : ℕ) → ArePosted (actor.Server here.me) stamp (stamped stamp acted.letters)
+room_posts : (full : Bool) (here : JobContext) (server : Server) (acted : Acted) (stamp : ℕ) → ArePosted (actor.Server here.me) stamp (stamped stamp acted.letters)
     → ArePosted (actor.Server here.me) stamp (stamped stamp (if full then stops here server else acted).letters)
 room_posts true here server acted stamp posted = stop_posts here server stamp
 room_posts false here server acted stamp posted = posted
 
-fault_posts : (end : CommitEnd) (here : Here) (server : Server) (queue : List Job) (stamp : ℕ)
+fault_posts : (end : CommitEnd) (here : JobContext) (server : Server) (queue : List Job) (stamp : ℕ)
     → ArePosted (actor.Server here.me) stamp (stamped stamp (faults here server queue end).letters)
 fault_posts Before here server queue stamp = stop_posts here server stamp
 fault_posts After here server queue stamp = stop_posts here (works here server queue).server stamp
 
 -- a server that boots tells of the incarnation before, where its journal has room
-woken_posts : (full : Bool) (here : Here) (server : Server) (stamp : ℕ)
+woken_posts : (full : Bool) (here : JobContext) (server : Server) (stamp : ℕ)
     → ArePosted (actor.Server here.me) stamp (stamped stamp (if full then stays server else wakes here (awake (raised server))).letters)
 woken_posts true here server stamp = record { sender = sender here; posts = []; from = refl; are = refl }
 woken_posts false here server stamp = record {
@@ -217,18 +217,18 @@ woken_posts false here server stamp = record {
   are = refl;
 }
 
-boot_posts : (end : WorkEnd) (here : Here) (server : Server) (stamp : ℕ)
+boot_posts : (end : WorkEnd) (here : JobContext) (server : Server) (stamp : ℕ)
     → ArePosted (actor.Server here.me) stamp (stamped stamp (boots here server end).letters)
 boot_posts work_end.Done here server stamp = woken_posts (is_overfull (raised server)) here server stamp
 boot_posts (work_end.Fault Before) here server stamp = record { sender = sender here; posts = []; from = refl; are = refl }
 boot_posts (work_end.Fault After) here server stamp = record { sender = sender here; posts = []; from = refl; are = refl }
 
-glance_from : (running : Bool) (here : Here)
+glance_from : (running : Bool) (here : JobContext)
     → (if running then sender here else record { from = actor.Server here.me; inc = 0; rev = 0 }).from ≡ actor.Server here.me
 glance_from true here = refl
 glance_from false here = refl
 
-glance_posts : (line round : ℕ) (here : Here) (server : Server) (stamp : ℕ)
+glance_posts : (line round : ℕ) (here : JobContext) (server : Server) (stamp : ℕ)
     → ArePosted (actor.Server here.me) stamp (stamped stamp (glances here line round server).letters)
 glance_posts line round here server stamp = record {
   sender = glance_sender here server;
@@ -260,7 +260,7 @@ module _ (setting : Setting) (w : World) (actors : Actors) (h : Shows setting w 
   abbrev desk : Desk
   desk = desk_of setting w n
 
-  abbrev by_server : Stepped
+  abbrev by_server : StepResult
   by_server = step (actor.Server n) what setting w stamp
 
   abbrev acts_so : Acted

@@ -12,7 +12,7 @@ use Rattle.spec_history.specs.Failures.{ComeTo}
 use Rattle.spec_history.specs.Legal.{ObeyScript}
 use Rattle.spec_history.specs.Steps.{AreSteps, world_after}
 use Rattle.spec_history.specs.declared.record.Record.{Record}
-use Rattle.petal_world.specs.declared.stepped.Stepped.{Stepped}
+use Rattle.petal_world.specs.declared.step_result.StepResult.{StepResult}
 use Rattle.server_host.specs.Desks.{Equipped, end_in}
 use Rattle.server_host.specs.Playable.{AreOrdered}
 use Rattle.petal_world.specs.Actors.{Actors, Shows}
@@ -50,7 +50,7 @@ abbrev pub entered : Play → ℕ → Play
 entered play phase = record play { phase = phase; floor = above_all (world_of play) }
 
 -- what a step does to the world after the records
-abbrev pub done_by : Play → Actor → Step → rules.Stepped
+abbrev pub done_by : Play → Actor → Step → rules.StepResult
 done_by play who what = step who what (setting_of play.script) (world_of play) (stamp_of play.floor (world_of play) who what)
 
 -- the record of a step
@@ -69,7 +69,7 @@ abbrev pub played : Play → Actor → Step → Play
 played play who what = record play { records = play.records ++ record_of play who what ∷ [] }
 
 -- what the step tells: the letters that it sent, the answer that it gave, and how its job ended
-abbrev pub told_by : Play → Actor → Step → Stepped
+abbrev pub told_by : Play → Actor → Step → StepResult
 told_by play who what = record { letters = (done_by play who what).letters; answer = (done_by play who what).answer; end = end_in what }
 
 -- a server's devices have at most the plans that the records leave

@@ -8,7 +8,7 @@ use Rattle.spec_rules.specs.Clients.{Client}
 use Rattle.spec_rules.specs.World.{Setting, World, client_step, lines_of}
 use Rattle.spec_rules.specs.declared.step.Step.{Step}
 use Rattle.spec_rules.specs.declared.step.Step.TheVariants.{Call}
-use Rattle.client_core.specs.Core.{Core, at_core, state_of}
+use Rattle.client_core.specs.ClientView.{ClientView, at_core, state_of}
 use Rattle.client_core.specs.declared.reaction.Reaction.{Reaction}
 use Rattle.petal_world.specs.declared.seat.Seat.{Seat}
 
@@ -18,7 +18,7 @@ CanTake (Call line) client = client.asked ≡ None
 CanTake _ client = Unit {0}
 
 -- the rule of a step, at this client: the core after it, and what it gives
-abbrev pub reacted_at : Seat → Step → Core × Reaction
+abbrev pub reacted_at : Seat → Step → ClientView × Reaction
 reacted_at seat step = at_core seat.core (client_step step (state_of seat.core) seat.core.me seat.core.client (slice_get seat.lines seat.core.client.seq))
 
 -- what a world keeps of one client

@@ -8,8 +8,8 @@ use Rattle.spec_rules.specs.World.{Setting, World, step, next_line, next_stamp, 
 use Rattle.spec_rules.specs.Log as log
 use Rattle.spec_rules.specs.declared.step.Step.{Step}
 use Rattle.spec_rules.specs.declared.step.Step.TheVariants.{Call}
-use Rattle.client_core.specs.Core.{is_spent}
-use Rattle.petal_world.specs.declared.stepped.Stepped.{Stepped}
+use Rattle.client_core.specs.ClientView.{is_spent}
+use Rattle.petal_world.specs.declared.step_result.StepResult.{StepResult}
 use Rattle.server_host.specs.Desks.{end_in}
 use Rattle.petal_world.specs.Seats.{CanTake}
 use Rattle.petal_world.specs.Actors.{Actors, Shows}
@@ -41,12 +41,12 @@ Can actors (actor.Client c) what =
     × IfSome (slice_get actors.seats c) (λ seat. is_spent seat.core.client ≡ false)
 
 -- in every world of which this is kept, a step leaves and tells what the rule says
-abbrev pub Leaves : Setting → World → Actor → Step → ℕ → Actors → Stepped → Type 0
+abbrev pub Leaves : Setting → World → Actor → Step → ℕ → Actors → StepResult → Type 0
 Leaves setting w who what stamp new told =
     Shows setting (step who what setting w stamp).world new
     × (told ≡ record { letters = (step who what setting w stamp).letters; answer = (step who what setting w stamp).answer; end = end_in what })
 
 -- so a step does in every world of which this is kept, where the rules allow it and the stamp is above the actor's last
-abbrev pub LeavesIn : Actors → Actor → Step → ℕ → Actors → Stepped → Type 0
+abbrev pub LeavesIn : Actors → Actor → Step → ℕ → Actors → StepResult → Type 0
 LeavesIn actors who what stamp new told = (setting : Setting) (w : World) → Shows setting w actors → MayStep setting w who what → clock_of w who < stamp
     → Leaves setting w who what stamp new told

@@ -1,7 +1,7 @@
 //! What a world keeps beside its records.
 
 ghost use Rattle.std.specs.Prelude.{◌≡◌, ◌<◌, false, None, Some, length, slice_get, IfOk, IfSome};
-ghost use Rattle.client_core.specs.Core.{is_spent};
+ghost use Rattle.client_core.specs.ClientView.{is_spent};
 ghost use Rattle.server_host.specs.Desks.{Equipped, LeavesPlansAt, end_in, ended};
 ghost use Rattle.server_host.specs.declared.step_end.StepEnd.TheVariants.{Done};
 ghost use Rattle.petal_world.specs.Seats.{CanTake, reacted_at};
@@ -11,7 +11,7 @@ ghost use Rattle.petal_world.specs.declared.seat.Seat.{Seat};
 use crate::blocks::Blocks;
 use crate::control::Control;
 use crate::seats::Seats;
-use crate::stepped::Stepped;
+use crate::step_result::StepResult;
 use petal_base::{ClientId, NoMemory, ServerId, Stamp};
 use server_host::desks::Desks;
 use server_host::sent::Sent;
@@ -49,7 +49,7 @@ impl<H: Host> Actors<H> {
         client: ClientId,
         step: &Step,
         stamp: Stamp,
-    ) -> Result<Stepped, NoMemory>
+    ) -> Result<StepResult, NoMemory>
         requires within { client < length self.old.seats }
         requires can { IfSome (slice_get self.old.seats client) (λ seat. CanTake step.now seat.core.client) }
         requires goes_on { IfSome (slice_get self.old.seats client) (λ seat. is_spent seat.core.client ≡ false) }
@@ -64,7 +64,7 @@ impl<H: Host> Actors<H> {
         if let Some((line, _answer)) = &reaction.answer {
             self.waiting.answered(*line);
         }
-        Ok(Stepped {
+        Ok(StepResult {
             letters,
             answer: reaction.answer,
             end: StepEnd::Done,
@@ -78,7 +78,7 @@ impl<H: Host> Actors<H> {
         server: ServerId,
         step: &Step,
         stamp: Stamp,
-    ) -> Result<Stepped, NoMemory>
+    ) -> Result<StepResult, NoMemory>
         requires { server < length self.old.desks }
         ensures step { IfOk result (λ stepped. (own : Equipped) → slice_get self.old.desks server ≡ Some own
             → (stepped
@@ -91,7 +91,7 @@ impl<H: Host> Actors<H> {
         let letters = stamped(alloc, own, stamp)?;
         self.sent.add_all(letters.as_slice())?;
         self.control.note(server, step);
-        Ok(Stepped {
+        Ok(StepResult {
             letters,
             answer: None,
             end: taken.end,

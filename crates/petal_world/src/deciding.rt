@@ -2,7 +2,7 @@
 
 ghost use Rattle.std.specs.Prelude.{◌≡◌, ◌↔◌, ℕ, false, Some, IsTrue, slice_get};
 ghost use Rattle.petal_msg.specs.declared.letter.Actor.TheVariants as actor;
-ghost use Rattle.client_core.specs.Core.{settle_of};
+ghost use Rattle.client_core.specs.ClientView.{settle_of};
 ghost use Rattle.client_core.specs.declared.order.Order.{Order};
 ghost use Rattle.spec_rules.specs.Jobs.{operator};
 ghost use Rattle.spec_rules.specs.World.{Setting, World, MayAct, MayBlank, MayBoot, MayCall, MayClient, MayGlance, MayReceive};

@@ -14,7 +14,7 @@ mod errand;
 mod error;
 mod seat;
 mod seats;
-mod stepped;
+mod step_result;
 mod taking;
 mod world;
 
@@ -22,5 +22,5 @@ pub use error::WorldError;
 pub use server_host::{Host, StepEnd, are_in_order};
 pub use spec_history::{History, Record};
 pub use spec_rules::{CommitEnd, Step, WorkEnd};
-pub use stepped::Stepped;
+pub use step_result::StepResult;
 pub use world::World;

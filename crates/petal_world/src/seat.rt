@@ -1,7 +1,7 @@
 //! One client of a world.
 
 ghost use Rattle.std.specs.Prelude.{◌≡◌, ◌∷◌, ◌↔◌, [], None, false, slice_get, option_copied, IfOk, IsTrue, OnErr};
-ghost use Rattle.client_core.specs.Core.{at_core, is_spent, state_of};
+ghost use Rattle.client_core.specs.ClientView.{at_core, is_spent, state_of};
 ghost use Rattle.spec_rules.specs.World.{calls};
 ghost use Rattle.petal_world.specs.Seats.{CanTake, HasCalledSettle, reacted_at, settles_as};
 

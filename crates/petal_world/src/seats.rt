@@ -2,7 +2,7 @@
 
 ghost use Rattle.std.specs.Prelude.{◌≡◌, ◌<◌, false, max, map, Some, length, slice_get, slice_set, option_copied, IfOk, IfSome};
 ghost use Rattle.std.specs.List.{fold};
-ghost use Rattle.client_core.specs.Core.{is_spent};
+ghost use Rattle.client_core.specs.ClientView.{is_spent};
 ghost use Rattle.spec_rules.specs.World.{lines_of, setting_of, start};
 ghost use Rattle.petal_world.specs.Seats.{CanTake, reacted_at, seat_of, seats_of};
 ghost use Rattle.petal_world.specs.declared.seat.Seat.{Seat};

@@ -9,7 +9,7 @@ ghost use Rattle.petal_world.specs.Actors.{LeavesPlansBy, Shows};
 
 use crate::actors::Actors;
 use crate::deciding::received;
-use crate::stepped::Stepped;
+use crate::step_result::StepResult;
 use petal_base::{ClientId, NoMemory, Rev, Stamp};
 use petal_msg::Actor;
 use server_host::Host;
@@ -106,7 +106,7 @@ impl<H: Host> Actors<H> {
         actor: Actor,
         step: &Step,
         stamp: Stamp,
-    ) -> Result<Stepped, NoMemory>
+    ) -> Result<StepResult, NoMemory>
         requires { Can self.old actor step.now }
         ensures step { IfOk result (λ stepped. LeavesIn self.old actor (ended step.now stepped.end) stamp self.new stepped) }
         ensures plans { IfOk result (λ stepped. LeavesPlansBy actor (ended step.now stepped.end) self.old.desks self.new.desks) }

@@ -7,7 +7,7 @@ ghost use Rattle.spec_history.specs.Steps.{AreSteps};
 ghost use Rattle.spec_rules.specs.Plans.{unarmed};
 ghost use Rattle.spec_rules.specs.declared.step.Step.{Step};
 ghost use Rattle.petal_world.specs.Errands.{Runs};
-ghost use Rattle.client_core.specs.Core.{settle_of};
+ghost use Rattle.client_core.specs.ClientView.{settle_of};
 ghost use Rattle.spec_rules.specs.Jobs.{operator};
 ghost use Rattle.spec_rules.specs.World.{MayStep, greatest_u64, next_line, setting_of};
 ghost use Rattle.petal_world.specs.Play.{MayPlay, above_all, entered, errand_in, played, told_by, world_of};
@@ -23,7 +23,7 @@ use crate::blocks::Blocks;
 use crate::control::Control;
 use crate::errand::Errand;
 use crate::seats::Seats;
-use crate::stepped::Stepped;
+use crate::step_result::StepResult;
 use petal_base::{NoMemory, OPERATOR, Rev, Sequence, Stamp};
 use petal_msg::{Actor, SharedLetter};
 use script_lines::{Answer, Line, Script};
@@ -74,7 +74,7 @@ fn shared(letters: &[SharedLetter], alloc: Global) -> Result<Sequence<SharedLett
     Ok(again)
 }
 
-fn given_again(answer: &Option<(u32, Answer)>) -> Result<Option<(u32, Answer)>, NoMemory>
+fn copy_answer(answer: &Option<(u32, Answer)>) -> Result<Option<(u32, Answer)>, NoMemory>
     ensures { IfOk result (λ again. again ≡ answer.now) }
 {
     match answer {
@@ -90,7 +90,7 @@ fn record(
     stamp: Stamp,
     phase: u32,
     step: &Step,
-    stepped: &Stepped,
+    stepped: &StepResult,
 ) -> Result<Record, NoMemory>
     ensures { IfOk result (λ own. own
         ≡ record {
@@ -108,7 +108,7 @@ fn record(
         phase,
         step: step_taken(step, stepped.end)?,
         sent: shared(stepped.letters.as_slice(), alloc)?,
-        answer: given_again(&stepped.answer)?,
+        answer: copy_answer(&stepped.answer)?,
     })
 }
 
@@ -121,7 +121,7 @@ fn take<H: Host>(
     stamp: Stamp,
     phase: u32,
     step: &Step,
-) -> Result<Stepped, NoMemory>
+) -> Result<StepResult, NoMemory>
     requires { Can actors.old actor step.now }
     ensures plans { IfOk result (λ stepped. LeavesPlansBy actor (ended step.now stepped.end) actors.old.desks actors.new.desks) }
     ensures ok { IfOk result (λ stepped. (records.new
@@ -248,7 +248,7 @@ impl<H: Host> World<H> {
         alloc: Global,
         actor: Actor,
         step: &Step,
-    ) -> Result<Stepped, NoMemory>
+    ) -> Result<StepResult, NoMemory>
         requires going { self.old.over ≡ false }
         requires may { MayStep (setting_of self.old.script) (world_of self.old) actor step.now }
         requires obeys { self.old.free ≡ false → Obeys actor step.now (world_of self.old) (errand_in self.old) }
@@ -286,7 +286,7 @@ impl<H: Host> World<H> {
     /// record is kept. `NotAllowed` comes exactly where the step is not one of the world's in this state, or stops, blanks, arms, boots or
     /// glances at a server otherwise than the operator's line says; a job is allowed with each end or with none, also where the plan of a
     /// device stops the server in it. After it ran out of memory the step did not happen, and none follows.
-    pub fn step(&mut self, alloc: Global, actor: Actor, step: &Step) -> Result<Stepped, WorldError>
+    pub fn step(&mut self, alloc: Global, actor: Actor, step: &Step) -> Result<StepResult, WorldError>
         ensures allowed { OnOk result (MayPlay self.old actor step.now) }
         ensures ok { IfOk result (λ stepped. self.new ≡ played self.old actor (ended step.now stepped.end)) }
         ensures told { IfOk result (λ stepped. stepped ≡ told_by self.old actor (ended step.now stepped.end)) }
@@ -316,7 +316,7 @@ impl<H: Host> World<H> {
         alloc: Global,
         actor: Actor,
         step: &Step,
-    ) -> Result<Stepped, WorldError>
+    ) -> Result<StepResult, WorldError>
         ensures allowed { OnOk result (MayStep (setting_of self.old.script) (world_of self.old) actor step.now) }
         ensures ok { IfOk result (λ stepped. self.new ≡ played (record self.old { free = true }) actor (ended step.now stepped.end)) }
         ensures told { IfOk result (λ stepped. stepped ≡ told_by self.old actor (ended step.now stepped.end)) }

@@ -7,11 +7,11 @@
 #![tactic(auto)]
 
 mod answers;
-mod caller;
-mod notes;
-mod patience;
+mod client_plan;
+mod schedule_state;
+mod backoff;
 mod playing;
-mod post;
+mod mailboxes;
 mod rounds;
 
 pub use answers::Answers;

@@ -6,13 +6,13 @@ ghost use Rattle.plain_schedule.specs.Going.{WentOn};
 ghost use Rattle.server_host.specs.Desks.{first_sites};
 ghost use Rattle.server_host.specs.Playable.{AreNumbered, AreOrdered};
 
-use crate::caller::Due;
-use crate::notes::Notes;
-use crate::post::Handing;
+use crate::client_plan::PlannedLine;
+use crate::schedule_state::ScheduleState;
+use crate::mailboxes::Handing;
 use client_core::Order;
 use petal_base::{CLIENTS, ClientId, NoMemory, OPERATOR, Sequence, ServerId};
 use petal_msg::{Actor, Body, Letter, SharedLetter};
-use petal_world::{Host, Step, Stepped, WorkEnd, World, WorldError};
+use petal_world::{Host, Step, StepResult, WorkEnd, World, WorldError};
 use script_lines::{Answer, Plan, Script, Which};
 use std::alloc::Global;
 use std::sync::Wait;
@@ -33,7 +33,7 @@ const AFTER_BOOT: u32 = 128;
 pub struct Rounds<H: Host> {
     pub world: World<H>,
     servers: u8,
-    notes: Notes,
+    notes: ScheduleState,
     phase: u32,
     left: usize,
     rounds_left: u32,
@@ -73,7 +73,7 @@ impl<H: Host> Rounds<H> {
         ensures records { IfOk result (λ rounds. rounds.world.records ≡ []) }
     {
         let servers = script.servers;
-        let notes = Notes::new(alloc, &script)?;
+        let notes = ScheduleState::new(alloc, &script)?;
         Ok(Rounds {
             world: World::start(alloc, script, hosts)?,
             servers,
@@ -134,7 +134,7 @@ impl<H: Host> Rounds<H> {
         }
     }
 
-    fn note(&mut self, actor: Actor, stepped: &Stepped) -> Result<(), NoMemory>
+    fn note(&mut self, actor: Actor, stepped: &StepResult) -> Result<(), NoMemory>
         ensures { self.new.world ≡ self.old.world }
     {
         if let Some((_, answer)) = &stepped.answer {
@@ -245,7 +245,7 @@ impl<H: Host> Rounds<H> {
         Ok(())
     }
 
-    fn next_call(&self, client: ClientId) -> Option<Due> {
+    fn next_call(&self, client: ClientId) -> Option<PlannedLine> {
         self.notes.callers.get(client as usize)?.next(self.phase)
     }
 

@@ -1,6 +1,6 @@
 //! Worlds stepped by chance.
 
-use crate::chance::Chance;
+use crate::random::Random;
 use crate::count::{Count, counted};
 use crate::cuts::{boot_cut_off, stop_cut_off};
 use crate::struck::{arm_any, arm_running, arm_stopped, disarm};
@@ -101,7 +101,7 @@ fn handed_over<H: Host>(run: &Run<H>) -> usize {
 /// that, and how many jobs and boots were cut off.
 #[derive(Drop)]
 struct Choice {
-    chance: Chance,
+    random: Random,
     habit: Habit,
     fresh: Vec<SharedLetter>,
     seen: usize,
@@ -122,7 +122,7 @@ impl Choice {
 
     // One of the three clients.
     fn client(&mut self) -> u8 {
-        self.chance.below(3) as u8
+        self.random.below(3) as u8
     }
 
     fn server<H: Host>(&mut self, run: &Run<H>) -> u8 {
@@ -130,7 +130,7 @@ impl Choice {
         if servers == 0 {
             return 0;
         }
-        self.chance.below(servers as usize) as u8
+        self.random.below(servers as usize) as u8
     }
 
     // A letter that was never handed over, mostly one of the oldest.
@@ -139,10 +139,10 @@ impl Choice {
         if count == 0 {
             return None;
         }
-        let at = if self.chance.below(8) == 0 {
-            self.chance.below(count)
+        let at = if self.random.below(8) == 0 {
+            self.random.below(count)
         } else {
-            self.chance.below(count.min(OLDEST))
+            self.random.below(count.min(OLDEST))
         };
         Some(self.fresh.remove(at))
     }
@@ -150,15 +150,15 @@ impl Choice {
     // Whether the letter that is handed over is any that was ever sent.
     fn is_late(&mut self) -> bool {
         let one_of = if self.habit.is_brisk() { 16 } else { 4 };
-        self.chance.below(one_of) == 0
+        self.random.below(one_of) == 0
     }
 
     // Whether it is a server that ticks, and no client.
     fn is_for_server(&mut self) -> bool {
         if self.habit.is_brisk() {
-            self.chance.below(4) > 0
+            self.random.below(4) > 0
         } else {
-            self.chance.below(2) == 0
+            self.random.below(2) == 0
         }
     }
 
@@ -168,7 +168,7 @@ impl Choice {
         if count == 0 {
             return Ok(None);
         }
-        let at = self.chance.below(count);
+        let at = self.random.below(count);
         match run.sent.get(at) {
             Some(letter) => Ok(Some(letter.share()?)),
             None => Ok(None),
@@ -179,7 +179,7 @@ impl Choice {
     fn is_lost(&mut self, letter: &Letter) -> bool {
         self.habit == Habit::Mixed
             && letter.to != Actor::Client(OPERATOR)
-            && self.chance.below(16) == 0
+            && self.random.below(16) == 0
     }
 
     fn hand_over<H: Host>(&mut self, alloc: Global, run: &mut Run<H>) -> Result<bool, NoMemory> {
@@ -236,11 +236,11 @@ impl Choice {
         server: ServerId,
     ) -> Result<bool, NoMemory> {
         match order {
-            Order::Stop if self.chance.below(PATIENCE) > 0 => {
-                arm_running(alloc, &mut self.chance, run, server)
+            Order::Stop if self.random.below(PATIENCE) > 0 => {
+                arm_running(alloc, &mut self.random, run, server)
             }
             Order::Start => {
-                arm_stopped(alloc, &mut self.chance, run, server)?;
+                arm_stopped(alloc, &mut self.random, run, server)?;
                 run.follow(alloc, order, server)
             }
             Order::Stop | Order::Blank | Order::Arm { .. } => run.follow(alloc, order, server),
@@ -258,7 +258,7 @@ impl Choice {
     ) -> Result<bool, NoMemory> {
         match (self.habit, order) {
             (Habit::CutOff, Order::Stop) => {
-                let patient = self.chance.below(PATIENCE) > 0;
+                let patient = self.random.below(PATIENCE) > 0;
                 let cut = stop_cut_off(alloc, run, server, patient)?;
                 self.cut_jobs = self.cut_jobs.saturating_add(usize::from(cut));
                 Ok(cut)
@@ -270,7 +270,7 @@ impl Choice {
             }
             (Habit::Struck, _) => self.strike(alloc, run, order, server),
             (Habit::Mixed, Order::Start) => {
-                if self.chance.below(2) == 0 {
+                if self.random.below(2) == 0 {
                     disarm(alloc, run, server)?;
                 }
                 run.follow(alloc, order, server)
@@ -285,7 +285,7 @@ impl Choice {
         if let Some(settling) = run.settling() {
             return self.show(alloc, run, settling);
         }
-        match (run.open_order(), self.chance.below(4)) {
+        match (run.open_order(), self.random.below(4)) {
             (None, 0) => run.call(alloc, OPERATOR),
             (None, _) => Ok(false),
             (Some((line, order, server)), 0) => self.follow(alloc, run, line, order, server),
@@ -299,7 +299,7 @@ impl Choice {
         if !is_ordered(run.script(), server) {
             return Ok(false);
         }
-        arm_any(alloc, &mut self.chance, run, server)
+        arm_any(alloc, &mut self.random, run, server)
     }
 
     // No letter waits: a server does a job or, where none has one, someone ticks or a client calls. Servers that tick while ballots
@@ -310,7 +310,7 @@ impl Choice {
                 return Ok(true);
             }
         }
-        if self.chance.below(2) == 0 {
+        if self.random.below(2) == 0 {
             return self.tick(alloc, run);
         }
         let client = self.client();
@@ -322,7 +322,7 @@ impl Choice {
         if self.habit.is_brisk() && self.fresh.is_empty() {
             return self.go_ahead(alloc, run);
         }
-        match (self.habit, self.chance.below(64)) {
+        match (self.habit, self.random.below(64)) {
             (_, 0) => self.tick(alloc, run),
             (_, 1) | (Habit::Mixed, 2..=5) => self.operate(alloc, run),
             (Habit::Mixed, 6) => self.arm(alloc, run),
@@ -388,12 +388,12 @@ pub fn simulate<H: Host, S: Stores>(
     stores: &S,
     seed: u32,
     habit: Habit,
-    chance: Chance,
+    random: Random,
     run: Run<H>,
 ) -> Result<Count, Fail> {
     let mut run = run;
     let mut choice = Choice {
-        chance,
+        random,
         habit,
         fresh: Vec::new(alloc),
         seen: 0,
@@ -411,7 +411,7 @@ pub fn simulate_struck<H: Host, S: Stores>(
     alloc: Global,
     stores: &S,
     seed: u32,
-    chance: Chance,
+    random: Random,
     run: Run<H>,
     device: (ServerId, Which),
     plan: Plan,
@@ -419,5 +419,5 @@ pub fn simulate_struck<H: Host, S: Stores>(
     let mut run = run;
     let (server, which) = device;
     run.arm(alloc, server, which, Some(plan))?;
-    simulate(alloc, stores, seed, Habit::Even, chance, run)
+    simulate(alloc, stores, seed, Habit::Even, random, run)
 }

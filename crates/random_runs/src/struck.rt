@@ -1,6 +1,6 @@
 //! Plans by chance, by which a sync of a server's device fails only after it has synced.
 
-use crate::chance::Chance;
+use crate::random::Random;
 use petal_base::{NoMemory, ServerId};
 use petal_disk::{CallKind, Plan, Which};
 use petal_world::Host;
@@ -19,16 +19,16 @@ const FIRST: usize = 3;
 /// One of so many next calls is struck by any plan.
 const NEXT: usize = 24;
 
-fn any_device(chance: &mut Chance) -> Which {
-    if chance.below(2) == 0 {
+fn any_device(random: &mut Random) -> Which {
+    if random.below(2) == 0 {
         Which::Data
     } else {
         Which::State
     }
 }
 
-fn any_kind(chance: &mut Chance) -> CallKind {
-    match chance.below(4) {
+fn any_kind(random: &mut Random) -> CallKind {
+    match random.below(4) {
         0 => CallKind::Any,
         1 => CallKind::Read,
         2 => CallKind::Write,
@@ -36,27 +36,27 @@ fn any_kind(chance: &mut Chance) -> CallKind {
     }
 }
 
-fn any_plan(chance: &mut Chance) -> Plan {
+fn any_plan(random: &mut Random) -> Plan {
     Plan {
-        kind: any_kind(chance),
-        at: chance.below(NEXT).saturating_add(1) as u32,
-        stop: chance.below(2) == 0,
-        late: chance.below(2) == 0,
+        kind: any_kind(random),
+        at: random.below(NEXT).saturating_add(1) as u32,
+        stop: random.below(2) == 0,
+        late: random.below(2) == 0,
     }
 }
 
 /// One of the two devices of a server that runs or not gets any plan or, one time in four, loses the one that it has.
 pub fn arm_any<H: Host>(
     alloc: Global,
-    chance: &mut Chance,
+    random: &mut Random,
     run: &mut Run<H>,
     server: ServerId,
 ) -> Result<bool, NoMemory> {
-    let which = any_device(chance);
-    let plan = if chance.below(4) == 0 {
+    let which = any_device(random);
+    let plan = if random.below(4) == 0 {
         None
     } else {
-        Some(any_plan(chance))
+        Some(any_plan(random))
     };
     run.arm(alloc, server, which, plan)
 }
@@ -69,11 +69,11 @@ pub fn disarm<H: Host>(alloc: Global, run: &mut Run<H>, server: ServerId) -> Res
 }
 
 // The sync with this number fails late, and stops the server or does not.
-fn late_plan(chance: &mut Chance, at: u32) -> Plan {
+fn late_plan(random: &mut Random, at: u32) -> Plan {
     Plan {
         kind: CallKind::Sync,
         at,
-        stop: chance.below(2) == 0,
+        stop: random.below(2) == 0,
         late: true,
     }
 }
@@ -82,13 +82,13 @@ fn late_plan(chance: &mut Chance, at: u32) -> Plan {
 /// device that failed while both are read again would leave it unknown how the job ended.
 pub fn arm_running<H: Host>(
     alloc: Global,
-    chance: &mut Chance,
+    random: &mut Random,
     run: &mut Run<H>,
     server: ServerId,
 ) -> Result<bool, NoMemory> {
-    let at = chance.below(RUNNING).saturating_add(1) as u32;
-    let plan = late_plan(chance, at);
-    let (struck, spared) = if chance.below(2) == 0 {
+    let at = random.below(RUNNING).saturating_add(1) as u32;
+    let plan = late_plan(random, at);
+    let (struck, spared) = if random.below(2) == 0 {
         (Which::Data, Which::State)
     } else {
         (Which::State, Which::Data)
@@ -101,12 +101,12 @@ pub fn arm_running<H: Host>(
 /// device has none from now on.
 pub fn arm_stopped<H: Host>(
     alloc: Global,
-    chance: &mut Chance,
+    random: &mut Random,
     run: &mut Run<H>,
     server: ServerId,
 ) -> Result<(), NoMemory> {
-    let at = chance.below(BOOTING).saturating_add(FIRST) as u32;
-    let plan = late_plan(chance, at);
+    let at = random.below(BOOTING).saturating_add(FIRST) as u32;
+    let plan = late_plan(random, at);
     run.arm(alloc, server, Which::Data, None)?;
     run.arm(alloc, server, Which::State, Some(plan))?;
     Ok(())

@@ -7,12 +7,12 @@ ghost use Rattle.spec_rules.specs.State.{coming, readable};
 ghost use Rattle.spec_rules.specs.Store.{chain_in, entry_at};
 ghost use Rattle.kept_chains.specs.Kept.{chains_of};
 ghost use Rattle.kept_chains.specs.Reading.{IsReadFault};
-ghost use Rattle.pair_memory.specs.Side.{own_of};
-ghost use Rattle.pair_memory.specs.Done.{HoldsAt};
+ghost use Rattle.pair_memory.specs.PairMemory.{own_of};
+ghost use Rattle.pair_memory.specs.JobResult.{HoldsAt};
 
 use global_state::Hold;
 use kept_chains::{has_below, read_at};
-use pair_memory::{Here, Side};
+use pair_memory::{JobContext, PairMemory};
 use petal_base::{Cell, Epoch, Seq};
 use petal_disk::{DeviceError, Disk};
 use petal_msg::{Body, Reply};
@@ -28,7 +28,7 @@ fn is_all_held(held: Hold) -> bool
 }
 
 /// Whether the cell is on its way from an old map, and has nothing here yet that counts at the epoch.
-fn is_elsewhere<D: Disk>(here: &Here, store: &Store<D>, cell: Cell, epoch: Epoch) -> bool
+fn is_elsewhere<D: Disk>(here: &JobContext, store: &Store<D>, cell: Cell, epoch: Epoch) -> bool
     ensures { result ≡ (coming here.now.state cell && not (is_some (entry_at (chain_in (chains_of store.now.entries) cell) epoch))) }
 {
     here.state().coming(cell) && !has_below(store, cell, epoch)
@@ -42,8 +42,8 @@ fn is_elsewhere<D: Disk>(here: &Here, store: &Store<D>, cell: Cell, epoch: Epoch
 /// `Failed` where the device failed, and out of memory.
 #[tactic(auto, using(crate::proofs::Replies::not_here, crate::proofs::Replies::read_here))]
 pub fn answer_read<D: Disk>(
-    here: &Here,
-    side: &Side,
+    here: &JobContext,
+    side: &PairMemory,
     store: &mut Store<D>,
     cell: Cell,
     epoch: Epoch,

@@ -2,11 +2,11 @@
 
 ghost use Rattle.std.specs.Prelude.{◌≡◌};
 ghost use Rattle.spec_rules.specs.Reads.{on_read};
-ghost use Rattle.pair_memory.specs.Done.{IsDone};
-ghost use Rattle.pair_memory.specs.Side.{HasTicketsAt, own_of};
+ghost use Rattle.pair_memory.specs.JobResult.{IsDone};
+ghost use Rattle.pair_memory.specs.PairMemory.{HasTicketsAt, own_of};
 
 use crate::answer::{answer_read, said};
-use pair_memory::{Done, Here, Side, WorkError, says, silent};
+use pair_memory::{JobResult, JobContext, PairMemory, WorkError, say, silent};
 use petal_base::{Cell, ClientId, Epoch, Seq};
 use petal_disk::{DeviceError, Disk};
 use petal_msg::Actor;
@@ -18,14 +18,14 @@ use server_store::Store;
 /// `Failed` where the device failed, and out of memory.
 #[tactic(auto, unfolding(spec_rules::specs::Reads::on_read))]
 pub fn on_read<D: Disk>(
-    here: &Here,
-    side: &Side,
+    here: &JobContext,
+    side: &PairMemory,
     store: &mut Store<D>,
     client: ClientId,
     seq: Seq,
     cell: Cell,
     epoch: Epoch,
-) -> Result<Done, WorkError>
+) -> Result<JobResult, WorkError>
     requires { HasTicketsAt side.now store.old }
     ensures { IsDone D.Disk here.now side.now side.now store.old store.new result
         (on_read here.now (own_of side.now store.old) client seq cell epoch) }
@@ -34,7 +34,7 @@ pub fn on_read<D: Disk>(
         return silent(here, side, store);
     }
     match answer_read(here, side, store, cell, epoch) {
-        Ok(reply) => says(here, side, store, Actor::Client(client), said(seq, reply)),
+        Ok(reply) => say(here, side, store, Actor::Client(client), said(seq, reply)),
         Err(DeviceError::Failed) => Err(WorkError::Failed),
         Err(DeviceError::NoMemory) => Err(WorkError::NoMemory),
     }

@@ -11,7 +11,7 @@ use Rattle.petal_table.specs.Table.{at, put}
 use Rattle.petal_table.proofs.Rows.{at-put}
 use Rattle.spec_rules.specs.Fills.{goes_after, region_to_move, sends_key, sends_moving}
 use Rattle.petal_msg.specs.declared.body.Body.TheVariants as body
-use Rattle.spec_rules.specs.Server.{Here, Own, post_to}
+use Rattle.spec_rules.specs.Server.{JobContext, PairState, post_to}
 use Rattle.spec_rules.specs.State.{State, id_of, lead, link_cmp}
 use Rattle.spec_rules.specs.Store.{Stored, chain_in}
 use Rattle.spec_state.specs.CellState.{target}
@@ -22,13 +22,13 @@ use Rattle.redistribute.specs.Next.{left_after}
 use Rattle.redistribute.specs.Sending.{destination, letter_with, with_lead}
 use Rattle.redistribute.proofs.FillOf.{fill_is}
 
-last_there : (own : Own) (row : LinkRow) (key : Key) → at link_cmp (put link_cmp own.filled (id_of row) key) (id_of row) ≡ Some key
+last_there : (own : PairState) (row : LinkRow) (key : Key) → at link_cmp (put link_cmp own.filled (id_of row) key) (id_of row) ≡ Some key
 last_there own row key =
     at-put link_cmp_total own.filled (id_of row) key (id_of row)
     ∙ ap (λ o. cond (is_eq o) (Some key) (at link_cmp own.filled (id_of row))) (tied_itself link_cmp_total (id_of row))
 
 -- what goes out after a key
-pub after_is : (here : Here) (own : Own) (row : LinkRow) (key : Key)
+pub after_is : (here : JobContext) (own : PairState) (row : LinkRow) (key : Key)
     → filled_with own row key (posts_after here own row key) ≡ goes_after here (following own row key) row
 after_is here own row key =
     let left = left_after here.state row (region_to_move here.state here.me row) in
@@ -58,7 +58,7 @@ moving_is state key (Some entry) None = refl
 moving_is state key (Some entry) (Some cell) = with_lead_is state key entry cell
 
 -- the letter of a key
-pub letter_is : (state : State) (own : Own) (key : Key) (to : Option (ℕ × Cell)) (bytes : Option (List ℕ)) → to ≡ destination state key
+pub letter_is : (state : State) (own : PairState) (key : Key) (to : Option (ℕ × Cell)) (bytes : Option (List ℕ)) → to ≡ destination state key
     → bytes ≡ bytes_in (at nat_cmp (chain_in own.store.chains (cell_of key)) key.epoch)
     → posts_of (letter_with key to bytes) ≡ sends_key state own (Some key)
 letter_is state own key to bytes to_is bytes_is =
@@ -66,5 +66,5 @@ letter_is state own key to bytes to_is bytes_is =
     ∙ sym (moving_is state key (at nat_cmp (chain_in own.store.chains (cell_of key)) key.epoch) (target state (cell_of key)))
 
 -- nobody is there to whom it could go
-pub no_letter : (state : State) (own : Own) (key : Key) → None ≡ destination state key → [] ≡ sends_key state own (Some key)
+pub no_letter : (state : State) (own : PairState) (key : Key) → None ≡ destination state key → [] ≡ sends_key state own (Some key)
 no_letter state own key none = letter_is state own key None (bytes_in (at nat_cmp (chain_in own.store.chains (cell_of key)) key.epoch)) none refl

@@ -4,16 +4,16 @@ ghost use Rattle.std.specs.Prelude.{◌≡◌, true, Ok};
 ghost use Rattle.spec_rules.specs.Progress.{with_full};
 ghost use Rattle.spec_rules.specs.Server as servers;
 ghost use Rattle.spec_rules.specs.Fills as rules;
-ghost use Rattle.pair_memory.specs.Done.{IsDone, IsSaid};
+ghost use Rattle.pair_memory.specs.JobResult.{IsDone, IsSaid};
 ghost use Rattle.pair_memory.specs.Letters.{posts_of};
-ghost use Rattle.pair_memory.specs.Side.{own_of, HasTicketsAt};
+ghost use Rattle.pair_memory.specs.PairMemory.{own_of, HasTicketsAt};
 ghost use Rattle.redistribute.specs.Following.{following, filled_with};
 
 use crate::letters::fill_letter;
 use crate::next::{fill_of, left_after};
 use crate::region::link_before;
 use global_state::LinkRow;
-use pair_memory::{Done, Here, Side, WorkError, link_id, only, silent, with_letter};
+use pair_memory::{JobResult, JobContext, PairMemory, WorkError, link_id, only, silent, with_letter};
 use petal_base::{Key, Sequence, ServerId};
 use petal_disk::{DeviceError, Disk};
 use petal_msg::Body;
@@ -41,14 +41,14 @@ fn own_key(row: &LinkRow, key: Key) -> Key
 }
 
 /// The new map has the key from now on, and this letter goes out, if any.
-fn fills<D: Disk>(
-    here: &Here,
-    side: &mut Side,
+fn note_filled<D: Disk>(
+    here: &JobContext,
+    side: &mut PairMemory,
     store: &Store<D>,
     row: &LinkRow,
     key: Key,
     found: Option<(ServerId, Body)>,
-) -> Result<Done, WorkError>
+) -> Result<JobResult, WorkError>
     requires { HasTicketsAt side.old store.now }
     ensures { IsSaid here.now side.old side.new store.now store.now result
         (filled_with (own_of side.old store.now) row.now key (posts_of found)) }
@@ -61,20 +61,20 @@ fn fills<D: Disk>(
 }
 
 /// The new map has the key from now on, and the next entry goes out.
-fn goes_after<D: Disk>(
-    here: &Here,
-    side: &mut Side,
+fn go_after<D: Disk>(
+    here: &JobContext,
+    side: &mut PairMemory,
     store: &mut Store<D>,
     row: &LinkRow,
     key: Key,
-) -> Result<Done, WorkError>
+) -> Result<JobResult, WorkError>
     requires { HasTicketsAt side.old store.old }
     ensures { IsDone D.Disk here.now side.old side.new store.old store.new result
         (rules.goes_after here.now (following (own_of side.old store.old) row.now key) row.now) }
 {
     let next = left_after(here, store, row, &Some(key));
     match fill_letter(here, store, next) {
-        Ok(found) => fills(here, side, store, row, key, found),
+        Ok(found) => note_filled(here, side, store, row, key, found),
         Err(DeviceError::Failed) => Err(WorkError::Failed),
         Err(DeviceError::NoMemory) => Err(WorkError::NoMemory),
     }
@@ -86,11 +86,11 @@ fn goes_after<D: Disk>(
 /// `Failed` where the device failed; `NoMemory`, which changed nothing.
 #[tactic(auto, unfolding(spec_rules::specs::Fills::on_filled))]
 pub fn on_filled<D: Disk>(
-    here: &Here,
-    side: &mut Side,
+    here: &JobContext,
+    side: &mut PairMemory,
     store: &mut Store<D>,
     key: Key,
-) -> Result<Done, WorkError>
+) -> Result<JobResult, WorkError>
     requires { HasTicketsAt side.old store.old }
     ensures { IsDone D.Disk here.now side.old side.new store.old store.new result (rules.on_filled here.now (own_of side.old store.old) key) }
 {
@@ -100,11 +100,11 @@ pub fn on_filled<D: Disk>(
     if !is_next(&fill_of(here, side, store, row), &key) {
         return silent(here, side, store);
     }
-    goes_after(here, side, store, row, own_key(row, key))
+    go_after(here, side, store, row, own_key(row, key))
 }
 
 /// It is remembered that there was no slot.
-fn notes_full<D: Disk>(here: &Here, side: &mut Side, store: &Store<D>) -> Done
+fn note_full<D: Disk>(here: &JobContext, side: &mut PairMemory, store: &Store<D>) -> JobResult
     requires { HasTicketsAt side.old store.now }
     ensures { IsSaid here.now side.old side.new store.now store.now (Ok result) (servers.silent (with_full (own_of side.old store.now) true)) }
 {
@@ -119,11 +119,11 @@ fn notes_full<D: Disk>(here: &Here, side: &mut Side, store: &Store<D>) -> Done
 /// Out of memory, which changed nothing.
 #[tactic(auto, unfolding(spec_rules::specs::Fills::on_fill_full))]
 pub fn on_fill_full<D: Disk>(
-    here: &Here,
-    side: &mut Side,
+    here: &JobContext,
+    side: &mut PairMemory,
     store: &Store<D>,
     key: Key,
-) -> Result<Done, WorkError>
+) -> Result<JobResult, WorkError>
     requires { HasTicketsAt side.old store.now }
     ensures { IsSaid here.now side.old side.new store.now store.now result (rules.on_fill_full here.now (own_of side.old store.now) key) }
 {
@@ -133,5 +133,5 @@ pub fn on_fill_full<D: Disk>(
     if !is_next(&fill_of(here, side, store, row), &key) {
         return silent(here, side, store);
     }
-    Ok(notes_full(here, side, store))
+    Ok(note_full(here, side, store))
 }

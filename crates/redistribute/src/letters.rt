@@ -10,19 +10,19 @@ ghost use Rattle.petal_msg.specs.declared.body.Body.TheVariants as body;
 ghost use Rattle.spec_rules.specs.Fills as fills;
 ghost use Rattle.spec_rules.specs.Server.{letters_of, sender};
 ghost use Rattle.pair_memory.specs.Letters.{IsLook, posts_of};
-ghost use Rattle.pair_memory.specs.Side.{Side as Sides, own_of};
+ghost use Rattle.pair_memory.specs.PairMemory.{PairMemory as Sides, own_of};
 ghost use Rattle.redistribute.specs.Sending.{destination, letter_with};
 
 use crate::next::fill_of;
 use kept_chains::read_key;
-use pair_memory::{Here, Side, with_letter};
+use pair_memory::{JobContext, PairMemory, with_letter};
 use petal_base::{Cell, Key, Sequence, ServerId, SharedBlock};
 use petal_disk::{DeviceError, Disk};
 use petal_msg::{Body, Letter};
 use server_store::Store;
 
 /// The key's cell of the new map, and that cell's lead.
-fn destination(here: &Here, key: Key) -> Option<(ServerId, Cell)>
+fn destination(here: &JobContext, key: Key) -> Option<(ServerId, Cell)>
     ensures { result ≡ destination here.now.state key }
 {
     match here.state().target(key.cell()) {
@@ -49,7 +49,7 @@ fn fill_body(key: Key, cell: Cell, bytes: SharedBlock) -> Body
 
 /// The letter of the key for a cell and its lead, with the bytes that are read.
 fn letter_to<D: Disk>(
-    here: &Here,
+    here: &JobContext,
     store: &mut Store<D>,
     key: Key,
     to: ServerId,
@@ -67,7 +67,7 @@ fn letter_to<D: Disk>(
 
 /// The letter with which the entry of this key goes to the lead of the new map's cell.
 fn letter_of<D: Disk>(
-    here: &Here,
+    here: &JobContext,
     store: &mut Store<D>,
     key: Key,
 ) -> Result<Option<(ServerId, Body)>, DeviceError>
@@ -82,7 +82,7 @@ fn letter_of<D: Disk>(
 
 /// The same of a key, if there is one.
 pub fn fill_letter<D: Disk>(
-    here: &Here,
+    here: &JobContext,
     store: &mut Store<D>,
     key: Option<Key>,
 ) -> Result<Option<(ServerId, Body)>, DeviceError>
@@ -101,8 +101,8 @@ pub fn fill_letter<D: Disk>(
 /// # Errors
 /// `Failed` where the device failed, and out of memory.
 pub fn fills_after<D: Disk>(
-    here: &Here,
-    side: &Side,
+    here: &JobContext,
+    side: &PairMemory,
     store: &mut Store<D>,
     before: Sequence<Letter>,
 ) -> Result<Sequence<Letter>, DeviceError>

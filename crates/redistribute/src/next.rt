@@ -4,13 +4,13 @@ ghost use Rattle.std.specs.Prelude.{◌≡◌};
 ghost use Rattle.spec_rules.specs.Fills as fills;
 ghost use Rattle.spec_rules.specs.Fills.{region_to_move};
 ghost use Rattle.kept_chains.specs.Kept.{store_of};
-ghost use Rattle.pair_memory.specs.Side.{own_of};
+ghost use Rattle.pair_memory.specs.PairMemory.{own_of};
 ghost use Rattle.redistribute.specs.Next.{first_left, is_left, last_left, left_after, next_after, none_below};
 
 use crate::region::{last_filled, region_to_move};
 use chain_place::region;
 use global_state::LinkRow;
-use pair_memory::{Here, Side};
+use pair_memory::{JobContext, PairMemory};
 use petal_base::{BlockNo, Key};
 use petal_disk::Disk;
 use server_store::{Entry, Store};
@@ -32,7 +32,7 @@ fn comes_next(moved: u8, last: &Option<Key>, key: &Key) -> bool
 }
 
 /// Whether the entry is one of the link and the region that is still to go.
-fn is_left(here: &Here, row: &LinkRow, moved: u8, last: &Option<Key>, key: &Key) -> bool
+fn is_left(here: &JobContext, row: &LinkRow, moved: u8, last: &Option<Key>, key: &Key) -> bool
     ensures { result ≡ is_left here.now.state row.now moved last.now key.now }
 {
     here.state().is_on(row, key.cell())
@@ -52,7 +52,7 @@ fn none_below(moved: u8, last: &Option<Key>) -> Option<BlockNo>
 
 /// The first entry that is still to go; its block is the next one.
 fn first_left(
-    here: &Here,
+    here: &JobContext,
     row: &LinkRow,
     moved: u8,
     last: &Option<Key>,
@@ -90,7 +90,7 @@ fn last_left(moved: u8, last: &Option<Key>, chain: &[Entry]) -> Option<Key>
 
 /// The next key of the link in the region after the last one that the new map is known to have.
 fn next_after<D: Disk>(
-    here: &Here,
+    here: &JobContext,
     store: &Store<D>,
     row: &LinkRow,
     moved: u8,
@@ -109,7 +109,7 @@ fn next_after<D: Disk>(
 
 /// What is left of the link after this key, where this server is to move it.
 pub fn left_after<D: Disk>(
-    here: &Here,
+    here: &JobContext,
     store: &Store<D>,
     row: &LinkRow,
     last: &Option<Key>,
@@ -123,7 +123,7 @@ pub fn left_after<D: Disk>(
 }
 
 /// What is left of the link, where this server is to move it.
-pub fn fill_of<D: Disk>(here: &Here, side: &Side, store: &Store<D>, row: &LinkRow) -> Option<Key>
+pub fn fill_of<D: Disk>(here: &JobContext, side: &PairMemory, store: &Store<D>, row: &LinkRow) -> Option<Key>
     ensures { result ≡ fills.fill_of here.now.state here.now.me row.now (own_of side.now store.now) }
 {
     left_after(here, store, row, &last_filled(side, row))

@@ -7,12 +7,12 @@ ghost use Rattle.spec_state.specs.CellState.{region_leaving};
 ghost use Rattle.petal_table.specs.Table.{at};
 
 use global_state::LinkRow;
-use pair_memory::{Here, Side, link_id};
+use pair_memory::{JobContext, PairMemory, link_id};
 use petal_base::Key;
 
 /// The region that the server is to move of a link: it leads the link, a disk is on its way from the link's map, and the link is
 /// not noted.
-pub fn region_to_move(here: &Here, row: &LinkRow) -> Option<u8>
+pub fn region_to_move(here: &JobContext, row: &LinkRow) -> Option<u8>
     ensures { result ≡ fills.region_to_move here.now.state here.now.me row.now }
 {
     match here.state().row_lead(row) {
@@ -21,7 +21,7 @@ pub fn region_to_move(here: &Here, row: &LinkRow) -> Option<u8>
     }
 }
 
-fn not_noted(here: &Here, row: &LinkRow) -> Option<u8>
+fn not_noted(here: &JobContext, row: &LinkRow) -> Option<u8>
     ensures { result ≡ fills.not_noted here.now.state row.now (region_leaving here.now.state row.now.map) }
 {
     match here.state().region_leaving(row.map) {
@@ -31,14 +31,14 @@ fn not_noted(here: &Here, row: &LinkRow) -> Option<u8>
 }
 
 /// The last key of the link that the new map is known to have.
-pub fn last_filled(side: &Side, row: &LinkRow) -> Option<Key>
+pub fn last_filled(side: &PairMemory, row: &LinkRow) -> Option<Key>
     ensures { result ≡ at link_cmp side.now.filled (id_of row.now) }
 {
     side.filled.get(link_id(row))
 }
 
 /// The old link of a key of the new map.
-pub fn link_before<'a>(here: &'a Here, key: Key) -> Option<&'a LinkRow>
+pub fn link_before<'a>(here: &'a JobContext, key: Key) -> Option<&'a LinkRow>
     ensures { option_copied result ≡ fills.link_before here.now.state key }
 {
     match here.state().source(key.cell()) {

@@ -7,15 +7,15 @@ ghost use Rattle.petal_msg.specs.declared.dead.Dead.TheVariants as dead;
 ghost use Rattle.spec_rules.specs.Store.{chain_in, epochs_of};
 ghost use Rattle.spec_rules.specs.Sweeping as sweeping;
 ghost use Rattle.kept_chains.specs.Kept.{chains_of, store_of};
-ghost use Rattle.pair_memory.specs.declared.done.FollowUp.TheVariants as follow_up;
-ghost use Rattle.pair_memory.specs.Done.{IsDone};
-ghost use Rattle.pair_memory.specs.Side.{own_of, HasTicketsAt};
+ghost use Rattle.pair_memory.specs.declared.job_result.FollowUp.TheVariants as follow_up;
+ghost use Rattle.pair_memory.specs.JobResult.{IsDone};
+ghost use Rattle.pair_memory.specs.PairMemory.{own_of, HasTicketsAt};
 
 use crate::search::{dead_entry, dead_mark};
 use busy_marks::MarkKind;
 use global_state::GlobalState;
 use kept_chains::{drop_entry, unmark};
-use pair_memory::{Done, FollowUp, Here, Side, WorkError, silent};
+use pair_memory::{JobResult, FollowUp, JobContext, PairMemory, WorkError, silent};
 use petal_base::{Cell, Key, Sequence};
 use petal_disk::Disk;
 use petal_msg::Dead;
@@ -41,22 +41,22 @@ pub fn has_dead<D: Disk>(state: &GlobalState, store: &Store<D>) -> bool
 }
 
 /// No letter is sent, and the next one is dropped in a job of its own.
-fn followed(here: &Here) -> Done
+fn followed(here: &JobContext) -> JobResult
     ensures { result ≡ record { letters = []; follow = Some follow_up.Sweep } }
 {
-    Done {
+    JobResult {
         letters: Sequence::new(here.alloc()),
         follow: Some(FollowUp::Sweep),
     }
 }
 
 /// An entry is dropped.
-fn drops<D: Disk>(
-    here: &Here,
-    side: &Side,
+fn drop_one<D: Disk>(
+    here: &JobContext,
+    side: &PairMemory,
     store: &mut Store<D>,
     key: Key,
-) -> Result<Done, WorkError>
+) -> Result<JobResult, WorkError>
     requires tickets { HasTicketsAt side.now store.old }
     requires there { list_any (nat_eq key.epoch) (epochs_of (chain_in (chains_of store.old.entries) (cell_of key))) ≡ true }
     ensures { IsDone D.Disk here.now side.now side.now store.old store.new result
@@ -68,13 +68,13 @@ fn drops<D: Disk>(
 }
 
 /// A mark is taken away.
-fn unmarks<D: Disk>(
-    here: &Here,
-    side: &Side,
+fn unmark_one<D: Disk>(
+    here: &JobContext,
+    side: &PairMemory,
     store: &mut Store<D>,
     kind: MarkKind,
     cell: Cell,
-) -> Result<Done, WorkError>
+) -> Result<JobResult, WorkError>
     requires { HasTicketsAt side.now store.old }
     ensures { IsDone D.Disk here.now side.now side.now store.old store.new result
         (sweeping.sweeps_with (own_of side.now store.old) (Some (dead.Mark kind cell))) }
@@ -89,8 +89,8 @@ fn unmarks<D: Disk>(
 /// # Errors
 /// `Failed` where the device failed, and `JournalFull` only where the store's journal had all its records: the entries are as they
 /// were, and the server is to be stopped.
-#[tactic(auto, unfolding(spec_rules::specs::Sweeping::sweeps))]
-pub fn sweeps<D: Disk>(here: &Here, side: &Side, store: &mut Store<D>) -> Result<Done, WorkError>
+#[tactic(auto, unfolding(spec_rules::specs::Sweeping::sweep_one))]
+pub fn sweep_one<D: Disk>(here: &JobContext, side: &PairMemory, store: &mut Store<D>) -> Result<JobResult, WorkError>
     requires { HasTicketsAt side.now store.old }
     ensures { IsDone D.Disk here.now side.now side.now store.old store.new result (sweeping.sweeps here.now (own_of side.now store.old)) }
 {
@@ -98,7 +98,7 @@ pub fn sweeps<D: Disk>(here: &Here, side: &Side, store: &mut Store<D>) -> Result
     let _ = store.free();
     match next_dead(here.state(), store) {
         None => silent(here, side, store),
-        Some(Dead::Key(key)) => drops(here, side, store, key),
-        Some(Dead::Mark(kind, cell)) => unmarks(here, side, store, kind, cell),
+        Some(Dead::Key(key)) => drop_one(here, side, store, key),
+        Some(Dead::Mark(kind, cell)) => unmark_one(here, side, store, kind, cell),
     }
 }

@@ -3,13 +3,13 @@
 ghost use Rattle.std.specs.Prelude.{◌≡◌, ◌++◌, IfOk, OnOk};
 ghost use Rattle.std.specs.List.{flat_map};
 ghost use Rattle.spec_rules.specs.Fills as fills;
-ghost use Rattle.pair_memory.specs.Side.{own_of};
+ghost use Rattle.pair_memory.specs.PairMemory.{own_of};
 ghost use Rattle.redistribute.specs.Wants.{listed};
 
 use crate::next::fill_of;
 use crate::region::region_to_move;
 use global_state::LinkRow;
-use pair_memory::{Here, Side};
+use pair_memory::{JobContext, PairMemory};
 use petal_base::NoMemory;
 use petal_command::{Command, LinkNumber, RegionNumber};
 use petal_disk::Disk;
@@ -17,8 +17,8 @@ use server_store::Store;
 
 /// The link's Moved, where this server is to move a region of it and nothing of that is left.
 fn moved_of<D: Disk>(
-    here: &Here,
-    side: &Side,
+    here: &JobContext,
+    side: &PairMemory,
     store: &Store<D>,
     row: &LinkRow,
 ) -> Result<Option<Command>, NoMemory>
@@ -51,7 +51,7 @@ fn with_found(wants: &mut Vec<Command>, found: Option<Command>) -> Result<(), No
 ///
 /// # Errors
 /// Out of memory, or where a link has no number that a command can name.
-pub fn moving<D: Disk>(here: &Here, side: &Side, store: &Store<D>) -> Result<Vec<Command>, NoMemory>
+pub fn moving<D: Disk>(here: &JobContext, side: &PairMemory, store: &Store<D>) -> Result<Vec<Command>, NoMemory>
     ensures { IfOk result (λ wants. wants.items ≡ flat_map (fills.moved_of here.now (own_of side.now store.now)) here.now.state.links) }
 {
     let mut wants = Vec::new(here.alloc());

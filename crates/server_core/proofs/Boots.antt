@@ -19,11 +19,11 @@ use Rattle.spec_rules.specs.Entries.{known_run}
 use Rattle.spec_rules.specs.Jobs.{down_posts, is_overfull, journal_records}
 use Rattle.spec_rules.specs.Log.{Log, first_log}
 use Rattle.spec_rules.specs.World.{greatest_u32}
-use Rattle.spec_rules.specs.Server.{Here, Sender, Server, letters_of}
+use Rattle.spec_rules.specs.Server.{JobContext, Sender, Server, letters_of}
 use Rattle.spec_rules.specs.Store.{Store}
 use Rattle.spec_rules.specs.declared.step.WorkEnd.TheVariants.{Done}
 use Rattle.server_core.specs.Boots.{IsBoot, booted, raised_records, shut}
-use Rattle.server_core.specs.Core.{Core, acted, here_in, server_of}
+use Rattle.server_core.specs.ServerView.{ServerView, acted, here_in, server_of}
 use Rattle.server_core.proofs.Rooms.{few_records}
 use Rattle.server_core.proofs.Works.{few}
 use Rattle.state_store.specs.Device.{Keeping, StandsForEither, WithOrWithout}
@@ -37,11 +37,11 @@ raised_adds records inc is =
 pub raised_count : (records : List StateRecord) → length (raised_records records) ≡ length records + 1
 raised_count records = length-append records (Inc (inc_of records + 1) ∷ [])
 
-module _ (old : Core) (store : Store) (before : List StateRecord) (known : old.log.voter.inc ≡ inc_of before) where
+module _ (old : ServerView) (store : Store) (before : List StateRecord) (known : old.log.voter.inc ≡ inc_of before) where
   abbrev was : Server
   was = server_of old store before
 
-  abbrev at : Here
+  abbrev at : JobContext
   at = here_in old
 
   pub raised_are : (raised was).log.records ≡ raised_records before
@@ -57,7 +57,7 @@ module _ (old : Core) (store : Store) (before : List StateRecord) (known : old.l
   chosen full is = ap (λ (b : Bool). if b then stays was else wakes at (awake (raised was))) is
 
   -- the server that runs, and its letters, are the rule's
-  pub woken : (new : Core) (after : List StateRecord) (letters : List Letter) (count : ℕ)
+  pub woken : (new : ServerView) (after : List StateRecord) (letters : List Letter) (count : ℕ)
       → after ≡ raised_records before → count ≡ length after
       → ((log : Log) → log.records ≡ after → new ≡ booted old.log.voter (known_run log 1 count))
       → letters ≡ letters_of (sender_of new.log) 0 (down_posts old.log.voter.me old.log.voter.inc old.log.voter.servers)
@@ -71,7 +71,7 @@ module _ (old : Core) (store : Store) (before : List StateRecord) (known : old.l
       = is (raised was).log records ∙ ap (λ (entries : List Command). booted old.log.voter entries) applied in
       let fits : length (raised_records before) ≤ journal_records = subst (λ (rs : List StateRecord). length rs ≤ journal_records) made few_log in
       let who : sender_of new.log ≡ record { from = actor.Server old.log.voter.me; inc = old.log.voter.inc + 1; rev = length (known_front (raised was).log) }
-      = ap (λ (it : Core). sender_of it.log) core
+      = ap (λ (it : ServerView). sender_of it.log) core
       ∙ ap (λ (rev : ℕ). record { from = actor.Server old.log.voter.me; inc = old.log.voter.inc + 1; rev = rev })
       (rev_counts old.log.voter.servers (known_front (raised was).log)) in
       let told : letters ≡ (wakes at (awake (raised was))).letters
@@ -105,14 +105,14 @@ pub raised_as : (records : List StateRecord) → inc_of records < greatest_u32
     → (if inc_of records == 4294967295 then records else raised_records records) ≡ raised_records records
 raised_as records less = let other : (inc_of records == 4294967295) ≡ false = grind (arith, nat_tests) in rw other refl
 
-module _ {D : Type 0} (device : Ghosts D) (old : Core) (before : Keeping D) (known : old.log.voter.inc ≡ inc_of before.records) where
+module _ {D : Type 0} (device : Ghosts D) (old : ServerView) (before : Keeping D) (known : old.log.voter.inc ≡ inc_of before.records) where
   -- what a crash within the call that raises the incarnation leaves
   abbrev Leaves : Keeping D → Type 0
   Leaves after = device.told → HoldsAt device before
       → LeavesOnly device.moment device.left_since before.disk after.disk (λ c. WithOrWithout c before.records (Inc (inc_of before.records + 1)))
 
   -- the server runs
-  pub booted_done : (new : Core) (after : Keeping D) (letters : List Letter) → after.records ≡ raised_records before.records
+  pub booted_done : (new : ServerView) (after : Keeping D) (letters : List Letter) → after.records ≡ raised_records before.records
       → ((log : Log) → log.records ≡ after.records → new ≡ booted old.log.voter (known_run log 1 after.region.count))
       → letters ≡ letters_of (sender_of new.log) 0 (down_posts old.log.voter.me old.log.voter.inc old.log.voter.servers)
       → (device.told → HoldsAt device before → HoldsAt device after)
@@ -125,9 +125,9 @@ module _ {D : Type 0} (device : Ghosts D) (old : Core) (before : Keeping D) (kno
             let after_holds = holds told held in
             woken old store before.records known new after.records letters after.region.count made after_holds.count is sent few
             (few_records device after after_holds);
-        runs = ap (λ (it : Core). it.running) core;
-        voter = ap (λ (it : Core). it.log.voter) core;
-        side = ap (λ (it : Core). it.side) core;
+        runs = ap (λ (it : ServerView). it.running) core;
+        voter = ap (λ (it : ServerView). it.log.voter) core;
+        side = ap (λ (it : ServerView). it.side) core;
         raised = made;
         holds = holds;
         moments = λ told held. with_or_without device before.disk after.disk before.records (left told held);

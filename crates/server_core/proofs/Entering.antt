@@ -10,8 +10,8 @@ use Rattle.server_log.specs.Part.{Part, log_of, sender_of, state_of}
 use Rattle.server_log.specs.declared.memory.entries.Entered.{Entered}
 use Rattle.server_log.specs.declared.memory.done.LogDone.{LogDone}
 use Rattle.pair_memory.specs.Crossed.{IsEntered, lacks_room}
-use Rattle.pair_memory.specs.Done.{HoldsAt}
-use Rattle.pair_memory.specs.Side.{Side, own_of}
+use Rattle.pair_memory.specs.JobResult.{HoldsAt}
+use Rattle.pair_memory.specs.PairMemory.{PairMemory, own_of}
 use Rattle.pair_memory.specs.declared.error.WorkError.{WorkError}
 use Rattle.pair_memory.specs.declared.error.WorkError.TheVariants.{Failed, JournalFull, NoMemory}
 use Rattle.pair_memory.proofs.Entering.{lacking}
@@ -25,10 +25,10 @@ use Rattle.spec_rules.proofs.Applied.{state_append}
 use Rattle.spec_rules.specs.State.{State}
 use Rattle.spec_state.specs.Command.{after, state_after}
 use Rattle.spec_rules.specs.Log.{Log}
-use Rattle.spec_rules.specs.Server.{Here, Own}
+use Rattle.spec_rules.specs.Server.{JobContext, PairState}
 use Rattle.spec_rules.specs.Store.{Store}
 use Rattle.spec_rules.specs.declared.job.Job.TheVariants as job
-use Rattle.server_core.specs.Core.{Core, here_in, left_by_first}
+use Rattle.server_core.specs.ServerView.{ServerView, here_in, left_by_first}
 use Rattle.server_core.specs.Work.{IsStoreWork}
 use Rattle.server_core.proofs.Rooms.{few_stored, full_stored}
 use Rattle.server_core.proofs.Works.{entry_left, entry_stops, entry_worked}
@@ -50,7 +50,7 @@ state_entered old new records done (Some it) by voter is before =
     ∙ ap (λ (s : State). after s it.entry) (sym before)
 
 -- what an entry left, told with another value
-module _ {D A B : Type 0} (device : Ghosts D) {here : Here} {entry : Option Command} {old new : Side} {before after : Holdings D} where
+module _ {D A B : Type 0} (device : Ghosts D) {here : JobContext} {entry : Option Command} {old new : PairMemory} {before after : Holdings D} where
   pub entered_with : (made : A) (done : B) → IsEntered device here entry old new before after (Ok made)
       → IsEntered device here entry old new before after (Ok done)
   entered_with made done is = record {
@@ -77,8 +77,8 @@ module _ {D A B : Type 0} (device : Ghosts D) {here : Here} {entry : Option Comm
     run = is.run;
   }
 
-module _ {D : Type 0} (device : Ghosts D) (records : List StateRecord) (old : Core) (before : Holdings D) (there : slice_get old.queue 0 ≡ Some job.Apply) where
-  abbrev rule : Own
+module _ {D : Type 0} (device : Ghosts D) (records : List StateRecord) (old : ServerView) (before : Holdings D) (there : slice_get old.queue 0 ≡ Some job.Apply) where
+  abbrev rule : PairState
   rule = crossed_by (here_in old) (next_known old.log records) (own_of old.side before)
 
   abbrev Leaves : Holdings D → Store → Type 0
@@ -88,7 +88,7 @@ module _ {D : Type 0} (device : Ghosts D) (records : List StateRecord) (old : Co
   left_as after = subst (Leaves after) (entry_left old (store_of before) records there)
 
   -- it is done as the rule says
-  pub applied_work : {T : Type 0} (new : Core) (after : Holdings D) (made : T) (done : LogDone)
+  pub applied_work : {T : Type 0} (new : ServerView) (after : Holdings D) (made : T) (done : LogDone)
       → IsEntered device (here_in old) (next_known old.log records) old.side new.side before after (Ok made)
       → IsBy (sender_of old.log) (log_of new.log records) done (applies (log_of old.log records))
       → new.running ≡ old.running → new.log.voter ≡ old.log.voter
@@ -111,7 +111,7 @@ module _ {D : Type 0} (device : Ghosts D) (records : List StateRecord) (old : Co
   }
 
   -- the device failed in it
-  pub applied_failed : {T : Type 0} (new : Core) (after : Holdings D) (e : WorkError) → e ≡ Failed
+  pub applied_failed : {T : Type 0} (new : ServerView) (after : Holdings D) (e : WorkError) → e ≡ Failed
       → IsEntered {T = T} device (here_in old) (next_known old.log records) old.side new.side before after (Err e)
       → new.running ≡ old.running → new.log.voter ≡ old.log.voter
       → IsStoreWork device records old new before after (Err e)
@@ -134,10 +134,10 @@ module _ {D : Type 0} (device : Ghosts D) (records : List StateRecord) (old : Co
     same_moments = still_moments device only_now before before (left_by_first old (store_of before) records).own.store refl
 
     -- there was no memory for it
-    pub applied_nothing : (new : Core) → new ≡ old → IsStoreWork device records old new before before (Err NoMemory)
+    pub applied_nothing : (new : ServerView) → new ≡ old → IsStoreWork device records old new before before (Err NoMemory)
     applied_nothing new same = record {
       work = tt;
-      life = (ap (λ (it : Core). it.running) same, ap (λ (it : Core). it.log.voter) same);
+      life = (ap (λ (it : ServerView). it.running) same, ap (λ (it : ServerView). it.log.voter) same);
       keeps = tt;
       holds = λ _ _. tt;
       moments = λ _. same_moments;
@@ -150,7 +150,7 @@ module _ {D : Type 0} (device : Ghosts D) (records : List StateRecord) (old : Co
     }
 
     -- it was not done: the device failed, or there was no memory for it
-    pub applied_not : {T : Type 0} (new : Core) (left : Holdings D) (e : WorkError)
+    pub applied_not : {T : Type 0} (new : ServerView) (left : Holdings D) (e : WorkError)
         → (◌≢◌ {A = Result T WorkError} (Err e) (Err NoMemory)
         → IsEntered {T = T} device (here_in old) (next_known old.log records) old.side new.side before left (Err e))
         → (◌≡◌ {A = Result T WorkError} (Err e) (Err NoMemory) → (new.log ≡ old.log) × (new.side ≡ old.side) × (left ≡ before))
@@ -165,12 +165,12 @@ module _ {D : Type 0} (device : Ghosts D) (records : List StateRecord) (old : Co
 
     -- the journal has no room for its record
     pub applied_full : lacks_room old.log.voter.me old.log.voter.inc (next_known old.log records) before ≡ true
-        → (new : Core) → new ≡ old → IsStoreWork device records old new before before (Err JournalFull)
+        → (new : ServerView) → new ≡ old → IsStoreWork device records old new before before (Err JournalFull)
     applied_full lacks new same =
         let full = lacking (here_in old) (next_known old.log records) old.side before lacks in
         record {
           work = tt;
-          life = (ap (λ (it : Core). it.running) same, ap (λ (it : Core). it.log.voter) same);
+          life = (ap (λ (it : ServerView). it.running) same, ap (λ (it : ServerView). it.log.voter) same);
           keeps = tt;
           holds = λ _ _. tt;
           moments = λ _. same_moments;
@@ -187,7 +187,7 @@ module _ {D : Type 0} (device : Ghosts D) (records : List StateRecord) (old : Co
         }
 
     -- it was refused before anything changed
-    pub applied_refused : (new : Core) → new ≡ old → (e : WorkError) → e ≢ Failed
+    pub applied_refused : (new : ServerView) → new ≡ old → (e : WorkError) → e ≢ Failed
         → (e ≡ JournalFull → lacks_room old.log.voter.me old.log.voter.inc (next_known old.log records) before ≡ true)
         → IsStoreWork device records old new before before (Err e)
     applied_refused new same Failed other lacks = absurd (other refl)

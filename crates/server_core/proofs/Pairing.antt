@@ -4,19 +4,19 @@ use Rattle.std.specs.Prelude.{slice_get}
 use Rattle.kept_chains.specs.Kept.{store_of}
 use Rattle.kept_chains.specs.Standing.{StandsAsEither}
 use Rattle.server_log.specs.Part.{Part, log_of}
-use Rattle.pair_memory.specs.Done.{HoldsAt, IsDone, follow_up}
-use Rattle.pair_memory.specs.Side.{own_of}
-use Rattle.pair_memory.specs.declared.done.Done.{Done}
+use Rattle.pair_memory.specs.JobResult.{HoldsAt, IsDone, follow_up}
+use Rattle.pair_memory.specs.PairMemory.{own_of}
+use Rattle.pair_memory.specs.declared.job_result.JobResult.{JobResult}
 use Rattle.petal_disk.specs.Disk.{LeavesOnly}
 use Rattle.petal_disk.specs.declared.disk.Disk.{Ghosts}
 use Rattle.petal_msg.specs.declared.letter.Letter.{Letter}
 use Rattle.spec_paxos.specs.declared.record.StateRecord.{StateRecord}
 use Rattle.spec_rules.specs.Jobs.{does, journal_records, works}
-use Rattle.spec_rules.specs.Server.{Own}
-use Rattle.spec_rules.specs.Server.{Done as Rule}
+use Rattle.spec_rules.specs.Server.{PairState}
+use Rattle.spec_rules.specs.Server.{JobResult as Rule}
 use Rattle.spec_rules.specs.Store.{Store}
 use Rattle.spec_rules.specs.declared.job.Job.{Job}
-use Rattle.server_core.specs.Core.{Core, acted, here_in, left_by_first, server_of}
+use Rattle.server_core.specs.ServerView.{ServerView, acted, here_in, left_by_first, server_of}
 use Rattle.server_jobs.specs.Kind.{kind_of}
 use Rattle.server_core.specs.Work.{IsFullLog, IsFullStore, IsFullWork, IsStoreWork}
 use Rattle.server_jobs.specs.declared.queue.Kind.TheVariants.{OfPairs}
@@ -25,7 +25,7 @@ use Rattle.server_core.proofs.Works.{made, pair_left, pair_works}
 use Rattle.server_store.specs.Holdings.{Holdings}
 use Rattle.state_store.specs.Device.{Keeping}
 
-module _ {D : Type 0} (device : Ghosts D) (records : List StateRecord) (old new : Core) (before after : Holdings D) (first : Job)
+module _ {D : Type 0} (device : Ghosts D) (records : List StateRecord) (old new : ServerView) (before after : Holdings D) (first : Job)
     (there : slice_get old.queue 0 ≡ Some first) (kind : kind_of first ≡ OfPairs) where
   abbrev rule : Rule
   rule = does (here_in old) (own_of old.side before) first
@@ -39,7 +39,7 @@ module _ {D : Type 0} (device : Ghosts D) (records : List StateRecord) (old new 
       (pair_left old (store_of before) records first there kind)
 
   -- it is done as the rule says
-  pub pair_worked : (done : Done) (letters : List Letter) → IsDone device (here_in old) old.side new.side before after (Ok done) rule
+  pub pair_worked : (done : JobResult) (letters : List Letter) → IsDone device (here_in old) old.side new.side before after (Ok done) rule
       → new.running ≡ old.running → new.log ≡ old.log → new.queue ≡ drop 1 old.queue ++ follow_up done.follow → letters ≡ done.letters
       → device.told → HoldsAt device before → length records ≤ journal_records
       → acted new (store_of after) records letters ≡ works (here_in old) (server_of old (store_of before) records) old.queue
@@ -48,7 +48,7 @@ module _ {D : Type 0} (device : Ghosts D) (records : List StateRecord) (old new 
       let by = is.done told in
       let few_store : rule.own.store.records ≤ journal_records
       = let few = few_stored device after (is.holds told holds) in
-      let left : length after.log.records ≡ rule.own.store.records = ap (λ (own : Own). own.store.records) by.own in
+      let left : length after.log.records ≡ rule.own.store.records = ap (λ (own : PairState). own.store.records) by.own in
       omega (arith, few, left) in
       let jobs = queue ∙ ap (λ (js : List Job). drop 1 old.queue ++ js) by.jobs in
       let inc : new.log.voter.inc ≡ old.log.voter.inc = ap (λ (part : Part). part.voter.inc) log in
@@ -56,7 +56,7 @@ module _ {D : Type 0} (device : Ghosts D) (records : List StateRecord) (old new 
       ∙ sym (pair_works old (store_of before) records first there kind few_store few_log)
 
   -- and so is the rest
-  pub pair_work : (done : Done) (letters : List Letter) → IsDone device (here_in old) old.side new.side before after (Ok done) rule
+  pub pair_work : (done : JobResult) (letters : List Letter) → IsDone device (here_in old) old.side new.side before after (Ok done) rule
       → new.running ≡ old.running → new.log ≡ old.log → new.queue ≡ drop 1 old.queue ++ follow_up done.follow → letters ≡ done.letters
       → IsStoreWork device records old new before after (Ok letters)
   pair_work done letters is running log queue same = record {
@@ -74,7 +74,7 @@ module _ {D : Type 0} (device : Ghosts D) (records : List StateRecord) (old new 
   }
 
 -- a full journal of the one device or of the other
-module _ {D E : Type 0} (device : Ghosts D) (other : Ghosts E) (old new : Core) where
+module _ {D E : Type 0} (device : Ghosts D) (other : Ghosts E) (old new : ServerView) where
   pub full_store : (before after : Holdings D) (state : Keeping E) → IsFullStore device state.records old new before after
       → IsFullWork device other old new before after state state
   full_store before after state full = record {

@@ -5,7 +5,7 @@ use Rattle.server_log.proofs.Said.{left_as}
 use Rattle.server_log.specs.Done.{HoldsAt, IsLogDone}
 use Rattle.server_log.specs.Part.{Part}
 use Rattle.server_log.specs.declared.memory.done.LogDone.{LogDone}
-use Rattle.pair_memory.specs.Side.{Side}
+use Rattle.pair_memory.specs.PairMemory.{PairMemory}
 use Rattle.pair_memory.specs.declared.error.WorkError.{WorkError}
 use Rattle.pair_memory.specs.declared.error.WorkError.TheVariants.{Failed, JournalFull, NoMemory}
 use Rattle.petal_disk.specs.Disk.{LeavesOnly}
@@ -13,7 +13,7 @@ use Rattle.petal_disk.specs.declared.disk.Disk.{Ghosts}
 use Rattle.spec_rules.specs.Log.{LogDone as Rule}
 use Rattle.spec_rules.specs.Store.{Store}
 use Rattle.spec_rules.specs.declared.job.Job.{Job}
-use Rattle.server_core.specs.Core.{Core, left_by_first}
+use Rattle.server_core.specs.ServerView.{ServerView, left_by_first}
 use Rattle.server_jobs.specs.Kind.{kind_of}
 use Rattle.server_core.specs.Work.{IsFullLog, IsLogWork, of_state}
 use Rattle.server_jobs.specs.Ballots.{log_rule}
@@ -25,7 +25,7 @@ use Rattle.state_store.specs.declared.error.StateError.{StateError}
 use Rattle.state_store.specs.declared.error.StateError.TheVariants as state
 
 -- what a crash within a job of the log leaves, as what the first job of the queue leaves
-pub log_moments : {D : Type 0} (device : Ghosts D) (store : Store) (old : Core) (before after : Keeping D) (first : Job)
+pub log_moments : {D : Type 0} (device : Ghosts D) (store : Store) (old : ServerView) (before after : Keeping D) (first : Job)
     → slice_get old.queue 0 ≡ Some first → kind_of first ≡ OfLog
     → {new : Part} {result : Result LogDone StateError}
     → IsLogDone device old.log new before after result (log_rule old.log old.side store before.records first old.log.voter)
@@ -34,14 +34,14 @@ pub log_moments : {D : Type 0} (device : Ghosts D) (store : Store) (old : Core) 
 log_moments device store old before after first there kind done told holds =
     left_as device before.disk after.disk before.records _ _ (log_left old store before.records first there kind) (done.moments told holds)
 
-module _ {D : Type 0} (device : Ghosts D) (store : Store) (old new : Core) (before after : Keeping D) (first : Job)
+module _ {D : Type 0} (device : Ghosts D) (store : Store) (old new : ServerView) (before after : Keeping D) (first : Job)
     (there : slice_get old.queue 0 ≡ Some first) (kind : kind_of first ≡ OfLog)
     (running : new.running ≡ old.running) (side : new.side ≡ old.side) (queue : new.queue ≡ old.queue) where
   abbrev rule : Rule
   rule = log_rule old.log old.side store before.records first old.log.voter
 
   noted : new.side ≡ record old.side { copies = new.side.copies }
-  noted = side ∙ ap (λ (s : Side). record old.side { copies = s.copies }) (sym side)
+  noted = side ∙ ap (λ (s : PairMemory). record old.side { copies = s.copies }) (sym side)
 
   same_core : new.log ≡ old.log → new ≡ old
   same_core log = λ i. record { running = running i; log = log i; side = side i; queue = queue i }

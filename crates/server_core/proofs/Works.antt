@@ -14,11 +14,11 @@ use Rattle.spec_rules.specs.Crossing.{crossed_by, jobs_by}
 use Rattle.spec_rules.specs.Entries.{applies}
 use Rattle.spec_rules.specs.Jobs.{Acted, crossing, does, is_log_job, job_done, stops, voter_of, where_room, worked, works}
 use Rattle.spec_rules.specs.Log.{Log, Voter, known, next_place}
-use Rattle.spec_rules.specs.Server.{Done, Here, Own, Server, letters_of, sender}
+use Rattle.spec_rules.specs.Server.{JobResult, JobContext, PairState, Server, letters_of, sender}
 use Rattle.spec_rules.specs.Store.{Store}
 use Rattle.spec_rules.specs.declared.job.Job.{Job}
 use Rattle.spec_rules.specs.declared.job.Job.TheVariants as job
-use Rattle.server_core.specs.Core.{Core, acted, after_first, here_in, left_by_first, server_of}
+use Rattle.server_core.specs.ServerView.{ServerView, acted, after_first, here_in, left_by_first, server_of}
 use Rattle.server_jobs.specs.Wants.{own_in}
 use Rattle.server_jobs.specs.Kind.{kind_of}
 use Rattle.server_jobs.specs.Ballots.{IsLeft, log_rule, own_left}
@@ -39,12 +39,12 @@ no_entry : (b : Bool) → (if b then OfLog else OfPairs) ≡ Applies → ⊥
 no_entry true is = absurd (cc)
 no_entry false is = absurd (cc)
 
-job_pair : (here : Here) (server : Server) (first : Job) (rest : List Job) → kind_of first ≡ OfPairs
+job_pair : (here : JobContext) (server : Server) (first : Job) (rest : List Job) → kind_of first ≡ OfPairs
     → job_done here server first rest ≡ worked here server rest (does here server.own first)
 job_pair here server job.Apply rest is = absurd (cc)
 job_pair here server (job.Letter letter) rest is = rw (not_pairs (is_log_job (job.Letter letter)) is) refl
 job_pair here server (job.Stage cell) rest is = refl
-job_pair here server (job.Mend link) rest is = refl
+job_pair here server (job.Repair link) rest is = refl
 job_pair here server job.Sweep rest is = refl
 job_pair here server job.Start rest is = absurd (cc)
 
@@ -54,7 +54,7 @@ apply_first [] none = absurd none
 apply_first (job.Apply ∷ rest) is = refl
 apply_first (job.Letter letter ∷ rest) is = absurd (no_entry (is_log_job (job.Letter letter)) is)
 apply_first (job.Stage cell ∷ rest) is = absurd (cc)
-apply_first (job.Mend link ∷ rest) is = absurd (cc)
+apply_first (job.Repair link ∷ rest) is = absurd (cc)
 apply_first (job.Sweep ∷ rest) is = absurd (cc)
 apply_first (job.Start ∷ rest) is = absurd (cc)
 
@@ -64,11 +64,11 @@ front_is : (queue : List Job) (first : Job) → slice_get queue 0 ≡ Some first
 front_is [] first is = absurd (cc)
 front_is (j ∷ rest) first is = let same : j ≡ first = cc in ap (λ (k : Job). k ∷ rest) same
 
-first_done : (here : Here) (server : Server) (queue : List Job) (first : Job) → slice_get queue 0 ≡ Some first
+first_done : (here : JobContext) (server : Server) (queue : List Job) (first : Job) → slice_get queue 0 ≡ Some first
     → works here server queue ≡ where_room here server (job_done here server first (drop 1 queue))
 first_done here server queue first is = ap (works here server) (front_is queue first is)
 
-first_left : (here : Here) (server : Server) (queue : List Job) (first : Job) → slice_get queue 0 ≡ Some first
+first_left : (here : JobContext) (server : Server) (queue : List Job) (first : Job) → slice_get queue 0 ≡ Some first
     → after_first here server queue ≡ (job_done here server first (drop 1 queue)).server
 first_left here server queue first is = ap (after_first here server) (front_is queue first is)
 
@@ -85,17 +85,17 @@ pub many : (n : ℕ) → n ≡ journal_records + 1 → nat_lt journal_records n 
 many n is = grind (arith, nat_tests)
 
 -- where both journals have room for what the job leaves
-pub fits : (here : Here) (server : Server) (left : Acted) → left.server.own.store.records ≤ journal_records → length left.server.log.records ≤ journal_records
+pub fits : (here : JobContext) (server : Server) (left : Acted) → left.server.own.store.records ≤ journal_records → length left.server.log.records ≤ journal_records
     → where_room here server left ≡ left
 fits here server left store records =
     rw (few left.server.own.store.records store, few (length left.server.log.records) records) refl
 
 -- where the data device has none, and where the state device has none
-full_store : (here : Here) (server : Server) (left : Acted) → left.server.own.store.records ≡ journal_records + 1
+full_store : (here : JobContext) (server : Server) (left : Acted) → left.server.own.store.records ≡ journal_records + 1
     → where_room here server left ≡ stops here server
 full_store here server left more = rw (many left.server.own.store.records more) refl
 
-full_log : (here : Here) (server : Server) (left : Acted) → length left.server.log.records ≡ journal_records + 1
+full_log : (here : JobContext) (server : Server) (left : Acted) → length left.server.log.records ≡ journal_records + 1
     → where_room here server left ≡ stops here server
 full_log here server left more =
     let stop = stops here server in
@@ -107,15 +107,15 @@ full_log here server left more =
 
 -- ### Jobs of the pairs
 
-module _ (core : Core) (store : Store) (records : List StateRecord)
+module _ (core : ServerView) (store : Store) (records : List StateRecord)
     (first : Job) (there : slice_get core.queue 0 ≡ Some first) (kind : kind_of first ≡ OfPairs) where
-  abbrev here : Here
+  abbrev here : JobContext
   here = here_in core
 
   abbrev server : Server
   server = server_of core store records
 
-  abbrev done : Done
+  abbrev done : JobResult
   done = does here server.own first
 
   pub pair_works : done.own.store.records ≤ journal_records → length records ≤ journal_records
@@ -136,12 +136,12 @@ module _ (core : Core) (store : Store) (records : List StateRecord)
 -- ### Jobs of the log
 
 -- a server knows how many servers there are
-pub voter_is : (core : Core) → voter_of (here_in core) ≡ core.log.voter
+pub voter_is : (core : ServerView) → voter_of (here_in core) ≡ core.log.voter
 voter_is core =
     ap (λ (n : ℕ). record { me = core.log.voter.me; inc = core.log.voter.inc; servers = n }) (servers_after core.log.voter.servers core.log.applied)
 
 -- what a job of the log leaves, as this voter
-abbrev pub entered_as : Core → Store → List StateRecord → Job → Voter → Acted
+abbrev pub entered_as : ServerView → Store → List StateRecord → Job → Voter → Acted
 entered_as core store records first voter =
     let rule = log_rule core.log core.side store records first voter in
     record {
@@ -153,18 +153,18 @@ entered_as core store records first voter =
       letters = letters_of (sender (here_in core)) 0 rule.posts;
     }
 
-log_entered : (core : Core) (store : Store) (records : List StateRecord) (first : Job) → kind_of first ≡ OfLog
+log_entered : (core : ServerView) (store : Store) (records : List StateRecord) (first : Job) → kind_of first ≡ OfLog
     → job_done (here_in core) (server_of core store records) first (drop 1 core.queue) ≡ entered_as core store records first (voter_of (here_in core))
 log_entered core store records job.Apply kind = absurd (cc)
 log_entered core store records (job.Letter letter) kind = rw (not_log (is_log_job (job.Letter letter)) kind) refl
 log_entered core store records (job.Stage cell) kind = absurd (cc)
-log_entered core store records (job.Mend link) kind = absurd (cc)
+log_entered core store records (job.Repair link) kind = absurd (cc)
 log_entered core store records job.Sweep kind = absurd (cc)
 log_entered core store records job.Start kind = refl
 
-module _ (core : Core) (store : Store) (records : List StateRecord)
+module _ (core : ServerView) (store : Store) (records : List StateRecord)
     (first : Job) (there : slice_get core.queue 0 ≡ Some first) (kind : kind_of first ≡ OfLog) where
-  abbrev at : Here
+  abbrev at : JobContext
   at = here_in core
 
   abbrev it : Server
@@ -193,14 +193,14 @@ module _ (core : Core) (store : Store) (records : List StateRecord)
       → works at it core.queue ≡ stops at it
   log_stops more = entered_is ∙ full_log at it (left_by core.log.voter) more
 
-unfoldable pub made : Bool → (inc : ℕ) → Log → Own → List Job → List Letter → Acted
+unfoldable pub made : Bool → (inc : ℕ) → Log → PairState → List Job → List Letter → Acted
 made running inc log own queue letters = record {
   server = record { life = record { running = running; inc = inc }; log = log; own = own; queue = queue };
   letters = letters;
 }
 
 -- a job of the log is done as the rule says
-pub log_worked : (old new : Core) (store : Store) (before after : List StateRecord) (first : Job) (done : LogDone)
+pub log_worked : (old new : ServerView) (store : Store) (before after : List StateRecord) (first : Job) (done : LogDone)
     → slice_get old.queue 0 ≡ Some first → kind_of first ≡ OfLog
     → IsBy (sender_of old.log) (log_of new.log after) done (log_rule old.log old.side store before first old.log.voter)
     → IsLeft old.log old.side store before first new.side
@@ -216,15 +216,15 @@ log_worked old new store before after first done there kind by left running vote
     let records : length rule.log.records ≤ journal_records =
     (let same : length after ≡ length rule.log.records = ap (λ (log : Log). length log.records) by.log in omega (arith, same)) in
     let stored : (own_left old.log old.side store before first old.log.voter).store.records ≤ journal_records =
-    (let same : store.records ≡ (own_left old.log old.side store before first old.log.voter).store.records = ap (λ (o : Own). o.store.records) own in
+    (let same : store.records ≡ (own_left old.log old.side store before first old.log.voter).store.records = ap (λ (o : PairState). o.store.records) own in
     omega (arith, same)) in
     (λ i. made (running i) (inc i) (by.log i) (own i) (jobs i) (by.letters i))
     ∙ sym (log_works old store before first there kind stored records)
 
 -- ### An entry
 
-module _ (old : Core) (before : Store) (records : List StateRecord) (there : slice_get old.queue 0 ≡ Some job.Apply) where
-  abbrev where_old : Here
+module _ (old : ServerView) (before : Store) (records : List StateRecord) (there : slice_get old.queue 0 ≡ Some job.Apply) where
+  abbrev where_old : JobContext
   where_old = here_in old
 
   abbrev was : Server
@@ -233,7 +233,7 @@ module _ (old : Core) (before : Store) (records : List StateRecord) (there : sli
   abbrev entry : Option Command
   entry = known was.log (next_place was.log)
 
-  abbrev own_after : Own
+  abbrev own_after : PairState
   own_after = crossed_by where_old entry was.own
 
   abbrev stages : List Job
@@ -254,7 +254,7 @@ module _ (old : Core) (before : Store) (records : List StateRecord) (there : sli
       ∙ full_store where_old was (crossing where_old was (drop 1 old.queue) entry (applies was.log)) more
 
   -- an entry is applied as the rule says
-  pub entry_worked : (new : Core) (after : Store) (done : LogDone) → IsBy (sender_of old.log) (log_of new.log records) done (applies was.log)
+  pub entry_worked : (new : ServerView) (after : Store) (done : LogDone) → IsBy (sender_of old.log) (log_of new.log records) done (applies was.log)
       → new.running ≡ old.running → new.log.voter ≡ old.log.voter → own_in new.side after ≡ own_after
       → new.queue ≡ (drop 1 old.queue ++ follow_ups done) ++ stages
       → after.records ≤ journal_records → length records ≤ journal_records
@@ -264,7 +264,7 @@ module _ (old : Core) (before : Store) (records : List StateRecord) (there : sli
       let jobs = queue ∙ ap (λ (js : List Job). (drop 1 old.queue ++ js) ++ stages) by.jobs in
       let inc : new.log.voter.inc ≡ old.log.voter.inc = ap (λ (v : Voter). v.inc) voter in
       let few_stored : own_after.store.records ≤ journal_records =
-      (let same : after.records ≡ own_after.store.records = ap (λ (o : Own). o.store.records) own in omega (arith, same)) in
+      (let same : after.records ≡ own_after.store.records = ap (λ (o : PairState). o.store.records) own in omega (arith, same)) in
       let few_known : length (applies was.log).log.records ≤ journal_records =
       (let same : length records ≡ length (applies was.log).log.records = ap (λ (l : Log). length l.records) by.log in omega (arith, same)) in
       (λ i. made (running i) (inc i) (by.log i) (own i) (jobs i) (by.letters i)) ∙ sym (entry_works few_stored few_known)

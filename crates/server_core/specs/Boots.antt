@@ -2,8 +2,8 @@
 use Rattle.std.specs.Prelude.{◌≡◌, ◌≤◌, ◌+◌, ◌++◌, ◌∷◌, [], List, true, Result, Err, IfOk, OnOk, OnErr}
 use Rattle.server_log.specs.Done as logs
 use Rattle.server_log.specs.Part.{new_part}
-use Rattle.pair_memory.specs.Done.{HasFault}
-use Rattle.pair_memory.specs.Side.{new_side}
+use Rattle.pair_memory.specs.JobResult.{HasFault}
+use Rattle.pair_memory.specs.PairMemory.{new_side}
 use Rattle.pair_memory.specs.declared.error.WorkError.{WorkError}
 use Rattle.pair_memory.specs.declared.error.WorkError.TheVariants.{Failed, JournalFull}
 use Rattle.petal_command.specs.declared.command.Command.{Command}
@@ -18,7 +18,7 @@ use Rattle.spec_rules.specs.Jobs.{journal_records}
 use Rattle.spec_rules.specs.Log.{Voter}
 use Rattle.spec_rules.specs.Store.{Store}
 use Rattle.spec_rules.specs.declared.step.WorkEnd.TheVariants.{Done}
-use Rattle.server_core.specs.Core.{Core, acted, here_in, server_of}
+use Rattle.server_core.specs.ServerView.{ServerView, acted, here_in, server_of}
 use Rattle.state_store.specs.Device.{Keeping, StandsForEither}
 use Rattle.petal_base.specs.Limits.{journal_records}
 
@@ -27,11 +27,11 @@ abbrev pub next_voter : Voter → Voter
 next_voter voter = record voter { inc = voter.inc + 1 }
 
 -- a stopped server whose incarnation was raised
-abbrev pub raised_core : Core → Core
+abbrev pub raised_core : ServerView → ServerView
 raised_core core = record core { log = record core.log { voter = next_voter core.log.voter } }
 
 -- a server that runs as the incarnation after this one, with these entries applied
-abbrev pub booted : Voter → (applied : List Command) → Core
+abbrev pub booted : Voter → (applied : List Command) → ServerView
 booted voter applied = record {
   running = true;
   log = record (new_part (next_voter voter)) { applied = applied };
@@ -49,7 +49,7 @@ shut store = record store { tickets = 0 }
 
 module _ {D : Type 0} where
   -- the state device's journal has no room for the incarnation; nothing changed, and the rule lets the server be
-  pub record IsFullBoot (device : Ghosts D) (old new : Core) (before after : Keeping D) : Type 0 where
+  pub record IsFullBoot (device : Ghosts D) (old new : ServerView) (before after : Keeping D) : Type 0 where
     pub count : before.region.count ≡ journal_records
     pub same : (new ≡ old) × (after ≡ before)
     pub stays : device.told → logs.HoldsAt device before → (store : Store)
@@ -57,7 +57,7 @@ module _ {D : Type 0} where
 
   -- the server boots as the rule says where the device tells its bytes and stands for the records, at each store that fits its
   -- journal. A crash at any moment leaves the records before, or those with the next incarnation
-  pub record IsBoot (device : Ghosts D) (old new : Core) (before after : Keeping D) (result : Result (List Letter) WorkError) : Type 0 where
+  pub record IsBoot (device : Ghosts D) (old new : ServerView) (before after : Keeping D) (result : Result (List Letter) WorkError) : Type 0 where
     pub step : IfOk result (λ letters. device.told → logs.HoldsAt device before → (store : Store) → store.records ≤ journal_records
         → acted new (shut store) after.records letters ≡ boots (here_in old) (server_of old store before.records) Done)
     pub runs : OnOk result (new.running ≡ true)

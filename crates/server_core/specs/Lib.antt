@@ -1,5 +1,5 @@
 pub mod Farewell
 pub mod Boots
 pub mod Works
-pub mod Core
+pub mod ServerView
 pub mod Work

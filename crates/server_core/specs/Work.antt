@@ -3,8 +3,8 @@ use Rattle.std.specs.Prelude.{◌≡◌, ◌≤◌, ◌⊎◌, length, List, Res
 use Rattle.kept_chains.specs.Kept.{store_of}
 use Rattle.kept_chains.specs.Standing.{StandsAsEither}
 use Rattle.server_log.specs.Done as logs
-use Rattle.pair_memory.specs.Done.{HasFault, HoldsAt}
-use Rattle.pair_memory.specs.Side.{HasTicketsAt}
+use Rattle.pair_memory.specs.JobResult.{HasFault, HoldsAt}
+use Rattle.pair_memory.specs.PairMemory.{HasTicketsAt}
 use Rattle.pair_memory.specs.declared.error.WorkError.{WorkError}
 use Rattle.pair_memory.specs.declared.error.WorkError.TheVariants.{Failed, JournalFull, NoMemory}
 use Rattle.petal_disk.specs.declared.disk.Disk.{Ghosts}
@@ -13,7 +13,7 @@ use Rattle.petal_msg.specs.declared.letter.Letter.{Letter}
 use Rattle.spec_paxos.specs.declared.record.StateRecord.{StateRecord}
 use Rattle.spec_rules.specs.Jobs.{journal_records, stops, works}
 use Rattle.spec_rules.specs.Store.{Store}
-use Rattle.server_core.specs.Core.{Core, acted, here_in, left_by_first, server_of}
+use Rattle.server_core.specs.ServerView.{ServerView, acted, here_in, left_by_first, server_of}
 use Rattle.server_store.specs.Holdings.{Holdings}
 use Rattle.state_store.specs.Device.{Keeping, StandsForEither}
 use Rattle.state_store.specs.declared.error.StateError.{StateError}
@@ -29,20 +29,20 @@ of_state state.JournalFull = JournalFull
 of_state state.NoMemory = NoMemory
 
 -- there is no room for the record of the first job, and the rule lets the server stop
-abbrev pub Stops : Core → Store → List StateRecord → Type 0
+abbrev pub Stops : ServerView → Store → List StateRecord → Type 0
 Stops old store records =
     works (here_in old) (server_of old store records) old.queue ≡ stops (here_in old) (server_of old store records)
 
 module _ {D : Type 0} where
   -- the data device's journal has no room for the record of the first job, and nothing changed
-  pub record IsFullStore (device : Ghosts D) (records : List StateRecord) (old new : Core) (before after : Holdings D) : Type 0 where
+  pub record IsFullStore (device : Ghosts D) (records : List StateRecord) (old new : ServerView) (before after : Holdings D) : Type 0 where
     pub count : before.log.region.count ≡ journal_records
     pub same : (new ≡ old) × (after ≡ before)
     pub stops : device.told → HoldsAt device before → Stops old (store_of before) records
 
   -- the first job, of the pairs or that applies an entry, is done as the rule says at these records of the state device, where
   -- the data device tells its bytes and shows the store; the rest is as of each job of the pairs. The state device is not called
-  pub record IsStoreWork (device : Ghosts D) (records : List StateRecord) (old new : Core) (before after : Holdings D)
+  pub record IsStoreWork (device : Ghosts D) (records : List StateRecord) (old new : ServerView) (before after : Holdings D)
       (result : Result (List Letter) WorkError) : Type 0 where
     pub work : IfOk result (λ letters. device.told → HoldsAt device before → length records ≤ journal_records
         → acted new (store_of after) records letters ≡ works (here_in old) (server_of old (store_of before) records) old.queue)
@@ -60,14 +60,14 @@ module _ {D : Type 0} where
     pub run : device.came_to before.disk after.disk
 
   -- the state device's journal has no room for the record of the first job, and nothing changed
-  pub record IsFullLog (device : Ghosts D) (store : Store) (old new : Core) (before after : Keeping D) : Type 0 where
+  pub record IsFullLog (device : Ghosts D) (store : Store) (old new : ServerView) (before after : Keeping D) : Type 0 where
     pub count : before.region.count ≡ journal_records
     pub same : (new ≡ old) × (after ≡ before)
     pub stops : device.told → logs.HoldsAt device before → Stops old store before.records
 
   -- the first job, of the agreed log, is done as the rule says at this store, where the device tells its bytes and stands for the
   -- records; the rest is as of each job of the log. The store is not called
-  pub record IsLogWork (device : Ghosts D) (store : Store) (old new : Core) (before after : Keeping D) (result : Result (List Letter) WorkError) : Type 0 where
+  pub record IsLogWork (device : Ghosts D) (store : Store) (old new : ServerView) (before after : Keeping D) (result : Result (List Letter) WorkError) : Type 0 where
     pub work : IfOk result (λ letters. device.told → logs.HoldsAt device before → store.records ≤ journal_records
         → acted new store after.records letters ≡ works (here_in old) (server_of old store before.records) old.queue)
     pub life : (new.running ≡ old.running) × (new.log.voter ≡ old.log.voter)
@@ -83,7 +83,7 @@ module _ {D : Type 0} where
     pub run : device.came_to before.disk after.disk
 
 -- either journal has no room for the record of the first job; nothing changed, and the rule lets the server stop
-pub record IsFullWork {D E : Type 0} (device : Ghosts D) (other : Ghosts E) (old new : Core) (before after : Holdings D) (state left : Keeping E) : Type 0 where
+pub record IsFullWork {D E : Type 0} (device : Ghosts D) (other : Ghosts E) (old new : ServerView) (before after : Holdings D) (state left : Keeping E) : Type 0 where
   pub count : (before.log.region.count ≡ journal_records) ⊎ (state.region.count ≡ journal_records)
   pub same : (new ≡ old) × (after ≡ before) × (left ≡ state)
   pub stops : device.told → other.told → HoldsAt device before → logs.HoldsAt other state → Stops old (store_of before) state.records

@@ -3,15 +3,15 @@ use Rattle.std.specs.Prelude.{◌≡◌, ◌↔◌, [], List, Option, None, Some
 use Rattle.kept_chains.specs.Kept.{store_of}
 use Rattle.kept_chains.specs.Standing.{StandsAsEither}
 use Rattle.server_log.specs.Done as logs
-use Rattle.pair_memory.specs.Done.{HoldsAt}
-use Rattle.pair_memory.specs.Side.{HasTicketsAt}
+use Rattle.pair_memory.specs.JobResult.{HoldsAt}
+use Rattle.pair_memory.specs.PairMemory.{HasTicketsAt}
 use Rattle.pair_memory.specs.declared.error.WorkError.{WorkError}
 use Rattle.pair_memory.specs.declared.error.WorkError.TheVariants.{JournalFull, NoMemory}
 use Rattle.petal_disk.specs.declared.disk.Disk.{Ghosts}
 use Rattle.petal_disk.specs.Disk.{LeavesOnly}
 use Rattle.petal_msg.specs.declared.letter.Letter.{Letter}
 use Rattle.server_store.specs.Holdings.{Holdings}
-use Rattle.server_core.specs.Core.{Core, HasFaults, IsWork, left_by_first}
+use Rattle.server_core.specs.ServerView.{ServerView, HasFaults, IsWork, left_by_first}
 use Rattle.server_core.specs.Work.{IsFullWork}
 use Rattle.state_store.specs.Device.{Keeping, StandsForEither}
 
@@ -23,7 +23,7 @@ as_some (Err e) = Err e
 -- the first job is done, as the rule says where both devices tell their bytes and show the stores; None comes exactly where there is
 -- none. Where a device showed its store, now and after any crash, it shows the store after the job; a crash at any moment leaves
 -- the store before it, or the one that the rule leaves
-pub record IsFirstJob {D E : Type 0} (device : Ghosts D) (other : Ghosts E) (old new : Core) (before after : Holdings D) (state left : Keeping E)
+pub record IsFirstJob {D E : Type 0} (device : Ghosts D) (other : Ghosts E) (old new : ServerView) (before after : Holdings D) (state left : Keeping E)
     (result : Result (Option (List Letter)) WorkError) : Type 0 where
   pub idle : (result ≡ Ok None) ↔ (old.queue ≡ [])
   pub work : IfOk result (λ worked. device.told → other.told → HoldsAt device before → logs.HoldsAt other state

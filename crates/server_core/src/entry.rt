@@ -9,19 +9,19 @@ ghost use Rattle.server_log.specs.Entered.{IsNext, entry_in, entry_of, next_know
 ghost use Rattle.server_log.specs.Part.{log_of, sender_of, state_of};
 ghost use Rattle.server_log.specs.Said.{IsBy};
 ghost use Rattle.pair_memory.specs.Crossed.{IsEntered, lacks_room};
-ghost use Rattle.pair_memory.specs.Side.{HasTicketsAt};
+ghost use Rattle.pair_memory.specs.PairMemory.{HasTicketsAt};
 ghost use Rattle.pair_memory.specs.declared.error.WorkError.TheVariants as error;
 ghost use Rattle.spec_rules.specs.Crossing.{jobs_by};
 ghost use Rattle.spec_rules.specs.Entries.{applies};
 ghost use Rattle.spec_rules.specs.State.{State};
 ghost use Rattle.spec_rules.specs.Store as stores;
 ghost use Rattle.spec_state.specs.Command.{after};
-ghost use Rattle.server_core.specs.Core.{core_of};
+ghost use Rattle.server_core.specs.ServerView.{core_of};
 ghost use Rattle.server_core.specs.Work.{IsStoreWork};
 
-use crate::parts::Parts;
+use crate::parts::ServerMemory;
 use global_state::GlobalState;
-use pair_memory::{Here, Side, WorkError, enters, entry_jobs, lacks_room};
+use pair_memory::{JobContext, PairMemory, WorkError, enter_all, entry_jobs, lacks_room};
 use petal_base::{Inc, NoMemory, Sequence, ServerId};
 use petal_disk::Disk;
 use petal_msg::Letter;
@@ -44,7 +44,7 @@ fn next_lacks_room<D: Disk>(
 {
     match next {
         Some(next) => {
-            let here = Here::new(alloc, log.state(), log.me(), log.inc());
+            let here = JobContext::new(alloc, log.state(), log.me(), log.inc());
             lacks_room(&here, &next.entry, store)
         }
         None => false,
@@ -52,13 +52,13 @@ fn next_lacks_room<D: Disk>(
 }
 
 /// What an entry that was applied does to the pairs and the store.
-fn enters_by<D: Disk>(
+fn enter_by<D: Disk>(
     alloc: Global,
     me: ServerId,
     inc: Inc,
     entered: Option<Entered>,
     next: &GlobalState,
-    side: &mut Side,
+    side: &mut PairMemory,
     store: &mut Store<D>,
 ) -> Result<(), WorkError>
     requires tickets { HasTicketsAt side.old store.old }
@@ -69,8 +69,8 @@ fn enters_by<D: Disk>(
 {
     match entered {
         Some(entered) => {
-            let here = Here::new(alloc, &entered.before, me, inc);
-            enters(&here, &entered.entry, next, side, store)
+            let here = JobContext::new(alloc, &entered.before, me, inc);
+            enter_all(&here, &entered.entry, next, side, store)
         }
         None => Ok(()),
     }
@@ -80,7 +80,7 @@ fn enters_by<D: Disk>(
 fn jobs_of_next(
     alloc: Global,
     log: &LogSide,
-    side: &Side,
+    side: &PairMemory,
     next: &Option<Next>,
 ) -> Result<Vec<Job>, NoMemory>
     requires { IfSome next.now (λ it. it.state ≡ after (state_of log.now) it.entry) }
@@ -89,7 +89,7 @@ fn jobs_of_next(
 {
     match next {
         Some(next) => {
-            let here = Here::new(alloc, log.state(), log.me(), log.inc());
+            let here = JobContext::new(alloc, log.state(), log.me(), log.inc());
             entry_jobs(&here, &next.entry, side, &next.state)
         }
         None => Ok(Vec::new(alloc)),
@@ -100,7 +100,7 @@ fn jobs_of_next(
 fn jobs_with_room(
     alloc: Global,
     log: &LogSide,
-    side: &Side,
+    side: &PairMemory,
     queue: &mut VecDeque<Job>,
     next: &Option<Next>,
 ) -> Result<Vec<Job>, NoMemory>
@@ -119,7 +119,7 @@ fn jobs_with_room(
 fn next_with_jobs<D: Disk, E: Disk>(
     alloc: Global,
     log: &LogSide,
-    side: &Side,
+    side: &PairMemory,
     queue: &mut VecDeque<Job>,
     store: &Store<D>,
     state: &StateStore<E>,
@@ -146,7 +146,7 @@ fn next_with_jobs<D: Disk, E: Disk>(
 fn enter_next<D: Disk, E: Disk>(
     alloc: Global,
     log: &mut LogSide,
-    side: &mut Side,
+    side: &mut PairMemory,
     store: &mut Store<D>,
     state: &StateStore<E>,
     next: Option<Next>,
@@ -163,7 +163,7 @@ fn enter_next<D: Disk, E: Disk>(
     let (me, inc) = (log.me(), log.inc());
     // what was applied is owned here alone, since each early return of a caller would have to drop it too
     let (done, entered) = log.apply(alloc, state, next)?;
-    match enters_by(alloc, me, inc, entered, log.state(), side, store) {
+    match enter_by(alloc, me, inc, entered, log.state(), side, store) {
         Ok(()) => Ok(done),
         Err(error) => Err(error),
     }
@@ -173,7 +173,7 @@ fn enter_next<D: Disk, E: Disk>(
 fn apply_next<D: Disk, E: Disk>(
     alloc: Global,
     log: &mut LogSide,
-    side: &mut Side,
+    side: &mut PairMemory,
     queue: &mut VecDeque<Job>,
     store: &mut Store<D>,
     state: &StateStore<E>,
@@ -194,7 +194,7 @@ fn apply_next<D: Disk, E: Disk>(
     }
 }
 
-impl Parts {
+impl ServerMemory {
     /// Applies the next entry, where it is known: the first job.
     ///
     /// # Errors

@@ -6,7 +6,7 @@ ghost use Rattle.server_jobs.specs.declared.queue.Kind.TheVariants.{OfLog};
 ghost use Rattle.kept_chains.specs.Kept.{store_of};
 ghost use Rattle.server_core.specs.Work.{IsLogWork, of_state};
 
-use crate::parts::Parts;
+use crate::parts::ServerMemory;
 use pair_memory::WorkError;
 use petal_base::Sequence;
 use petal_disk::Disk;
@@ -27,7 +27,7 @@ pub fn of_state(error: StateError) -> WorkError
     }
 }
 
-impl Parts {
+impl ServerMemory {
     /// Does the first job, of the agreed log.
     ///
     /// # Errors

@@ -4,15 +4,15 @@ ghost use Rattle.std.specs.Prelude.{◌≡◌, ◌≢◌, false, slice_get, IsSo
 ghost use Rattle.server_jobs.specs.Kind.{kind_of};
 ghost use Rattle.server_jobs.specs.declared.queue.Kind.TheVariants.{OfPairs};
 ghost use Rattle.kept_chains.specs.Kept.{store_of};
-ghost use Rattle.pair_memory.specs.Done.{HasVersions};
-ghost use Rattle.pair_memory.specs.Side.{HasTicketsAt};
+ghost use Rattle.pair_memory.specs.JobResult.{HasVersions};
+ghost use Rattle.pair_memory.specs.PairMemory.{HasTicketsAt};
 ghost use Rattle.spec_rules.specs.Store as stores;
 ghost use Rattle.spec_rules.specs.World.{greatest_u64};
-ghost use Rattle.server_core.specs.Core.{is_spent};
+ghost use Rattle.server_core.specs.ServerView.{is_spent};
 ghost use Rattle.server_core.specs.Work.{IsStoreWork};
 
-use crate::parts::Parts;
-use pair_memory::{Here, WorkError};
+use crate::parts::ServerMemory;
+use pair_memory::{JobContext, WorkError};
 use petal_base::Sequence;
 use petal_disk::Disk;
 use petal_msg::Letter;
@@ -30,7 +30,7 @@ fn has_versions<D: Disk>(store: &Store<D>)
     let _ = store.top();
 }
 
-impl Parts {
+impl ServerMemory {
     /// Does the first job, of the pairs.
     ///
     /// # Errors
@@ -48,7 +48,7 @@ impl Parts {
     {
         let _ = state;
         has_versions(store);
-        let here = Here::new(alloc, self.log.state(), self.log.me(), self.log.inc());
+        let here = JobContext::new(alloc, self.log.state(), self.log.me(), self.log.inc());
         let Some(job) = self.queue.front() else {
             return Ok(Sequence::new(alloc));
         };

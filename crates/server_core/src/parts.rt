@@ -3,10 +3,10 @@
 ghost use Rattle.std.specs.Prelude.{◌≡◌, ◌++◌, ◌||◌, ◌↔◌, [], true, false, slice_get, IsNone, IfSome, IsSomeAnd, OnOk, OnErr};
 ghost use Rattle.server_jobs.specs.Kind.{kind_of};
 ghost use Rattle.kept_chains.specs.Kept.{store_of};
-ghost use Rattle.pair_memory.specs.Side.{new_side};
-ghost use Rattle.server_core.specs.Core.{is_spent};
+ghost use Rattle.pair_memory.specs.PairMemory.{new_side};
+ghost use Rattle.server_core.specs.ServerView.{is_spent};
 
-use pair_memory::Side;
+use pair_memory::PairMemory;
 use petal_base::NoMemory;
 use petal_disk::Disk;
 use server_jobs::{Kind, RecentBlocks, add_all, kind_of, make_room};
@@ -20,18 +20,18 @@ use std::marker::Model;
 /// What a server has in memory for its jobs, and whether it runs. Contracts see its part of the agreed log, its side of its pairs,
 /// and its queue. Nothing reads what a stopped server has in memory.
 #[derive(Drop)]
-pub struct Parts {
+pub struct ServerMemory {
     pub running: bool,
     pub log: LogSide,
-    pub side: Side,
+    pub side: PairMemory,
     pub queue: VecDeque<Job>,
     pub recent: RecentBlocks,
 }
 
-impl Model for Parts {
-    ghost use Rattle.server_core.specs.Core.{Core};
+impl Model for ServerMemory {
+    ghost use Rattle.server_core.specs.ServerView.{ServerView};
 
-    ghost Value = { Core };
+    ghost Value = { ServerView };
 
     ghost view = { λ p. record { running = p.running; log = p.log; side = p.side; queue = p.queue.items } };
 }
@@ -43,21 +43,21 @@ fn either(a: bool, b: bool) -> bool
 }
 
 // All of its pairs is forgotten.
-fn forget(side: &mut Side, alloc: Global)
+fn forget(side: &mut PairMemory, alloc: Global)
     ensures { side.new ≡ new_side }
 {
-    *side = Side::new(alloc);
+    *side = PairMemory::new(alloc);
 }
 
-impl Parts {
+impl ServerMemory {
     /// Those of a server that runs, with this part of the log and nothing pending. It takes no memory.
-    pub fn new(alloc: Global, log: LogSide) -> Parts
+    pub fn new(alloc: Global, log: LogSide) -> ServerMemory
         ensures { result ≡ record { running = true; log = log; side = new_side; queue = [] } }
     {
-        Parts {
+        ServerMemory {
             running: true,
             log,
-            side: Side::new(alloc),
+            side: PairMemory::new(alloc),
             queue: VecDeque::new(alloc),
             recent: RecentBlocks::new(alloc),
         }

@@ -4,17 +4,17 @@ ghost use Rattle.std.specs.Prelude.{◌≡◌, ◌++◌, ◌∷◌, ◌↔◌, L
 ghost use Rattle.kept_chains.specs.Kept.{store_of};
 ghost use Rattle.kept_chains.specs.Reading.{IsReadFault};
 ghost use Rattle.server_log.specs.Part.{new_part, state_of};
-ghost use Rattle.pair_memory.specs.Done.{HoldsAt};
-ghost use Rattle.pair_memory.specs.Side.{new_side};
+ghost use Rattle.pair_memory.specs.JobResult.{HoldsAt};
+ghost use Rattle.pair_memory.specs.PairMemory.{new_side};
 ghost use Rattle.petal_disk.specs.Keeping.{KeepsDevice};
 ghost use Rattle.spec_paxos.specs.declared.record.StateRecord.{StateRecord};
 ghost use Rattle.spec_rules.specs.Jobs as jobs;
 ghost use Rattle.spec_rules.specs.Store as stores;
 ghost use Rattle.spec_rules.specs.declared.job.Job.TheVariants as job;
-ghost use Rattle.server_core.specs.Core.{acted, here_in, is_spent, server_of};
+ghost use Rattle.server_core.specs.ServerView.{acted, here_in, is_spent, server_of};
 
-use crate::parts::Parts;
-use crate::ticks::{moves_on, tick_jobs, tick_letters};
+use crate::parts::ServerMemory;
+use crate::ticks::{move_on, tick_jobs, tick_letters};
 use global_state::GlobalState;
 use petal_base::{Inc, NoMemory, OPERATOR, Rev, Sequence, ServerId};
 use petal_command::ServerNumber;
@@ -30,16 +30,16 @@ use std::marker::Model;
 /// queue. Nothing reads what a stopped server has in memory.
 #[derive(Drop)]
 pub struct ServerCore {
-    pub(crate) parts: Parts,
+    pub(crate) parts: ServerMemory,
     pub(crate) farewell: Sequence<Letter>,
 }
 
 impl Model for ServerCore {
     ghost use Rattle.std.specs.Prelude.{◌≡◌, true};
     ghost use Rattle.server_core.specs.Farewell.{farewell_of};
-    ghost use Rattle.server_core.specs.Core.{Core};
+    ghost use Rattle.server_core.specs.ServerView.{ServerView};
 
-    ghost Value = { Core };
+    ghost Value = { ServerView };
 
     ghost view = { λ c. c.parts };
 
@@ -60,7 +60,7 @@ impl ServerCore {
         let farewell = farewell(alloc, number, 1, servers)?;
         let log = LogSide::start(alloc, number, 1, servers)?;
         Ok(ServerCore {
-            parts: Parts::new(alloc, log),
+            parts: ServerMemory::new(alloc, log),
             farewell,
         })
     }
@@ -192,7 +192,7 @@ impl ServerCore {
     {
         let letters = tick_letters(alloc, &self.parts, store)?;
         let jobs = tick_jobs(alloc, &self.parts, store)?;
-        moves_on(&mut self.parts, jobs)?;
+        move_on(&mut self.parts, jobs)?;
         Ok(letters)
     }
 

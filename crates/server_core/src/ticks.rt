@@ -5,25 +5,25 @@ ghost use Rattle.kept_chains.specs.Kept.{store_of};
 ghost use Rattle.kept_chains.specs.Reading.{IsReadFault};
 ghost use Rattle.server_jobs.specs.Wants.{own_in, wants_in};
 ghost use Rattle.server_log.specs.Part.{state_of};
-ghost use Rattle.pair_memory.specs.Done.{HoldsAt};
+ghost use Rattle.pair_memory.specs.JobResult.{HoldsAt};
 ghost use Rattle.pair_memory.specs.Letters.{IsLook};
 ghost use Rattle.petal_disk.specs.Keeping.{KeepsDevice};
 ghost use Rattle.spec_paxos.specs.declared.record.StateRecord.{StateRecord};
 ghost use Rattle.spec_rules.specs.Ballots.{start_jobs};
-ghost use Rattle.spec_rules.specs.Copies.{mend_jobs};
+ghost use Rattle.spec_rules.specs.Copies.{repair_jobs};
 ghost use Rattle.spec_rules.specs.Jobs.{copies_again, tick_jobs, tick_posts};
 ghost use Rattle.spec_rules.specs.Server.{letters_of, sender};
 ghost use Rattle.spec_rules.specs.State.{is_in};
 ghost use Rattle.spec_rules.specs.Sweeping.{sweep_jobs};
-ghost use Rattle.server_core.specs.Core.{here_in, server_of};
+ghost use Rattle.server_core.specs.ServerView.{here_in, server_of};
 
-use crate::parts::Parts;
-use pair_memory::Here;
+use crate::parts::ServerMemory;
+use pair_memory::JobContext;
 use petal_base::{NoMemory, Sequence};
 use petal_disk::{DeviceError, Disk};
 use petal_msg::Letter;
 use server_jobs::{
-    copy_letters_after, fills_after, has_dead, is_in, mend_jobs, own_wants, write_letters_after,
+    copy_letters_after, fills_after, has_dead, is_in, repair_jobs, own_wants, write_letters_after,
 };
 use server_store::Store;
 use spec_rules::Job;
@@ -33,7 +33,7 @@ use std::alloc::Global;
 /// server is In as itself.
 fn copies_after<D: Disk>(
     alloc: Global,
-    parts: &Parts,
+    parts: &ServerMemory,
     store: &mut Store<D>,
     before: Sequence<Letter>,
 ) -> Result<Sequence<Letter>, DeviceError>
@@ -44,7 +44,7 @@ fn copies_after<D: Disk>(
     if !is_in(&parts.log) {
         return Ok(before);
     }
-    let here = Here::new(alloc, parts.log.state(), parts.log.me(), parts.log.inc());
+    let here = JobContext::new(alloc, parts.log.state(), parts.log.me(), parts.log.inc());
     let copies = copy_letters_after(&here, &parts.side, store, before)?;
     fills_after(&here, &parts.side, store, copies)
 }
@@ -55,7 +55,7 @@ fn copies_after<D: Disk>(
 /// `Failed` where the data device failed, and out of memory.
 pub fn tick_letters<D: Disk>(
     alloc: Global,
-    parts: &Parts,
+    parts: &ServerMemory,
     store: &mut Store<D>,
 ) -> Result<Sequence<Letter>, DeviceError>
     ensures letters { IfOk result (λ letters. D.told → (records : List StateRecord) → letters
@@ -66,7 +66,7 @@ pub fn tick_letters<D: Disk>(
     ensures cause { IsReadFault (D.faults store.old.disk) (D.faults store.new.disk) result }
     ensures run { D.came_to store.old.disk store.new.disk }
 {
-    let here = Here::new(alloc, parts.log.state(), parts.log.me(), parts.log.inc());
+    let here = JobContext::new(alloc, parts.log.state(), parts.log.me(), parts.log.inc());
     let ballot = parts.log.ballot_letters(alloc)?;
     let pending = write_letters_after(&here, &parts.side, ballot)?;
     let copies = copies_after(alloc, parts, store, pending)?;
@@ -85,7 +85,7 @@ fn job_where(alloc: Global, may: bool, job: Job) -> Result<Vec<Job>, NoMemory>
 }
 
 /// An idle proposer is to start a ballot where a command is wanted.
-fn start_jobs<D: Disk>(alloc: Global, parts: &Parts, store: &Store<D>) -> Result<Vec<Job>, NoMemory>
+fn start_jobs<D: Disk>(alloc: Global, parts: &ServerMemory, store: &Store<D>) -> Result<Vec<Job>, NoMemory>
     ensures { IfOk result (λ jobs. jobs.items
         ≡ start_jobs parts.now.log.phase (wants_in parts.now.log parts.now.side (store_of store.now))) }
 {
@@ -95,16 +95,16 @@ fn start_jobs<D: Disk>(alloc: Global, parts: &Parts, store: &Store<D>) -> Result
 }
 
 /// Links of which something waits are to be mended, and what is left of cells that are live no longer is to be dropped.
-fn link_jobs<D: Disk>(alloc: Global, parts: &Parts, store: &Store<D>) -> Result<Vec<Job>, NoMemory>
+fn link_jobs<D: Disk>(alloc: Global, parts: &ServerMemory, store: &Store<D>) -> Result<Vec<Job>, NoMemory>
     ensures { IfOk result (λ jobs. jobs.items ≡ (if is_in (state_of parts.now.log) parts.now.log.voter.me parts.now.log.voter.inc
-        then mend_jobs (here_in parts.now) (own_in parts.now.side (store_of store.now))
+        then repair_jobs (here_in parts.now) (own_in parts.now.side (store_of store.now))
         ++ sweep_jobs (here_in parts.now) (own_in parts.now.side (store_of store.now)) else [])) }
 {
     if !is_in(&parts.log) {
         return Ok(Vec::new(alloc));
     }
-    let here = Here::new(alloc, parts.log.state(), parts.log.me(), parts.log.inc());
-    let mut queued = mend_jobs(&here, &parts.side, store)?;
+    let here = JobContext::new(alloc, parts.log.state(), parts.log.me(), parts.log.inc());
+    let mut queued = repair_jobs(&here, &parts.side, store)?;
     let mut sweeps = job_where(alloc, has_dead(parts.log.state(), store), Job::Sweep)?;
     queued.append(&mut sweeps)?;
     Ok(queued)
@@ -116,7 +116,7 @@ fn link_jobs<D: Disk>(alloc: Global, parts: &Parts, store: &Store<D>) -> Result<
 /// Out of memory.
 pub fn tick_jobs<D: Disk>(
     alloc: Global,
-    parts: &Parts,
+    parts: &ServerMemory,
     store: &Store<D>,
 ) -> Result<Vec<Job>, NoMemory>
     ensures { IfOk result (λ queued. (records : List StateRecord)
@@ -132,14 +132,14 @@ pub fn tick_jobs<D: Disk>(
 ///
 /// # Errors
 /// Out of memory, and then nothing changed.
-pub fn moves_on(parts: &mut Parts, jobs: Vec<Job>) -> Result<(), NoMemory>
+pub fn move_on(parts: &mut ServerMemory, jobs: Vec<Job>) -> Result<(), NoMemory>
     ensures ok { OnOk result (parts.new ≡ record parts.old {
       log = record parts.old.log { asks = (parts.old.log.asks + 1) % (parts.old.log.voter.servers - 1) };
       queue = parts.old.queue ++ jobs.items;
     }) }
     ensures err { OnErr result (parts.new ≡ parts.old) }
 {
-    let asks = parts.log.asks_next()?;
+    let asks = parts.log.ask_next()?;
     parts.queue_all(jobs)?;
     parts.log.ask_at(asks);
     Ok(())

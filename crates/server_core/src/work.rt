@@ -2,9 +2,9 @@
 
 ghost use Rattle.std.specs.Prelude.{◌≡◌, false};
 ghost use Rattle.kept_chains.specs.Kept.{store_of};
-ghost use Rattle.pair_memory.specs.Side.{HasTicketsAt};
+ghost use Rattle.pair_memory.specs.PairMemory.{HasTicketsAt};
 ghost use Rattle.server_core.specs.Works.{IsFirstJob, as_some};
-ghost use Rattle.server_core.specs.Core.{is_spent};
+ghost use Rattle.server_core.specs.ServerView.{is_spent};
 
 use crate::server::ServerCore;
 use pair_memory::WorkError;

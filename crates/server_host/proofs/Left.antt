@@ -11,7 +11,7 @@ use Rattle.spec_rules.specs.Boots.{awake, known_front, raised, stays, wakes}
 use Rattle.spec_rules.specs.Entries.{before_known, known_run}
 use Rattle.spec_rules.specs.Jobs.{down_posts, here_of, is_overfull}
 use Rattle.spec_rules.specs.Log.{Log, rev_of, state_in}
-use Rattle.spec_rules.specs.Server.{Here, Life, Own, Server, letters_of}
+use Rattle.spec_rules.specs.Server.{JobContext, Life, PairState, Server, letters_of}
 use Rattle.spec_rules.specs.State.{servers_of}
 use Rattle.spec_rules.specs.World.{Setting, World, MayServer, is_spent_server, server_step}
 use Rattle.spec_rules.specs.declared.job.Job.{Job}
@@ -23,7 +23,7 @@ use Rattle.spec_rules.specs.declared.step.WorkEnd.TheVariants.{Done, Fault}
 use Rattle.server_host.specs.Desks.{acted_at, left_of, may_take, on_devices}
 
 -- a server of these parts
-abbrev made : (running : Bool) (inc : ℕ) (log : Log) (own : Own) (queue : List Job) → Server
+abbrev made : (running : Bool) (inc : ℕ) (log : Log) (own : PairState) (queue : List Job) → Server
 made running inc log own queue = record { life = record { running = running; inc = inc }; log = log; own = own; queue = queue }
 
 -- nothing is lost of a server that runs
@@ -41,7 +41,7 @@ left_life server = by_life server.life.running server
 pub left_runs : (server : Server) → (left_of server).life.running ≡ server.life.running
 left_runs server = ap (λ (life : Life). life.running) (left_life server)
 
-spent_by : (running : Bool) (inc : ℕ) (log : Log) (own : Own) (queue : List Job)
+spent_by : (running : Bool) (inc : ℕ) (log : Log) (own : PairState) (queue : List Job)
     → is_spent_server (left_of (made running inc log own queue)) ≡ is_spent_server (made running inc log own queue)
 spent_by true inc log own queue = refl
 spent_by false inc log own queue = refl
@@ -50,7 +50,7 @@ spent_by false inc log own queue = refl
 pub left_spent : (server : Server) → is_spent_server (left_of server) ≡ is_spent_server server
 left_spent server = spent_by server.life.running server.life.inc server.log server.own server.queue
 
-rev_by : (running : Bool) (inc : ℕ) (log : Log) (own : Own) (queue : List Job)
+rev_by : (running : Bool) (inc : ℕ) (log : Log) (own : PairState) (queue : List Job)
     → (if (left_of (made running inc log own queue)).life.running then Some (rev_of (left_of (made running inc log own queue)).log) else None)
     ≡ (if running then Some (rev_of log) else None)
 rev_by true inc log own queue = refl
@@ -76,27 +76,27 @@ runs servers n server what on = record {
   left = ap (λ (s : Server). left_of (acted_at (record { me = n; servers = servers; server = s }) what).server) (left_running server on);
 }
 
-calls : (servers n line : ℕ) (running : Bool) (inc : ℕ) (log : Log) (own : Own) (queue : List Job)
+calls : (servers n line : ℕ) (running : Bool) (inc : ℕ) (log : Log) (own : PairState) (queue : List Job)
     → StepsLeft servers n (made running inc log own queue) (Call line)
 calls servers n line true inc log own queue = record { letters = refl; left = refl }
 calls servers n line false inc log own queue = record { letters = refl; left = refl }
 
-receives : (servers n : ℕ) (letter : Letter) (running : Bool) (inc : ℕ) (log : Log) (own : Own) (queue : List Job)
+receives : (servers n : ℕ) (letter : Letter) (running : Bool) (inc : ℕ) (log : Log) (own : PairState) (queue : List Job)
     → StepsLeft servers n (made running inc log own queue) (Deliver letter)
 receives servers n letter true inc log own queue = record { letters = refl; left = refl }
 receives servers n letter false inc log own queue = record { letters = refl; left = refl }
 
-shows : (servers n line round : ℕ) (running : Bool) (inc : ℕ) (log : Log) (own : Own) (queue : List Job)
+shows : (servers n line round : ℕ) (running : Bool) (inc : ℕ) (log : Log) (own : PairState) (queue : List Job)
     → StepsLeft servers n (made running inc log own queue) (Glance line round)
 shows servers n line round true inc log own queue = record { letters = refl; left = refl }
 shows servers n line round false inc log own queue = record { letters = refl; left = refl }
 
-arms : (servers n : ℕ) (which : Which) (plan : Option Plan) (running : Bool) (inc : ℕ) (log : Log) (own : Own) (queue : List Job)
+arms : (servers n : ℕ) (which : Which) (plan : Option Plan) (running : Bool) (inc : ℕ) (log : Log) (own : PairState) (queue : List Job)
     → StepsLeft servers n (made running inc log own queue) (Arm which plan)
 arms servers n which plan true inc log own queue = record { letters = refl; left = refl }
 arms servers n which plan false inc log own queue = record { letters = refl; left = refl }
 
-empties : (servers n : ℕ) (running : Bool) (inc : ℕ) (log : Log) (own : Own) (queue : List Job) → not running ≡ true
+empties : (servers n : ℕ) (running : Bool) (inc : ℕ) (log : Log) (own : PairState) (queue : List Job) → not running ≡ true
     → StepsLeft servers n (made running inc log own queue) Blank
 empties servers n true inc log own queue rests = absurd (cc)
 empties servers n false inc log own queue rests = record { letters = refl; left = refl }
@@ -108,17 +108,17 @@ same_run : (log other : Log) → log.records ≡ other.records → (place most :
 same_run log other same place zero = refl
 same_run log other same place (suc most) = λ i. before_known (known_at (same i) place) (same_run log other same (place + 1) most i)
 
-module _ (servers n inc : ℕ) (log : Log) (own : Own) (queue : List Job) where
+module _ (servers n inc : ℕ) (log : Log) (own : PairState) (queue : List Job) where
   abbrev asleep : Server
   asleep = made false inc log own queue
 
   abbrev shown : Server
   shown = on_devices asleep
 
-  abbrev here_now : Here
+  abbrev here_now : JobContext
   here_now = here_of (state_in servers log) n asleep
 
-  abbrev here_left : Here
+  abbrev here_left : JobContext
   here_left = here_of (state_in servers shown.log) n shown
 
   count : servers_of here_left.state ≡ servers_of here_now.state
@@ -147,7 +147,7 @@ module _ (servers n inc : ℕ) (log : Log) (own : Own) (queue : List Job) where
   boots_left (Fault Before) = record { letters = refl; left = refl }
   boots_left (Fault After) = record { letters = refl; left = raised_left (is_overfull (raised asleep)) }
 
-boots_at : (servers n : ℕ) (end : WorkEnd) (running : Bool) (inc : ℕ) (log : Log) (own : Own) (queue : List Job) → not running ≡ true
+boots_at : (servers n : ℕ) (end : WorkEnd) (running : Bool) (inc : ℕ) (log : Log) (own : PairState) (queue : List Job) → not running ≡ true
     → StepsLeft servers n (made running inc log own queue) (Boot end)
 boots_at servers n end true inc log own queue rests = absurd (cc)
 boots_at servers n end false inc log own queue rests = boots_left servers n inc log own queue end

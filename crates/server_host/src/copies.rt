@@ -15,30 +15,30 @@ pub fn request_again(request: &Request) -> Request
 {
     match request {
         Request::Disk { name, tuple } => Request::Disk {
-            name: name.again(),
-            tuple: tuple.again(),
+            name: name.copy(),
+            tuple: tuple.copy(),
         },
         Request::Write {
             name,
             block,
             pattern,
         } => Request::Write {
-            name: name.again(),
+            name: name.copy(),
             block: *block,
             pattern: *pattern,
         },
         Request::Read { name, snap, block } => Request::Read {
-            name: name.again(),
-            snap: snap.as_ref().map(|snap| snap.again()),
+            name: name.copy(),
+            snap: snap.as_ref().map(|snap| snap.copy()),
             block: *block,
         },
         Request::Snap { name, snap } => Request::Snap {
-            name: name.again(),
-            snap: snap.again(),
+            name: name.copy(),
+            snap: snap.copy(),
         },
         Request::Move { name, tuple } => Request::Move {
-            name: name.again(),
-            tuple: tuple.again(),
+            name: name.copy(),
+            tuple: tuple.copy(),
         },
         Request::Stop { server } => Request::Stop { server: *server },
         Request::StopAt { server, at } => Request::StopAt {

@@ -13,7 +13,7 @@ use std::alloc::Global;
 
 /// What a server's step gives.
 #[derive(Drop)]
-pub struct Taken {
+pub struct HostResult {
     /// The letters that it sends, without their stamps.
     pub letters: Sequence<Letter>,
     /// How the job or the boot ended; `Done` for any other step.
@@ -35,7 +35,7 @@ pub trait Host: Drop {
     /// Takes a step. How a job or a boot ends is for the devices to say, whatever end the step names; the server and the letters
     /// are those of the step with the end that is given, which is a fault or a stop only where a device failed, by a plan that is then
     /// used up. After it ran out of memory nothing is said of the server.
-    fn step(&mut self, alloc: Global, step: &Step) -> Result<Taken, NoMemory>
+    fn step(&mut self, alloc: Global, step: &Step) -> Result<HostResult, NoMemory>
         ensures site { IfOk result (λ taken. seen self.new ≡ site_after (seen self.old) (ended step.now taken.end)) }
         ensures letters { IfOk result (λ taken. taken.letters ≡ (acted_at (seen self.old) (ended step.now taken.end)).letters) }
         ensures end { IfOk result (λ taken. taken.end ≡ end_in (ended step.now taken.end)) }

@@ -14,6 +14,6 @@ pub mod stamping;
 mod step_end;
 pub mod waiting;
 
-pub use host::{Host, Taken};
+pub use host::{Host, HostResult};
 pub use order::are_in_order;
 pub use step_end::StepEnd;

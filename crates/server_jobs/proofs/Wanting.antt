@@ -12,11 +12,11 @@ use Rattle.spec_rules.specs.Draining.{awaits, drained_for, has_held_write}
 use Rattle.spec_rules.specs.Fills.{moved_of}
 use Rattle.spec_rules.specs.Jobs.{own_wants}
 use Rattle.spec_rules.specs.Returns.{caught_links, own_join}
-use Rattle.spec_rules.specs.Server.{Here, Own}
+use Rattle.spec_rules.specs.Server.{JobContext, PairState}
 use Rattle.spec_rules.specs.State.{is_in}
 
 -- its report is the rule's
-reports : (here : Here) (own : Own) (fence : Option Fence)
+reports : (here : JobContext) (own : PairState) (fence : Option Fence)
     → reported_as here.me here.inc (report_to here.state here.me own.pairs.pending fence) ≡ drained_for here own fence
 reports here own None = refl
 reports here own (Some fence) =
@@ -27,14 +27,14 @@ reports here own (Some fence) =
     ]
 
 -- one that is not In as itself wants its Join alone
-pub wants_out : (here : Here) (own : Own) → is_in here.state here.me here.inc ≡ false
+pub wants_out : (here : JobContext) (own : PairState) → is_in here.state here.me here.inc ≡ false
     → own_join here.state here.me here.inc own.store.fresh ≡ own_wants here own
 wants_out here own out =
     let join = own_join here.state here.me here.inc own.store.fresh in
     rw out (sym (append-nil (join ++ []) ∙ append-nil join))
 
 -- one that is In, what its links want, its report, and what it has moved
-pub wants_on : (here : Here) (own : Own) → is_in here.state here.me here.inc ≡ true
+pub wants_on : (here : JobContext) (own : PairState) → is_in here.state here.me here.inc ≡ true
     → (caught_links here own ++ reported_as here.me here.inc (report_to here.state here.me own.pairs.pending (head here.state.view.queue)))
     ++ flat_map (moved_of here own) here.state.links ≡ own_wants here own
 wants_on here own on =

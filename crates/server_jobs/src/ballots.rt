@@ -12,7 +12,7 @@ ghost use Rattle.server_jobs.specs.Noted.{found_caught, noted, row_caught};
 
 use crate::wants::own_wants;
 use global_state::GlobalState;
-use pair_memory::{Copies, Side, link_id};
+use pair_memory::{Copies, PairMemory, link_id};
 use petal_command::Command;
 use petal_disk::Disk;
 use petal_msg::{LinkId, Progress};
@@ -84,7 +84,7 @@ fn start_for<E: Disk>(
 fn start_wanted<D: Disk, E: Disk>(
     alloc: Global,
     log: &mut LogSide,
-    side: &mut Side,
+    side: &mut PairMemory,
     store: &Store<D>,
     state: &mut StateStore<E>,
 ) -> Result<LogDone, StateError>
@@ -106,7 +106,7 @@ fn start_wanted<D: Disk, E: Disk>(
 pub fn does_log<D: Disk, E: Disk>(
     alloc: Global,
     log: &mut LogSide,
-    side: &mut Side,
+    side: &mut PairMemory,
     store: &Store<D>,
     state: &mut StateStore<E>,
     job: &Job,
@@ -118,7 +118,7 @@ pub fn does_log<D: Disk, E: Disk>(
 {
     match job {
         Job::Start => start_wanted(alloc, log, side, store, state),
-        Job::Letter(_) | Job::Stage(_) | Job::Mend(_) | Job::Sweep | Job::Apply => {
+        Job::Letter(_) | Job::Stage(_) | Job::Repair(_) | Job::Sweep | Job::Apply => {
             server_log::does(alloc, log, state, job)
         }
     }

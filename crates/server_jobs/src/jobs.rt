@@ -3,20 +3,20 @@
 ghost use Rattle.std.specs.Prelude.{◌≡◌};
 ghost use Rattle.spec_rules.specs.State.{is_in};
 ghost use Rattle.spec_rules.specs.Jobs.{does, is_from_in, on_letter, stages};
-ghost use Rattle.pair_memory.specs.Side.{own_of, HasTicketsAt};
-ghost use Rattle.pair_memory.specs.Done.{HasVersions, IsDone};
+ghost use Rattle.pair_memory.specs.PairMemory.{own_of, HasTicketsAt};
+ghost use Rattle.pair_memory.specs.JobResult.{HasVersions, IsDone};
 
-use crate::letters::{at_other_rev, handles};
-use copy_recovery::{copies_on, mends, trims_on};
+use crate::letters::{at_other_rev, handle};
+use copy_recovery::{copy_on, repair, trim_on};
 use global_state::GlobalState;
-use pair_memory::{Done, Here, Side, WorkError, silent};
+use pair_memory::{JobResult, JobContext, PairMemory, WorkError, silent};
 use petal_base::{Cell, Inc, ServerId};
 use petal_disk::Disk;
 use petal_msg::{Actor, Letter};
-use redistribute::sweeps;
+use redistribute::sweep_one;
 use server_store::Store;
 use spec_rules::Job;
-use write_pair::goes_on;
+use write_pair::go_on;
 
 /// Whether the server is In with this incarnation.
 fn is_in(state: &GlobalState, server: ServerId, inc: Inc) -> bool
@@ -38,7 +38,7 @@ fn is_from_in(state: &GlobalState, inc: Inc, from: Actor) -> bool
 }
 
 /// Whether this server is In as itself.
-fn is_here_in(here: &Here) -> bool
+fn is_here_in(here: &JobContext) -> bool
     ensures { result ≡ is_in here.now.state here.now.me here.now.inc }
 {
     is_in(here.state(), here.me(), here.inc())
@@ -46,11 +46,11 @@ fn is_here_in(here: &Here) -> bool
 
 /// The three tests before a letter is handled.
 fn on_letter<D: Disk>(
-    here: &Here,
-    side: &mut Side,
+    here: &JobContext,
+    side: &mut PairMemory,
     store: &mut Store<D>,
     letter: &Letter,
-) -> Result<Done, WorkError>
+) -> Result<JobResult, WorkError>
     requires tickets { HasTicketsAt side.old store.old }
     requires versions { HasVersions store.old }
     ensures { IsDone D.Disk here.now side.old side.new store.old store.new result
@@ -63,28 +63,28 @@ fn on_letter<D: Disk>(
     } else if !is_from_in(here.state(), letter.inc, letter.from) {
         silent(here, side, store)
     } else {
-        handles(here, side, store, letter)
+        handle(here, side, store, letter)
     }
 }
 
 /// What is under way on the cell does its next stage: an operation, a copy, or the last copy of the cell to this server.
 fn stages<D: Disk>(
-    here: &Here,
-    side: &mut Side,
+    here: &JobContext,
+    side: &mut PairMemory,
     store: &mut Store<D>,
     cell: Cell,
-) -> Result<Done, WorkError>
+) -> Result<JobResult, WorkError>
     requires tickets { HasTicketsAt side.old store.old }
     requires versions { HasVersions store.old }
     ensures { IsDone D.Disk here.now side.old side.new store.old store.new result
         (stages here.now (own_of side.old store.old) cell) }
 {
     if side.locks.is_busy(cell) {
-        goes_on(here, side, store, cell)
+        go_on(here, side, store, cell)
     } else if side.copies.copying_on(cell).is_some() {
-        copies_on(here, side, store, cell)
+        copy_on(here, side, store, cell)
     } else {
-        trims_on(here, side, store, cell)
+        trim_on(here, side, store, cell)
     }
 }
 
@@ -95,11 +95,11 @@ fn stages<D: Disk>(
 /// all its records: the entries are as they were, and the server is to be stopped.
 #[tactic(auto, unfolding(spec_rules::specs::Jobs::does))]
 pub fn does<D: Disk>(
-    here: &Here,
-    side: &mut Side,
+    here: &JobContext,
+    side: &mut PairMemory,
     store: &mut Store<D>,
     job: &Job,
-) -> Result<Done, WorkError>
+) -> Result<JobResult, WorkError>
     requires tickets { HasTicketsAt side.old store.old }
     requires versions { HasVersions store.old }
     ensures { IsDone D.Disk here.now side.old side.new store.old store.new result
@@ -114,16 +114,16 @@ pub fn does<D: Disk>(
                 silent(here, side, store)
             }
         }
-        Job::Mend(link) => {
+        Job::Repair(link) => {
             if is_here_in(here) {
-                mends(here, side, store, *link)
+                repair(here, side, store, *link)
             } else {
                 silent(here, side, store)
             }
         }
         Job::Sweep => {
             if is_here_in(here) {
-                sweeps(here, side, store)
+                sweep_one(here, side, store)
             } else {
                 silent(here, side, store)
             }

@@ -3,13 +3,13 @@
 ghost use Rattle.std.specs.Prelude.{◌≡◌};
 ghost use Rattle.petal_msg.specs.Kinds.{Copied, asked_by, subject_of};
 ghost use Rattle.spec_rules.specs.Jobs.{at_other_rev, handles};
-ghost use Rattle.pair_memory.specs.Side.{own_of, HasTicketsAt};
-ghost use Rattle.pair_memory.specs.Done.{HasVersions, IsDone, IsSaid};
+ghost use Rattle.pair_memory.specs.PairMemory.{own_of, HasTicketsAt};
+ghost use Rattle.pair_memory.specs.JobResult.{HasVersions, IsDone, IsSaid};
 
 use copy_recovery::{
     CopiedEntry, on_hello, on_hello_ask, on_sync, on_sync_full, on_synced, on_trim, on_trimmed,
 };
-use pair_memory::{Done, Here, Side, WorkError, says, silent};
+use pair_memory::{JobResult, JobContext, PairMemory, WorkError, say, silent};
 use petal_base::{MapId, Seq};
 use petal_disk::Disk;
 use petal_msg::{Actor, Body, Letter, LinkId};
@@ -36,11 +36,11 @@ fn link_named(map: MapId, link: u8) -> LinkId
 
 /// A letter of another revision: a client is told, a server is not.
 pub fn at_other_rev<D: Disk>(
-    here: &Here,
-    side: &Side,
+    here: &JobContext,
+    side: &PairMemory,
     store: &Store<D>,
     letter: &Letter,
-) -> Result<Done, WorkError>
+) -> Result<JobResult, WorkError>
     requires { HasTicketsAt side.now store.now }
     ensures { IsSaid here.now side.now side.now store.now store.now result
         (at_other_rev (own_of side.now store.now) letter.now letter.now.from) }
@@ -48,7 +48,7 @@ pub fn at_other_rev<D: Disk>(
     match letter.from {
         Actor::Server(_) => silent(here, side, store),
         Actor::Client(client) => match asked_by(&letter.body) {
-            Some(seq) => says(
+            Some(seq) => say(
                 here,
                 side,
                 store,
@@ -61,13 +61,13 @@ pub fn at_other_rev<D: Disk>(
 }
 
 /// What is done with a letter of copies.
-#[tactic(auto, unfolding(spec_rules::specs::Jobs::handles))]
+#[tactic(auto, unfolding(spec_rules::specs::Jobs::handle))]
 fn copies<D: Disk>(
-    here: &Here,
-    side: &mut Side,
+    here: &JobContext,
+    side: &mut PairMemory,
     store: &mut Store<D>,
     body: &Body,
-) -> Result<Done, WorkError>
+) -> Result<JobResult, WorkError>
     requires tickets { HasTicketsAt side.old store.old }
     requires copies { subject_of body.now ≡ Copied }
     ensures { IsDone D.Disk here.now side.old side.new store.old store.new result
@@ -108,13 +108,13 @@ fn copies<D: Disk>(
 }
 
 /// What is done with a letter's content, at a server that handles it.
-#[tactic(auto, unfolding(spec_rules::specs::Jobs::handles))]
-pub fn handles<D: Disk>(
-    here: &Here,
-    side: &mut Side,
+#[tactic(auto, unfolding(spec_rules::specs::Jobs::handle))]
+pub fn handle<D: Disk>(
+    here: &JobContext,
+    side: &mut PairMemory,
     store: &mut Store<D>,
     letter: &Letter,
-) -> Result<Done, WorkError>
+) -> Result<JobResult, WorkError>
     requires tickets { HasTicketsAt side.old store.old }
     requires versions { HasVersions store.old }
     ensures { IsDone D.Disk here.now side.old side.new store.old store.new result

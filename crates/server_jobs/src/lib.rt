@@ -13,7 +13,7 @@ mod recent;
 mod wants;
 
 pub use ballots::does_log;
-pub use copy_recovery::{letters_after as copy_letters_after, mend_jobs};
+pub use copy_recovery::{letters_after as copy_letters_after, repair_jobs};
 pub use jobs::does;
 pub use queue::{Kind, add_all, enter, go_on, kind_of, make_room};
 pub use recent::RecentBlocks;

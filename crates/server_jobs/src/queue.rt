@@ -3,7 +3,7 @@
 ghost use Rattle.std.specs.Prelude.{◌≡◌, ◌≤◌, ◌<◌, ◌+◌, ◌-◌, drop, ◌++◌, length, OnOk};
 ghost use Rattle.std.specs.VecDeque.{deque_len, deque_capacity};
 ghost use Rattle.server_log.specs.Said.{apply_first, letter_again};
-ghost use Rattle.pair_memory.specs.Done.{follow_up};
+ghost use Rattle.pair_memory.specs.JobResult.{follow_up};
 ghost use Rattle.petal_msg.specs.Kinds.{is_logged, subject_of};
 ghost use Rattle.spec_rules.specs.Jobs.{is_log_job};
 ghost use Rattle.server_jobs.specs.Kind.{kind_of};
@@ -34,7 +34,7 @@ fn is_log_job(job: &Job) -> bool
 {
     match job {
         Job::Letter(letter) => is_logged(&letter.get().body),
-        Job::Stage(_) | Job::Mend(_) | Job::Sweep => false,
+        Job::Stage(_) | Job::Repair(_) | Job::Sweep => false,
         Job::Apply | Job::Start => true,
     }
 }
@@ -93,7 +93,7 @@ pub fn go_on(jobs: &mut VecDeque<Job>, follow: Option<FollowUp>)
     let _ = jobs.pop_front();
     match follow {
         Some(FollowUp::Stage(cell)) => jobs.push_back_reserved(Job::Stage(cell)),
-        Some(FollowUp::Mend(link)) => jobs.push_back_reserved(Job::Mend(link)),
+        Some(FollowUp::Repair(link)) => jobs.push_back_reserved(Job::Repair(link)),
         Some(FollowUp::Sweep) => jobs.push_back_reserved(Job::Sweep),
         None => {}
     }

@@ -10,7 +10,7 @@ ghost use Rattle.server_jobs.specs.Wants.{here_by, own_in};
 
 use epoch_snapshot::drained;
 use link_blocks::caught_links;
-use pair_memory::{Here, Side};
+use pair_memory::{JobContext, PairMemory};
 use petal_base::{NoMemory, Sequence};
 use petal_command::{Command, ServerNumber};
 use petal_disk::Disk;
@@ -54,7 +54,7 @@ fn with_report(wants: &mut Vec<Command>, log: &LogSide, fence: Option<u32>) -> R
 pub fn own_wants<D: Disk>(
     alloc: Global,
     log: &LogSide,
-    side: &Side,
+    side: &PairMemory,
     store: &Store<D>,
 ) -> Result<Sequence<Command>, NoMemory>
     ensures { IfOk result (λ wants. wants ≡ own_wants (here_by log.now) (own_in side.now (store_of store.now))) }
@@ -62,7 +62,7 @@ pub fn own_wants<D: Disk>(
     if !is_in(log) {
         return log.own_join(alloc, store.fresh());
     }
-    let here = Here::new(alloc, log.state(), log.me(), log.inc());
+    let here = JobContext::new(alloc, log.state(), log.me(), log.inc());
     let mut wants = caught_links(&here, side, store)?;
     let fence = drained(log.state(), log.me(), &side.locks);
     with_report(&mut wants, log, fence)?;

@@ -1,4 +1,4 @@
-pub mod Done
+pub mod JobResult
 pub mod Part
 pub mod Said
 pub mod Entered

@@ -18,7 +18,7 @@ use state_store::{StateError, StateStore};
 use std::alloc::Global;
 
 /// Its acceptor promises the ballot of another server, or refuses it.
-fn promises<D: Disk>(
+fn promise<D: Disk>(
     alloc: Global,
     log: &LogSide,
     state: &mut StateStore<D>,
@@ -41,7 +41,7 @@ fn promises<D: Disk>(
 }
 
 /// Its acceptor accepts the command in the ballot of another server, or refuses it.
-fn accepts<D: Disk>(
+fn accept<D: Disk>(
     alloc: Global,
     log: &LogSide,
     state: &mut StateStore<D>,
@@ -81,12 +81,12 @@ fn on_pax<D: Disk>(
         return quiet(alloc, log, state);
     };
     match said {
-        Pax::Prepare { place, ballot } => { promises(alloc, log, state, from, *place, *ballot) },
+        Pax::Prepare { place, ballot } => { promise(alloc, log, state, from, *place, *ballot) },
         Pax::Accept {
             place,
             ballot,
             command,
-        } => accepts(alloc, log, state, from, *place, *ballot, command),
+        } => accept(alloc, log, state, from, *place, *ballot, command),
         Pax::Chosen { place, command } => learn(alloc, log, state, *place, command),
         Pax::Promise { .. } => heard(alloc, log, state, from, said),
         Pax::Accepted { .. } => heard(alloc, log, state, from, said),

@@ -130,7 +130,7 @@ pub fn does<D: Disk>(
 {
     match job {
         Job::Letter(letter) => on_letter(alloc, log, state, letter),
-        Job::Stage(_) | Job::Mend(_) | Job::Sweep | Job::Start => quiet(alloc, log, state),
+        Job::Stage(_) | Job::Repair(_) | Job::Sweep | Job::Start => quiet(alloc, log, state),
         Job::Apply => applied(alloc, log, state),
     }
 }

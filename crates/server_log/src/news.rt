@@ -30,7 +30,7 @@ fn unknown_from<D: Disk>(
     let mut place = from;
     for command in commands {
         if state.chosen(place).is_none() {
-            unknown.push((place, command.again()))?;
+            unknown.push((place, command.copy()))?;
         }
         place = place.checked_add(1).ok_or(NoMemory)?;
     }

@@ -3,7 +3,7 @@ use Rattle.std.specs.Prelude.{ℕ, List, [], ◌∷◌, ◌++◌, reverse, slice
 use Rattle.petal_msg.specs.declared.letter.Actor.{Actor}
 use Rattle.petal_msg.specs.declared.letter.Actor.TheVariants as actor
 use Rattle.petal_msg.specs.declared.letter.Letter.{Letter}
-use Rattle.spec_rules.specs.World.{Setting, World, Stepped, step, next_stamp}
+use Rattle.spec_rules.specs.World.{Setting, World, StepResult, step, next_stamp}
 use Rattle.spec_rules.specs.declared.step.Step.{Step}
 use Rattle.spec_rules.specs.declared.step.Step.TheVariants.{Call, Deliver, Tick, Work}
 use Rattle.spec_rules.specs.declared.step.WorkEnd.TheVariants as work_end
@@ -18,7 +18,7 @@ pub data Move : Type 0 where
   Ticks : (who : Actor) → Move
 
 -- a record of one step, in phase 0
-abbrev pub recorded : Actor → Step → ℕ → Stepped → Record
+abbrev pub recorded : Actor → Step → ℕ → StepResult → Record
 recorded who what stamp stepped = record { actor = who; stamp = stamp; phase = 0; step = what; sent = stepped.letters; answer = stepped.answer }
 
 -- the record of the actor's step, with its next stamp

@@ -4,13 +4,13 @@ use Rattle.petal_msg.specs.declared.letter.Actor.{Actor}
 use Rattle.petal_msg.specs.declared.letter.Actor.TheVariants as actor
 use Rattle.script_lines.specs.declared.request.Line.{Line}
 use Rattle.script_lines.specs.declared.script.Script.{Script}
-use Rattle.spec_rules.specs.World.{Setting, World, Stepped, MayStep, start, step, next_line, next_stamp, setting_of}
+use Rattle.spec_rules.specs.World.{Setting, World, StepResult, MayStep, start, step, next_line, next_stamp, setting_of}
 use Rattle.spec_rules.specs.declared.step.Step.{Step}
 use Rattle.spec_rules.specs.declared.step.Step.TheVariants.{Call}
 use Rattle.spec_history.specs.declared.record.Record.{Record}
 
 -- the step that a record tells of
-abbrev pub stepped : Setting → World → Record → Stepped
+abbrev pub stepped : Setting → World → Record → StepResult
 stepped setting w record_of = step record_of.actor record_of.step setting w record_of.stamp
 
 -- a call is made in its line's phase

@@ -7,7 +7,7 @@ use Rattle.spec_paxos.specs.declared.record.StateRecord.TheVariants.{Inc}
 use Rattle.spec_rules.specs.Entries.{known_run}
 use Rattle.spec_rules.specs.Jobs.{Acted, down_posts, is_overfull}
 use Rattle.spec_rules.specs.Log.{Log, first_log, commits, rev_of}
-use Rattle.spec_rules.specs.Server.{Server, Own, Here, no_copies, no_pairs, letters_of}
+use Rattle.spec_rules.specs.Server.{Server, PairState, JobContext, no_copies, no_pairs, letters_of}
 use Rattle.spec_rules.specs.State.{servers_of}
 use Rattle.spec_rules.specs.Store.{blank_store}
 use Rattle.spec_rules.specs.declared.step.CommitEnd.TheVariants.{Before, After}
@@ -38,7 +38,7 @@ awake server = record {
 }
 
 -- a server that runs as its next incarnation tells each other one that the incarnation before has stopped
-abbrev pub wakes : Here → Server → Acted
+abbrev pub wakes : JobContext → Server → Acted
 wakes here server = record {
   server = server;
   letters = letters_of (record { from = actor.Server here.me; inc = server.life.inc; rev = rev_of server.log }) 0
@@ -48,7 +48,7 @@ wakes here server = record {
 -- a stopped server's data device is a blank one
 abbrev pub blanked : Server → Server
 blanked server =
-    let own : Own = server.own in
+    let own : PairState = server.own in
     record server { own = record own { store = blank_store own.store.slots } }
 
 -- the server stays as it is
@@ -57,7 +57,7 @@ stays server = record { server = server; letters = [] }
 
 -- a boot raises the incarnation, where the journal has room for it; a failed device leaves the server stopped, with the
 -- incarnation raised or not
-abbrev pub boots : Here → Server → WorkEnd → Acted
+abbrev pub boots : JobContext → Server → WorkEnd → Acted
 boots here server Done = if is_overfull (raised server) then stays server else wakes here (awake (raised server))
 boots here server (Fault Before) = stays server
 boots here server (Fault After) = stays (if is_overfull (raised server) then server else raised server)

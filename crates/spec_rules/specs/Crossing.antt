@@ -18,7 +18,7 @@ use Rattle.spec_state.specs.Command.{after}
 use Rattle.spec_state.specs.Place.{touches}
 pub use Rattle.spec_state.specs.Place.{touches_cell}
 use Rattle.spec_rules.specs.State.{State, id_of, link_named, live, other_in}
-use Rattle.spec_rules.specs.Server.{Own, Here, Copies}
+use Rattle.spec_rules.specs.Server.{PairState, JobContext, Copies}
 use Rattle.spec_rules.specs.Store.{settled}
 use Rattle.spec_rules.specs.Writes.{has_slot}
 use Rattle.spec_rules.specs.declared.job.Job.{Job}
@@ -53,7 +53,7 @@ copies_crossed state entry copies = record copies {
 }
 
 -- what others asked of it on the links that the entry touches is dropped, and the slots set apart for them are free
-abbrev pub crossed : State → Command → Own → Own
+abbrev pub crossed : State → Command → PairState → PairState
 crossed state entry own = record {
   pairs = record own.pairs { last = filter (λ row. not (ends_cell state entry row.0)) own.pairs.last };
   copies = copies_crossed state entry own.copies;
@@ -68,30 +68,30 @@ is_blank_join _ me inc = false
 
 -- with its own Join, and before any other commit to its data device, a server's store waits for nobody any more: from then on each of
 -- its links is held by the other server, which copies all, or is Lost
-abbrev pub settled_by : Here → Command → Own → Own
+abbrev pub settled_by : JobContext → Command → PairState → PairState
 settled_by here entry own = if is_blank_join entry here.me here.inc then record own { store = settled own.store } else own
 
 -- its own operations on these links go on
-abbrev pub stage_jobs : State → Command → Own → List Job
+abbrev pub stage_jobs : State → Command → PairState → List Job
 stage_jobs state entry own = map (λ row. job.Stage row.0) (filter (λ row. touches_cell state entry row.0) own.pairs.pending)
 
 -- the server has something to mend of a link: pages and copies where it holds the link alone and the other server is In, and
 -- old marks in Both
-abbrev pub is_mended : State → ℕ → LinkRow → LinkState → Bool
-is_mended state me row Both = has_server me row
-is_mended state me row (Only holder whole) = is_some (other_in state me row)
-is_mended state me row Lost = false
+abbrev pub is_repaired : State → ℕ → LinkRow → LinkState → Bool
+is_repaired state me row Both = has_server me row
+is_repaired state me row (Only holder whole) = is_some (other_in state me row)
+is_repaired state me row Lost = false
 
 -- the links that the entry touches, and that are so after it
 abbrev pub link_jobs : State → Command → ℕ → List Job
 link_jobs state entry me =
-    map (λ row. job.Mend (id_of row)) (filter (λ row. touches state entry row && is_mended (after state entry) me row row.state) (after state entry).links)
+    map (λ row. job.Repair (id_of row)) (filter (λ row. touches state entry row && is_repaired (after state entry) me row row.state) (after state entry).links)
 
-abbrev pub crossed_by : Here → Option Command → Own → Own
+abbrev pub crossed_by : JobContext → Option Command → PairState → PairState
 crossed_by here None own = own
 crossed_by here (Some entry) own = settled_by here entry (crossed here.state entry own)
 
 -- the jobs that follow an entry
-abbrev pub jobs_by : State → ℕ → Option Command → Own → List Job
+abbrev pub jobs_by : State → ℕ → Option Command → PairState → List Job
 jobs_by state me None own = []
 jobs_by state me (Some entry) own = stage_jobs state entry own ++ link_jobs state entry me

@@ -21,7 +21,7 @@ use Rattle.petal_msg.specs.declared.operation.Pending.{Pending}
 use Rattle.spec_state.specs.CellState.{cell_link, noted, region_leaving, row_lead, source, target}
 use Rattle.spec_state.specs.Role.{is_the}
 use Rattle.spec_rules.specs.Progress.{has_proposed, with_full}
-use Rattle.spec_rules.specs.Server.{Own, Here, Done, Post, post_to, silent, says_to}
+use Rattle.spec_rules.specs.Server.{PairState, JobContext, JobResult, Post, post_to, silent, says_to}
 use Rattle.spec_rules.specs.State.{State, id_of, is_in, is_lead, is_on, lead, link_cmp}
 use Rattle.spec_rules.specs.Store.{Chain, Stored, chain_in, free_of}
 use Rattle.spec_rules.specs.Writes.{first_stage, goes_on, is_under_way, moved_as, old_lead, with_opened}
@@ -34,7 +34,7 @@ pub record Moving : Type 0 where
   pub bytes : List ℕ
 
 -- the operation that it opens, under the next number of this life
-abbrev pub fill_operation : Here → ℕ → Moving → Pending
+abbrev pub fill_operation : JobContext → ℕ → Moving → Pending
 fill_operation here number moving = record {
   op = number;
   kind = kind.Fill;
@@ -49,13 +49,13 @@ fill_operation here number moving = record {
 }
 
 -- the old lead is told, or that there is no slot
-abbrev pub opens_fill : Here → Own → Moving → (room : Bool) → Done
+abbrev pub opens_fill : JobContext → PairState → Moving → (room : Bool) → JobResult
 opens_fill here own moving false = says_to own (old_lead here.state (cell_of moving.key)) (moved_as moving.key Full)
 opens_fill here own moving true = goes_on here (with_opened own (fill_operation here own.pairs.next moving)) (cell_of moving.key)
 
 -- an entry whose epoch the chain has is there, once nothing is under way on its block: until then, and where this server has started a ballot
 -- for the link's Caught, the letter is dropped
-abbrev pub hears_fill : Here → Own → Moving → (busy has back : Bool) → Done
+abbrev pub hears_fill : JobContext → PairState → Moving → (busy has back : Bool) → JobResult
 hears_fill here own moving true has back = silent own
 hears_fill here own moving false true back = says_to own (old_lead here.state (cell_of moving.key)) (moved_as moving.key Written)
 hears_fill here own moving false false true = silent own
@@ -66,7 +66,7 @@ abbrev pub has_epoch : Chain → ℕ → Bool
 has_epoch chain epoch = is_some (at nat_cmp chain epoch)
 
 -- an entry is taken by the cell's lead
-unfoldable pub on_fill : Here → Own → Moving → Done
+unfoldable pub on_fill : JobContext → PairState → Moving → JobResult
 on_fill here own moving =
     let cell = cell_of moving.key in
     if is_lead here.state here.me cell
@@ -96,7 +96,7 @@ abbrev pub keys_of : Cell × Chain → List Key
 keys_of held = map (λ row. key_at held.0 row.0) held.1
 
 -- the keys of the link and the region that the server has
-abbrev pub keys_in : State → LinkRow → (region : ℕ) → Own → List Key
+abbrev pub keys_in : State → LinkRow → (region : ℕ) → PairState → List Key
 keys_in state row region own =
     flat_map keys_of (filter (λ held. is_on state row held.0 && (region_of held.0.block == region)) own.store.chains)
 
@@ -109,16 +109,16 @@ first_key [] = None
 first_key (key ∷ keys) = Some (earlier key (first_key keys))
 
 -- the next key of the link that the new map is not known to have
-unfoldable pub next_fill : State → LinkRow → (region : ℕ) → Own → Option Key
+unfoldable pub next_fill : State → LinkRow → (region : ℕ) → PairState → Option Key
 next_fill state row region own =
     first_key (filter (comes_next region (at link_cmp own.filled (id_of row))) (keys_in state row region own))
 
 -- what is left of the link, where this server is to move it
-abbrev pub fill_left : State → ℕ → LinkRow → Own → Option ℕ → Option Key
+abbrev pub fill_left : State → ℕ → LinkRow → PairState → Option ℕ → Option Key
 fill_left state me row own None = None
 fill_left state me row own (Some region) = next_fill state row region own
 
-abbrev pub fill_of : State → ℕ → LinkRow → Own → Option Key
+abbrev pub fill_of : State → ℕ → LinkRow → PairState → Option Key
 fill_of state me row own = fill_left state me row own (region_to_move state me row)
 
 -- the entry goes to the lead of the new map's cell
@@ -126,16 +126,16 @@ abbrev pub sends_moving : State → Key → Option Stored → Option Cell → Li
 sends_moving state key (Some entry) (Some cell) = post_to (lead state cell) (body.Fill (key_at cell key.epoch) entry.bytes)
 sends_moving state key _ _ = []
 
-abbrev pub sends_key : State → Own → Option Key → List Post
+abbrev pub sends_key : State → PairState → Option Key → List Post
 sends_key state own None = []
 sends_key state own (Some key) = sends_moving state key (at nat_cmp (chain_in own.store.chains (cell_of key)) key.epoch) (target state (cell_of key))
 
 -- the next entry of the link
-abbrev pub fills_row : Here → Own → LinkRow → List Post
+abbrev pub fills_row : JobContext → PairState → LinkRow → List Post
 fills_row here own row = sends_key here.state own (fill_of here.state here.me row own)
 
 -- at a tick the next entry of each link goes out, again where it was not answered
-abbrev pub fill_posts : Here → Own → List Post
+abbrev pub fill_posts : JobContext → PairState → List Post
 fill_posts here own = flat_map (fills_row here own) here.state.links
 
 -- the answer tells of the key that is next
@@ -143,14 +143,14 @@ abbrev pub is_next : Option Key → Key → Bool
 is_next None key = false
 is_next (Some next) key = next.block == key.block && (next.epoch == key.epoch)
 
-abbrev pub with_filled : Own → LinkRow → Key → Own
+abbrev pub with_filled : PairState → LinkRow → Key → PairState
 with_filled own row key = record own { filled = put link_cmp own.filled (id_of row) key }
 
 -- the next one goes out at once
-abbrev pub goes_after : Here → Own → LinkRow → Done
+abbrev pub goes_after : JobContext → PairState → LinkRow → JobResult
 goes_after here own row = record { own = own; posts = fills_row here own row; jobs = [] }
 
-abbrev pub hears_filled : Here → Own → Key → Option LinkRow → Done
+abbrev pub hears_filled : JobContext → PairState → Key → Option LinkRow → JobResult
 hears_filled here own key None = silent own
 hears_filled here own key (Some row) =
     if is_next (fill_of here.state here.me row own) key
@@ -161,15 +161,15 @@ hears_filled here own key (Some row) =
 abbrev pub link_before : State → Key → Option LinkRow
 link_before state key = option_and_then (cell_link state) (source state (cell_of key))
 
-unfoldable pub on_filled : Here → Own → Key → Done
+unfoldable pub on_filled : JobContext → PairState → Key → JobResult
 on_filled here own key = hears_filled here own key (link_before here.state key)
 
 -- there is no slot at the new map: the entry is sent again at a tick
-abbrev pub hears_fill_full : Here → Own → Key → Option LinkRow → Done
+abbrev pub hears_fill_full : JobContext → PairState → Key → Option LinkRow → JobResult
 hears_fill_full here own key None = silent own
 hears_fill_full here own key (Some row) = if is_next (fill_of here.state here.me row own) key then silent (with_full own true) else silent own
 
-unfoldable pub on_fill_full : Here → Own → Key → Done
+unfoldable pub on_fill_full : JobContext → PairState → Key → JobResult
 on_fill_full here own key = hears_fill_full here own key (link_before here.state key)
 
 -- ### What it wants chosen
@@ -179,9 +179,9 @@ moved_where row None key = []
 moved_where row (Some region) None = Moved row.map region row.link ∷ []
 moved_where row (Some region) (Some key) = []
 
-abbrev pub moved_of : Here → Own → LinkRow → List Command
+abbrev pub moved_of : JobContext → PairState → LinkRow → List Command
 moved_of here own row = moved_where row (region_to_move here.state here.me row) (fill_of here.state here.me row own)
 
 -- the Moved of each link of which nothing is left, by map and link
-abbrev pub moving : Here → Own → List Command
+abbrev pub moving : JobContext → PairState → List Command
 moving here own = if is_in here.state here.me here.inc then flat_map (moved_of here own) here.state.links else []

@@ -10,7 +10,7 @@ use Rattle.petal_msg.specs.declared.operation.Reply.TheVariants.{Data, NotHere, 
 use Rattle.spec_state.specs.declared.answer.Hold.TheVariants as hold
 use Rattle.spec_rules.specs.State.{State, Hold, coming, held, is_lead, readable}
 use Rattle.spec_rules.specs.Store.{Stored, chain_in, entry_at}
-use Rattle.spec_rules.specs.Server.{Own, Here, Done, silent, says}
+use Rattle.spec_rules.specs.Server.{PairState, JobContext, JobResult, silent, says}
 use Rattle.spec_rules.specs.Writes.{is_under_way}
 
 abbrev pub is_all_held : Hold → Bool
@@ -24,7 +24,7 @@ reply_of state cell None = if coming state cell then NotHere else Data zero_bloc
 reply_of state cell (Some entry) = Data entry.bytes
 
 -- a fence, or what is under way at the lead, keeps a read back; else it gives the entry of the greatest epoch not above its own
-abbrev pub reply_to : Here → Own → Cell → ℕ → Reply
+abbrev pub reply_to : JobContext → PairState → Cell → ℕ → Reply
 reply_to here own cell epoch =
     if is_all_held (held here.state cell) then Held
     else if is_lead here.state here.me cell && is_under_way own cell then BlockBusy
@@ -37,7 +37,7 @@ said seq BlockBusy = body.BlockBusy seq
 said seq Held = body.Held seq
 
 -- a read is answered at a server that may read the cell
-unfoldable pub on_read : Here → Own → (client seq : ℕ) → Cell → ℕ → Done
+unfoldable pub on_read : JobContext → PairState → (client seq : ℕ) → Cell → ℕ → JobResult
 on_read here own client seq cell epoch =
     if readable here.state here.me cell then says own (actor.Client client) (said seq (reply_to here own cell epoch))
     else silent own

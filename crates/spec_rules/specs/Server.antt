@@ -42,7 +42,7 @@ pub record Copies : Type 0 where
 
 -- a server's own part in the pairs of its cells: what a job of the pairs may change. Of each link of an old map that it leads it remembers
 -- the last key of which it was told that the new map has it
-pub record Own : Type 0 where
+pub record PairState : Type 0 where
   pub pairs : Pairs
   pub copies : Copies
   pub filled : Table LinkId Key
@@ -52,7 +52,7 @@ pub record Own : Type 0 where
 pub record Server : Type 0 where
   pub life : Life
   pub log : Log
-  pub own : Own
+  pub own : PairState
   pub queue : List Job
 
 -- nothing is pending and nothing was finished
@@ -78,29 +78,29 @@ abbrev pub stopped : Server → Server
 stopped server = record server { life = record server.life { running = false }; queue = [] }
 
 -- where a job is done: the state at the server's revision when the job begins, the server and its incarnation
-pub record Here : Type 0 where
+pub record JobContext : Type 0 where
   pub state : State
   pub me : ℕ
   pub inc : ℕ
 
 -- what a job leaves, what it sends, and the jobs that follow it up
-pub record Done : Type 0 where
-  pub own : Own
+pub record JobResult : Type 0 where
+  pub own : PairState
   pub posts : List Post
   pub jobs : List Job
 
 -- the job leaves this and sends nothing
-abbrev pub silent : Own → Done
+abbrev pub silent : PairState → JobResult
 silent own = record { own = own; posts = []; jobs = [] }
 
 -- the job leaves this and sends one letter
-abbrev pub says : Own → Actor → Body → Done
+abbrev pub says : PairState → Actor → Body → JobResult
 says own to body = record { own = own; posts = record { to = to; body = body } ∷ []; jobs = [] }
 
 -- the job leaves this and sends one letter to a server
-abbrev pub says_to : Own → Option ℕ → Body → Done
+abbrev pub says_to : PairState → Option ℕ → Body → JobResult
 says_to own server said = record { own = own; posts = post_to server said; jobs = [] }
 
 -- a server's letters carry its incarnation and its revision
-abbrev pub sender : Here → Sender
+abbrev pub sender : JobContext → Sender
 sender here = record { from = actor.Server here.me; inc = here.inc; rev = here.state.rev }

@@ -5,7 +5,7 @@ use Rattle.petal_base.specs.declared.cell.Cell.{Cell}
 use Rattle.petal_base.specs.Cells.{key_at}
 use Rattle.petal_msg.specs.declared.dead.Dead.{Dead}
 use Rattle.petal_msg.specs.declared.dead.Dead.TheVariants as dead
-use Rattle.spec_rules.specs.Server.{Own, Here, Done, silent}
+use Rattle.spec_rules.specs.Server.{PairState, JobContext, JobResult, silent}
 use Rattle.spec_rules.specs.State.{State, live}
 use Rattle.spec_rules.specs.Store.{Chain, Store, without_entry, without_mark_on}
 use Rattle.spec_rules.specs.declared.job.Job.{Job}
@@ -34,13 +34,13 @@ abbrev pub without_dead : Store → Dead → Store
 without_dead store (dead.Key key) = without_entry store key
 without_dead store (dead.Mark kind cell) = without_mark_on store kind cell
 
-abbrev pub sweeps_with : Own → Option Dead → Done
+abbrev pub sweeps_with : PairState → Option Dead → JobResult
 sweeps_with own None = silent own
 sweeps_with own (Some what) = record { own = record own { store = without_dead own.store what }; posts = []; jobs = job.Sweep ∷ [] }
 
-unfoldable pub sweeps : Here → Own → Done
+unfoldable pub sweeps : JobContext → PairState → JobResult
 sweeps here own = sweeps_with own (next_dead here.state own.store)
 
 -- at a tick, where something is to be dropped
-abbrev pub sweep_jobs : Here → Own → List Job
+abbrev pub sweep_jobs : JobContext → PairState → List Job
 sweep_jobs here own = if is_some (next_dead here.state own.store) then job.Sweep ∷ [] else []

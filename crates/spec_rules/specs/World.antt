@@ -21,7 +21,7 @@ use Rattle.spec_rules.specs.Lists.{In, put_at}
 use Rattle.spec_rules.specs.Log.{state_in}
 use Rattle.spec_rules.specs.State.{State, authority, leaving}
 use Rattle.spec_rules.specs.Store.{Chain, Store, chain_in, top_of}
-use Rattle.spec_rules.specs.Server.{Own, Server, first_server, letters_of}
+use Rattle.spec_rules.specs.Server.{PairState, Server, first_server, letters_of}
 use Rattle.spec_rules.specs.Jobs.{Acted, here_of, works, delivered, ticks, faults, stops, glances, operator}
 use Rattle.spec_rules.specs.Boots.{boots, blanked, stays}
 use Rattle.spec_rules.specs.Clients.{Client, Asked, Reaction, first_client, client_sender, rests, called, heard, ticked}
@@ -160,7 +160,7 @@ kept_by setting log w n = kept_store (blank_joins_in setting log n) (w.before_bl
 
 abbrev pub with_store : Server → Store → Server
 with_store server store =
-    let own : Own = server.own in
+    let own : PairState = server.own in
     record server { own = record own { store = store } }
 
 -- the world as it counts by these entries: each server has the store that counts
@@ -236,7 +236,7 @@ abbrev pub stamped : ℕ → List Letter → List Letter
 stamped stamp letters = map (λ (letter : Letter). record letter { stamp = stamp }) letters
 
 -- the world after a step, the letters that the step sent, and the answer that it gave
-pub record Stepped : Type 0 where
+pub record StepResult : Type 0 where
   pub world : World
   pub letters : List Letter
   pub answer : Option (ℕ × Answer)
@@ -253,7 +253,7 @@ controls (Boot end) n control = record control { hand = Some (n, Booted) }
 controls (Glance line round) n control = glanced_in line round control
 controls _ n control = control
 
-abbrev pub acts : Setting → World → ℕ → Step → ℕ → Acted → Stepped
+abbrev pub acts : Setting → World → ℕ → Step → ℕ → Acted → StepResult
 acts setting w n what stamp acted = record {
   world = with_frozen setting w (record w {
     servers = put_at w.servers n acted.server;
@@ -270,7 +270,7 @@ abbrev pub with_answer : Option (ℕ × Answer) → List (ℕ × Answer) → Lis
 with_answer None given = given
 with_answer (Some answer) given = answer ∷ given
 
-abbrev pub reacts : World → ℕ → ℕ → Reaction → Stepped
+abbrev pub reacts : World → ℕ → ℕ → Reaction → StepResult
 reacts w c stamp reacted =
     let letters = stamped stamp (letters_of (client_sender c reacted.client) 0 reacted.posts) in
     record {
@@ -285,7 +285,7 @@ reacts w c stamp reacted =
     }
 
 -- a step of an actor with this stamp
-unfoldable pub step : Actor → Step → Setting → World → ℕ → Stepped
+unfoldable pub step : Actor → Step → Setting → World → ℕ → StepResult
 step (actor.Server n) what setting w stamp = acts setting w n what stamp (server_step what (server_state setting w n) n (w.servers n))
 step (actor.Client c) what setting w stamp =
     reacts w c stamp (client_step what (client_state setting w c) c (w.clients c) (next_line setting.lines c (w.clients c)))

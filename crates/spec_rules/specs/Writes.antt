@@ -30,7 +30,7 @@ use Rattle.spec_state.specs.CellState.{cell_link, row_lead, source}
 use Rattle.spec_rules.specs.State.{State, Hold, held, is_lead, leads_link, in_both, is_second, first, second}
 use Rattle.spec_rules.specs.Store.{cell_cmp, chain_in, version_of, free_of, with_ticket, without_ticket, with_entry, with_mark_on, without_mark_on}
 use Rattle.spec_rules.specs.Progress.{copying_on, has_proposed}
-use Rattle.spec_rules.specs.Server.{Own, Here, Done, silent, says, says_to}
+use Rattle.spec_rules.specs.Server.{PairState, JobContext, JobResult, silent, says, says_to}
 use Rattle.spec_rules.specs.declared.job.Job.TheVariants as job
 
 -- ### The table of stages
@@ -65,19 +65,19 @@ next_stage state me op =
 -- ### What the lead remembers
 
 -- the operation that is pending on the cell
-abbrev pub pending_on : Own → Cell → Option Pending
+abbrev pub pending_on : PairState → Cell → Option Pending
 pending_on own cell = at cell_cmp own.pairs.pending cell
 
 -- the own with this operation pending on its cell
-abbrev pub with_pending : Own → Pending → Own
+abbrev pub with_pending : PairState → Pending → PairState
 with_pending own op = record own { pairs = record own.pairs { pending = put cell_cmp own.pairs.pending op.cell op } }
 
 -- the own with nothing pending on the cell
-abbrev pub without_pending : Own → Cell → Own
+abbrev pub without_pending : PairState → Cell → PairState
 without_pending own cell = record own { pairs = record own.pairs { pending = without cell_cmp own.pairs.pending cell } }
 
 -- the own with a slot less that is set apart
-abbrev pub gives_back : Own → Own
+abbrev pub gives_back : PairState → PairState
 gives_back own = record own { store = without_ticket own.store }
 
 -- the reply that ended a request
@@ -86,7 +86,7 @@ ended seq Written = body.Written seq
 ended seq Full = body.Full seq
 
 -- the client's request is done with, which is remembered, and its client is told
-abbrev pub finishes : Own → (client seq : ℕ) → Ending → Done
+abbrev pub finishes : PairState → (client seq : ℕ) → Ending → JobResult
 finishes own client seq ending =
     says
     (record own { pairs = record own.pairs { finished = put nat_cmp own.pairs.finished client (record { seq = seq; ending = ending }) } })
@@ -95,7 +95,7 @@ finishes own client seq ending =
 -- ### The next stage of a pending operation
 
 -- the lead puts its own copy, with the version after that of its chain
-abbrev pub puts : Own → Pending → Done
+abbrev pub puts : PairState → Pending → JobResult
 puts own op =
     let version = version_of (chain_in own.store.chains op.cell) + 1 in
     let put_op : Pending = record op { version = version; stage = record op.stage { put = true } } in
@@ -114,7 +114,7 @@ abbrev pub with_mark_at : Pending → MarkKind → Bool → Pending
 with_mark_at op kind is = record op { stage = with_flag op.stage kind is }
 
 -- the block is marked
-abbrev pub marks : Own → Pending → MarkKind → Done
+abbrev pub marks : PairState → Pending → MarkKind → JobResult
 marks own op kind = record {
   own = with_pending (record own { store = with_mark_on own.store kind op.cell }) (with_mark_at op kind true);
   posts = [];
@@ -122,7 +122,7 @@ marks own op kind = record {
 }
 
 -- the block's mark is taken away
-abbrev pub unmarks : Own → Pending → MarkKind → Done
+abbrev pub unmarks : PairState → Pending → MarkKind → JobResult
 unmarks own op kind = record {
   own = with_pending (record own { store = without_mark_on own.store kind op.cell }) (with_mark_at op kind false);
   posts = [];
@@ -130,7 +130,7 @@ unmarks own op kind = record {
 }
 
 -- the operation ends without an answer; a slot that it has not used is free again
-abbrev pub gives_up : Own → Pending → Own
+abbrev pub gives_up : PairState → Pending → PairState
 gives_up own op = if op.stage.put then without_pending own op.cell else gives_back (without_pending own op.cell)
 
 -- the lead of the old map's link from which a fill of the cell came, by the present state: at its revision it is the server that sent it
@@ -143,12 +143,12 @@ moved_as key Written = body.Filled key
 moved_as key Full = body.FillFull key
 
 -- what an operation was opened for ends: a client's request is done with; of a fill the old lead is told
-abbrev pub ends : Here → Own → Pending → OpKind → Ending → Done
+abbrev pub ends : JobContext → PairState → Pending → OpKind → Ending → JobResult
 ends here own op kind.Write ending = finishes own op.client op.seq ending
 ends here own op kind.Fill ending = says_to own (old_lead here.state op.cell) (moved_as op.key ending)
 ends here own op kind.Copy ending = silent own
 
-abbrev pub acts : Here → Own → Pending → Action → Done
+abbrev pub acts : JobContext → PairState → Pending → Action → JobResult
 acts here own op action.Reserve = says_to own (second here.state op.cell) (body.Reserve op.op op.cell)
 acts here own op (action.Mark kind) = marks own op kind
 acts here own op action.Put = puts own op
@@ -157,12 +157,12 @@ acts here own op (action.Unmark kind) = unmarks own op kind
 acts here own op action.Answer = ends here (without_pending own op.cell) op op.kind Written
 acts here own op action.Drop = silent (gives_up own op)
 
-abbrev pub goes_on_with : Here → Own → Option Pending → Done
+abbrev pub goes_on_with : JobContext → PairState → Option Pending → JobResult
 goes_on_with here own None = silent own
 goes_on_with here own (Some op) = acts here own op (next_stage here.state here.me op)
 
 -- the operation that is pending on the cell does its next stage
-unfoldable pub goes_on : Here → Own → Cell → Done
+unfoldable pub goes_on : JobContext → PairState → Cell → JobResult
 goes_on here own cell = goes_on_with here own (pending_on own cell)
 
 -- ### Write
@@ -205,7 +205,7 @@ abbrev pub first_stage : Stage
 first_stage = record { reserved = false; busy = false; stale = false; put = false; paired = false; trimmed = false; index = 0 }
 
 -- the operation that a write opens, under the next number of this life
-abbrev pub operation : Here → ℕ → Wanted → Pending
+abbrev pub operation : JobContext → ℕ → Wanted → Pending
 operation here number want = record {
   op = number;
   kind = kind.Write;
@@ -220,30 +220,30 @@ operation here number want = record {
 }
 
 -- the own with an operation opened under its next number, and a slot of its own set apart
-abbrev pub with_opened : Own → Pending → Own
+abbrev pub with_opened : PairState → Pending → PairState
 with_opened own op =
     let with_op = with_pending own op in
     record with_op { pairs = record with_op.pairs { next = own.pairs.next + 1 }; store = with_ticket own.store }
 
 -- the same for a write
-abbrev pub opened : Here → Own → Wanted → Own
+abbrev pub opened : JobContext → PairState → Wanted → PairState
 opened here own want = with_opened own (operation here own.pairs.next want)
 
 -- a write that is neither finished nor pending
-abbrev pub opens : Here → Own → Wanted → (room : Bool) → Done
+abbrev pub opens : JobContext → PairState → Wanted → (room : Bool) → JobResult
 opens here own want false = finishes own want.client want.seq Full
 opens here own want true = goes_on here (opened here own want) want.cell
 
 -- a fence holds the cell's writes, or this server has started a ballot for its link's Caught
-abbrev pub is_kept_back : State → Own → Cell → Bool
+abbrev pub is_kept_back : State → PairState → Cell → Bool
 is_kept_back state own cell = is_writes_held (held state cell) || has_proposed state own cell
 
 -- an operation or a copy is under way on the cell
-abbrev pub is_under_way : Own → Cell → Bool
+abbrev pub is_under_way : PairState → Cell → Bool
 is_under_way own cell = is_some (pending_on own cell) || is_some (copying_on own cell)
 
 -- what is kept back, or waits for what is under way on its block, is refused, and ends nothing
-abbrev pub takes_newer : Here → Own → Wanted → (kept_back busy : Bool) → Done
+abbrev pub takes_newer : JobContext → PairState → Wanted → (kept_back busy : Bool) → JobResult
 takes_newer here own want true busy = says own (actor.Client want.client) (body.Held want.seq)
 takes_newer here own want false true = says own (actor.Client want.client) (body.BlockBusy want.seq)
 takes_newer here own want false false = opens here own want (nat_lt 0 (free_of own.store))
@@ -252,7 +252,7 @@ abbrev pub is_pending_for : Option Pending → Wanted → Bool
 is_pending_for None want = false
 is_pending_for (Some op) want = is_for op want
 
-abbrev pub takes : Here → Own → Wanted → Standing → Done
+abbrev pub takes : JobContext → PairState → Wanted → Standing → JobResult
 takes here own want Older = silent own
 takes here own want (Again ending) = says own (actor.Client want.client) (ended want.seq ending)
 takes here own want Newer =
@@ -260,7 +260,7 @@ takes here own want Newer =
     else takes_newer here own want (is_kept_back here.state own want.cell) (is_under_way own want.cell)
 
 -- a write is taken by the cell's lead, once
-unfoldable pub on_write : Here → Own → Wanted → Done
+unfoldable pub on_write : JobContext → PairState → Wanted → JobResult
 on_write here own want =
     if is_lead here.state here.me want.cell then takes here own want (standing (at nat_cmp own.pairs.finished want.client) want.seq)
     else silent own
@@ -281,44 +281,44 @@ with_reserved op = record op { stage = record op.stage { reserved = true } }
 abbrev pub with_paired : Pending → Pending
 with_paired op = record op { stage = record op.stage { paired = true } }
 
-abbrev pub hears_reserved : Here → Own → ℕ → Option Pending → Done
+abbrev pub hears_reserved : JobContext → PairState → ℕ → Option Pending → JobResult
 hears_reserved here own number None = silent own
 hears_reserved here own number (Some op) =
     if is_reserving op number then goes_on here (with_pending own (with_reserved op)) op.cell else silent own
 
-unfoldable pub on_reserved : Here → Own → ℕ → Cell → Done
+unfoldable pub on_reserved : JobContext → PairState → ℕ → Cell → JobResult
 on_reserved here own number cell = hears_reserved here own number (pending_on own cell)
 
 -- the lead gives its slot back, and answers that there is none; an operation whose copy is put goes on
-abbrev pub hears_pair_full : Here → Own → ℕ → Option Pending → Done
+abbrev pub hears_pair_full : JobContext → PairState → ℕ → Option Pending → JobResult
 hears_pair_full here own number None = silent own
 hears_pair_full here own number (Some op) =
     if is_reserving op number && not op.stage.put then ends here (gives_back (without_pending own op.cell)) op op.kind Full
     else silent own
 
 -- only an operation that still waits for its reservation is refused
-unfoldable pub on_pair_full : Here → Own → ℕ → Cell → Done
+unfoldable pub on_pair_full : JobContext → PairState → ℕ → Cell → JobResult
 on_pair_full here own number cell = hears_pair_full here own number (pending_on own cell)
 
-abbrev pub hears_replicated : Here → Own → ℕ → Option Pending → Done
+abbrev pub hears_replicated : JobContext → PairState → ℕ → Option Pending → JobResult
 hears_replicated here own number None = silent own
 hears_replicated here own number (Some op) =
     if is_replicating op number then goes_on here (with_pending own (with_paired op)) op.cell else silent own
 
-unfoldable pub on_replicated : Here → Own → ℕ → Cell → Done
+unfoldable pub on_replicated : JobContext → PairState → ℕ → Cell → JobResult
 on_replicated here own number cell = hears_replicated here own number (pending_on own cell)
 
 -- ### The second server: Reserve and Replicate
 
 -- the last operation on the cell that this server took part in as second server
-abbrev pub last_on : Own → Cell → Option LastOp
+abbrev pub last_on : PairState → Cell → Option LastOp
 last_on own cell = at cell_cmp own.pairs.last cell
 
-abbrev pub with_last : Own → Cell → ℕ → Far → Own
+abbrev pub with_last : PairState → Cell → ℕ → Far → PairState
 with_last own cell number far = record own { pairs = record own.pairs { last = put cell_cmp own.pairs.last cell (record { op = number; far = far }) } }
 
 -- the second server tells the lead how far it is
-abbrev pub tells : Here → Own → Cell → ℕ → Far → Done
+abbrev pub tells : JobContext → PairState → Cell → ℕ → Far → JobResult
 tells here own cell number far.Reserved = says_to own (first here.state cell) (body.Reserved number cell)
 tells here own cell number far.Replicated = says_to own (first here.state cell) (body.Replicated number cell)
 
@@ -328,40 +328,40 @@ has_slot far.Reserved = true
 has_slot far.Replicated = false
 
 -- an operation that is new here gets the slot that is set apart for the cell, or a free one
-abbrev pub reserves : Here → Own → Cell → ℕ → (has room : Bool) → Done
+abbrev pub reserves : JobContext → PairState → Cell → ℕ → (has room : Bool) → JobResult
 reserves here own cell number true room = tells here (with_last own cell number far.Reserved) cell number far.Reserved
 reserves here own cell number false true =
     tells here (with_last (record own { store = with_ticket own.store }) cell number far.Reserved) cell number far.Reserved
 reserves here own cell number false false = says_to own (first here.state cell) (body.PairFull number cell)
 
 -- an older number is dropped, an equal one is answered again
-abbrev pub hears_reserve : Here → Own → Cell → ℕ → Option LastOp → Done
+abbrev pub hears_reserve : JobContext → PairState → Cell → ℕ → Option LastOp → JobResult
 hears_reserve here own cell number None = reserves here own cell number false (nat_lt 0 (free_of own.store))
 hears_reserve here own cell number (Some last) =
     if nat_lt number last.op then silent own
     else if number == last.op then tells here own cell number last.far
     else reserves here own cell number (has_slot last.far) (nat_lt 0 (free_of own.store))
 
-unfoldable pub on_reserve : Here → Own → ℕ → Cell → Done
+unfoldable pub on_reserve : JobContext → PairState → ℕ → Cell → JobResult
 on_reserve here own number cell = if is_second here.state here.me cell then hears_reserve here own cell number (last_on own cell) else silent own
 
 -- the second server puts its copy, with the version after that of its own chain
-abbrev pub follows : Here → Own → ℕ → Key → List ℕ → Done
+abbrev pub follows : JobContext → PairState → ℕ → Key → List ℕ → JobResult
 follows here own number key bytes =
     let version = version_of (chain_in own.store.chains (cell_of key)) + 1 in
-    let with_put : Own = record own { store = with_entry own.store key (record { version = version; bytes = bytes }) } in
+    let with_put : PairState = record own { store = with_entry own.store key (record { version = version; bytes = bytes }) } in
     tells here (with_last with_put (cell_of key) number far.Replicated) (cell_of key) number far.Replicated
 
 -- once, in the slot that was set apart
-abbrev pub follows_once : Here → Own → ℕ → Key → List ℕ → Far → Done
+abbrev pub follows_once : JobContext → PairState → ℕ → Key → List ℕ → Far → JobResult
 follows_once here own number key bytes far.Reserved = follows here own number key bytes
 follows_once here own number key bytes far.Replicated = tells here own (cell_of key) number far.Replicated
 
 -- only for the number whose slot was set apart; an equal number is answered again
-abbrev pub hears_replicate : Here → Own → ℕ → Key → List ℕ → Option LastOp → Done
+abbrev pub hears_replicate : JobContext → PairState → ℕ → Key → List ℕ → Option LastOp → JobResult
 hears_replicate here own number key bytes None = silent own
 hears_replicate here own number key bytes (Some last) = if number == last.op then follows_once here own number key bytes last.far else silent own
 
-unfoldable pub on_replicate : Here → Own → ℕ → Key → List ℕ → Done
+unfoldable pub on_replicate : JobContext → PairState → ℕ → Key → List ℕ → JobResult
 on_replicate here own number key bytes =
     if is_second here.state here.me (cell_of key) then hears_replicate here own number key bytes (last_on own (cell_of key)) else silent own

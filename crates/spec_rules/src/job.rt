@@ -11,7 +11,7 @@ pub enum Job {
     /// The next stage of the operation, or of the copy, that is under way on a cell.
     Stage(Cell),
     /// The next page or copy of a link that is held alone, or the next mark to take away on one in `Both`.
-    Mend(LinkId),
+    Repair(LinkId),
     /// One entry or mark of a cell that is no longer live is dropped.
     Sweep,
     /// The next entry of the log, which is known to be chosen, is applied.

@@ -16,7 +16,7 @@ ghost use Rattle.petal_msg.specs.declared.operation.Pending.{Pending};
 ghost use Rattle.spec_rules.specs.Lists.{In};
 ghost use Rattle.spec_rules.specs.State.{State, is_lead, leads_link};
 ghost use Rattle.spec_rules.specs.Store.{chain_in, version_of};
-ghost use Rattle.spec_rules.specs.Server.{Own, Here, silent};
+ghost use Rattle.spec_rules.specs.Server.{PairState, JobContext, silent};
 ghost use Rattle.spec_rules.specs.Writes.{Wanted, finishes, follows, last_on, next_stage, on_replicate, on_write};
 ghost use Rattle.spec_rules.specs.World.{Setting, World, step};
 ghost use Rattle.spec_rules.specs.declared.step.Step.{Step};
@@ -37,37 +37,37 @@ pub fn letters_stay_sent()
 
 /// A server that is not the cell's lead takes no write.
 pub fn only_the_lead_takes_a_write()
-    ensures { (here : Here) (own : Own) (want : Wanted) → is_lead here.state here.me want.cell ≡ false → on_write here own want ≡ silent own }
+    ensures { (here : JobContext) (own : PairState) (want : Wanted) → is_lead here.state here.me want.cell ≡ false → on_write here own want ≡ silent own }
 {}
 
 /// A request that its lead has finished, or that is older, changes nothing there: it is answered again or dropped.
 pub fn a_finished_request_changes_nothing()
-    ensures { (here : Here) (own : Own) (want : Wanted) (last : Finished) → at nat_cmp own.pairs.finished want.client ≡ Some last → want.seq ≤ last.seq
+    ensures { (here : JobContext) (own : PairState) (want : Wanted) (last : Finished) → at nat_cmp own.pairs.finished want.client ≡ Some last → want.seq ≤ last.seq
         → (on_write here own want).own ≡ own }
 {}
 
 /// What ends a client's request is remembered at its lead.
 pub fn an_ended_request_is_remembered()
-    ensures { (own : Own) (client seq : ℕ) (ending : Ending)
+    ensures { (own : PairState) (client seq : ℕ) (ending : Ending)
         → at nat_cmp (finishes own client seq ending).own.pairs.finished client ≡ Some (record { seq = seq; ending = ending }) }
 {}
 
 /// The second server puts a copy once, and only for the number whose slot it set apart.
 pub fn a_second_copy_is_put_once()
-    ensures again { (here : Here) (own : Own) (number : ℕ) (key : Key) (bytes : List ℕ)
+    ensures again { (here : JobContext) (own : PairState) (number : ℕ) (key : Key) (bytes : List ℕ)
         → last_on own (cell_of key) ≡ Some (record { op = number; far = Replicated }) → (on_replicate here own number key bytes).own ≡ own }
-    ensures other { (here : Here) (own : Own) (number : ℕ) (key : Key) (bytes : List ℕ) (last : LastOp) → last_on own (cell_of key) ≡ Some last
+    ensures other { (here : JobContext) (own : PairState) (number : ℕ) (key : Key) (bytes : List ℕ) (last : LastOp) → last_on own (cell_of key) ≡ Some last
         → number ≢ last.op → on_replicate here own number key bytes ≡ silent own }
-    ensures unknown { (here : Here) (own : Own) (number : ℕ) (key : Key) (bytes : List ℕ) → last_on own (cell_of key) ≡ None
+    ensures unknown { (here : JobContext) (own : PairState) (number : ℕ) (key : Key) (bytes : List ℕ) → last_on own (cell_of key) ≡ None
         → on_replicate here own number key bytes ≡ silent own }
 {}
 
 /// A second server that has put its copy has the block's bytes, with the version after that of its chain, and says so to
 /// whoever asks for this number again.
 pub fn a_second_copy_is_put()
-    ensures chain { (here : Here) (own : Own) (number : ℕ) (key : Key) (bytes : List ℕ)
+    ensures chain { (here : JobContext) (own : PairState) (number : ℕ) (key : Key) (bytes : List ℕ)
         → chain_in (follows here own number key bytes).own.store.chains (cell_of key) ≡ put nat_cmp (chain_in own.store.chains (cell_of key)) key.epoch
         (record { version = version_of (chain_in own.store.chains (cell_of key)) + 1; bytes = bytes }) }
-    ensures last { (here : Here) (own : Own) (number : ℕ) (key : Key) (bytes : List ℕ)
+    ensures last { (here : JobContext) (own : PairState) (number : ℕ) (key : Key) (bytes : List ℕ)
         → last_on (follows here own number key bytes).own (cell_of key) ≡ Some (record { op = number; far = Replicated }) }
 {}

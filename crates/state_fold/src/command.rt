@@ -127,7 +127,7 @@ impl Tables {
         match self.disk_to_snap(disk, name) {
             Err(verdict) => self.told(client, seq, verdict),
             Ok(disk) => {
-                let name = name.again();
+                let name = name.copy();
                 self.with_fence(
                     alloc,
                     FenceKind::Whole {

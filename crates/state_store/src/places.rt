@@ -105,9 +105,9 @@ fn row_noted(place: u32, row: Row, entry: &StateRecord) -> Row
             place: at,
             ballot,
             command,
-        } if *at == place => accept_row(row, *ballot, command.again()),
+        } if *at == place => accept_row(row, *ballot, command.copy()),
         StateRecord::Chosen { place: at, command } if *at == place => {
-            choose_row(row, command.again())
+            choose_row(row, command.copy())
         },
         _ => row,
     }

@@ -77,7 +77,7 @@ pub fn acceptance_again(accepted: &Option<(Ballot, Command)>) -> Option<(Ballot,
 {
     match accepted {
         None => None,
-        Some((ballot, command)) => Some((*ballot, command.again())),
+        Some((ballot, command)) => Some((*ballot, command.copy())),
     }
 }
 
@@ -87,6 +87,6 @@ pub fn command_again(chosen: &Option<Command>) -> Option<Command>
 {
     match chosen {
         None => None,
-        Some(command) => Some(command.again()),
+        Some(command) => Some(command.copy()),
     }
 }

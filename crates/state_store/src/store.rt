@@ -264,7 +264,7 @@ impl<D: Disk> StateStore<D> {
             &StateRecord::Accepted {
                 place,
                 ballot,
-                command: command.again(),
+                command: command.copy(),
             },
         )
     }
@@ -299,7 +299,7 @@ impl<D: Disk> StateStore<D> {
             place,
             &StateRecord::Chosen {
                 place,
-                command: command.again(),
+                command: command.copy(),
             },
         )
     }

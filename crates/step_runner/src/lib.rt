@@ -11,5 +11,5 @@ mod schedule;
 mod wants;
 
 pub use held::FirstHosts;
-pub use schedule::{Row, play_row};
+pub use schedule::{Row, play_case};
 pub use world_probe::Run;

@@ -167,7 +167,7 @@ fn walk<H: Host, C: FirstHosts<H> + Stores>(
 ///
 /// # Errors
 /// What is wrong: the row, its step, and where a word is none of the form that word; or what the plain machine refuses.
-pub fn play_row<H: Host, C: FirstHosts<H> + Stores>(
+pub fn play_case<H: Host, C: FirstHosts<H> + Stores>(
     alloc: Global,
     hosts: &C,
     row: &Row,

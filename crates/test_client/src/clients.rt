@@ -336,14 +336,14 @@ fn play(alloc: Global, client: &mut ClientCore, row: &Row) -> Result<(), Fail> {
     Ok(())
 }
 
-fn play_row(alloc: Global, row: &Row) -> Result<(), Fail> {
+fn play_case(alloc: Global, row: &Row) -> Result<(), Fail> {
     let mut client = ClientCore::new(alloc, 0, 3)?;
     play(alloc, &mut client, row)
 }
 
 fn play_all(alloc: Global, rows: &[Row]) -> Result<(), Fail> {
     for row in rows {
-        play_row(alloc, row)?;
+        play_case(alloc, row)?;
     }
     Ok(())
 }

@@ -16,7 +16,7 @@ use Rattle.script_lines.specs.declared.request.Request.TheVariants as request
 use Rattle.spec_rules.specs.Clients.{first_client}
 use Rattle.spec_rules.specs.Jobs.{here_of, wanted_by}
 use Rattle.spec_rules.specs.Log.{first_log}
-use Rattle.spec_rules.specs.Server.{Own, Server, first_server}
+use Rattle.spec_rules.specs.Server.{PairState, Server, first_server}
 use Rattle.spec_rules.specs.Store.{Store, empty_store}
 use Rattle.spec_rules.specs.World.{Setting, World, start, server_state}
 use Rattle.spec_history.specs.Examples.{cell_at, crowd_disk, line_of, makes, one_entry, run_of, writes}
@@ -41,7 +41,7 @@ voted_from place (command ∷ commands) =
 abbrev pub server_with : List Command → (inc : ℕ) → Store → Server
 server_with commands inc store =
     let first : Server = first_server true 0 in
-    let own : Own = record first.own { store = store } in
+    let own : PairState = record first.own { store = store } in
     record first {
       life = record { running = true; inc = inc };
       log = record first_log { records = Inc inc ∷ voted_from 1 commands; applied = commands };

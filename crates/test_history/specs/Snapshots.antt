@@ -15,7 +15,7 @@ use Rattle.petal_msg.specs.declared.letter.Letter.{Letter}
 use Rattle.spec_paxos.specs.declared.record.StateRecord.TheVariants.{Accepted}
 use Rattle.spec_state.specs.Command.{state_after}
 use Rattle.spec_rules.specs.Log.{Log}
-use Rattle.spec_rules.specs.Server.{Own, Server}
+use Rattle.spec_rules.specs.Server.{PairState, Server}
 use Rattle.spec_rules.specs.Store.{Store, empty_store}
 use Rattle.spec_rules.specs.World.{World}
 use Rattle.spec_history.specs.Events.{told_from}
@@ -94,7 +94,7 @@ passed_after moves = plays mending passed moves
 abbrev pub unfenced : World
 unfenced = world_with mending early_log (λ n. server_with early_log 1 (empty_store 4))
 
-abbrev pub writing_own : Own
+abbrev pub writing_own : PairState
 writing_own = ((plays mending unfenced held_moves).servers 0).own
 
 abbrev pub writing : World

@@ -6,7 +6,7 @@ use Rattle.script_lines.specs.declared.request.Line.{Line}
 use Rattle.script_lines.specs.declared.request.Request.TheVariants as request
 use Rattle.spec_rules.specs.Clients.{first_client}
 use Rattle.petal_base.specs.Limits.{journal_records}
-use Rattle.spec_rules.specs.Server.{Server, Own, first_server}
+use Rattle.spec_rules.specs.Server.{Server, PairState, first_server}
 use Rattle.spec_rules.specs.Store.{empty_store}
 use Rattle.spec_rules.specs.World.{Setting, World, start}
 use Rattle.spec_rules.specs.declared.step.CommitEnd.{CommitEnd}
@@ -119,7 +119,7 @@ failed_acts end = Moves mark_moves ∷ Fails 0 end ∷ []
 -- the ready world, but that the journals of the data devices are full
 abbrev pub full_server : Server
 full_server =
-    let own : Own = ready_server.own in
+    let own : PairState = ready_server.own in
     record ready_server { own = record own { store = record (empty_store 4) { records = journal_records } } }
 
 abbrev pub full_world : World

@@ -2,7 +2,7 @@
 
 use crate::stores::with_sevens;
 use global_state::GlobalState;
-use pair_memory::{Here, Side};
+use pair_memory::{JobContext, PairMemory};
 use petal_base::{Cell, Key, Name, NoMemory, Tuple};
 use petal_command::{ClientNumber, Command};
 use petal_disk::{DeviceError, Disk};
@@ -63,14 +63,14 @@ fn byte_of(body: Body) -> Option<u8> {
 fn reply<D: Disk>(
     alloc: Global,
     state: &GlobalState,
-    side: &Side,
+    side: &PairMemory,
     store: &mut Store<D>,
     cell: Cell,
 ) -> Result<Option<Reply>, DeviceError> {
     if !state.readable(1, cell) {
         return Ok(None);
     }
-    let here = Here::new(alloc, state, 1, 1);
+    let here = JobContext::new(alloc, state, 1, 1);
     match answer_read(&here, side, store, cell, 0) {
         Ok(reply) => Ok(Some(reply)),
         Err(error) => Err(error),
@@ -91,7 +91,7 @@ fn read<D: Disk>(
     store: &mut Store<D>,
     block: u64,
 ) -> Result<Option<u8>, Fail> {
-    let side = Side::new(alloc);
+    let side = PairMemory::new(alloc);
     let reply = reply(alloc, state, &side, store, Cell { map: 0, block });
     drop(side);
     byte_in(reply)

@@ -7,7 +7,7 @@ use std::test::Fail;
 /// Whether the text is a name, with these bytes.
 fn is_name(text: &str) -> bool {
     match Name::read(text.as_bytes()) {
-        Some(name) => name.again().bytes() == text.as_bytes(),
+        Some(name) => name.copy().bytes() == text.as_bytes(),
         None => false,
     }
 }
@@ -32,7 +32,7 @@ fn names(rt: HostRuntime) {
 /// Whether the numbers are a tuple, of these servers.
 fn is_tuple(ids: &[ServerId], servers: u8) -> bool {
     match Tuple::new(ids, servers) {
-        Some(tuple) => tuple.again().ids() == ids,
+        Some(tuple) => tuple.copy().ids() == ids,
         None => false,
     }
 }

@@ -83,7 +83,7 @@ impl Directory {
         let id = self.made;
         self.rows.push(DiskRow {
             id,
-            name: name.again(),
+            name: name.copy(),
             map,
             epoch: 0,
             snaps: Sequence::new(alloc),

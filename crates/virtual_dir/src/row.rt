@@ -21,7 +21,7 @@ pub fn freeze_row(row: &mut DiskRow, name: &Name) -> Result<(), NoMemory>
     ensures err { OnErr result (row.new ≡ row.old) }
 {
     row.snaps.push(Snapshot {
-        name: name.again(),
+        name: name.copy(),
         epoch: row.epoch,
     })?;
     row.epoch += 1;

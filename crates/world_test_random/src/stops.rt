@@ -6,7 +6,7 @@ use random_runs::{Habit, Tale};
 use std::test::Fail;
 
 #[test]
-fn worlds_by_chance(rt: HostRuntime) -> Result<(), Fail> {
+fn worlds_at_random(rt: HostRuntime) -> Result<(), Fail> {
     let all = simulate_all(rt.alloc(), Tale::Stops, Habit::Even)?;
     let enough = all.answered >= 400 && all.unavailable >= 5 && all.stops >= 30;
     assert!(rt; enough, "{all:?}");

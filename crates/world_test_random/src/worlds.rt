@@ -5,7 +5,7 @@ use random_runs::{Habit, Tale};
 use std::test::Fail;
 
 #[test]
-fn worlds_by_chance(rt: HostRuntime) -> Result<(), Fail> {
+fn worlds_at_random(rt: HostRuntime) -> Result<(), Fail> {
     let all = simulate_all(rt.alloc(), Tale::Plain, Habit::Even)?;
     assert!(rt; all.answered >= 1000 && all.no_space >= 1, "{all:?}");
     Ok(())

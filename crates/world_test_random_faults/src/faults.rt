@@ -3,14 +3,14 @@
 use memory_runs::{Memory, SEEDS, simulate_all, start};
 use petal_base::ServerId;
 use petal_disk::{CallKind, Plan, Which};
-use random_runs::{Chance, Count, Habit, Tale, script_by, simulate_struck};
+use random_runs::{Random, Count, Habit, Tale, script_by, simulate_struck};
 use std::alloc::Global;
 use std::test::Fail;
 
 /// One of the devices of the first three servers.
-fn device_by(chance: &mut Chance) -> (ServerId, Which) {
-    let server = chance.below(3) as u8;
-    let which = if chance.below(2) == 0 {
+fn device_by(random: &mut Random) -> (ServerId, Which) {
+    let server = random.below(3) as u8;
+    let which = if random.below(2) == 0 {
         Which::Data
     } else {
         Which::State
@@ -19,22 +19,22 @@ fn device_by(chance: &mut Chance) -> (ServerId, Which) {
 }
 
 /// One of its first calls fails, or one of its first syncs after its work.
-fn plan_by(chance: &mut Chance, stop: bool, late: bool) -> Plan {
+fn plan_by(random: &mut Random, stop: bool, late: bool) -> Plan {
     Plan {
         kind: if late { CallKind::Sync } else { CallKind::Any },
-        at: chance.below(40).saturating_add(1) as u32,
+        at: random.below(40).saturating_add(1) as u32,
         stop,
         late,
     }
 }
 
 fn simulate_failing(alloc: Global, seed: u32, stop: bool, late: bool) -> Result<Count, Fail> {
-    let mut chance = Chance::new(seed);
-    let text = script_by(alloc, &mut chance, Tale::Plain)?;
-    let device = device_by(&mut chance);
-    let plan = plan_by(&mut chance, stop, late);
+    let mut random = Random::new(seed);
+    let text = script_by(alloc, &mut random, Tale::Plain)?;
+    let device = device_by(&mut random);
+    let plan = plan_by(&mut random, stop, late);
     let run = start(alloc, text.as_str())?;
-    simulate_struck(alloc, &Memory, seed, chance, run, device, plan)
+    simulate_struck(alloc, &Memory, seed, random, run, device, plan)
 }
 
 fn simulate_all_failing(alloc: Global, stop: bool, late: bool) -> Result<Count, Fail> {

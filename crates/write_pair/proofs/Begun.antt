@@ -2,12 +2,12 @@
 use Rattle.std.proofs.Common.{◌≡◌, Bool, true, false, nat_lt, refl, sym, ap, ◌∙◌}
 use Rattle.petal_msg.specs.declared.operation.Pending.{Pending}
 use Rattle.spec_rules.specs.Fills.{Moving, fill_operation, opens_fill}
-use Rattle.spec_rules.specs.Server.{Here, Own}
+use Rattle.spec_rules.specs.Server.{JobContext, PairState}
 use Rattle.spec_rules.specs.Store.{free_of}
 use Rattle.spec_rules.specs.Writes.{Newer, Wanted, is_kept_back, is_pending_for, is_under_way, opens, operation, pending_on, takes}
 use Rattle.write_pair.specs.Opened.{begun}
 
-module _ (here : Here) (own : Own) (op : Pending) where
+module _ (here : JobContext) (own : PairState) (op : Pending) where
   write_begun : (want : Wanted) (room : Bool) → begun here own (operation here own.pairs.next want) room ≡ opens here own want room
   write_begun want room = elim room as (λ b. begun here own (operation here own.pairs.next want) b ≡ opens here own want b) [ true ↦ refl | false ↦ refl ]
 

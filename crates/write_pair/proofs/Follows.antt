@@ -14,7 +14,7 @@ use Rattle.petal_msg.specs.declared.operation.Far.TheVariants as far
 use Rattle.petal_msg.specs.declared.operation.LastOp.{LastOp}
 use Rattle.petal_msg.specs.declared.operation.Pending.{Pending}
 use Rattle.spec_rules.specs.State.{first, is_second}
-use Rattle.spec_rules.specs.Server.{Own, Here, Done, silent, says_to, sender, letters_of, post_to}
+use Rattle.spec_rules.specs.Server.{PairState, JobContext, JobResult, silent, says_to, sender, letters_of, post_to}
 use Rattle.spec_rules.specs.Store.{Store, cell_cmp, chain_in, version_of, with_entry}
 use Rattle.spec_rules.specs.Writes.{follows, hears_reserve, last_on, on_reserve, reserves, tells, with_last}
 use Rattle.spec_rules.proofs.CellTables.{cell_cmp_total}
@@ -22,11 +22,11 @@ use Rattle.server_store.specs.Holdings.{Holdings}
 use Rattle.server_store.specs.Tickets as lists
 use Rattle.kept_chains.specs.Kept.{chains_of, store_of}
 use Rattle.kept_chains.proofs.Puts.{without_new}
-use Rattle.pair_memory.specs.declared.done.Done.{Done as Left}
+use Rattle.pair_memory.specs.declared.job_result.JobResult.{JobResult as Left}
 use Rattle.pair_memory.specs.declared.error.WorkError.{WorkError}
 use Rattle.pair_memory.specs.declared.error.WorkError.TheVariants.{NoMemory}
-use Rattle.pair_memory.specs.Side.{Side, HasTickets, HasTicketsAt, needs_apart, own_of, pairs_of}
-use Rattle.pair_memory.specs.Done.{IsBy, IsDone, IsSaid, only}
+use Rattle.pair_memory.specs.PairMemory.{PairMemory, HasTickets, HasTicketsAt, needs_apart, own_of, pairs_of}
+use Rattle.pair_memory.specs.JobResult.{IsBy, IsDone, IsSaid, only}
 use Rattle.pair_memory.specs.Slots.{IsKept}
 use Rattle.pair_memory.proofs.Said.{all_same}
 use Rattle.pair_memory.proofs.Tickets.{kept_followed}
@@ -39,14 +39,14 @@ abbrev pub replicated : ℕ → LastOp
 replicated number = record { op = number; far = far.Replicated }
 
 -- what the second server leaves that put its copy, at the cell of the key
-abbrev pub follows_in : Here → Own → ℕ → Key → List ℕ → Cell → Done
+abbrev pub follows_in : JobContext → PairState → ℕ → Key → List ℕ → Cell → JobResult
 follows_in here own number key bytes cell =
     says_to
     (with_last (record own { store = with_entry own.store key (record { version = version_of (chain_in own.store.chains cell) + 1; bytes = bytes }) })
     cell number far.Replicated)
     (first here.state cell) (body.Replicated number cell)
 
-module _ {D : Type 0} (here : Here) (side : Side) (store : Holdings D) (cell : Cell) (number : ℕ) (h : HasTicketsAt side store) where
+module _ {D : Type 0} (here : JobContext) (side : PairMemory) (store : Holdings D) (cell : Cell) (number : ℕ) (h : HasTicketsAt side store) where
   pub again_is : (last : Table Cell LastOp) (done : Left) → needs_apart (at cell_cmp side.last cell) ≡ true
       → last ≡ put cell_cmp side.last cell (reserved number)
       → IsSaid here side side store store (Ok done) (tells here (own_of side store) cell number far.Reserved)
@@ -92,7 +92,7 @@ module _ {D : Type 0} (here : Here) (side : Side) (store : Holdings D) (cell : C
       gone ∙ ap (λ (t : Table Cell ℕ). without cell_cmp t cell) is ∙ without_new cell_cmp cell_cmp_total side.apart cell slot (apart_none has)
 
   -- where memory is short the slot is given back
-  pub refused_is : (last : Table Cell LastOp) (apart back : Table Cell ℕ) (after : Holdings D) (slot : ℕ) (rule : Done)
+  pub refused_is : (last : Table Cell LastOp) (apart back : Table Cell ℕ) (after : Holdings D) (slot : ℕ) (rule : JobResult)
       → needs_apart (at cell_cmp side.last cell) ≡ false → last ≡ side.last → apart ≡ put cell_cmp side.apart cell slot
       → back ≡ without cell_cmp apart cell → after ≡ store
       → IsSaid here side (record side { last = last; apart = back }) store after (Err NoMemory) rule
@@ -120,7 +120,7 @@ module _ {D : Type 0} (here : Here) (side : Side) (store : Holdings D) (cell : C
       })
 
   -- the cell of a key, where it has a name of its own
-  pub at_key : (device : Ghosts D) (new : Side) (after : Holdings D) (answer : Result Left WorkError) (key : Key) (bytes : List ℕ) → cell ≡ cell_of key
+  pub at_key : (device : Ghosts D) (new : PairMemory) (after : Holdings D) (answer : Result Left WorkError) (key : Key) (bytes : List ℕ) → cell ≡ cell_of key
       → IsDone device here side new store after answer (follows_in here (own_of side store) number key bytes cell)
       → IsDone device here side new store after answer (follows here (own_of side store) number key bytes)
   at_key device new after answer key bytes is done =
@@ -134,7 +134,7 @@ pub follows_keeps : (pending : Table Cell Pending) (was last : Table Cell LastOp
 follows_keeps pending was last own before apart tickets left cell number slot h table sorted has gone less =
     rw (table, gone, less) (kept_followed pending was own before tickets h cell (replicated number) slot sorted has refl)
 
-pub reserve_is : (here : Here) (own : Own) (number : ℕ) (cell : Cell) (last : LastOp) → is_second here.state here.me cell ≡ true
+pub reserve_is : (here : JobContext) (own : PairState) (number : ℕ) (cell : Cell) (last : LastOp) → is_second here.state here.me cell ≡ true
     → at cell_cmp own.pairs.last cell ≡ Some last → hears_reserve here own cell number (Some last) ≡ on_reserve here own number cell
 unfolding on_reserve
 reserve_is here own number cell last second is =

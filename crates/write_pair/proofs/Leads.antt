@@ -8,8 +8,8 @@ use Rattle.petal_base.specs.declared.cell.Cell.{Cell}
 use Rattle.petal_table.specs.Table.{Table, at, without}
 use Rattle.petal_msg.specs.declared.operation.Ending.TheVariants.{Full}
 use Rattle.petal_msg.specs.declared.operation.Pending.{Pending}
-use Rattle.spec_rules.specs.Server.{Own, Here, letters_of, sender, silent}
-use Rattle.spec_rules.specs.Server.{Done as Rule}
+use Rattle.spec_rules.specs.Server.{PairState, JobContext, letters_of, sender, silent}
+use Rattle.spec_rules.specs.Server.{JobResult as Rule}
 use Rattle.spec_rules.specs.Store.{cell_cmp, without_ticket}
 use Rattle.spec_rules.specs.Writes.{acts, ends, gives_back, goes_on, goes_on_with, next_stage, without_pending}
 use Rattle.spec_rules.specs.Writes.{hears_reserved, hears_replicated, is_reserving, is_replicating, on_reserved, on_replicated}
@@ -18,9 +18,9 @@ use Rattle.spec_rules.proofs.CellTables.{cell_same}
 use Rattle.server_store.specs.Holdings.{Holdings}
 use Rattle.server_store.specs.Tickets as lists
 use Rattle.kept_chains.specs.Kept.{store_of}
-use Rattle.pair_memory.specs.declared.done.Done.{Done}
-use Rattle.pair_memory.specs.Side.{Side, HasTicketsAt, needs_own, own_of}
-use Rattle.pair_memory.specs.Done.{IsSaid}
+use Rattle.pair_memory.specs.declared.job_result.JobResult.{JobResult}
+use Rattle.pair_memory.specs.PairMemory.{PairMemory, HasTicketsAt, needs_own, own_of}
+use Rattle.pair_memory.specs.JobResult.{IsSaid}
 use Rattle.pair_memory.proofs.Tickets as tickets
 use Rattle.write_pair.proofs.Ending.{ends_pending, ends_with, own_with}
 
@@ -30,7 +30,7 @@ reserving op number same waits = grind (arith, nat_tests, same, waits)
 pub replicating : (op : Pending) (number : ℕ) → op.op ≡ number → op.stage.put ≡ true → op.stage.paired ≡ false → is_replicating op number ≡ true
 replicating op number same put waits = grind (arith, nat_tests, same, put, waits)
 
-pub reserved_is : (here : Here) (own : Own) (number : ℕ) (cell : Cell) (op : Pending) → at cell_cmp own.pairs.pending cell ≡ Some op
+pub reserved_is : (here : JobContext) (own : PairState) (number : ℕ) (cell : Cell) (op : Pending) → at cell_cmp own.pairs.pending cell ≡ Some op
     → is_reserving op number ≡ true
     → acts here (with_pending own (with_reserved op)) (with_reserved op) (next_stage here.state here.me (with_reserved op)) ≡ on_reserved here own number cell
 unfolding on_reserved goes_on
@@ -39,7 +39,7 @@ reserved_is here own number cell op is waits =
     ∙ ap (λ (b : Bool). if b then goes_on here (with_pending own (with_reserved op)) op.cell else silent own) waits
     ∙ ap (goes_on_with here (with_pending own (with_reserved op))) (cell_same own.pairs.pending op.cell (with_reserved op)))
 
-pub replicated_is : (here : Here) (own : Own) (number : ℕ) (cell : Cell) (op : Pending) → at cell_cmp own.pairs.pending cell ≡ Some op
+pub replicated_is : (here : JobContext) (own : PairState) (number : ℕ) (cell : Cell) (op : Pending) → at cell_cmp own.pairs.pending cell ≡ Some op
     → is_replicating op number ≡ true
     → acts here (with_pending own (with_paired op)) (with_paired op) (next_stage here.state here.me (with_paired op)) ≡ on_replicated here own number cell
 unfolding on_replicated goes_on
@@ -49,15 +49,15 @@ replicated_is here own number cell op is waits =
     ∙ ap (goes_on_with here (with_pending own (with_paired op))) (cell_same own.pairs.pending op.cell (with_paired op)))
 
 -- an operation whose copy is not put has its slot
-pub full_slot : {D : Type 0} (side : Side) (store : Holdings D) (op : Pending) → HasTicketsAt side store → at cell_cmp side.pending op.cell ≡ Some op
+pub full_slot : {D : Type 0} (side : PairMemory) (store : Holdings D) (op : Pending) → HasTicketsAt side store → at cell_cmp side.pending op.cell ≡ Some op
     → op.stage.put ≡ false → (slot : ℕ) × (at cell_cmp side.own op.cell ≡ Some slot)
 full_slot side store op h there unused =
     tickets.own_slot side.pending side.last side.own side.apart store.tickets h op.cell (ap needs_own there ∙ ap not unused)
 
-module _ {D : Type 0} (here : Here) (side after : Side) (store : Holdings D) (op : Pending) (done : Done) where
+module _ {D : Type 0} (here : JobContext) (side after : PairMemory) (store : Holdings D) (op : Pending) (done : JobResult) where
   -- nothing else is pending where an operation ended
   pub finished_pending : IsSaid here side after store store (Ok done) (ends here (own_of side store) op op.kind Full) → after.pending ≡ side.pending
-  finished_pending said = ap (λ (own : Own). own.pairs.pending) said.done.own ∙ ends_pending here (own_of side store) op op.kind Full
+  finished_pending said = ap (λ (own : PairState). own.pairs.pending) said.done.own ∙ ends_pending here (own_of side store) op op.kind Full
 
   pub full_is : (new : Table Cell Pending) (own : Table Cell ℕ) (left : Holdings D) (slot : ℕ) → new ≡ without cell_cmp after.pending op.cell
       → IsStrictlySortedBy cell_cmp (keys_of after.own) → at cell_cmp after.own op.cell ≡ Some slot → own ≡ without cell_cmp after.own op.cell

@@ -14,8 +14,8 @@ use Rattle.petal_msg.specs.declared.operation.Ending.TheVariants.{Written}
 use Rattle.petal_msg.specs.declared.operation.Pending.{Pending}
 use Rattle.petal_msg.specs.declared.operation.Stage.{Stage}
 use Rattle.spec_rules.specs.declared.job.Job.TheVariants as job
-use Rattle.spec_rules.specs.Server.{Own, Here, Post, silent, sender, letters_of}
-use Rattle.spec_rules.specs.Server.{Done as Rule}
+use Rattle.spec_rules.specs.Server.{PairState, JobContext, Post, silent, sender, letters_of}
+use Rattle.spec_rules.specs.Server.{JobResult as Rule}
 use Rattle.spec_rules.specs.Store.{Store, cell_cmp, chain_in, version_of, with_entry}
 use Rattle.spec_rules.specs.Writes.{acts, ends, gives_back, goes_on, goes_on_with, next_stage, with_flag, with_mark_at, with_pending, without_pending}
 use Rattle.spec_rules.proofs.CellTables.{cell_cmp_total}
@@ -25,25 +25,25 @@ use Rattle.server_store.specs.Tickets as lists
 use Rattle.kept_chains.specs.Kept.{chains_of, store_of}
 use Rattle.kept_chains.specs.Marking.{IsCommit}
 use Rattle.kept_chains.proofs.Puts.{put_over, put_same, without_put}
-use Rattle.pair_memory.specs.declared.done.Done.{Done}
-use Rattle.pair_memory.specs.declared.done.FollowUp.TheVariants as follow
+use Rattle.pair_memory.specs.declared.job_result.JobResult.{JobResult}
+use Rattle.pair_memory.specs.declared.job_result.FollowUp.TheVariants as follow
 use Rattle.pair_memory.specs.declared.error.WorkError.{WorkError}
-use Rattle.pair_memory.specs.Side.{Side, HasTickets, HasTicketsAt, needs_own, own_of}
-use Rattle.pair_memory.specs.Done.{IsBy, IsDone, IsSaid, only}
+use Rattle.pair_memory.specs.PairMemory.{PairMemory, HasTickets, HasTicketsAt, needs_own, own_of}
+use Rattle.pair_memory.specs.JobResult.{IsBy, IsDone, IsSaid, only}
 use Rattle.pair_memory.proofs.Said.{said_done}
 use Rattle.pair_memory.proofs.Tickets as tickets
 use Rattle.write_pair.specs.Moved.{IsMoved}
 use Rattle.write_pair.proofs.Ending.{ends_pending, ends_with, own_with}
 
 -- the own part with something else pending
-abbrev pub re_pending : Table Cell Pending → Own → Own
+abbrev pub re_pending : Table Cell Pending → PairState → PairState
 re_pending t own = record own { pairs = record own.pairs { pending = t } }
 
 -- the own part with nothing pending on a cell where an operation was given up, by whether its copy is put
-abbrev given_up : Own → Cell → Bool → Own
+abbrev given_up : PairState → Cell → Bool → PairState
 given_up own cell put = if put then without_pending own cell else gives_back (without_pending own cell)
 
-module _ {D : Type 0} (here : Here) (side : Side) (store : Holdings D) (op : Pending) (h : HasTicketsAt side store) (m : IsMoved side.pending op) where
+module _ {D : Type 0} (here : JobContext) (side : PairMemory) (store : Holdings D) (op : Pending) (h : HasTicketsAt side store) (m : IsMoved side.pending op) where
   needs : needs_own (at cell_cmp side.pending op.cell) ≡ not op.stage.put
   needs = ap needs_own m.there ∙ ap not m.put
 
@@ -54,7 +54,7 @@ module _ {D : Type 0} (here : Here) (side : Side) (store : Holdings D) (op : Pen
   staged_is : staged side.pending op.cell op.stage (at cell_cmp side.pending op.cell) ≡ put cell_cmp side.pending op.cell op
   staged_is = ap (staged side.pending op.cell op.stage) m.there ∙ ap (put cell_cmp side.pending op.cell) m.moved
 
-  pub waits_is : (new : Table Cell Pending) (posts : List Post) (done : Done)
+  pub waits_is : (new : Table Cell Pending) (posts : List Post) (done : JobResult)
       → new ≡ staged side.pending op.cell op.stage (at cell_cmp side.pending op.cell) → done ≡ only (letters_of (sender here) 0 posts)
       → IsSaid here side (record side { pending = new }) store store (Ok done) (record { own = with_pending (own_of side store) op; posts = posts; jobs = [] })
   waits_is new posts done table is = rw (table ∙ staged_is, is) (record {
@@ -67,12 +67,12 @@ module _ {D : Type 0} (here : Here) (side : Side) (store : Holdings D) (op : Pen
   closed_is : without cell_cmp (put cell_cmp side.pending op.cell op) op.cell ≡ without cell_cmp side.pending op.cell
   closed_is = without_put cell_cmp cell_cmp_total side.pending op.cell op
 
-  pub answers_is : (after : Side) (new : Table Cell Pending) (done : Done) → op.stage.put ≡ true → new ≡ without cell_cmp after.pending op.cell
+  pub answers_is : (after : PairMemory) (new : Table Cell Pending) (done : JobResult) → op.stage.put ≡ true → new ≡ without cell_cmp after.pending op.cell
       → IsSaid here side after store store (Ok done) (ends here (own_of side store) op op.kind Written)
       → IsSaid here side (record after { pending = new }) store store (Ok done) (acts here (with_pending (own_of side store) op) op action.Answer)
   answers_is after new done used table said =
       let closed : Table Cell Pending = without cell_cmp (put cell_cmp side.pending op.cell op) op.cell in
-      let same : after.pending ≡ side.pending = ap (λ (own : Own). own.pairs.pending) said.done.own
+      let same : after.pending ≡ side.pending = ap (λ (own : PairState). own.pairs.pending) said.done.own
       ∙ ends_pending here (own_of side store) op op.kind Written in
       let left : without cell_cmp after.pending op.cell ≡ closed = ap (λ (t : Table Cell Pending). without cell_cmp t op.cell) same ∙ sym closed_is in
       let with_closed = sym (ends_with here (own_of side store) op op.kind Written closed (store_of store)) in
@@ -88,7 +88,7 @@ module _ {D : Type 0} (here : Here) (side : Side) (store : Holdings D) (op : Pen
         store = refl;
       })
 
-  pub ends_used : (new : Table Cell Pending) (done : Done) → op.stage.put ≡ true → new ≡ without cell_cmp side.pending op.cell → done ≡ only []
+  pub ends_used : (new : Table Cell Pending) (done : JobResult) → op.stage.put ≡ true → new ≡ without cell_cmp side.pending op.cell → done ≡ only []
       → IsSaid here side (record side { pending = new }) store store (Ok done) (acts here (with_pending (own_of side store) op) op action.Drop)
   ends_used new done used table is =
       rw (table, is) (record {
@@ -103,7 +103,7 @@ module _ {D : Type 0} (here : Here) (side : Side) (store : Holdings D) (op : Pen
         store = refl;
       })
 
-  pub ends_unused : (new : Table Cell Pending) (own : Table Cell ℕ) (slot : ℕ) (after : Holdings D) (done : Done) → op.stage.put ≡ false
+  pub ends_unused : (new : Table Cell Pending) (own : Table Cell ℕ) (slot : ℕ) (after : Holdings D) (done : JobResult) → op.stage.put ≡ false
       → new ≡ without cell_cmp side.pending op.cell → IsStrictlySortedBy cell_cmp (keys_of side.own) → at cell_cmp side.own op.cell ≡ Some slot
       → own ≡ without cell_cmp side.own op.cell → after ≡ record store { tickets = lists.without store.tickets slot } → done ≡ only []
       → IsSaid here side (record side { pending = new; own = own }) store after (Ok done) (acts here (with_pending (own_of side store) op) op action.Drop)
@@ -139,10 +139,10 @@ module _ {D : Type 0} (here : Here) (side : Side) (store : Holdings D) (op : Pen
       ∙ ap (λ (o : Pending). put cell_cmp side.pending op.cell (at_version o version (record op.stage { put = true }))) m.moved
 
   -- the own part after a put with this version, where these are pending and this is the store
-  abbrev put_own : Table Cell Pending → Store → Own
+  abbrev put_own : Table Cell Pending → Store → PairState
   put_own t s = record { pairs = record (own_of side store).pairs { pending = t }; copies = side.copies; filled = side.filled; store = s }
 
-  pub puts_done : (new : Table Cell Pending) (own : Table Cell ℕ) (after : Holdings D) (version : ℕ) (done : Done)
+  pub puts_done : (new : Table Cell Pending) (own : Table Cell ℕ) (after : Holdings D) (version : ℕ) (done : JobResult)
       → new ≡ versioned side.pending op.cell version (record op.stage { put = true }) (at cell_cmp side.pending op.cell)
       → version ≡ version_of (chain_in (chains_of store.entries) op.cell) + 1
       → store_of after ≡ with_entry (store_of store) op.key (record { version = version; bytes = op.bytes })
@@ -189,7 +189,7 @@ module _ {D : Type 0} (here : Here) (side : Side) (store : Holdings D) (op : Pen
   }
 
   pub flags_done : {T : Type 0} (device : Ghosts D) (kind : MarkKind) (is : Bool) (new : Table Cell Pending) (after : Holdings D)
-      (kept : Store) (t : T) (done : Done)
+      (kept : Store) (t : T) (done : JobResult)
       → new ≡ staged side.pending op.cell (with_flag op.stage kind is) (at cell_cmp side.pending op.cell)
       → IsCommit device store after (Ok t) kept → done ≡ record { letters = []; follow = Some (follow.Stage op.cell) }
       → IsDone device here side (record side { pending = new }) store after (Ok done) (flagged kind is kept)
@@ -218,7 +218,7 @@ pub not_moved : (pending : Table Cell Pending) (cell : Cell) (op : Pending) → 
     → IsMoved pending op
 not_moved pending cell op is at_cell = record { was = op; there = ap (at cell_cmp pending) at_cell ∙ is; moved = refl; put = refl }
 
-pub goes_some : (here : Here) (own : Own) (cell : Cell) (op : Pending) → IsStrictlySortedBy cell_cmp (keys_of own.pairs.pending)
+pub goes_some : (here : JobContext) (own : PairState) (cell : Cell) (op : Pending) → IsStrictlySortedBy cell_cmp (keys_of own.pairs.pending)
     → at cell_cmp own.pairs.pending cell ≡ Some op → op.cell ≡ cell
     → acts here (with_pending own op) op (next_stage here.state here.me op) ≡ goes_on here own cell
 unfolding goes_on
@@ -228,7 +228,7 @@ goes_some here own cell op sorted is at_cell =
     ap (λ (t : Table Cell Pending). acts here (re_pending t own) op (next_stage here.state here.me op)) same
     ∙ sym (ap (goes_on_with here own) is)
 
-pub goes_none : (here : Here) (own : Own) (cell : Cell) → at cell_cmp own.pairs.pending cell ≡ None → silent own ≡ goes_on here own cell
+pub goes_none : (here : JobContext) (own : PairState) (cell : Cell) → at cell_cmp own.pairs.pending cell ≡ None → silent own ≡ goes_on here own cell
 unfolding goes_on
 goes_none here own cell is = sym (ap (goes_on_with here own) is)
 
@@ -239,7 +239,7 @@ own_is (Some p) cell op is own = let same : p ≡ op = cc in ap (λ (q : Pending
 -- an action without a call of the device, where it is the next one
 pub said_acts : {D : Type 0} (device : Ghosts D) (stays : (d : D) → device.came_to d d)
     (only_now : (d : D) (c : List ℕ) → device.left_since d (device.moment d) c → device.may_leave d c)
-    (here : Here) (own : Own) (op : Pending) (old new : Side) (before after : Holdings D) (answer : Result Done WorkError) (next is : Action)
+    (here : JobContext) (own : PairState) (op : Pending) (old new : PairMemory) (before after : Holdings D) (answer : Result JobResult WorkError) (next is : Action)
     → next ≡ is → IsSaid here old new before after answer (acts here own op is)
     → IsDone device here old new before after answer (acts here own op next)
 said_acts device stays only_now here own op old new before after answer next is same said =

@@ -4,8 +4,8 @@ use Rattle.petal_base.specs.declared.cell.Cell.{Cell}
 use Rattle.petal_disk.specs.Disk.{LeavesOnly}
 use Rattle.petal_disk.specs.declared.disk.Disk.{Ghosts}
 use Rattle.petal_table.specs.Table.{Table, at, put, without}
-use Rattle.spec_rules.specs.Server.{Here, Own}
-use Rattle.spec_rules.specs.Server.{Done as Rule}
+use Rattle.spec_rules.specs.Server.{JobContext, PairState}
+use Rattle.spec_rules.specs.Server.{JobResult as Rule}
 use Rattle.spec_rules.specs.Store.{Store, cell_cmp}
 use Rattle.petal_msg.specs.declared.operation.Pending.{Pending}
 use Rattle.spec_rules.specs.Writes.{goes_on, with_opened}
@@ -15,16 +15,16 @@ use Rattle.server_store.specs.Tickets as lists
 use Rattle.kept_chains.proofs.Puts.{without_new}
 use Rattle.kept_chains.specs.Kept.{store_of}
 use Rattle.kept_chains.specs.Standing.{StandsAsEither}
-use Rattle.pair_memory.specs.declared.done.Done.{Done}
+use Rattle.pair_memory.specs.declared.job_result.JobResult.{JobResult}
 use Rattle.pair_memory.specs.declared.error.WorkError.{WorkError}
 use Rattle.pair_memory.specs.declared.error.WorkError.TheVariants.{JournalFull, NoMemory}
-use Rattle.pair_memory.specs.Done.{HasFault, HoldsAt, IsDone, IsFull}
-use Rattle.pair_memory.specs.Side.{Side, HasTicketsAt, needs_own, own_of, pairs_of}
+use Rattle.pair_memory.specs.JobResult.{HasFault, HoldsAt, IsDone, IsFull}
+use Rattle.pair_memory.specs.PairMemory.{PairMemory, HasTicketsAt, needs_own, own_of, pairs_of}
 use Rattle.pair_memory.specs.Slots.{IsOutAt}
 use Rattle.pair_memory.proofs.Tickets as tickets
 use Rattle.write_pair.specs.Opened.{IsOpened, begun}
 
-module _ {D : Type 0} (op : Pending) (side : Side) (store : Holdings D) (h : HasTicketsAt side store) (none : at cell_cmp side.pending op.cell ≡ None) where
+module _ {D : Type 0} (op : Pending) (side : PairMemory) (store : Holdings D) (h : HasTicketsAt side store) (none : at cell_cmp side.pending op.cell ≡ None) where
   own_none : at cell_cmp side.own op.cell ≡ None
   own_none = tickets.own_none side.pending side.last side.own side.apart store.tickets h op.cell (ap needs_own none)
 
@@ -33,16 +33,16 @@ module _ {D : Type 0} (op : Pending) (side : Side) (store : Holdings D) (h : Has
   own_back own back slot is gone =
       gone ∙ ap (λ (t : Table Cell ℕ). without cell_cmp t op.cell) is ∙ without_new cell_cmp cell_cmp_total side.own op.cell slot own_none
 
-  module _ (new : Side) (after : Holdings D) (opened : IsOpened op side new store after) where
+  module _ (new : PairMemory) (after : Holdings D) (opened : IsOpened op side new store after) where
     pub opened_tickets : op.stage.put ≡ false → HasTicketsAt new after
     opened_tickets new_op = rw (opened.side, opened.store)
         (tickets.kept_opened side.pending side.last side.own side.apart store.tickets h op.cell op opened.slot own_none new_op)
 
     slot_there : at cell_cmp new.own op.cell ≡ Some opened.slot
-    slot_there = ap (λ (s : Side). at cell_cmp s.own op.cell) opened.side ∙ cell_same side.own op.cell opened.slot
+    slot_there = ap (λ (s : PairMemory). at cell_cmp s.own op.cell) opened.side ∙ cell_same side.own op.cell opened.slot
 
     -- the operation was opened, and no stage of it changed anything
-    module _ (mid : Side) (held : Holdings D) (side_is : mid ≡ new) (store_is : held ≡ after) where
+    module _ (mid : PairMemory) (held : Holdings D) (side_is : mid ≡ new) (store_is : held ≡ after) where
       pub slot_some : IsSome (at cell_cmp mid.own op.cell)
       slot_some = rw side_is (grind (arith, slot_there))
 
@@ -50,33 +50,33 @@ module _ {D : Type 0} (op : Pending) (side : Side) (store : Holdings D) (h : Has
       slot_out new_op = rw (side_is, store_is) (tickets.own_out new.pending new.last new.own new.apart after.tickets (opened_tickets new_op) op.cell)
 
       -- it is taken back, so that the side and the store are as before
-      pub side_back : (last : Side)
+      pub side_back : (last : PairMemory)
           → last ≡ record mid { next = side.next; pending = without cell_cmp mid.pending op.cell; own = without cell_cmp mid.own op.cell } → last ≡ side
       side_back last is =
           let opened_own = put cell_cmp side.own op.cell opened.slot in
           let own = own_back opened_own (without cell_cmp opened_own op.cell) opened.slot refl refl in
           let pending = without_new cell_cmp cell_cmp_total side.pending op.cell op none in
           is
-          ∙ ap (λ (s : Side). record s { next = side.next; pending = without cell_cmp s.pending op.cell; own = without cell_cmp s.own op.cell })
+          ∙ ap (λ (s : PairMemory). record s { next = side.next; pending = without cell_cmp s.pending op.cell; own = without cell_cmp s.own op.cell })
           (side_is ∙ opened.side)
           ∙ (λ i. record side { pending = pending i; own = own i })
 
       pub store_back : (left : Holdings D)
           → ((slot : ℕ) → at cell_cmp mid.own op.cell ≡ Some slot → left ≡ record held { tickets = lists.without held.tickets slot }) → left ≡ store
       store_back left gone =
-          gone opened.slot (ap (λ (s : Side). at cell_cmp s.own op.cell) side_is ∙ slot_there)
+          gone opened.slot (ap (λ (s : PairMemory). at cell_cmp s.own op.cell) side_is ∙ slot_there)
           ∙ ap (λ (s : Holdings D). record s { tickets = lists.without s.tickets opened.slot }) store_is
           ∙ tickets.undone store after opened.slot opened.slot opened.store refl opened.other
 
     -- its own part as the rule opens it
     opened_is : own_of new after ≡ with_opened (own_of side store) op
     opened_is =
-        ap (λ (s : Side). record { pairs = pairs_of s; copies = s.copies; filled = s.filled; store = store_of after }) opened.side
+        ap (λ (s : PairMemory). record { pairs = pairs_of s; copies = s.copies; filled = s.filled; store = store_of after }) opened.side
         ∙ ap (λ (s : Store). record { pairs = (with_opened (own_of side store) op).pairs; copies = side.copies; filled = side.filled; store = s })
         (tickets.kept_is store after opened.slot opened.store)
 
     -- the journal had no room for the record of its first stage, and it is taken back
-    pub full_back : (here : Here) (mid last : Side) (held left : Holdings D) (room : Bool) → room ≡ true
+    pub full_back : (here : JobContext) (mid last : PairMemory) (held left : Holdings D) (room : Bool) → room ≡ true
         → IsFull new mid after held (goes_on here (own_of new after) op.cell)
         → last ≡ record mid { next = side.next; pending = without cell_cmp mid.pending op.cell; own = without cell_cmp mid.own op.cell }
         → ((slot : ℕ) → at cell_cmp mid.own op.cell ≡ Some slot → left ≡ record held { tickets = lists.without held.tickets slot })
@@ -84,18 +84,18 @@ module _ {D : Type 0} (op : Pending) (side : Side) (store : Holdings D) (h : Has
     full_back here mid last held left room is full side_is store_is = record {
       count = ap (λ (s : Holdings D). s.log.region.count) (sym opened.store) ∙ full.count;
       over = rw is (
-          ap (λ (own : Own). (goes_on here own op.cell).own.store.records) (sym opened_is) ∙ full.over
+          ap (λ (own : PairState). (goes_on here own op.cell).own.store.records) (sym opened_is) ∙ full.over
           ∙ ap (λ (s : Holdings D). length s.log.records + 1) opened.store
           );
       same = (side_back mid held full.same.0 full.same.1 last side_is, store_back mid held full.same.0 full.same.1 left store_is);
     }
 
     -- what its first stage leaves, as seen from before it was opened; unless that was refused, as it is taken back then
-    pub opened_done : (here : Here) (device : Ghosts D) (last : Side) (left : Holdings D) (result : Result Done WorkError) (room : Bool) → room ≡ true
+    pub opened_done : (here : JobContext) (device : Ghosts D) (last : PairMemory) (left : Holdings D) (result : Result JobResult WorkError) (room : Bool) → room ≡ true
         → ¬ (result ≡ Err NoMemory) → ¬ (result ≡ Err JournalFull) → IsDone device here new last after left result (goes_on here (own_of new after) op.cell)
         → IsDone device here side last store left result (begun here (own_of side store) op room)
     opened_done here device last left result room is memory full stage =
-        rw is (subst (λ (rule : Rule). IsDone device here side last store left result rule) (ap (λ (own : Own). goes_on here own op.cell) opened_is) (record {
+        rw is (subst (λ (rule : Rule). IsDone device here side last store left result rule) (ap (λ (own : PairState). goes_on here own op.cell) opened_is) (record {
           done = stage.done;
           keeps = stage.keeps;
           holds = λ told holds. stage.holds told (subst (HoldsAt device) (sym opened.store) holds);

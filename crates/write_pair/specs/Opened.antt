@@ -3,14 +3,14 @@ use Rattle.std.specs.Prelude.{◌≡◌, ℕ, ◌+◌, ◌++◌, ◌∷◌, [], 
 use Rattle.petal_table.specs.Table.{put}
 use Rattle.petal_msg.specs.declared.operation.Ending.TheVariants.{Full}
 use Rattle.petal_msg.specs.declared.operation.Pending.{Pending}
-use Rattle.spec_rules.specs.Server.{Done, Here, Own}
+use Rattle.spec_rules.specs.Server.{JobResult, JobContext, PairState}
 use Rattle.spec_rules.specs.Store.{cell_cmp}
 use Rattle.spec_rules.specs.Writes.{ends, goes_on, with_opened}
 use Rattle.server_store.specs.Holdings.{Holdings}
-use Rattle.pair_memory.specs.Side.{Side}
+use Rattle.pair_memory.specs.PairMemory.{PairMemory}
 
 -- a slot of its own is set apart for it, and it is pending
-pub record IsOpened {D : Type 0} (op : Pending) (old new : Side) (before after : Holdings D) : Type 0 where
+pub record IsOpened {D : Type 0} (op : Pending) (old new : PairMemory) (before after : Holdings D) : Type 0 where
   pub slot : ℕ
   pub side : new ≡ record old {
     next = old.next + 1;
@@ -21,6 +21,6 @@ pub record IsOpened {D : Type 0} (op : Pending) (old new : Side) (before after :
   pub other : ¬ Contains before.tickets slot
 
 -- with a slot it does its first stage, and without one what it is for ends
-abbrev pub begun : Here → Own → Pending → (room : Bool) → Done
+abbrev pub begun : JobContext → PairState → Pending → (room : Bool) → JobResult
 begun here own op false = ends here own op op.kind Full
 begun here own op true = goes_on here (with_opened own op) op.cell

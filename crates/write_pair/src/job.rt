@@ -4,12 +4,12 @@ ghost use Rattle.std.specs.Prelude.{◌≡◌, true, Err};
 ghost use Rattle.petal_msg.specs.Kinds.{is_of_write, subject_of};
 ghost use Rattle.spec_rules.specs.Jobs.{handles};
 ghost use Rattle.pair_memory.specs.declared.error.WorkError.TheVariants as error;
-ghost use Rattle.pair_memory.specs.Side.{own_of, HasTicketsAt};
-ghost use Rattle.pair_memory.specs.Done.{HasVersions, IsDone};
+ghost use Rattle.pair_memory.specs.PairMemory.{own_of, HasTicketsAt};
+ghost use Rattle.pair_memory.specs.JobResult.{HasVersions, IsDone};
 
 use crate::lead::{Wanted, on_pair_full, on_replicated, on_reserved, on_write};
 use crate::second::{on_replicate, on_reserve};
-use pair_memory::{Done, Here, Side, WorkError, silent};
+use pair_memory::{JobResult, JobContext, PairMemory, WorkError, silent};
 use petal_disk::Disk;
 use petal_msg::{Body, Letter};
 use server_store::Store;
@@ -21,11 +21,11 @@ use server_store::Store;
 /// all its records: the entries are as they were, and the server is to be stopped.
 #[tactic(auto, unfolding(spec_rules::specs::Jobs::handles))]
 pub fn on_letter<D: Disk>(
-    here: &Here,
-    side: &mut Side,
+    here: &JobContext,
+    side: &mut PairMemory,
     store: &mut Store<D>,
     letter: &Letter,
-) -> Result<Done, WorkError>
+) -> Result<JobResult, WorkError>
     requires letter { is_of_write (subject_of letter.now.body) ≡ true }
     requires tickets { HasTicketsAt side.old store.old }
     requires versions { HasVersions store.old }

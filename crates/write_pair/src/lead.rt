@@ -11,7 +11,7 @@ mod stage;
 mod stages;
 mod write;
 
-pub use actions::goes_on;
+pub use actions::go_on;
 pub use fill::{Moving, on_fill};
 pub use replies::{on_pair_full, on_replicated, on_reserved};
 pub use resend::letters_after;

@@ -9,5 +9,5 @@ mod lead;
 mod second;
 
 pub use job::on_letter;
-pub use lead::{Moving, goes_on, letters_after, on_fill};
-pub use pair_memory::{Done, Here, Side, WorkError};
+pub use lead::{Moving, go_on, letters_after, on_fill};
+pub use pair_memory::{JobResult, JobContext, PairMemory, WorkError};

@@ -11,11 +11,11 @@ ghost use Rattle.petal_msg.specs.declared.body.Body.TheVariants as body;
 ghost use Rattle.petal_msg.specs.declared.operation.Far.TheVariants as far;
 ghost use Rattle.kept_chains.specs.Kept.{store_of};
 ghost use Rattle.pair_memory.specs.declared.error.WorkError.TheVariants as error;
-ghost use Rattle.pair_memory.specs.Side.{needs_apart, own_of, HasTicketsAt};
-ghost use Rattle.pair_memory.specs.Done.{HasVersions, IsDone, IsSaid};
+ghost use Rattle.pair_memory.specs.PairMemory.{needs_apart, own_of, HasTicketsAt};
+ghost use Rattle.pair_memory.specs.JobResult.{HasVersions, IsDone, IsSaid};
 
 use kept_chains::next_version;
-use pair_memory::{Done, Here, Side, WorkError, give_back, keep, only, says_to, silent, spend};
+use pair_memory::{JobResult, JobContext, PairMemory, WorkError, give_back, keep, only, say_to, silent, spend};
 use petal_base::{Cell, Key, NoMemory, Op, Sequence, SharedBlock};
 use petal_disk::Disk;
 use petal_msg::{Body, Far, LastOp, Letter};
@@ -23,14 +23,14 @@ use petal_table::Table;
 use server_store::Store;
 
 /// The second server tells the lead how far it is.
-fn tells<D: Disk>(
-    here: &Here,
-    side: &Side,
+fn tell<D: Disk>(
+    here: &JobContext,
+    side: &PairMemory,
     store: &Store<D>,
     cell: Cell,
     op: Op,
     far: Far,
-) -> Result<Done, WorkError>
+) -> Result<JobResult, WorkError>
     requires { HasTicketsAt side.now store.now }
     ensures { IsSaid here.now side.now side.now store.now store.now result
         (writes.tells here.now (own_of side.now store.now) cell op far) }
@@ -38,29 +38,29 @@ fn tells<D: Disk>(
     match far {
         Far::Reserved => {
             let body = Body::Reserved { op, cell };
-            says_to(here, side, store, here.first(cell), body)
+            say_to(here, side, store, here.first(cell), body)
         }
         Far::Replicated => {
             let body = Body::Replicated { op, cell };
-            says_to(here, side, store, here.first(cell), body)
+            say_to(here, side, store, here.first(cell), body)
         }
     }
 }
 
 /// The slot that is set apart for the cell serves an operation that is new here.
-fn reserves_again<D: Disk>(
-    here: &Here,
-    side: &mut Side,
+fn reserve_again<D: Disk>(
+    here: &JobContext,
+    side: &mut PairMemory,
     store: &Store<D>,
     cell: Cell,
     op: Op,
-) -> Result<Done, WorkError>
+) -> Result<JobResult, WorkError>
     requires tickets { HasTicketsAt side.old store.now }
     requires has { needs_apart (at cell_cmp side.old.last cell) ≡ true }
     ensures { IsSaid here.now side.old side.new store.now store.now result
         (writes.reserves here.now (own_of side.old store.now) cell op true (nat_lt 0 (free_of (store_of store.now)))) }
 {
-    let done = tells(here, side, store, cell, op, Far::Reserved)?;
+    let done = tell(here, side, store, cell, op, Far::Reserved)?;
     let last = LastOp {
         op,
         far: Far::Reserved,
@@ -70,8 +70,8 @@ fn reserves_again<D: Disk>(
 }
 
 /// The lead is told that its slot is set apart, which is remembered.
-fn promises(
-    here: &Here,
+fn promise(
+    here: &JobContext,
     last: &mut Table<Cell, LastOp>,
     cell: Cell,
     op: Op,
@@ -81,7 +81,7 @@ fn promises(
     ensures ok { OnOk result (last.new ≡ put cell_cmp last.old cell (record { op = op; far = far.Reserved })) }
     ensures err { OnErr result (last.new ≡ last.old) }
 {
-    let letters = here.says_to(here.first(cell), Body::Reserved { op, cell })?;
+    let letters = here.say_to(here.first(cell), Body::Reserved { op, cell })?;
     let reserved = LastOp {
         op,
         far: Far::Reserved,
@@ -93,13 +93,13 @@ fn promises(
 }
 
 /// An operation that is new here gets a free slot.
-fn reserves_free_slot<D: Disk>(
-    here: &Here,
-    side: &mut Side,
+fn reserve_free_slot<D: Disk>(
+    here: &JobContext,
+    side: &mut PairMemory,
     store: &mut Store<D>,
     cell: Cell,
     op: Op,
-) -> Result<Done, WorkError>
+) -> Result<JobResult, WorkError>
     requires tickets { HasTicketsAt side.old store.old }
     requires has { needs_apart (at cell_cmp side.old.last cell) ≡ false }
     ensures { IsSaid here.now side.old side.new store.old store.new result
@@ -107,9 +107,9 @@ fn reserves_free_slot<D: Disk>(
 {
     if !keep(&mut side.apart, store, cell)? {
         let body = Body::PairFull { op, cell };
-        return says_to(here, side, store, here.first(cell), body);
+        return say_to(here, side, store, here.first(cell), body);
     }
-    match promises(here, &mut side.last, cell, op) {
+    match promise(here, &mut side.last, cell, op) {
         Ok(letters) => Ok(only(letters)),
         Err(NoMemory) => {
             give_back(&mut side.apart, store, cell);
@@ -128,35 +128,35 @@ fn has_slot(far: Far) -> bool
 }
 
 /// An operation that is new here gets the slot that is set apart for the cell, or a free one.
-fn reserves<D: Disk>(
-    here: &Here,
-    side: &mut Side,
+fn reserve<D: Disk>(
+    here: &JobContext,
+    side: &mut PairMemory,
     store: &mut Store<D>,
     cell: Cell,
     op: Op,
     has: bool,
-) -> Result<Done, WorkError>
+) -> Result<JobResult, WorkError>
     requires tickets { HasTicketsAt side.old store.old }
     requires has { needs_apart (at cell_cmp side.old.last cell) ≡ has }
     ensures { IsSaid here.now side.old side.new store.old store.new result
         (writes.reserves here.now (own_of side.old store.old) cell op has (nat_lt 0 (free_of (store_of store.old)))) }
 {
     if has {
-        reserves_again(here, side, store, cell, op)
+        reserve_again(here, side, store, cell, op)
     } else {
-        reserves_free_slot(here, side, store, cell, op)
+        reserve_free_slot(here, side, store, cell, op)
     }
 }
 
 /// The same, where an operation on the cell is known.
-fn reserves_after<D: Disk>(
-    here: &Here,
-    side: &mut Side,
+fn reserve_after<D: Disk>(
+    here: &JobContext,
+    side: &mut PairMemory,
     store: &mut Store<D>,
     cell: Cell,
     op: Op,
     last: LastOp,
-) -> Result<Done, WorkError>
+) -> Result<JobResult, WorkError>
     requires tickets { HasTicketsAt side.old store.old }
     requires last { at cell_cmp side.old.last cell ≡ Some last }
     ensures { IsSaid here.now side.old side.new store.old store.new result
@@ -166,9 +166,9 @@ fn reserves_after<D: Disk>(
         return silent(here, side, store);
     }
     if op == last.op {
-        return tells(here, side, store, cell, op, last.far);
+        return tell(here, side, store, cell, op, last.far);
     }
-    reserves(here, side, store, cell, op, has_slot(last.far))
+    reserve(here, side, store, cell, op, has_slot(last.far))
 }
 
 /// An older number is dropped, an equal one is answered again, a newer one gets a slot.
@@ -177,12 +177,12 @@ fn reserves_after<D: Disk>(
 /// Out of memory, which changed nothing.
 #[tactic(auto, unfolding(spec_rules::specs::Writes::on_reserve))]
 pub fn on_reserve<D: Disk>(
-    here: &Here,
-    side: &mut Side,
+    here: &JobContext,
+    side: &mut PairMemory,
     store: &mut Store<D>,
     op: Op,
     cell: Cell,
-) -> Result<Done, WorkError>
+) -> Result<JobResult, WorkError>
     requires tickets { HasTicketsAt side.old store.old }
     ensures { IsSaid here.now side.old side.new store.old store.new result
         (writes.on_reserve here.now (own_of side.old store.old) op cell) }
@@ -191,20 +191,20 @@ pub fn on_reserve<D: Disk>(
         return silent(here, side, store);
     }
     match side.last_on(cell) {
-        None => reserves(here, side, store, cell, op, false),
-        Some(last) => reserves_after(here, side, store, cell, op, last),
+        None => reserve(here, side, store, cell, op, false),
+        Some(last) => reserve_after(here, side, store, cell, op, last),
     }
 }
 
 /// The second server puts its copy in the slot that was set apart, with the version after that of its own chain.
-fn follows<D: Disk>(
-    here: &Here,
-    side: &mut Side,
+fn follow<D: Disk>(
+    here: &JobContext,
+    side: &mut PairMemory,
     store: &mut Store<D>,
     op: Op,
     key: Key,
     bytes: &SharedBlock,
-) -> Result<Done, WorkError>
+) -> Result<JobResult, WorkError>
     requires tickets { HasTicketsAt side.old store.old }
     requires versions { HasVersions store.old }
     requires has { needs_apart (at cell_cmp side.old.last (cell_of key)) ≡ true }
@@ -214,7 +214,7 @@ fn follows<D: Disk>(
 {
     let cell = key.cell();
     let body = Body::Replicated { op, cell };
-    let letters = here.says_to(here.first(cell), body)?;
+    let letters = here.say_to(here.first(cell), body)?;
     let version = next_version(store, cell);
     spend(&mut side.apart, store, cell, key, version, bytes)?;
     let last = LastOp {
@@ -232,13 +232,13 @@ fn follows<D: Disk>(
 /// all its records: the entries are as they were, and the server is to be stopped.
 #[tactic(auto, unfolding(spec_rules::specs::Writes::on_replicate))]
 pub fn on_replicate<D: Disk>(
-    here: &Here,
-    side: &mut Side,
+    here: &JobContext,
+    side: &mut PairMemory,
     store: &mut Store<D>,
     op: Op,
     key: Key,
     bytes: &SharedBlock,
-) -> Result<Done, WorkError>
+) -> Result<JobResult, WorkError>
     requires tickets { HasTicketsAt side.old store.old }
     requires versions { HasVersions store.old }
     ensures job { IsDone D.Disk here.now side.old side.new store.old store.new result
@@ -251,8 +251,8 @@ pub fn on_replicate<D: Disk>(
     }
     match side.last_on(cell) {
         Some(last) if op == last.op => match last.far {
-            Far::Reserved => follows(here, side, store, op, key, bytes),
-            Far::Replicated => tells(here, side, store, cell, op, Far::Replicated),
+            Far::Reserved => follow(here, side, store, op, key, bytes),
+            Far::Replicated => tell(here, side, store, cell, op, Far::Replicated),
         },
         _ => silent(here, side, store),
     }

@@ -1,4 +1,4 @@
-use Rattle.law_agreement.proofs.Wants.{lasting, wanted}
+use Rattle.law_agreement.proofs.ChosenWasWanted.{lasting, wanted}
 use Rattle.law_agreement.proofs.chosen_stays.Goals as goal
 
 pub returns-clause-lasting : goal.returns-clause-lasting

@@ -1,6 +1,6 @@
 use Rattle.petal_command.specs.declared.pax.Pax.TheVariants.{Chosen}
 use Rattle.spec_paxos.specs.Schedule.{begin}
-use Rattle.law_agreement.proofs.Runs.{run_holds, begin_holds}
+use Rattle.law_agreement.proofs.SchedulesKeepFacts.{run_holds, begin_holds}
 use Rattle.law_agreement.proofs.told_is_chosen.Goals as goal
 
 pub returns-clause-letters : goal.returns-clause-letters

@@ -1,5 +1,5 @@
 -- By induction on the history.
-use Rattle.law_copies.proofs.Histories.{good_after}
+use Rattle.law_copies.proofs.CopiesInHistories.{good_after}
 use Rattle.law_copies.proofs.letters_between_two_servers.Goals as goal
 
 pub returns : goal.returns

@@ -1,5 +1,5 @@
 -- A ballot for a Join starts in a step of its server, after entries by which it may join.
-use Rattle.law_log.proofs.Histories.{chosen_join_acts, join_was_wanted}
+use Rattle.law_log.proofs.LogInHistories.{chosen_join_acts, join_was_wanted}
 use Rattle.law_log.proofs.a_chosen_join_was_wanted.Goals as goal
 
 pub returns-clause-wanted : goal.returns-clause-wanted

@@ -1,5 +1,5 @@
 -- A ballot for a report starts in a step of its server, after entries by which the active fence awaits it.
-use Rattle.law_log.proofs.Histories.{report_counts, report_was_made}
+use Rattle.law_log.proofs.LogInHistories.{report_counts, report_was_made}
 use Rattle.law_log.proofs.a_chosen_report_was_made.Goals as goal
 
 pub returns-clause-counts : goal.returns-clause-counts

@@ -1,5 +1,5 @@
 -- By the schedule, whose ballots start for such commands alone.
-use Rattle.law_log.proofs.Histories.{chosen_caught, chosen_is_called_for}
+use Rattle.law_log.proofs.LogInHistories.{chosen_caught, chosen_is_called_for}
 use Rattle.law_log.proofs.chosen_commands_are_the_scripts.Goals as goal
 
 pub returns-clause-called : goal.returns-clause-called

@@ -1,5 +1,5 @@
 -- By what is kept of each legal history.
-use Rattle.law_log.proofs.Histories.{history_agrees, history_is_firm}
+use Rattle.law_log.proofs.LogInHistories.{history_agrees, history_is_firm}
 use Rattle.law_log.proofs.every_history_agrees.Goals as goal
 
 pub returns-clause-agrees : goal.returns-clause-agrees

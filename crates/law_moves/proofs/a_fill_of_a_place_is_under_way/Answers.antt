@@ -1,5 +1,5 @@
 -- Were the region further, a letter would say that the entry is there.
-use Rattle.law_moves.proofs.Afterwards.{comes_after, filling_after}
+use Rattle.law_moves.proofs.KnownOfMoves.{comes_after, filling_after}
 use Rattle.law_moves.proofs.a_fill_of_a_place_is_under_way.Goals as goal
 
 pub returns-clause-coming : goal.returns-clause-coming

@@ -1,5 +1,5 @@
 -- By what is kept of moves.
-use Rattle.law_moves.proofs.Afterwards.{rule_after}
+use Rattle.law_moves.proofs.KnownOfMoves.{rule_after}
 use Rattle.law_moves.proofs.moves_keep_the_rule.Goals as goal
 
 pub returns : goal.returns

@@ -1,5 +1,5 @@
 -- By induction on the history.
-use Rattle.law_moves.proofs.Histories.{known_after}
+use Rattle.law_moves.proofs.MovesInHistories.{known_after}
 use Rattle.law_moves.proofs.old_copies_are_still.Goals as goal
 
 pub returns : goal.returns

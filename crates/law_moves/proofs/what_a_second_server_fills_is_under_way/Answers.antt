@@ -1,5 +1,5 @@
 -- Were the region further, the second server would have the entry.
-use Rattle.law_moves.proofs.Seconds.{second_after}
+use Rattle.law_moves.proofs.FillsAtSeconds.{second_after}
 use Rattle.law_moves.proofs.what_a_second_server_fills_is_under_way.Goals as goal
 
 pub returns : goal.returns

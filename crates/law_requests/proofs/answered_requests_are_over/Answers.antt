@@ -1,5 +1,5 @@
 -- By induction on the history.
-use Rattle.law_requests.proofs.Histories.{requests_after}
+use Rattle.law_requests.proofs.RequestsInHistories.{requests_after}
 use Rattle.law_requests.proofs.answered_requests_are_over.Goals as goal
 
 pub returns : goal.returns

@@ -1,5 +1,5 @@
 -- By induction on the history.
-use Rattle.law_requests.proofs.Histories.{open_after}
+use Rattle.law_requests.proofs.RequestsInHistories.{open_after}
 use Rattle.law_requests.proofs.pending_writes_are_open.Goals as goal
 
 pub returns : goal.returns

@@ -1,6 +1,6 @@
 -- By induction on the history.
 use Rattle.law_jobs.proofs.Runs.{run_of}
-use Rattle.law_run.proofs.Running.{run_after}
+use Rattle.law_run.proofs.HistoriesAreRuns.{run_after}
 use Rattle.law_run.proofs.events_are_a_run.Goals as goal
 
 pub returns : goal.returns

@@ -1,6 +1,6 @@
 -- By induction on its lines.
 use Rattle.law_run.proofs.ReadScripts.{read_sound}
-use Rattle.law_run.proofs.Running.{law}
+use Rattle.law_run.proofs.HistoriesAreRuns.{law}
 use Rattle.law_run.proofs.read_scripts_are_sound.Goals as goal
 
 pub returns : goal.returns

@@ -1,4 +1,4 @@
-use Rattle.law_script.proofs.Faulting.{first_fault}
+use Rattle.law_script.proofs.FirstFaults.{first_fault}
 use Rattle.law_script.proofs.first_fault.Goals as goal
 
 pub returns : goal.returns

@@ -1,4 +1,4 @@
-use Rattle.law_script.proofs.Firsts.{is_script, is_refused}
+use Rattle.law_script.proofs.FirstRefusedLine.{is_script, is_refused}
 use Rattle.law_script.proofs.first_refused_line.Goals as goal
 
 pub returns-clause-script : goal.returns-clause-script

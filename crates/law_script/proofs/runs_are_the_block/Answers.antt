@@ -1,4 +1,4 @@
-use Rattle.law_script.proofs.Runs.{flat_map-runs, runs_are_longest}
+use Rattle.law_script.proofs.ByteRuns.{flat_map-runs, runs_are_longest}
 use Rattle.law_script.proofs.runs_are_the_block.Goals as goal
 
 pub returns-clause-whole : goal.returns-clause-whole

@@ -1,4 +1,4 @@
-use Rattle.law_script.proofs.Doing.{taken_does}
+use Rattle.law_script.proofs.TakenLines.{taken_does}
 use Rattle.law_script.proofs.what_a_line_does.Goals as goal
 
 pub returns : goal.returns

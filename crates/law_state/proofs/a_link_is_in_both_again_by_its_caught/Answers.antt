@@ -1,5 +1,5 @@
 -- By induction on what the whole has more.
-use Rattle.law_state.proofs.Again.{log_alone, log_both, log_both_place, log_lost}
+use Rattle.law_state.proofs.CaughtsMadeBoth.{log_alone, log_both, log_both_place, log_lost}
 use Rattle.law_state.proofs.a_link_is_in_both_again_by_its_caught.Goals as goal
 
 -- the first entry that puts the link in Both after another row is its Caught

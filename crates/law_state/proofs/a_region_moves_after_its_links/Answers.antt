@@ -1,5 +1,5 @@
 -- Entry by entry: a link that is noted is new in one state alone, after its Moved.
-use Rattle.law_state.proofs.Noting.{log_dead, log_noted, log_twins}
+use Rattle.law_state.proofs.LinksAreNoted.{log_dead, log_noted, log_twins}
 use Rattle.law_state.proofs.a_region_moves_after_its_links.Goals as goal
 
 -- a cell that leaves had no link noted when it began to

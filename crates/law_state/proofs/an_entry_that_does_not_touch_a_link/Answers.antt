@@ -1,5 +1,5 @@
 -- Entry by entry.
-use Rattle.law_state.proofs.Touching.{log_entry_stays, log_touched, places_grow, same_place}
+use Rattle.law_state.proofs.EntriesTouchLinks.{log_entry_stays, log_touched, places_grow, same_place}
 use Rattle.law_state.proofs.an_entry_that_does_not_touch_a_link.Goals as goal
 
 -- kind by kind; a Moved may end the cell

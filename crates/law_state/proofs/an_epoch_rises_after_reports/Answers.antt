@@ -1,5 +1,5 @@
 -- Entry by entry: the active fence awaits the server, or does not hold the cell's writes.
-use Rattle.law_state.proofs.Reports.{log_epochs, log_left, log_unheld}
+use Rattle.law_state.proofs.ErasRiseAfterReports.{log_epochs, log_left, log_unheld}
 use Rattle.law_state.proofs.an_epoch_rises_after_reports.Goals as goal
 
 -- stages and epochs only rise

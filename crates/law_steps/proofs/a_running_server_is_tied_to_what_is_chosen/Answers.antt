@@ -3,8 +3,8 @@ use Rattle.std.proofs.Common.{ap, ◌∙◌}
 use Rattle.spec_state.specs.CellState.{serves}
 use Rattle.spec_rules.specs.World.{setting_of, start}
 use Rattle.spec_rules.proofs.Tests.{number_itself}
-use Rattle.law_steps.proofs.Firms.{always_firm}
-use Rattle.law_steps.proofs.Histories.{firm_after}
+use Rattle.law_steps.proofs.WorldsAreFirm.{always_firm}
+use Rattle.law_steps.proofs.KindsInHistories.{firm_after}
 use Rattle.law_steps.proofs.Ties.{running_fronts, stays_alone, stays_both}
 use Rattle.law_steps.proofs.a_running_server_is_tied_to_what_is_chosen.Goals as goal
 

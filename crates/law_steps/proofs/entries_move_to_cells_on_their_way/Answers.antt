@@ -1,8 +1,8 @@
 -- By induction on the history.
 use Rattle.spec_rules.specs.World.{setting_of, start}
-use Rattle.law_steps.proofs.Arriving.{comes_after, start_comes}
-use Rattle.law_steps.proofs.Firms.{always_firm}
-use Rattle.law_steps.proofs.Histories.{start_rests}
+use Rattle.law_steps.proofs.EntriesReachComingCells.{comes_after, start_comes}
+use Rattle.law_steps.proofs.WorldsAreFirm.{always_firm}
+use Rattle.law_steps.proofs.KindsInHistories.{start_rests}
 use Rattle.law_steps.proofs.entries_move_to_cells_on_their_way.Goals as goal
 
 pub returns : goal.returns

@@ -55,7 +55,7 @@ fn enter(
     ensures applied { OnOk result (applied.new ≡ applied.old ++ next.entry ∷ []) }
     ensures err { OnErr result ((state.new ≡ state.old) × (applied.new ≡ applied.old)) }
 {
-    applied.push(next.entry.again())?;
+    applied.push(next.entry.copy())?;
     Ok(Entered {
         entry: next.entry,
         before: std::mem::replace(state, next.state),

@@ -70,7 +70,7 @@ impl Envelope {
     fn letter_to(&self, server: ServerId, nth: u32, said: &Pax) -> Letter
         ensures { result ∷ [] ≡ letters_of self.now nth (post_of (body.Pax said.now) server ∷ []) }
     {
-        self.letter(Actor::Server(server), nth, Body::Pax(said.again()))
+        self.letter(Actor::Server(server), nth, Body::Pax(said.copy()))
     }
 
     /// One letter, in a list with room for it.

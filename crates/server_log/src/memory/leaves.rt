@@ -75,7 +75,7 @@ fn with_leave_after(
     let mut all = front;
     match rest.split_first() {
         None => {
-            all.push(leave.again())?;
+            all.push(leave.copy())?;
             Ok(all)
         }
         Some((first, more)) => {
@@ -83,10 +83,10 @@ fn with_leave_after(
                 return with_all(all, rest);
             }
             if is_leave_before(leave, first) {
-                all.push(leave.again())?;
+                all.push(leave.copy())?;
                 return with_all(all, rest);
             }
-            all.push(first.again())?;
+            all.push(first.copy())?;
             with_leave_after(all, more, leave)
         }
     }
@@ -100,7 +100,7 @@ fn with_all(front: Sequence<Command>, commands: &[Command]) -> Result<Sequence<C
     match commands.split_first() {
         None => Ok(all),
         Some((first, more)) => {
-            all.push(first.again())?;
+            all.push(first.copy())?;
             with_all(all, more)
         }
     }
@@ -124,7 +124,7 @@ fn due(alloc: Global, state: &GlobalState, leaves: &[Command]) -> Result<Vec<Com
     leaves
         .iter()
         .filter(|leave| is_due(state, leave))
-        .map(|leave| leave.again())
+        .map(|leave| leave.copy())
         .collect(alloc)
 }
 
@@ -150,9 +150,9 @@ fn first_of(leaves: &[Command], returning: &[Command], wants: &[Command]) -> Opt
     ensures { result ≡ slice_get (leaves.now ++ returning.now ++ wants.now) 0 }
 {
     match (leaves.first(), returning.first(), wants.first()) {
-        (Some(first), _, _) => Some(first.again()),
-        (None, Some(first), _) => Some(first.again()),
-        (None, None, Some(first)) => Some(first.again()),
+        (Some(first), _, _) => Some(first.copy()),
+        (None, Some(first), _) => Some(first.copy()),
+        (None, None, Some(first)) => Some(first.copy()),
         (None, None, None) => None,
     }
 }

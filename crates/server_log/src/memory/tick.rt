@@ -49,7 +49,7 @@ impl LogSide {
                 if has_majority(servers, heard) {
                     let chosen = Pax::Chosen {
                         place: *place,
-                        command: command.again(),
+                        command: command.copy(),
                     };
                     let room = room_for(alloc, servers)?;
                     return Ok(envelope.to_all(room, servers, &chosen));
@@ -57,7 +57,7 @@ impl LogSide {
                 let accept = Pax::Accept {
                     place: *place,
                     ballot: *ballot,
-                    command: command.again(),
+                    command: command.copy(),
                 };
                 envelope.to_unheard(alloc, servers, heard, &accept)
             },
@@ -90,7 +90,7 @@ impl LogSide {
     ///
     /// # Errors
     /// Where that has no number.
-    pub fn asks_next(&self) -> Result<u8, NoMemory>
+    pub fn ask_next(&self) -> Result<u8, NoMemory>
         ensures { IfOk result (λ asks. asks ≡ (self.now.asks + 1) % (self.now.voter.servers - 1)) }
     {
         let others = self.proposer.servers.saturating_sub(1);

@@ -49,7 +49,7 @@ impl LogSide {
         if !has_command(self.applied.as_slice(), command)
             && !has_command(self.wants.as_slice(), command)
         {
-            self.wants.push(command.again())?;
+            self.wants.push(command.copy())?;
         }
         Ok(only(Sequence::new(alloc)))
     }

@@ -4,25 +4,25 @@ ghost use Rattle.std.specs.Prelude.{◌≡◌, Err};
 ghost use Rattle.spec_rules.specs.Writes as writes;
 ghost use Rattle.petal_msg.specs.declared.operation.Action.TheVariants as action;
 ghost use Rattle.pair_memory.specs.declared.error.WorkError.TheVariants as error;
-ghost use Rattle.pair_memory.specs.Side.{own_of, HasTicketsAt};
-ghost use Rattle.pair_memory.specs.Done.{HasVersions, IsDone, IsSaid};
+ghost use Rattle.pair_memory.specs.PairMemory.{own_of, HasTicketsAt};
+ghost use Rattle.pair_memory.specs.JobResult.{HasVersions, IsDone, IsSaid};
 ghost use Rattle.write_pair.specs.Moved.{IsMoved};
 
 use crate::lead::stage::next_stage;
-use crate::lead::stages::{answers, drops, flags, puts, waits};
-use pair_memory::{Done, Here, Side, WorkError, silent};
+use crate::lead::stages::{answer, drop_operation, flags, put_own, wait};
+use pair_memory::{JobResult, JobContext, PairMemory, WorkError, silent};
 use petal_base::Cell;
 use petal_disk::Disk;
 use petal_msg::{Action, Body, Pending};
 use server_store::Store;
 
 /// The second server is asked for a slot.
-fn reserves<D: Disk>(
-    here: &Here,
-    side: &mut Side,
+fn reserve<D: Disk>(
+    here: &JobContext,
+    side: &mut PairMemory,
     store: &Store<D>,
     op: &Pending,
-) -> Result<Done, WorkError>
+) -> Result<JobResult, WorkError>
     requires tickets { HasTicketsAt side.old store.now }
     requires moved { IsMoved side.old.pending op.now }
     ensures { IsSaid here.now side.old side.new store.now store.now result
@@ -32,16 +32,16 @@ fn reserves<D: Disk>(
         op: op.op,
         cell: op.cell,
     };
-    waits(here, side, store, op, body)
+    wait(here, side, store, op, body)
 }
 
 /// The second server is sent its copy.
-fn replicates<D: Disk>(
-    here: &Here,
-    side: &mut Side,
+fn replicate<D: Disk>(
+    here: &JobContext,
+    side: &mut PairMemory,
     store: &Store<D>,
     op: &Pending,
-) -> Result<Done, WorkError>
+) -> Result<JobResult, WorkError>
     requires tickets { HasTicketsAt side.old store.now }
     requires moved { IsMoved side.old.pending op.now }
     ensures { IsSaid here.now side.old side.new store.now store.now result
@@ -53,16 +53,16 @@ fn replicates<D: Disk>(
         version: op.version,
         bytes: op.bytes.share()?,
     };
-    waits(here, side, store, op, body)
+    wait(here, side, store, op, body)
 }
 
 /// What the operation does next, as a letter has moved it on.
-pub fn acts<D: Disk>(
-    here: &Here,
-    side: &mut Side,
+pub fn act<D: Disk>(
+    here: &JobContext,
+    side: &mut PairMemory,
     store: &mut Store<D>,
     op: &Pending,
-) -> Result<Done, WorkError>
+) -> Result<JobResult, WorkError>
     requires tickets { HasTicketsAt side.old store.old }
     requires versions { HasVersions store.old }
     requires moved { IsMoved side.old.pending op.now }
@@ -71,13 +71,13 @@ pub fn acts<D: Disk>(
     ensures same { result ≡ Err error.NoMemory → store.new ≡ store.old }
 {
     match next_stage(here, op) {
-        Action::Reserve => reserves(here, side, store, op),
+        Action::Reserve => reserve(here, side, store, op),
         Action::Mark(kind) => flags(here, side, store, op, kind, true),
-        Action::Put => puts(here, side, store, op),
-        Action::Replicate => replicates(here, side, store, op),
+        Action::Put => put_own(here, side, store, op),
+        Action::Replicate => replicate(here, side, store, op),
         Action::Unmark(kind) => flags(here, side, store, op, kind, false),
-        Action::Answer => answers(here, side, store, op),
-        Action::Drop => Ok(drops(here, side, store, op)),
+        Action::Answer => answer(here, side, store, op),
+        Action::Drop => Ok(drop_operation(here, side, store, op)),
     }
 }
 
@@ -86,19 +86,19 @@ pub fn acts<D: Disk>(
 /// # Errors
 /// `NoMemory`, and then nothing changed; `Failed` where the device failed, and `JournalFull` only where the store's journal had
 /// all its records: the entries are as they were, and the server is to be stopped.
-pub fn goes_on<D: Disk>(
-    here: &Here,
-    side: &mut Side,
+pub fn go_on<D: Disk>(
+    here: &JobContext,
+    side: &mut PairMemory,
     store: &mut Store<D>,
     cell: Cell,
-) -> Result<Done, WorkError>
+) -> Result<JobResult, WorkError>
     requires tickets { HasTicketsAt side.old store.old }
     requires versions { HasVersions store.old }
     ensures job { IsDone D.Disk here.now side.old side.new store.old store.new result (writes.goes_on here.now (own_of side.old store.old) cell) }
     ensures same { result ≡ Err error.NoMemory → store.new ≡ store.old }
 {
     match side.pending_on(cell)? {
-        Some(op) => acts(here, side, store, &op),
+        Some(op) => act(here, side, store, &op),
         None => silent(here, side, store),
     }
 }

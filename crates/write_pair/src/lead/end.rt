@@ -2,10 +2,10 @@
 
 ghost use Rattle.std.specs.Prelude.{◌≡◌};
 ghost use Rattle.spec_rules.specs.Writes as writes;
-ghost use Rattle.pair_memory.specs.Side.{own_of, HasTicketsAt};
-ghost use Rattle.pair_memory.specs.Done.{IsSaid};
+ghost use Rattle.pair_memory.specs.PairMemory.{own_of, HasTicketsAt};
+ghost use Rattle.pair_memory.specs.JobResult.{IsSaid};
 
-use pair_memory::{Done, Here, Side, WorkError, finishes, says_to, silent};
+use pair_memory::{JobResult, JobContext, PairMemory, WorkError, finish, say_to, silent};
 use petal_base::Key;
 use petal_disk::Disk;
 use petal_msg::{Body, Ending, OpKind, Pending};
@@ -22,20 +22,20 @@ fn moved_as(key: Key, ending: Ending) -> Body
 }
 
 /// A client's request is done with, and its client is told; of a fill the lead of the old map's link is told.
-pub fn ends<D: Disk>(
-    here: &Here,
-    side: &mut Side,
+pub fn end<D: Disk>(
+    here: &JobContext,
+    side: &mut PairMemory,
     store: &Store<D>,
     op: &Pending,
     ending: Ending,
-) -> Result<Done, WorkError>
+) -> Result<JobResult, WorkError>
     requires { HasTicketsAt side.old store.now }
     ensures { IsSaid here.now side.old side.new store.now store.now result
         (writes.ends here.now (own_of side.old store.now) op.now op.now.kind ending) }
 {
     match op.kind {
-        OpKind::Write => finishes(here, side, store, op.client, op.seq, ending),
-        OpKind::Fill => says_to(
+        OpKind::Write => finish(here, side, store, op.client, op.seq, ending),
+        OpKind::Fill => say_to(
             here,
             side,
             store,

@@ -8,15 +8,15 @@ ghost use Rattle.spec_rules.specs.Store.{cell_cmp, chain_in, free_of};
 ghost use Rattle.pair_memory.specs.Copies.{has_proposed_in};
 ghost use Rattle.kept_chains.specs.Kept.{store_of};
 ghost use Rattle.pair_memory.specs.declared.error.WorkError.TheVariants as error;
-ghost use Rattle.pair_memory.specs.Side.{own_of, HasTicketsAt};
-ghost use Rattle.pair_memory.specs.Done.{HasVersions, IsDone};
+ghost use Rattle.pair_memory.specs.PairMemory.{own_of, HasTicketsAt};
+ghost use Rattle.pair_memory.specs.JobResult.{HasVersions, IsDone};
 ghost use Rattle.write_pair.specs.Wanted.{moving};
 
-use crate::lead::open::opens;
+use crate::lead::open::open;
 use crate::lead::stage::first_stage;
 use kept_chains::has_entry;
 use pair_lock::{OpKind, Pending};
-use pair_memory::{Done, Here, Side, WorkError, says_to, silent};
+use pair_memory::{JobResult, JobContext, PairMemory, WorkError, say_to, silent};
 use petal_base::{Key, NoMemory, Op, SharedBlock};
 use petal_disk::Disk;
 use petal_msg::Body;
@@ -30,7 +30,7 @@ pub struct Moving<'a> {
 }
 
 /// The operation that a fill opens.
-fn fill_operation(here: &Here, op: Op, entry: &Moving) -> Result<Pending, NoMemory>
+fn fill_operation(here: &JobContext, op: Op, entry: &Moving) -> Result<Pending, NoMemory>
     ensures { IfOk result (λ pending. pending ≡ fills.fill_operation here.now op (moving entry.now)) }
 {
     Ok(Pending {
@@ -48,12 +48,12 @@ fn fill_operation(here: &Here, op: Op, entry: &Moving) -> Result<Pending, NoMemo
 }
 
 /// An entry of a cell on which nothing is under way is put as a write is.
-fn opens_fill<D: Disk>(
-    here: &Here,
-    side: &mut Side,
+fn open_fill<D: Disk>(
+    here: &JobContext,
+    side: &mut PairMemory,
     store: &mut Store<D>,
     entry: &Moving,
-) -> Result<Done, WorkError>
+) -> Result<JobResult, WorkError>
     requires tickets { HasTicketsAt side.old store.old }
     requires versions { HasVersions store.old }
     requires none { at cell_cmp side.old.pending (cell_of entry.now.key) ≡ None }
@@ -62,16 +62,16 @@ fn opens_fill<D: Disk>(
     ensures same { result ≡ Err error.NoMemory → store.new ≡ store.old }
 {
     let op = fill_operation(here, side.next, entry)?;
-    opens(here, side, store, &op)
+    open(here, side, store, &op)
 }
 
 /// An entry of a cell on which nothing is under way. One whose epoch is there is answered again.
-fn hears_fill<D: Disk>(
-    here: &Here,
-    side: &mut Side,
+fn hear_fill<D: Disk>(
+    here: &JobContext,
+    side: &mut PairMemory,
     store: &mut Store<D>,
     entry: &Moving,
-) -> Result<Done, WorkError>
+) -> Result<JobResult, WorkError>
     requires tickets { HasTicketsAt side.old store.old }
     requires versions { HasVersions store.old }
     requires none { at cell_cmp side.old.pending (cell_of entry.now.key) ≡ None }
@@ -84,25 +84,25 @@ fn hears_fill<D: Disk>(
     let cell = entry.key.cell();
     if has_entry(store, entry.key) {
         let told = Body::Filled { key: entry.key };
-        return says_to(here, side, store, here.state().old_lead(cell), told);
+        return say_to(here, side, store, here.state().old_lead(cell), told);
     }
     if side.copies.has_proposed(here, cell) {
         return silent(here, side, store);
     }
-    opens_fill(here, side, store, entry)
+    open_fill(here, side, store, entry)
 }
 
 /// An entry that moves is taken by the lead of its cell.
 ///
 /// # Errors
-/// As of [`goes_on`](crate::lead::actions::goes_on).
+/// As of [`go_on`](crate::lead::actions::go_on).
 #[tactic(auto, unfolding(spec_rules::specs::Fills::on_fill))]
 pub fn on_fill<D: Disk>(
-    here: &Here,
-    side: &mut Side,
+    here: &JobContext,
+    side: &mut PairMemory,
     store: &mut Store<D>,
     entry: &Moving,
-) -> Result<Done, WorkError>
+) -> Result<JobResult, WorkError>
     requires tickets { HasTicketsAt side.old store.old }
     requires versions { HasVersions store.old }
     ensures job { IsDone D.Disk here.now side.old side.new store.old store.new result
@@ -116,5 +116,5 @@ pub fn on_fill<D: Disk>(
     if side.is_under_way(cell) {
         return silent(here, side, store);
     }
-    hears_fill(here, side, store, entry)
+    hear_fill(here, side, store, entry)
 }

@@ -6,22 +6,22 @@ ghost use Rattle.spec_rules.specs.Store.{cell_cmp, free_of};
 ghost use Rattle.server_store.specs.Tickets as lists;
 ghost use Rattle.kept_chains.specs.Kept.{store_of};
 ghost use Rattle.pair_memory.specs.declared.error.WorkError.TheVariants as error;
-ghost use Rattle.pair_memory.specs.Side.{own_of, HasTicketsAt};
-ghost use Rattle.pair_memory.specs.Done.{HasVersions, IsDone};
+ghost use Rattle.pair_memory.specs.PairMemory.{own_of, HasTicketsAt};
+ghost use Rattle.pair_memory.specs.JobResult.{HasVersions, IsDone};
 ghost use Rattle.pair_memory.specs.Slots.{IsOutAt};
 ghost use Rattle.write_pair.specs.Opened.{IsOpened, begun};
 
-use crate::lead::actions::goes_on;
-use crate::lead::end::ends;
+use crate::lead::actions::go_on;
+use crate::lead::end::end;
 use pair_lock::PairLock;
-use pair_memory::{Done, Here, Side, WorkError, give_back, keep};
+use pair_memory::{JobResult, JobContext, PairMemory, WorkError, give_back, keep};
 use petal_base::{Cell, NoMemory, Op};
 use petal_disk::Disk;
 use petal_msg::{Ending, Pending};
 use server_store::Store;
 
 /// The operation is pending from now on, and the next one has a number more.
-fn pends(next: &mut Op, locks: &mut PairLock, op: &Pending) -> Result<(), NoMemory>
+fn add_pending(next: &mut Op, locks: &mut PairLock, op: &Pending) -> Result<(), NoMemory>
     requires { at cell_cmp locks.old op.now.cell ≡ None }
     ensures ok { OnOk result (locks.new ≡ put cell_cmp locks.old op.now.cell op.now) }
     ensures next { OnOk result (next.new ≡ next.old + 1) }
@@ -38,7 +38,7 @@ fn pends(next: &mut Op, locks: &mut PairLock, op: &Pending) -> Result<(), NoMemo
 }
 
 /// The operation is opened, with a slot of its own; false where no slot is free.
-fn begins<D: Disk>(side: &mut Side, store: &mut Store<D>, op: &Pending) -> Result<bool, NoMemory>
+fn begin<D: Disk>(side: &mut PairMemory, store: &mut Store<D>, op: &Pending) -> Result<bool, NoMemory>
     requires tickets { HasTicketsAt side.old store.old }
     requires none { at cell_cmp side.old.pending op.now.cell ≡ None }
     ensures room { IfOk result (λ begun. begun ≡ nat_lt 0 (free_of (store_of store.old))) }
@@ -49,7 +49,7 @@ fn begins<D: Disk>(side: &mut Side, store: &mut Store<D>, op: &Pending) -> Resul
     if !keep(&mut side.own, store, op.cell)? {
         return Ok(false);
     }
-    match pends(&mut side.next, &mut side.locks, op) {
+    match add_pending(&mut side.next, &mut side.locks, op) {
         Ok(()) => Ok(true),
         Err(NoMemory) => {
             give_back(&mut side.own, store, op.cell);
@@ -59,7 +59,7 @@ fn begins<D: Disk>(side: &mut Side, store: &mut Store<D>, op: &Pending) -> Resul
 }
 
 /// An operation that was just opened is not: its number is free again, and so is its slot.
-fn takes_back<D: Disk>(side: &mut Side, store: &mut Store<D>, cell: Cell, number: Op)
+fn take_back<D: Disk>(side: &mut PairMemory, store: &mut Store<D>, cell: Cell, number: Op)
     requires some { IsSome (at cell_cmp side.old.own cell) }
     requires out { IsOutAt side.old.own cell store.old.tickets }
     ensures side { side.new ≡ record side.old { next = number; pending = without cell_cmp side.old.pending cell; own = without cell_cmp side.old.own cell } }
@@ -72,12 +72,12 @@ fn takes_back<D: Disk>(side: &mut Side, store: &mut Store<D>, cell: Cell, number
 
 /// An operation gets a slot of its own, is opened and does its first stage; where no slot is free what it is for ends. Nothing of it
 /// is done yet.
-pub fn opens<D: Disk>(
-    here: &Here,
-    side: &mut Side,
+pub fn open<D: Disk>(
+    here: &JobContext,
+    side: &mut PairMemory,
     store: &mut Store<D>,
     op: &Pending,
-) -> Result<Done, WorkError>
+) -> Result<JobResult, WorkError>
     requires tickets { HasTicketsAt side.old store.old }
     requires versions { HasVersions store.old }
     requires none { at cell_cmp side.old.pending op.now.cell ≡ None }
@@ -87,16 +87,16 @@ pub fn opens<D: Disk>(
     ensures same { result ≡ Err error.NoMemory → store.new ≡ store.old }
 {
     let number = side.next;
-    if !begins(side, store, op)? {
-        return ends(here, side, store, op, Ending::Full);
+    if !begin(side, store, op)? {
+        return end(here, side, store, op, Ending::Full);
     }
-    match goes_on(here, side, store, op.cell) {
+    match go_on(here, side, store, op.cell) {
         Err(WorkError::NoMemory) => {
-            takes_back(side, store, op.cell, number);
+            take_back(side, store, op.cell, number);
             Err(WorkError::NoMemory)
         }
         Err(WorkError::JournalFull) => {
-            takes_back(side, store, op.cell, number);
+            take_back(side, store, op.cell, number);
             Err(WorkError::JournalFull)
         }
         Err(WorkError::Failed) => Err(WorkError::Failed),

@@ -6,12 +6,12 @@ ghost use Rattle.spec_rules.specs.Store.{cell_cmp};
 ghost use Rattle.spec_rules.specs.Writes as writes;
 ghost use Rattle.petal_msg.specs.declared.operation.Ending.TheVariants as ending;
 ghost use Rattle.pair_memory.specs.declared.error.WorkError.TheVariants as error;
-ghost use Rattle.pair_memory.specs.Side.{own_of, HasTicketsAt};
-ghost use Rattle.pair_memory.specs.Done.{HasVersions, IsDone, IsSaid};
+ghost use Rattle.pair_memory.specs.PairMemory.{own_of, HasTicketsAt};
+ghost use Rattle.pair_memory.specs.JobResult.{HasVersions, IsDone, IsSaid};
 
-use crate::lead::actions::acts;
-use crate::lead::end::ends;
-use pair_memory::{Done, Here, Side, WorkError, give_back, silent};
+use crate::lead::actions::act;
+use crate::lead::end::end;
+use pair_memory::{JobResult, JobContext, PairMemory, WorkError, give_back, silent};
 use petal_base::{Cell, Op};
 use petal_disk::Disk;
 use petal_msg::{Ending, Pending};
@@ -34,15 +34,15 @@ fn with_paired(mut op: Pending) -> Pending
 /// The second server has set its slot apart: the block is marked next.
 ///
 /// # Errors
-/// As of [`goes_on`](crate::lead::actions::goes_on).
+/// As of [`go_on`](crate::lead::actions::go_on).
 #[tactic(auto, unfolding(spec_rules::specs::Writes::on_reserved))]
 pub fn on_reserved<D: Disk>(
-    here: &Here,
-    side: &mut Side,
+    here: &JobContext,
+    side: &mut PairMemory,
     store: &mut Store<D>,
     op: Op,
     cell: Cell,
-) -> Result<Done, WorkError>
+) -> Result<JobResult, WorkError>
     requires tickets { HasTicketsAt side.old store.old }
     requires versions { HasVersions store.old }
     ensures job { IsDone D.Disk here.now side.old side.new store.old store.new result (writes.on_reserved here.now (own_of side.old store.old) op cell) }
@@ -50,26 +50,26 @@ pub fn on_reserved<D: Disk>(
 {
     match side.pending_on(cell)? {
         Some(pending) if pending.op == op && !pending.stage.reserved => {
-            acts(here, side, store, &with_reserved(pending))
+            act(here, side, store, &with_reserved(pending))
         }
         _ => silent(here, side, store),
     }
 }
 
 /// The second server has no slot: the operation gives its own back and ends.
-fn ends_full<D: Disk>(
-    here: &Here,
-    side: &mut Side,
+fn end_full<D: Disk>(
+    here: &JobContext,
+    side: &mut PairMemory,
     store: &mut Store<D>,
     op: &Pending,
-) -> Result<Done, WorkError>
+) -> Result<JobResult, WorkError>
     requires tickets { HasTicketsAt side.old store.old }
     requires there { at cell_cmp side.old.pending op.now.cell ≡ Some op.now }
     requires unused { op.now.stage.put ≡ false }
     ensures { IsSaid here.now side.old side.new store.old store.new result
         (writes.ends here.now (writes.gives_back (writes.without_pending (own_of side.old store.old) op.now.cell)) op.now op.now.kind ending.Full) }
 {
-    let done = ends(here, side, store, op, Ending::Full)?;
+    let done = end(here, side, store, op, Ending::Full)?;
     side.locks.close(op.cell);
     give_back(&mut side.own, store, op.cell);
     Ok(done)
@@ -81,18 +81,18 @@ fn ends_full<D: Disk>(
 /// Out of memory, which changed nothing.
 #[tactic(auto, unfolding(spec_rules::specs::Writes::on_pair_full))]
 pub fn on_pair_full<D: Disk>(
-    here: &Here,
-    side: &mut Side,
+    here: &JobContext,
+    side: &mut PairMemory,
     store: &mut Store<D>,
     op: Op,
     cell: Cell,
-) -> Result<Done, WorkError>
+) -> Result<JobResult, WorkError>
     requires tickets { HasTicketsAt side.old store.old }
     ensures { IsSaid here.now side.old side.new store.old store.new result (writes.on_pair_full here.now (own_of side.old store.old) op cell) }
 {
     match side.pending_on(cell)? {
         Some(pending) if pending.op == op && !pending.stage.reserved && !pending.stage.put => {
-            ends_full(here, side, store, &pending)
+            end_full(here, side, store, &pending)
         }
         _ => silent(here, side, store),
     }
@@ -101,15 +101,15 @@ pub fn on_pair_full<D: Disk>(
 /// The second server has put its copy: the block's mark is taken away next.
 ///
 /// # Errors
-/// As of [`goes_on`](crate::lead::actions::goes_on).
+/// As of [`go_on`](crate::lead::actions::go_on).
 #[tactic(auto, unfolding(spec_rules::specs::Writes::on_replicated))]
 pub fn on_replicated<D: Disk>(
-    here: &Here,
-    side: &mut Side,
+    here: &JobContext,
+    side: &mut PairMemory,
     store: &mut Store<D>,
     op: Op,
     cell: Cell,
-) -> Result<Done, WorkError>
+) -> Result<JobResult, WorkError>
     requires tickets { HasTicketsAt side.old store.old }
     requires versions { HasVersions store.old }
     ensures job { IsDone D.Disk here.now side.old side.new store.old store.new result (writes.on_replicated here.now (own_of side.old store.old) op cell) }
@@ -117,7 +117,7 @@ pub fn on_replicated<D: Disk>(
 {
     match side.pending_on(cell)? {
         Some(pending) if pending.op == op && pending.stage.put && !pending.stage.paired => {
-            acts(here, side, store, &with_paired(pending))
+            act(here, side, store, &with_paired(pending))
         }
         _ => silent(here, side, store),
     }

@@ -2,19 +2,19 @@
 
 ghost use Rattle.std.specs.Prelude.{◌≡◌, ◌+◌, ◌++◌, length, IfOk};
 ghost use Rattle.std.specs.List.{flat_map};
-ghost use Rattle.spec_rules.specs.Server.{Own, letters_of, sender};
+ghost use Rattle.spec_rules.specs.Server.{PairState, letters_of, sender};
 ghost use Rattle.spec_rules.specs.Jobs.{sent_again};
 ghost use Rattle.pair_memory.specs.Letters.{posts_of};
 
 use crate::lead::stage::next_stage;
 use pair_lock::PairLock;
-use pair_memory::{Here, Side, with_letter};
+use pair_memory::{JobContext, PairMemory, with_letter};
 use petal_base::{NoMemory, Sequence, ServerId};
 use petal_msg::{Action, Body, Letter, Pending};
 
 /// The letter that an operation sends, with its content, if it waits for an answer.
-fn awaited(here: &Here, op: &Pending) -> Result<Option<(ServerId, Body)>, NoMemory>
-    ensures { IfOk result (λ found. (own : Own) → posts_of found ≡ sent_again here.now own op.now) }
+fn awaited(here: &JobContext, op: &Pending) -> Result<Option<(ServerId, Body)>, NoMemory>
+    ensures { IfOk result (λ found. (own : PairState) → posts_of found ≡ sent_again here.now own op.now) }
 {
     match (next_stage(here, op), here.second(op.cell)) {
         (Action::Reserve, Some(to)) => {
@@ -41,23 +41,23 @@ fn awaited(here: &Here, op: &Pending) -> Result<Option<(ServerId, Body)>, NoMemo
 
 /// The letters of the step so far with those of one operation more, and the number of the next letter.
 fn with_awaited(
-    here: &Here,
+    here: &JobContext,
     letters: Sequence<Letter>,
     nth: u32,
     op: &Pending,
 ) -> Result<(Sequence<Letter>, u32), NoMemory>
-    ensures { IfOk result (λ more. (own : Own) → (more.0 ≡ letters ++ letters_of (sender here.now) nth (sent_again here.now own op.now))
+    ensures { IfOk result (λ more. (own : PairState) → (more.0 ≡ letters ++ letters_of (sender here.now) nth (sent_again here.now own op.now))
         × (more.1 ≡ nth + length (sent_again here.now own op.now))) }
 {
     with_letter(here, letters, nth, awaited(here, op)?)
 }
 
 fn all_after(
-    here: &Here,
+    here: &JobContext,
     locks: &PairLock,
     before: Sequence<Letter>,
 ) -> Result<Sequence<Letter>, NoMemory>
-    ensures { IfOk result (λ letters. (own : Own)
+    ensures { IfOk result (λ letters. (own : PairState)
         → letters ≡ before ++ letters_of (sender here.now) (length before) (flat_map (λ row. sent_again here.now own row.1) locks.now)) }
 {
     let Ok(first) = u32::try_from(before.len()) else {
@@ -78,11 +78,11 @@ fn all_after(
 /// # Errors
 /// Out of memory.
 pub fn letters_after(
-    here: &Here,
-    side: &Side,
+    here: &JobContext,
+    side: &PairMemory,
     before: Sequence<Letter>,
 ) -> Result<Sequence<Letter>, NoMemory>
-    ensures { IfOk result (λ letters. (own : Own)
+    ensures { IfOk result (λ letters. (own : PairState)
         → letters ≡ before ++ letters_of (sender here.now) (length before) (flat_map (λ row. sent_again here.now own row.1) side.now.pending)) }
 {
     all_after(here, &side.locks, before)

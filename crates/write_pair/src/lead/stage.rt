@@ -4,7 +4,7 @@ ghost use Rattle.std.specs.Prelude.{◌≡◌};
 ghost use Rattle.spec_rules.specs.Writes as writes;
 
 use busy_marks::MarkKind;
-use pair_memory::Here;
+use pair_memory::JobContext;
 use petal_msg::{Action, Pending, Stage};
 
 /// Nothing is done yet.
@@ -23,7 +23,7 @@ pub fn first_stage() -> Stage
 }
 
 /// What a pending operation does next, by its cell's link as it now is; `Drop` exactly where this server does not lead the link.
-pub fn next_stage(here: &Here, pending: &Pending) -> Action
+pub fn next_stage(here: &JobContext, pending: &Pending) -> Action
     ensures { result ≡ writes.next_stage here.now.state here.now.me pending.now }
 {
     if !here.leads_link(pending.cell) {

@@ -5,62 +5,62 @@ ghost use Rattle.spec_rules.specs.Server as rules;
 ghost use Rattle.spec_rules.specs.State.{second};
 ghost use Rattle.spec_rules.specs.Writes as writes;
 ghost use Rattle.petal_msg.specs.declared.operation.Action.TheVariants as action;
-ghost use Rattle.pair_memory.specs.declared.done.FollowUp.TheVariants as follow;
+ghost use Rattle.pair_memory.specs.declared.job_result.FollowUp.TheVariants as follow;
 ghost use Rattle.pair_memory.specs.declared.error.WorkError.TheVariants as error;
-ghost use Rattle.pair_memory.specs.Side.{own_of, HasTicketsAt};
-ghost use Rattle.pair_memory.specs.Done.{HasVersions, IsDone, IsSaid};
+ghost use Rattle.pair_memory.specs.PairMemory.{own_of, HasTicketsAt};
+ghost use Rattle.pair_memory.specs.JobResult.{HasVersions, IsDone, IsSaid};
 ghost use Rattle.kept_chains.specs.Kept.{store_of};
 ghost use Rattle.kept_chains.specs.Marking.{IsCommit};
 ghost use Rattle.write_pair.specs.Flagged.{flags, with_mark_as};
 ghost use Rattle.write_pair.specs.Moved.{IsMoved};
 
-use crate::lead::end::ends;
+use crate::lead::end::end;
 use busy_marks::MarkKind;
 use kept_chains::{mark, next_version, unmark};
-use pair_memory::{Done, FollowUp, Here, Side, WorkError, give_back, only, spend};
+use pair_memory::{JobResult, FollowUp, JobContext, PairMemory, WorkError, give_back, only, spend};
 use petal_base::{Cell, Sequence};
 use petal_disk::Disk;
 use petal_msg::{Body, Ending, Pending, Stage};
 use server_store::{Store, StoreError};
 
 /// A letter is sent to the second server, and its answer is waited for.
-pub fn waits<D: Disk>(
-    here: &Here,
-    side: &mut Side,
+pub fn wait<D: Disk>(
+    here: &JobContext,
+    side: &mut PairMemory,
     store: &Store<D>,
     op: &Pending,
     body: Body,
-) -> Result<Done, WorkError>
+) -> Result<JobResult, WorkError>
     requires tickets { HasTicketsAt side.old store.now }
     requires moved { IsMoved side.old.pending op.now }
     ensures { IsSaid here.now side.old side.new store.now store.now result
         (rules.says_to (writes.with_pending (own_of side.old store.now) op.now) (second here.now.state op.now.cell) body) }
 {
-    let letters = here.says_to(here.second(op.cell), body)?;
+    let letters = here.say_to(here.second(op.cell), body)?;
     side.locks.set_stage(op.cell, op.stage);
     Ok(only(letters))
 }
 
 /// What the operation was opened for is done.
-pub fn answers<D: Disk>(
-    here: &Here,
-    side: &mut Side,
+pub fn answer<D: Disk>(
+    here: &JobContext,
+    side: &mut PairMemory,
     store: &Store<D>,
     op: &Pending,
-) -> Result<Done, WorkError>
+) -> Result<JobResult, WorkError>
     requires tickets { HasTicketsAt side.old store.now }
     requires moved { IsMoved side.old.pending op.now }
     requires put { op.now.stage.put ≡ true }
     ensures { IsSaid here.now side.old side.new store.now store.now result
         (writes.acts here.now (writes.with_pending (own_of side.old store.now) op.now) op.now action.Answer) }
 {
-    let done = ends(here, side, store, op, Ending::Written)?;
+    let done = end(here, side, store, op, Ending::Written)?;
     side.locks.close(op.cell);
     Ok(done)
 }
 
 /// The operation ends without an answer; a slot that it has not used is free again.
-pub fn drops<D: Disk>(here: &Here, side: &mut Side, store: &mut Store<D>, op: &Pending) -> Done
+pub fn drop_operation<D: Disk>(here: &JobContext, side: &mut PairMemory, store: &mut Store<D>, op: &Pending) -> JobResult
     requires tickets { HasTicketsAt side.old store.old }
     requires moved { IsMoved side.old.pending op.now }
     ensures { IsSaid here.now side.old side.new store.old store.new (Ok result)
@@ -75,10 +75,10 @@ pub fn drops<D: Disk>(here: &Here, side: &mut Side, store: &mut Store<D>, op: &P
 }
 
 /// No letter is sent, and the next stage is a job of its own.
-fn follows_up(here: &Here, cell: Cell) -> Done
+fn follow_up(here: &JobContext, cell: Cell) -> JobResult
     ensures { result ≡ record { letters = []; follow = Some (follow.Stage cell) } }
 {
-    Done {
+    JobResult {
         letters: Sequence::new(here.alloc()),
         follow: Some(FollowUp::Stage(cell)),
     }
@@ -113,13 +113,13 @@ fn set_mark<D: Disk>(
 
 /// The block is marked, or its mark is taken away.
 pub fn flags<D: Disk>(
-    here: &Here,
-    side: &mut Side,
+    here: &JobContext,
+    side: &mut PairMemory,
     store: &mut Store<D>,
     op: &Pending,
     kind: MarkKind,
     is: bool,
-) -> Result<Done, WorkError>
+) -> Result<JobResult, WorkError>
     requires tickets { HasTicketsAt side.old store.old }
     requires moved { IsMoved side.old.pending op.now }
     ensures job { IsDone D.Disk here.now side.old side.new store.old store.new result
@@ -129,7 +129,7 @@ pub fn flags<D: Disk>(
     set_mark(store, kind, op.cell, is)?;
     side.locks
         .set_stage(op.cell, with_flag(&op.stage, kind, is));
-    Ok(follows_up(here, op.cell))
+    Ok(follow_up(here, op.cell))
 }
 
 fn put_stage(stage: &Stage) -> Stage
@@ -142,12 +142,12 @@ fn put_stage(stage: &Stage) -> Stage
 }
 
 /// The lead puts its own copy, with the version after that of its chain.
-pub fn puts<D: Disk>(
-    here: &Here,
-    side: &mut Side,
+pub fn put_own<D: Disk>(
+    here: &JobContext,
+    side: &mut PairMemory,
     store: &mut Store<D>,
     op: &Pending,
-) -> Result<Done, WorkError>
+) -> Result<JobResult, WorkError>
     requires tickets { HasTicketsAt side.old store.old }
     requires versions { HasVersions store.old }
     requires moved { IsMoved side.old.pending op.now }
@@ -159,5 +159,5 @@ pub fn puts<D: Disk>(
     let version = next_version(store, op.cell);
     spend(&mut side.own, store, op.cell, op.key, version, &op.bytes)?;
     side.locks.set_put(op.cell, version, put_stage(&op.stage));
-    Ok(follows_up(here, op.cell))
+    Ok(follow_up(here, op.cell))
 }

@@ -7,17 +7,17 @@ ghost use Rattle.spec_rules.specs.Store.{cell_cmp, free_of};
 ghost use Rattle.spec_rules.specs.Writes as writes;
 ghost use Rattle.kept_chains.specs.Kept.{store_of};
 ghost use Rattle.pair_memory.specs.declared.error.WorkError.TheVariants as error;
-ghost use Rattle.pair_memory.specs.Side.{own_of, HasTicketsAt};
+ghost use Rattle.pair_memory.specs.PairMemory.{own_of, HasTicketsAt};
 ghost use Rattle.pair_memory.specs.Copies.{has_proposed_in};
-ghost use Rattle.pair_memory.specs.Done.{HasVersions, IsDone};
+ghost use Rattle.pair_memory.specs.JobResult.{HasVersions, IsDone};
 ghost use Rattle.write_pair.specs.Opened.{begun};
 ghost use Rattle.write_pair.specs.Wanted.{wanted};
 
-use crate::lead::open::opens;
+use crate::lead::open::open;
 use crate::lead::stage::first_stage;
 use global_state::Hold;
 use pair_lock::{OpKind, Pending, is_clients};
-use pair_memory::{Done, Here, Side, WorkError, ended, says, silent};
+use pair_memory::{JobResult, JobContext, PairMemory, WorkError, ended, say, silent};
 use petal_base::{Cell, ClientId, Epoch, Key, NoMemory, Op, Seq, SharedBlock};
 use petal_disk::Disk;
 use petal_msg::{Actor, Body};
@@ -34,7 +34,7 @@ pub struct Wanted<'a> {
 }
 
 /// The operation that a write opens.
-fn operation(here: &Here, op: Op, want: &Wanted) -> Result<Pending, NoMemory>
+fn operation(here: &JobContext, op: Op, want: &Wanted) -> Result<Pending, NoMemory>
     ensures { IfOk result (λ pending. pending ≡ writes.operation here.now op (wanted want.now)) }
 {
     Ok(Pending {
@@ -65,7 +65,7 @@ fn is_writes_held(held: Hold) -> bool
 }
 
 /// Whether what is pending on the write's cell was opened for it.
-fn is_pending_for(side: &Side, want: &Wanted) -> bool
+fn is_pending_for(side: &PairMemory, want: &Wanted) -> bool
     ensures { result ≡ writes.is_pending_for (at cell_cmp side.now.pending want.now.cell) (wanted want.now) }
 {
     match side.locks.get(want.cell) {
@@ -75,19 +75,19 @@ fn is_pending_for(side: &Side, want: &Wanted) -> bool
 }
 
 /// Whether a fence holds the cell's writes, or a ballot was started for the `Caught` of its link.
-fn is_kept_back(here: &Here, side: &Side, cell: Cell) -> bool
+fn is_kept_back(here: &JobContext, side: &PairMemory, cell: Cell) -> bool
     ensures { result ≡ (writes.is_writes_held (held here.now.state cell) || has_proposed_in here.now.state side.now.copies cell) }
 {
     is_writes_held(here.held(cell)) || side.copies.has_proposed(here, cell)
 }
 
 /// Nothing is under way on the write's block, and its operation is opened under the next number.
-fn opens_write<D: Disk>(
-    here: &Here,
-    side: &mut Side,
+fn open_write<D: Disk>(
+    here: &JobContext,
+    side: &mut PairMemory,
     store: &mut Store<D>,
     want: &Wanted,
-) -> Result<Done, WorkError>
+) -> Result<JobResult, WorkError>
     requires tickets { HasTicketsAt side.old store.old }
     requires versions { HasVersions store.old }
     requires none { at cell_cmp side.old.pending want.now.cell ≡ None }
@@ -96,16 +96,16 @@ fn opens_write<D: Disk>(
     ensures same { result ≡ Err error.NoMemory → store.new ≡ store.old }
 {
     let op = operation(here, side.next, want)?;
-    opens(here, side, store, &op)
+    open(here, side, store, &op)
 }
 
 /// A write that is not finished. What is kept back, or waits for what is under way on its block, is refused, and ends nothing.
-fn takes_newer<D: Disk>(
-    here: &Here,
-    side: &mut Side,
+fn take_newer<D: Disk>(
+    here: &JobContext,
+    side: &mut PairMemory,
     store: &mut Store<D>,
     want: &Wanted,
-) -> Result<Done, WorkError>
+) -> Result<JobResult, WorkError>
     requires tickets { HasTicketsAt side.old store.old }
     requires versions { HasVersions store.old }
     ensures job { IsDone D.Disk here.now side.old side.new store.old store.new result
@@ -117,25 +117,25 @@ fn takes_newer<D: Disk>(
     }
     let client = Actor::Client(want.client);
     if is_kept_back(here, side, want.cell) {
-        return says(here, side, store, client, Body::Held { seq: want.seq });
+        return say(here, side, store, client, Body::Held { seq: want.seq });
     }
     if side.is_under_way(want.cell) {
-        return says(here, side, store, client, Body::BlockBusy { seq: want.seq });
+        return say(here, side, store, client, Body::BlockBusy { seq: want.seq });
     }
-    opens_write(here, side, store, want)
+    open_write(here, side, store, want)
 }
 
 /// A write is taken by the cell's lead, once.
 ///
 /// # Errors
-/// As of [`goes_on`](crate::lead::actions::goes_on).
+/// As of [`go_on`](crate::lead::actions::go_on).
 #[tactic(auto, unfolding(spec_rules::specs::Writes::on_write))]
 pub fn on_write<D: Disk>(
-    here: &Here,
-    side: &mut Side,
+    here: &JobContext,
+    side: &mut PairMemory,
     store: &mut Store<D>,
     want: &Wanted,
-) -> Result<Done, WorkError>
+) -> Result<JobResult, WorkError>
     requires tickets { HasTicketsAt side.old store.old }
     requires versions { HasVersions store.old }
     ensures job { IsDone D.Disk here.now side.old side.new store.old store.new result
@@ -147,13 +147,13 @@ pub fn on_write<D: Disk>(
     }
     match side.finished_for(want.client) {
         Some(last) if want.seq < last.seq => silent(here, side, store),
-        Some(last) if want.seq == last.seq => says(
+        Some(last) if want.seq == last.seq => say(
             here,
             side,
             store,
             Actor::Client(want.client),
             ended(want.seq, last.ending),
         ),
-        _ => takes_newer(here, side, store, want),
+        _ => take_newer(here, side, store, want),
     }
 }

@@ -6,7 +6,7 @@ use Rattle.spec_rules.specs.Server.{Post, sender}
 use Rattle.spec_rules.specs.Store.{Store}
 use Rattle.server_store.specs.Holdings.{Holdings}
 use Rattle.kept_chains.specs.Kept.{store_of}
-use Rattle.pair_memory.specs.Side.{own_of}
+use Rattle.pair_memory.specs.PairMemory.{own_of}
 use Rattle.pair_memory.proofs.Letters.{next_letters}
 use Rattle.copy_transfer.specs.Walks.{side_own}
 use Rattle.pair_memory.proofs.Looks.{seen_then}

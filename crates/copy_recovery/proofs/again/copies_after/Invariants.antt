@@ -4,7 +4,7 @@ use Rattle.std.specs.List.{flat_map}
 use Rattle.spec_rules.specs.Copies.{copy_awaited, copy_stage}
 use Rattle.spec_rules.specs.Server.{letters_of, sender}
 use Rattle.kept_chains.specs.Kept.{store_of}
-use Rattle.pair_memory.specs.Side.{own_of}
+use Rattle.pair_memory.specs.PairMemory.{own_of}
 use Rattle.pair_memory.proofs.Looks.{IsSeen}
 use Rattle.copy_recovery.proofs.again.copies_after.Given as goal
 

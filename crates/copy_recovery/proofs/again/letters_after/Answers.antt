@@ -4,7 +4,7 @@ use Rattle.spec_rules.specs.Server.{letters_of, sender}
 use Rattle.spec_rules.specs.Store.{Store}
 use Rattle.server_store.specs.Holdings.{Holdings}
 use Rattle.kept_chains.specs.Kept.{store_of}
-use Rattle.pair_memory.specs.Side.{own_of}
+use Rattle.pair_memory.specs.PairMemory.{own_of}
 use Rattle.copy_transfer.specs.Walks.{side_own}
 use Rattle.pair_memory.proofs.Looks.{letters_two}
 use Rattle.copy_recovery.proofs.again.letters_after.Goals as goal

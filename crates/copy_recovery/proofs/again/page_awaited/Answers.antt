@@ -3,7 +3,7 @@ use Rattle.petal_msg.specs.declared.body.Body.{Body}
 use Rattle.spec_rules.specs.Copies.{page_asked, page_for}
 use Rattle.spec_rules.specs.Server.{post_to}
 use Rattle.kept_chains.specs.Kept.{store_of}
-use Rattle.pair_memory.specs.Side.{own_of}
+use Rattle.pair_memory.specs.PairMemory.{own_of}
 use Rattle.copy_recovery.proofs.again.page_awaited.Goals as goal
 
 pub returns-in-Ask : goal.returns-in-Ask

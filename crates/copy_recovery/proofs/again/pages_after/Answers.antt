@@ -4,7 +4,7 @@ use Rattle.global_tables.specs.declared.link.LinkState.TheVariants.{Both}
 use Rattle.spec_rules.specs.Copies.{page_for}
 use Rattle.spec_rules.specs.Server.{Post, letters_of, sender}
 use Rattle.spec_rules.specs.State.{other_in}
-use Rattle.pair_memory.specs.Side.{own_of}
+use Rattle.pair_memory.specs.PairMemory.{own_of}
 use Rattle.pair_memory.proofs.Looks.{count_more, letters_more}
 use Rattle.copy_recovery.proofs.again.pages_after.Goals as goal
 

@@ -4,7 +4,7 @@ use Rattle.std.specs.List.{flat_map}
 use Rattle.spec_rules.specs.Copies.{page_for}
 use Rattle.spec_rules.specs.Server.{letters_of, sender}
 use Rattle.spec_rules.specs.State.{other_in}
-use Rattle.pair_memory.specs.Side.{own_of}
+use Rattle.pair_memory.specs.PairMemory.{own_of}
 use Rattle.copy_recovery.proofs.again.pages_after.Given as goal
 
 abbrev pub invariant-loop-row : goal.invariant-loop-row

@@ -7,7 +7,7 @@ use Rattle.petal_msg.specs.declared.copying.LastCopy.{LastCopy}
 use Rattle.petal_table.specs.Table.{at}
 use Rattle.spec_rules.specs.Copies.{cell_holder}
 use Rattle.spec_rules.specs.Store.{cell_cmp}
-use Rattle.pair_memory.specs.Side.{own_of}
+use Rattle.pair_memory.specs.PairMemory.{own_of}
 use Rattle.copy_transfer.specs.Entries.{entry_of}
 use Rattle.copy_transfer.proofs.Entries.{known_place, sync_is}
 use Rattle.copy_transfer.proofs.sync.on_sync.Goals as goal
@@ -23,4 +23,4 @@ returns-in-Some-Some g c =
     ∙ sym c.last_place.ensures ∙ c.in-Some-Some.is-1) in
     let number = last.1.1.0 in
     let same : (entry.op == last.0.op) ≡ true = grind (arith, nat_tests, number, c.if-op-entry.true) in
-    rw (← (sync_is c.args.here.now own entry c.in-Some-Some.holder last.0 holder last.1.0 same)) (c.hears_entry.ensures last.0 last.1.0 last.1.1.1)
+    rw (← (sync_is c.args.here.now own entry c.in-Some-Some.holder last.0 holder last.1.0 same)) (c.hear_entry.ensures last.0 last.1.0 last.1.1.1)

@@ -1,6 +1,6 @@
 -- By induction on the history.
 use Rattle.law_jobs.proofs.Runs.{run_of}
-use Rattle.law_answers.proofs.Settled.{settled_by}
+use Rattle.law_answers.proofs.SettlesAreAnswered.{settled_by}
 use Rattle.law_answers.proofs.causes.a_settle_is_answered_by_its_glances.Goals as goal
 
 pub returns : goal.returns

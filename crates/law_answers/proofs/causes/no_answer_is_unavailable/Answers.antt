@@ -2,7 +2,7 @@
 -- are unavailable.
 use Rattle.law_jobs.proofs.Runs.{run_of}
 use Rattle.law_answers.proofs.causes.no_answer_is_unavailable.Goals as goal
-use Rattle.law_answers.proofs.Answered.{never_unavailable_after}
+use Rattle.law_answers.proofs.AnswersAreCaused.{never_unavailable_after}
 use Rattle.law_answers.proofs.Stops.{all_in}
 
 pub returns : goal.returns

@@ -1,5 +1,5 @@
 -- A call takes the client's next number, and numbers only rise.
-use Rattle.law_answers.proofs.Calls.{called_once}
+use Rattle.law_answers.proofs.LinesCalledOnce.{called_once}
 use Rattle.law_answers.proofs.looks.a_line_is_called_once.Goals as goal
 
 pub returns : goal.returns

@@ -1,5 +1,5 @@
 -- Who runs, and was In as itself, is so by what is chosen, and serves what it served.
-use Rattle.law_answers.proofs.Looking.{its_link}
+use Rattle.law_answers.proofs.ReadsLookOnce.{its_link}
 use Rattle.law_answers.proofs.looks.no_lost_link_is_read.Goals as goal
 
 pub returns : goal.returns

@@ -1,6 +1,6 @@
 -- By induction on the records before.
 use Rattle.law_jobs.proofs.Runs.{more_of}
-use Rattle.law_answers.proofs.Refusing.{no_space_reason}
+use Rattle.law_answers.proofs.NoSpaceHasReasons.{no_space_reason}
 use Rattle.law_answers.proofs.refusals.nospace_has_a_reason.Goals as goal
 
 pub returns : goal.returns

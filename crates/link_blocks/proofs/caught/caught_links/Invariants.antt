@@ -3,7 +3,7 @@ use Rattle.std.proofs.Common.{◌≡◌, take}
 use Rattle.std.specs.List.{flat_map}
 use Rattle.spec_rules.specs.Returns.{caught_of}
 use Rattle.spec_rules.specs.State.{other_in}
-use Rattle.pair_memory.specs.Side.{own_of}
+use Rattle.pair_memory.specs.PairMemory.{own_of}
 use Rattle.link_blocks.proofs.caught.caught_links.Given as goal
 
 abbrev pub invariant-loop-row : goal.invariant-loop-row

@@ -3,7 +3,7 @@ use Rattle.std.specs.Prelude.{if◌then◌else◌}
 use Rattle.petal_msg.specs.declared.copying.NextCopy.TheVariants.{Wait, Nothing}
 use Rattle.spec_rules.specs.Copies.{next_block}
 use Rattle.pair_memory.specs.Kept.{store_of}
-use Rattle.pair_memory.specs.Side.{own_of}
+use Rattle.pair_memory.specs.PairMemory.{own_of}
 use Rattle.link_blocks.proofs.next.next_block.Goals as goal
 
 pub returns-then-is_link_under_way : goal.returns-then-is_link_under_way

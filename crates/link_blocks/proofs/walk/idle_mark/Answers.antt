@@ -1,7 +1,7 @@
 use Rattle.std.proofs.Common.{refl, sym, ◌∙◌}
 use Rattle.pair_memory.specs.Kept.{store_of}
 use Rattle.pair_memory.specs.Walking.{marked_in}
-use Rattle.pair_memory.specs.Side.{own_of}
+use Rattle.pair_memory.specs.PairMemory.{own_of}
 use Rattle.link_blocks.specs.Walks.{idle_on}
 use Rattle.link_blocks.proofs.Least.{walk_hit, walk_less, walk_none, walk_on}
 use Rattle.link_blocks.proofs.Links.{idle_is}

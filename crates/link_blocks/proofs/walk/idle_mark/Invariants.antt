@@ -4,7 +4,7 @@ use Rattle.std.specs.Prelude.{filter}
 use Rattle.busy_marks.specs.Marks.{above}
 use Rattle.spec_rules.specs.Copies.{least}
 use Rattle.pair_memory.specs.Walking.{marked_in}
-use Rattle.pair_memory.specs.Side.{own_of}
+use Rattle.pair_memory.specs.PairMemory.{own_of}
 use Rattle.link_blocks.specs.Walks.{idle_on, room_above}
 use Rattle.link_blocks.proofs.walk.idle_mark.Given as goal
 

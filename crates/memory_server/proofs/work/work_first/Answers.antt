@@ -3,7 +3,7 @@ use Rattle.std.proofs.Common.{◌<◌, ℕ, List, [], refl, sym, ap, ◌∙◌, 
 use Rattle.kept_chains.specs.Kept.{store_of}
 use Rattle.kept_chains.specs.Standing.{StandsAsEither}
 use Rattle.spec_rules.specs.Jobs.{Acted}
-use Rattle.server_core.specs.Core.{Core, left_by_first}
+use Rattle.server_core.specs.ServerView.{ServerView, left_by_first}
 use Rattle.state_store.specs.Device.{StandsForEither}
 use Rattle.memory_server.proofs.Faults.{few_after, fault_commits, fault_letters, fault_site, has_failed, shown_of, stops_letters}
 use Rattle.memory_server.proofs.Recovering.{shown_in}
@@ -66,13 +66,13 @@ returns-in_ok-end-in-Err-Failed g c = λ told.
     let end = c.in_ok-end-in-Err-Failed.end in
     let reopened = c.in_ok-end-in-Err-Failed.ensures in
     let rest = c.stop-letters.ensures.rest in
-    let off = ap (λ (it : Core). it.running) rest in
+    let off = ap (λ (it : ServerView). it.running) rest in
     let held = reopened.holds was will told small stored in
     let kept = reopened.state_holds was will told recorded in
     let few = few_after stands c.reopen.new.store c.reopen.new.state held kept in
     rw c.failed.ensures (record {
       site = fault_site old c.stop-letters.new.self c.reopen.new.store c.reopen.new.state end off
-          (ap (λ (it : Core). it.log.voter) rest ∙ worked.life.1)
+          (ap (λ (it : ServerView). it.log.voter) rest ∙ worked.life.1)
           (reopened.ends was will told small stored recorded (ap (λ (counts : Counts). counts.stored) c.of-before.ensures ∙ stands.store.count)
           (ap (λ (counts : Counts). counts.kept) c.of-before.ensures ∙ stands.state.count) (fault_commits old))
           few.0 few.1;

@@ -3,9 +3,9 @@ use Rattle.global_tables.specs.declared.link.LinkRow.{LinkRow}
 use Rattle.global_tables.specs.declared.link.LinkState.TheVariants.{Both}
 use Rattle.petal_base.specs.declared.cell.Key.{Key}
 use Rattle.spec_rules.specs.Fills.{fill_of, fills_row, sends_key}
-use Rattle.spec_rules.specs.Server.{Own, Post, letters_of, sender}
+use Rattle.spec_rules.specs.Server.{PairState, Post, letters_of, sender}
 use Rattle.server_store.specs.Holdings.{Holdings}
-use Rattle.pair_memory.specs.Side.{own_of}
+use Rattle.pair_memory.specs.PairMemory.{own_of}
 use Rattle.pair_memory.proofs.Looks.{count_more, letters_more, seen_then}
 use Rattle.redistribute.proofs.letters.fills_after.Goals as goal
 
@@ -27,7 +27,7 @@ loop-row-preserved g c =
     let letter = λ (told : g.D.Disk.told).
     c.in_ok-found.ensures.letter told side
     ∙ ap (λ (k : Option Key). sends_key here.state (own_of side c.loop-row.store) k) c.fill_of-key.ensures
-    ∙ ap (λ (own : Own). sends_key here.state own (fill_of here.state here.me (get_or rows at no_row) own)) same in
+    ∙ ap (λ (own : PairState). sends_key here.state own (fill_of here.state here.me (get_or rows at no_row) own)) same in
     record {
       seen = seen_then g.D.Disk law.stays law.goes_on first c.loop-row.store c.fill_letter.new.store c.fill_letter.result seen c.fill_letter.ensures.look;
       letters = λ told.

@@ -3,7 +3,7 @@ use Rattle.std.proofs.Common.{◌≡◌, ◌+◌, ◌++◌, length, take}
 use Rattle.std.specs.List.{flat_map}
 use Rattle.spec_rules.specs.Fills.{fills_row}
 use Rattle.spec_rules.specs.Server.{letters_of, sender}
-use Rattle.pair_memory.specs.Side.{own_of}
+use Rattle.pair_memory.specs.PairMemory.{own_of}
 use Rattle.pair_memory.proofs.Looks.{IsSeen}
 use Rattle.redistribute.proofs.letters.fills_after.Given as goal
 

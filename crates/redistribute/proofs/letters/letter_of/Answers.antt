@@ -1,7 +1,7 @@
 use Rattle.std.proofs.Common.{refl, sym, ap, ◌∙◌}
 use Rattle.std.proofs.lemmas.Result.{IfOk-weaker}
 use Rattle.pair_memory.specs.Letters.{posts_of}
-use Rattle.pair_memory.specs.Side.{own_of}
+use Rattle.pair_memory.specs.PairMemory.{own_of}
 use Rattle.redistribute.proofs.Fillings.{letter_is, no_letter}
 use Rattle.redistribute.proofs.letters.letter_of.Goals as goal
 

@@ -1,7 +1,7 @@
 use Rattle.std.proofs.Common.{ap, ◌∙◌, Option}
 use Rattle.petal_base.specs.declared.cell.Key.{Key}
 use Rattle.kept_chains.specs.Kept.{store_of}
-use Rattle.pair_memory.specs.Side.{own_of}
+use Rattle.pair_memory.specs.PairMemory.{own_of}
 use Rattle.spec_rules.specs.Fills.{region_to_move}
 use Rattle.redistribute.specs.Next.{left_after}
 use Rattle.redistribute.proofs.FillOf.{fill_is}

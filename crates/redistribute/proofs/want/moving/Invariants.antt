@@ -2,7 +2,7 @@
 use Rattle.std.proofs.Common.{◌≡◌, take}
 use Rattle.std.specs.List.{flat_map}
 use Rattle.spec_rules.specs.Fills.{moved_of}
-use Rattle.pair_memory.specs.Side.{own_of}
+use Rattle.pair_memory.specs.PairMemory.{own_of}
 use Rattle.redistribute.proofs.want.moving.Given as goal
 
 abbrev pub invariant-loop-row : goal.invariant-loop-row

@@ -4,7 +4,7 @@ use Rattle.server_log.specs.Part.{state_of}
 use Rattle.kept_chains.specs.Kept.{store_of}
 use Rattle.petal_command.specs.declared.command.Command.{Command}
 use Rattle.spec_rules.specs.Crossing.{jobs_by}
-use Rattle.server_core.specs.Core.{core_of}
+use Rattle.server_core.specs.ServerView.{core_of}
 use Rattle.server_jobs.specs.Wants.{own_in}
 use Rattle.server_core.proofs.Entering.{applied_not, applied_refused, applied_work}
 use Rattle.server_core.specs.Work.{IsStoreWork}

@@ -7,8 +7,8 @@ use Rattle.spec_state.specs.Command.{after}
 use Rattle.server_core.proofs.Entering.{entered_not, entered_with, state_entered}
 use Rattle.server_core.proofs.entry.enter_next.Goals as goal
 
-pub enters_by-requires-clause-next : goal.enters_by-requires-clause-next
-enters_by-requires-clause-next g c = λ _ _.
+pub enter_by-requires-clause-next : goal.enter_by-requires-clause-next
+enter_by-requires-clause-next g c = λ _ _.
     let done = c.in_ok-done.ensures in
     subst (λ (s : State). IfSome c.in_ok-done.entered (λ it. s ≡ after it.before it.entry)) (sym c.state.ensures)
     (state_entered c.args.log.now c.apply.new.self c.args.state.now.records c.in_ok-done.done c.in_ok-done.entered done.done

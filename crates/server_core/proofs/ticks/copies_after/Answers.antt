@@ -1,11 +1,11 @@
 use Rattle.std.proofs.Common.{◌≡◌, ◌++◌, true, List, length, sym, ap, ◌∙◌}
 use Rattle.spec_rules.specs.Copies.{copy_posts, page_posts}
 use Rattle.spec_rules.specs.Fills.{fill_posts}
-use Rattle.spec_rules.specs.Server.{Own, Post, letters_of, sender}
+use Rattle.spec_rules.specs.Server.{PairState, Post, letters_of, sender}
 use Rattle.spec_rules.specs.State.{is_in}
 use Rattle.server_store.specs.Holdings.{Holdings}
 use Rattle.server_jobs.specs.Wants.{here_by}
-use Rattle.pair_memory.specs.Side.{own_of}
+use Rattle.pair_memory.specs.PairMemory.{own_of}
 use Rattle.pair_memory.proofs.Looks.{letters_two}
 use Rattle.server_core.proofs.Steps.{of_each}
 use Rattle.server_core.proofs.Looking.{look_then}
@@ -25,7 +25,7 @@ returns-clause-letters g c =
     rw (← c.parts.view_is)
     (of_each _ _ (λ all is told.
     letters_two (sender here) c.args.before copies all (copy_posts here own ++ page_posts here own) (fill_posts here own) (first told)
-    (is told ∙ ap (λ (o : Own). copies ++ letters_of (sender here) (length copies) (fill_posts here o)) same)
+    (is told ∙ ap (λ (o : PairState). copies ++ letters_of (sender here) (length copies) (fill_posts here o)) same)
     ∙ ap (λ (posts : List Post). c.args.before ++ letters_of (sender here) (length c.args.before) posts) (sym (again_in here own may)))
     c.fills_after.result last)
 

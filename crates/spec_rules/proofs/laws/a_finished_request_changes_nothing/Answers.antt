@@ -4,14 +4,14 @@ use Rattle.std.proofs.lemmas.Bool.Decides.{nat_tests}
 use Rattle.std.specs.Prelude.{nat_lt, if◌then◌else◌}
 use Rattle.petal_msg.specs.declared.operation.Finished.{Finished}
 use Rattle.spec_rules.specs.State.{is_lead}
-use Rattle.spec_rules.specs.Server.{Own, Here, silent}
+use Rattle.spec_rules.specs.Server.{PairState, JobContext, silent}
 use Rattle.spec_rules.specs.Writes.{Wanted, Older, Again, Newer, on_write, takes, standing}
 use Rattle.spec_rules.proofs.laws.a_finished_request_changes_nothing.Goals as goal
 
 equal : (a b : ℕ) → a ≤ b → nat_lt a b ≡ false → (a == b) ≡ true
 equal a b le e = grind (arith, nat_tests)
 
-kept : (here : Here) (own : Own) (want : Wanted) (last : Finished) (lead older same : Bool) → (older ≡ false → same ≡ true)
+kept : (here : JobContext) (own : PairState) (want : Wanted) (last : Finished) (lead older same : Bool) → (older ≡ false → same ≡ true)
     → (if lead then takes here own want (if older then Older else if same then Again last.ending else Newer) else silent own).own ≡ own
 kept here own want last false older same h = refl
 kept here own want last true true same h = refl

@@ -7,15 +7,15 @@ use Rattle.petal_base.specs.declared.cell.Key.{Key}
 use Rattle.petal_msg.specs.declared.operation.Far.TheVariants as far
 use Rattle.petal_msg.specs.declared.operation.LastOp.{LastOp}
 use Rattle.spec_rules.specs.State.{is_second}
-use Rattle.spec_rules.specs.Server.{Own, Here, Done, silent}
+use Rattle.spec_rules.specs.Server.{PairState, JobContext, JobResult, silent}
 use Rattle.spec_rules.specs.Writes.{follows_once, hears_replicate, on_replicate}
 use Rattle.spec_rules.proofs.laws.a_second_copy_is_put_once.Goals as goal
 
 apart : (a b : ℕ) → a ≢ b → (a == b) ≡ false
 apart a b ne = grind (arith, nat_tests)
 
-module _ (here : Here) (own : Own) (number : ℕ) (key : Key) (bytes : List ℕ) where
-  abbrev by_last : Option LastOp → Done
+module _ (here : JobContext) (own : PairState) (number : ℕ) (key : Key) (bytes : List ℕ) where
+  abbrev by_last : Option LastOp → JobResult
   by_last o = if is_second here.state here.me (cell_of key) then hears_replicate here own number key bytes o else silent own
 
   kept : (second same : Bool) → (if second then (if same then follows_once here own number key bytes far.Replicated else silent own) else silent own).own ≡ own
@@ -23,7 +23,7 @@ module _ (here : Here) (own : Own) (number : ℕ) (key : Key) (bytes : List ℕ)
   kept true false = refl
   kept true true = refl
 
-  dropped : (second same : Bool) (done : Done) → same ≡ false → (if second then (if same then done else silent own) else silent own) ≡ silent own
+  dropped : (second same : Bool) (done : JobResult) → same ≡ false → (if second then (if same then done else silent own) else silent own) ≡ silent own
   dropped false same done e = refl
   dropped true true done e = cc
   dropped true false done e = refl

@@ -6,7 +6,7 @@ use Rattle.petal_table.specs.Table.{at, put, without}
 use Rattle.spec_rules.specs.Lists.{put_at}
 use Rattle.spec_rules.specs.Ballots.{on_pax, starts}
 use Rattle.spec_rules.specs.Entries.{learns, applies}
-use Rattle.spec_rules.specs.Copies.{next_copy, copies_on, mends, on_hello_ask, on_hello, on_trim, trims_on, on_trimmed, on_sync, on_synced, on_sync_full}
+use Rattle.spec_rules.specs.Copies.{next_copy, copies_on, repairs, on_hello_ask, on_hello, on_trim, trims_on, on_trimmed, on_sync, on_synced, on_sync_full}
 use Rattle.spec_rules.specs.Writes.{goes_on, on_write}
 use Rattle.spec_rules.specs.Jobs.{handles, hears_log, does, log_does}
 use Rattle.spec_rules.specs.Clients.{heard, refusal}
@@ -15,7 +15,7 @@ use Rattle.spec_rules.specs.World.{step}
 use Rattle.test_history.proofs.copies.a_link_is_both_again.Goals as goal
 
 pub returns : goal.returns
-unfolding number nobody at put without put_at on_pax starts learns applies next_copy copies_on mends on_hello_ask on_hello on_trim trims_on on_trimmed
+unfolding number nobody at put without put_at on_pax starts learns applies next_copy copies_on repairs on_hello_ask on_hello on_trim trims_on on_trimmed
     on_sync on_synced on_sync_full goes_on on_write handles hears_log does log_does heard refusal next_dead step
 returns c = record {
   both = refl;

@@ -2,7 +2,7 @@
 use Rattle.std.proofs.Common.{inr, refl, arith}
 use Rattle.petal_table.specs.Table.{at, put, without}
 use Rattle.spec_rules.specs.Lists.{put_at}
-use Rattle.spec_rules.specs.Copies.{next_copy, copies_on, mends, on_hello_ask, on_hello, on_trim, trims_on, on_trimmed, on_sync, on_synced, on_sync_full}
+use Rattle.spec_rules.specs.Copies.{next_copy, copies_on, repairs, on_hello_ask, on_hello, on_trim, trims_on, on_trimmed, on_sync, on_synced, on_sync_full}
 use Rattle.spec_rules.specs.Jobs.{handles, hears_log, does, log_does}
 use Rattle.spec_rules.specs.Clients.{heard, refusal}
 use Rattle.spec_rules.specs.Sweeping.{next_dead}
@@ -13,7 +13,7 @@ use Rattle.test_history.proofs.Lines.{few, none_of_three, none_yet}
 use Rattle.test_history.proofs.settles.a_copy_finds_no_slot.Goals as goal
 
 pub returns : goal.returns
-unfolding at put without put_at next_copy copies_on mends on_hello_ask on_hello on_trim trims_on on_trimmed on_sync on_synced on_sync_full handles
+unfolding at put without put_at next_copy copies_on repairs on_hello_ask on_hello on_trim trims_on on_trimmed on_sync on_synced on_sync_full handles
     hears_log does log_does heard refusal next_dead step
 returns c = record {
   chain = refl;

@@ -5,7 +5,7 @@ use Rattle.spec_rules.specs.Jobs.{Acted}
 use Rattle.memory_server.specs.Server.{left_at}
 use Rattle.server_host.specs.Desks.{Site}
 use Rattle.spec_rules.specs.Plans.{AreLeftOf}
-use Rattle.server_host.specs.declared.host.Taken.{Taken}
+use Rattle.server_host.specs.declared.host.HostResult.{HostResult}
 use Rattle.memory_server.proofs.Plans.{are_left, are_same, uses_none}
 use Rattle.memory_server.specs.Armed.{armed_of}
 use Rattle.memory_server.proofs.server.MemServer.act.Goals as goal
@@ -17,7 +17,7 @@ pub returns-in_ok-glance-in-Glance-clause-letters : goal.returns-in_ok-glance-in
 returns-in_ok-glance-in-Glance-clause-letters c =
     let it = c.self-in-Glance.inside in
     rw (c.in-Glance.is, ← c.self-in-Glance.view_is)
-    (ap (λ (taken : Taken). taken.letters) c.done-in-Glance.ensures
+    (ap (λ (taken : HostResult). taken.letters) c.done-in-Glance.ensures
     ∙ ap (λ (acted : Acted). acted.letters) (c.in_ok-glance-in-Glance.ensures (store_of it.store) it.state.records))
 
 -- ### The plans

@@ -1,7 +1,7 @@
 -- The open settle is that of the world.
 use Rattle.std.proofs.Common.{◌≡◌, false, subst}
 use Rattle.spec_rules.specs.Jobs.{operator}
-use Rattle.client_core.specs.Core.{settle_of}
+use Rattle.client_core.specs.ClientView.{settle_of}
 use Rattle.petal_world.specs.Play.{Play, world_of}
 use Rattle.petal_world.proofs.world.World.settling.Goals as goal
 

@@ -7,4 +7,4 @@ returns-clause-job g c =
     let m = rw (← c.side.view_is) at c.requires.moved in
     rw (← c.side.view_is)
     (flags_done c.args.here.now _ c.args.store.now c.args.op.now h m g.D.Disk c.args.kind c.args.is c.set_stage.new.self c.set_mark.new.store _ _
-    c.follows_up.result (rw c.with_flag.ensures at c.set_stage.ensures.table) c.in_ok-set_mark.ensures c.follows_up.ensures)
+    c.follow_up.result (rw c.with_flag.ensures at c.set_stage.ensures.table) c.in_ok-set_mark.ensures c.follow_up.ensures)

@@ -1,0 +1,25 @@
+use Rattle.std.proofs.Common.{sym, ◌∙◌}
+use Rattle.spec_rules.specs.Progress.{with_last_copy}
+use Rattle.pair_memory.specs.PairMemory.{own_of}
+use Rattle.pair_memory.proofs.Said.{said_done}
+use Rattle.copy_transfer.proofs.Trims.{beyond_there, first_none, first_some}
+use Rattle.copy_transfer.proofs.follow.trim_newly.Goals as goal
+
+pub remember_and_drop-requires-clause-there : goal.remember_and_drop-requires-clause-there
+remember_and_drop-requires-clause-there g c = λ _ _.
+    beyond_there (own_of c.args.side.now c.args.store.now) c.args.cell c.args.last.epochs c.in-Some.epoch (sym c.in_ok-beyond.ensures ∙ c.in-Some.is)
+
+pub returns-in-None : goal.returns-in-None
+returns-in-None g c =
+    let own = own_of c.args.side.now c.args.store.now in
+    let left = with_last_copy own c.args.cell c.args.last in
+    let law = g.met.D.Disk g.world.𝓛 g.world.𝓜 g.world.𝓡 ((λ s x. x), (λ x. x), (λ x. x), λ x. x) in
+    rw (← (first_none own c.args.cell c.args.last.epochs c.args.last.op c.args.holder left (sym c.in_ok-beyond.ensures ∙ c.in-None.is)))
+    (said_done g.D.Disk law.stays law.only_now c.args.here.now _ _ _ _ c.remember.result _ c.remember.ensures)
+
+pub returns-in-Some : goal.returns-in-Some
+returns-in-Some g c =
+    let own = own_of c.args.side.now c.args.store.now in
+    let left = with_last_copy own c.args.cell c.args.last in
+    rw (← (first_some own c.args.cell c.args.last.epochs c.args.last.op c.args.holder c.in-Some.epoch left (sym c.in_ok-beyond.ensures ∙ c.in-Some.is)))
+    c.remember_and_drop.ensures

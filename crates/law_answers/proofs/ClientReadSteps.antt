@@ -1,0 +1,250 @@
+-- What a client's step makes of its open request, what it sends for a read, and which letter it answers with data.
+use Rattle.std.proofs.Common.{◌≡◌, ◌≤◌, ◌<◌, ◌+◌, ◌==◌, ◌||◌, ℕ, List, Bool, true, false, Option, Some, None, is_some, length, refl, sym, ap, ◌∙◌, subst, inl, inr, arith}
+use Rattle.petal_base.specs.declared.cell.Cell.{Cell}
+use Rattle.petal_command.specs.declared.command.Command.{Command}
+use Rattle.global_tables.specs.declared.disk.Latest.{Latest}
+use Rattle.global_tables.specs.declared.disk.Verdict.{Verdict}
+use Rattle.global_tables.specs.declared.disk.Verdict.TheVariants as verdict
+use Rattle.petal_msg.specs.Kinds.{is_logged, subject_of}
+use Rattle.petal_msg.specs.declared.body.Body.{Body}
+use Rattle.petal_msg.specs.declared.body.Body.TheVariants as body
+use Rattle.petal_msg.specs.declared.operation.Ending.{Ending}
+use Rattle.petal_msg.specs.declared.operation.Ending.TheVariants as ending
+use Rattle.script_lines.specs.declared.answer.Answer.{Answer}
+use Rattle.script_lines.specs.declared.answer.Answer.TheVariants as answer
+use Rattle.script_lines.specs.declared.request.Line.{Line}
+use Rattle.script_lines.specs.declared.request.Request.{Request}
+use Rattle.script_lines.specs.declared.request.Request.TheVariants as request
+use Rattle.spec_state.specs.CellState.{cell_asked}
+use Rattle.spec_state.specs.Command.{state_after}
+use Rattle.spec_state.specs.State.{latest}
+use Rattle.spec_state.specs.declared.answer.DiskView.{DiskView}
+use Rattle.spec_rules.specs.Clients.{Asked, Client, Reaction, Sight, is_read, is_unread, read_refusal, read_refusal_at, refusal, verdict_answer}
+use Rattle.spec_rules.specs.Clients.{epoch_for, verdict_for, write_refusal}
+use Rattle.spec_rules.specs.Lists.{In}
+use Rattle.spec_rules.specs.Server.{Post}
+use Rattle.spec_rules.specs.State.{State, find, lead}
+use Rattle.spec_rules.specs.World.{next_line}
+use Rattle.spec_rules.proofs.Tests.{by_bool, by_test, none_some, same_or_apart, same_some, true_false}
+use Rattle.law_steps.specs.DidClient.{Turned, Says, Of_the_log, A_write, A_read, IsSame, WasSent, As_it_was, Anew, StaysOpen, IsReason, IsSeenAs, answer_of}
+use Rattle.law_steps.specs.DidClient.{By_verdict, By_witness, Stops_it, Stops_at, Fails_it, Starts_it, Blanks_it, Has_no_space, Is_settled, Goes_on, Is_told}
+use Rattle.law_steps.specs.DidClient.{Begins, Reads, Ends, Shown, Judges}
+use Rattle.law_answers.proofs.OldMapByRevision.{Stays}
+
+-- ### The way of an open request
+
+-- how a request that stays open stands: as before; or sent at a later revision, by the new map; or told just now that the new map has
+-- nothing, at the revision of its latest send, and so by the old one
+pub data OnWay (heard : ℕ → Body → Type 0) (old new : Asked) : Type 0 where
+  As_before : new.rev ≡ old.rev → new.old_way ≡ old.old_way → OnWay heard old new
+  Later : old.rev < new.rev → new.old_way ≡ false → OnWay heard old new
+  Turns : heard old.rev (body.NotHere old.seq) → old.old_way ≡ false → new.rev ≡ old.rev → new.old_way ≡ true → OnWay heard old new
+
+-- the request that is open after the step was called in it, or was open before
+pub data HasWay (heard : ℕ → Body → Type 0) (lines : List Line) (c : ℕ) (client : Client) (new : Asked) : Bool → Type 0 where
+  Is_called : (line : Line) → next_line lines c client ≡ Some line → client.asked ≡ None → new.line ≡ line.number → new.seq ≡ client.seq + 1
+      → new.old_way ≡ false → HasWay heard lines c client new true
+  Was_open : (old : Asked) → client.asked ≡ Some old → new.seq ≡ old.seq → new.line ≡ old.line → OnWay heard old new
+      → HasWay heard lines c client new false
+
+module _ (heard : ℕ → Body → Type 0) (lines : List Line) (c : ℕ) (client : Client) (new : Asked) where
+  -- sent anew where it did not go the old way at this revision, or where the revision is a later one
+  anew : (old : Asked) (rev : ℕ) → old.rev ≤ rev → new.rev ≡ rev → new.old_way ≡ false → (old.old_way ≡ true → new.rev ≡ old.rev → new.old_way ≡ true)
+      → OnWay heard old new
+  anew old rev low at way stays = elim (same_or_apart new.rev old.rev) [
+    | inr ne ↦ Later (omega arith) way
+    | inl same ↦ by_bool old.old_way (λ t. true_false (stays t same) way) (λ f. As_before same (way ∙ sym f))
+  ]
+
+  told_way : (old : Asked) (rev : ℕ) → old.rev ≤ rev → heard old.rev (body.NotHere old.seq)
+      → (old.old_way ≡ true → new.rev ≡ old.rev → new.old_way ≡ true)
+      → WasSent rev (record old { told = true; old_way = true }) new → OnWay heard old new
+  told_way old rev low told stays (As_it_was at way) = by_bool old.old_way (λ t. As_before at (way ∙ sym t)) (λ f. Turns told f at way)
+  told_way old rev low told stays (Anew at way) = anew old rev low at way stays
+
+  sent_way : (old : Asked) (rev : ℕ) → old.rev ≤ rev → (old.old_way ≡ true → new.rev ≡ old.rev → new.old_way ≡ true) → WasSent rev old new
+      → OnWay heard old new
+  sent_way old rev low stays (As_it_was at way) = As_before at way
+  sent_way old rev low stays (Anew at way) = anew old rev low at way stays
+
+  open_way : (rev : ℕ) (o : Option Asked) → client.asked ≡ o → ((old : Asked) → o ≡ Some old → old.rev ≤ rev)
+      → ((old : Asked) → o ≡ Some old → old.old_way ≡ true → new.rev ≡ old.rev → new.old_way ≡ true) → StaysOpen rev o (Some new)
+      → HasWay heard lines c client new false
+  open_way rev None is low stays same = absurd same
+  open_way rev (Some old) is low stays same = Was_open old is same.seq same.line (sent_way old rev (low old refl) (stays old refl) same.sent)
+
+  pub turned_way : (servers : ℕ) (in_call : Bool) (reacted : Reaction) → Turned heard servers lines c client in_call reacted
+      → (in_call ≡ false → Stays client.asked reacted.client.asked)
+      → ((old : Asked) → client.asked ≡ Some old → old.rev ≤ length reacted.client.applied)
+      → reacted.client.asked ≡ Some new → HasWay heard lines c client new in_call
+  turned_way servers _ _ (Goes_on reacted seq stays says) way low is =
+      open_way (length reacted.client.applied) client.asked refl low (λ old o t same. way refl old new o is t same)
+      (subst (StaysOpen (length reacted.client.applied) client.asked) is stays)
+  turned_way servers _ _ (Is_told reacted asked told was reads seq stays says) way low is =
+      let same : IsSame (length reacted.client.applied) (record asked { told = true; old_way = true }) new =
+      subst (StaysOpen (length reacted.client.applied) (Some (record asked { told = true; old_way = true }))) is stays in
+      Was_open asked was same.seq same.line
+      (told_way asked (length reacted.client.applied) (low asked was) told (λ t e. way refl asked new was is t e) same.sent)
+  turned_way servers _ _ (Begins reacted line asked next free seq now called says) way low is =
+      let same : asked ≡ new = same_some (sym now ∙ is) in
+      Is_called line next free (ap (λ (a : Asked). a.line) (sym same) ∙ called.line_is) (ap (λ (a : Asked). a.seq) (sym same) ∙ called.seq_is)
+      (ap (λ (a : Asked). a.old_way) (sym same) ∙ called.new_way)
+  turned_way servers _ _ (Reads asked bytes told was reads) way low is = none_some refl is
+  turned_way servers _ _ (Ends asked how told was writes) way low is = none_some refl is
+  turned_way servers _ _ (Shown asked rev sight given told was seen) way low is = none_some refl is
+  turned_way servers _ _ (Judges after asked given was gone seq judged) way low is = none_some gone is
+
+-- ### What it sends for a read
+
+-- the letter of the client's open request, by the state of its revision, and of the old map where the request goes that way
+pub record Asks (state : State) (c : ℕ) (open_now : Option Asked) (client seq : ℕ) (cell : Cell) : Type 0 where
+  pub same : client ≡ c
+  pub asked : Asked
+  pub is : open_now ≡ Some asked
+  pub seq_is : asked.seq ≡ seq
+  pub name : List ℕ
+  pub block : ℕ
+  pub disk : DiskView
+  pub found : find state name ≡ Some disk
+  pub cell_is : cell ≡ cell_asked state disk block asked.old_way
+  pub rev_is : asked.rev ≡ state.rev
+
+logged_no_read : {B : Type 0} (said : Body) (client seq : ℕ) (cell : Cell) (epoch : ℕ) → is_logged (subject_of said) ≡ true
+    → said ≡ body.Read client seq cell epoch → B
+logged_no_read said client seq cell epoch logged is = true_false logged (ap (λ (b : Body). is_logged (subject_of b)) is)
+
+says_read : (state : State) (c : ℕ) (open_now : Option Asked) (post : Post) (client seq : ℕ) (cell : Cell) (epoch : ℕ)
+    → Says state c open_now post → post.body ≡ body.Read client seq cell epoch → Asks state c open_now client seq cell
+says_read state c open_now _ client seq cell epoch (Of_the_log post logged) e = logged_no_read post.body client seq cell epoch logged e
+says_read state c open_now _ client seq cell epoch (A_write asked name block pattern disk to is asks found rev) e = absurd cc
+says_read state c open_now _ client seq cell epoch (A_read asked name snap block disk epoch' to is asks found at rev) e = record {
+  same = cc;
+  asked = asked;
+  is = is;
+  seq_is = cc;
+  name = name;
+  block = block;
+  disk = disk;
+  found = found;
+  cell_is = cc;
+  rev_is = rev;
+}
+
+pub turned_asks_read : (heard : ℕ → Body → Type 0) (servers : ℕ) (lines : List Line) (c : ℕ) (before : Client) (in_call : Bool) (reacted : Reaction)
+    → Turned heard servers lines c before in_call reacted → (post : Post) → In post reacted.posts → (client seq : ℕ) (cell : Cell) (epoch : ℕ)
+    → post.body ≡ body.Read client seq cell epoch
+    → Asks (state_after servers reacted.client.applied) c reacted.client.asked client seq cell
+unfolding In
+turned_asks_read heard servers lines c before _ _ (Goes_on reacted same stays says) post i client seq cell epoch e =
+    says_read _ c _ post client seq cell epoch (says.says post i) e
+turned_asks_read heard servers lines c before _ _ (Is_told reacted asked told was reads same stays says) post i client seq cell epoch e =
+    says_read _ c _ post client seq cell epoch (says.says post i) e
+turned_asks_read heard servers lines c before _ _ (Begins reacted line asked next free same now called says) post i client seq cell epoch e =
+    says_read _ c _ post client seq cell epoch (says.says post i) e
+turned_asks_read heard servers lines c before _ _ _ post i client seq cell epoch e = absurd i
+
+-- ### Answers with data
+
+-- whoever answers with data has a read open, and heard this data for it, at the revision of its latest send
+pub record AnswersRead (heard : ℕ → Body → Type 0) (client : Client) (number : ℕ) (bytes : List ℕ) : Type 0 where
+  pub asked : Asked
+  pub is : client.asked ≡ Some asked
+  pub reads : is_read asked.request ≡ true
+  pub told : heard asked.rev (body.Data asked.seq bytes)
+  pub line_is : asked.line ≡ number
+
+-- an answer is of data
+abbrev is_data : Answer → Bool
+is_data (answer.Data bytes) = true
+is_data _ = false
+
+abbrev NoData : Option Answer → Type 0
+NoData o = (given : Answer) → o ≡ Some given → is_data given ≡ false
+
+no_data : (given : Answer) → is_data given ≡ false → NoData (Some given)
+no_data given none other e = ap is_data (sym (same_some e)) ∙ none
+
+none_given : NoData None
+none_given given e = none_some refl e
+
+verdict_no_data : (v : Verdict) → NoData (verdict_answer v)
+verdict_no_data verdict.Ok given e = no_data answer.Ok refl given e
+verdict_no_data verdict.Waiting given e = none_given given e
+verdict_no_data verdict.Exists given e = no_data answer.Exists refl given e
+verdict_no_data verdict.NoDisk given e = no_data answer.NoDisk refl given e
+verdict_no_data verdict.Moving given e = no_data answer.Moving refl given e
+
+latest_no_data : (seq : ℕ) (o : Option Latest) → NoData (verdict_for seq o)
+latest_no_data seq None = none_given
+latest_no_data seq (Some row) = by_test NoData (row.seq == seq) (verdict_answer row.verdict) None (λ t. verdict_no_data row.verdict) (λ f. none_given)
+
+refused_no_data : (state : State) (told : Bool) (asked : Request) → NoData (refusal state told asked)
+unfolding refusal
+refused_no_data state told (request.Write name block pattern) = by (find state name)
+  where
+    by : (o : Option DiskView) → NoData (write_refusal state o block)
+    by None = no_data answer.NoDisk refl
+    by (Some disk) = by_test NoData (is_some (lead state (cell_asked state disk block false))) None (Some answer.Unavailable) (λ t. none_given)
+        (λ f. no_data answer.Unavailable refl)
+refused_no_data state told (request.Read name snap block) = by (find state name)
+  where
+    at_epoch : (one other : Cell) (o : Option ℕ) → NoData (read_refusal_at state one other o)
+    at_epoch one other None = no_data answer.NoSnap refl
+    at_epoch one other (Some epoch) = by_test NoData (is_unread state one || is_unread state other) (Some answer.Unavailable) None
+        (λ t. no_data answer.Unavailable refl) (λ f. none_given)
+
+    by : (o : Option DiskView) → NoData (read_refusal state o snap block told)
+    by None = no_data answer.NoDisk refl
+    by (Some disk) = at_epoch (cell_asked state disk block false) (cell_asked state disk block told) (epoch_for state disk snap)
+refused_no_data state told _ = none_given
+
+reason_no_data : (c : ℕ) (asked : Asked) (given : Answer) (state : State) (entry : Command) → IsReason c asked given state entry → is_data given ≡ false
+reason_no_data c asked given state entry (By_verdict command own so) = latest_no_data asked.seq (latest state c) given so
+reason_no_data c asked given state entry (By_witness none is so) = refused_no_data state asked.told asked.request given so
+
+seen_no_data : (state : State) (asked : Asked) (sight : Sight) (given : Answer) → IsSeenAs state asked sight given → is_data given ≡ false
+seen_no_data state asked sight given (Stops_it server is so) = ap is_data so
+seen_no_data state asked sight given (Stops_at server at is so) = ap is_data so
+seen_no_data state asked sight given (Fails_it server which kind at is so) = ap is_data so
+seen_no_data state asked sight given (Starts_it server is so) =
+    ap is_data so ∙ by_test (λ x. is_data x ≡ false) sight.running answer.Ok answer.Failed (λ t. refl) (λ f. refl)
+seen_no_data state asked sight given (Blanks_it server is so) =
+    ap is_data so ∙ by_test (λ x. is_data x ≡ false) sight.running answer.Ok answer.Failed (λ t. refl) (λ f. refl)
+seen_no_data state asked sight given (Has_no_space is full so) = ap is_data so
+seen_no_data state asked sight given (Is_settled is round all settled so) = ap is_data so
+
+ending_no_data : (how : Ending) → is_data (answer_of how) ≡ false
+ending_no_data ending.Written = refl
+ending_no_data ending.Full = refl
+
+-- what is no data is not this
+other_answer : {B : Type 0} (line number : ℕ) (given : Answer) (bytes : List ℕ) → is_data given ≡ false
+    → ◌≡◌ {A = Option (ℕ × Answer)} (Some (line, given)) (Some (number, answer.Data bytes)) → B
+other_answer line number given bytes none e = true_false (ap (λ (x : ℕ × Answer). is_data x.1) (same_some e)) none
+
+data_is : (one other : List ℕ) → answer.Data one ≡ answer.Data other → one ≡ other
+data_is one other e = cc
+
+pub turned_answers : (heard : ℕ → Body → Type 0) (servers : ℕ) (lines : List Line) (c : ℕ) (client : Client) (in_call : Bool) (reacted : Reaction)
+    → Turned heard servers lines c client in_call reacted → (number : ℕ) (bytes : List ℕ) → reacted.answer ≡ Some (number, answer.Data bytes)
+    → AnswersRead heard client number bytes × (in_call ≡ false)
+turned_answers heard servers lines c client _ _ (Goes_on reacted same stays says) number bytes e = none_some says.unanswered e
+turned_answers heard servers lines c client _ _ (Is_told reacted asked told was reads same stays says) number bytes e = none_some says.unanswered e
+turned_answers heard servers lines c client _ _ (Begins reacted line asked next free same now called says) number bytes e = none_some says.unanswered e
+turned_answers heard servers lines c client _ _ (Reads asked shown told was reads) number bytes e =
+    let both = same_some e in (
+      record {
+        asked = asked;
+        is = was;
+        reads = reads;
+        told = subst (λ bs. heard asked.rev (body.Data asked.seq bs)) (data_is shown bytes (ap (λ (x : ℕ × Answer). x.1) both)) told;
+        line_is = ap (λ (x : ℕ × Answer). x.0) both;
+      },
+      refl,
+    )
+turned_answers heard servers lines c client _ _ (Ends asked how told was writes) number bytes e =
+    other_answer asked.line number (answer_of how) bytes (ending_no_data how) e
+turned_answers heard servers lines c client _ _ (Shown asked rev sight given told was seen) number bytes e =
+    other_answer asked.line number given bytes (seen_no_data _ asked sight given seen) e
+turned_answers heard servers lines c client _ _ (Judges after asked given was gone seq judged) number bytes e =
+    other_answer asked.line number given bytes (reason_no_data c asked given _ _ judged.reason) e

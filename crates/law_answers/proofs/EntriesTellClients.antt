@@ -1,0 +1,302 @@
+-- What one entry makes of what clients were told of their last commands: its command tells one client, where it is new, and each fence that
+-- passes tells the client that waits for it.
+use Rattle.std.proofs.Common.{◌≡◌, ◌≢◌, ◌⊎◌, inl, inr, ◌<◌, ◌≤◌, ◌==◌, ℕ, suc, Bool, true, false, not, if◌then◌else◌, List, length}
+use Rattle.std.proofs.Common.{Option, Some, None, is_some, refl, sym, ap, ◌∙◌, subst, arith}
+use Rattle.std.specs.Prelude.{nat_lt, slice_get, unwrap_or}
+use Rattle.std.proofs.lemmas.Bool.{cases_lt}
+use Rattle.std.proofs.lemmas.Bool.Decides.{nat_tests}
+use Rattle.std.proofs.lemmas.List.{length-set}
+use Rattle.std.proofs.lemmas.Option.{slice_get_past}
+use Rattle.global_tables.specs.Disk.{completes, frozen, named}
+use Rattle.global_tables.specs.View.{passed}
+use Rattle.global_tables.specs.declared.disk.Latest.{Latest}
+use Rattle.global_tables.specs.declared.disk.Verdict.{Verdict}
+use Rattle.global_tables.specs.declared.disk.Verdict.TheVariants as verdict
+use Rattle.global_tables.specs.declared.fence.Fence.{Fence}
+use Rattle.global_tables.specs.declared.fence.FenceKind.{FenceKind}
+use Rattle.global_tables.specs.declared.fence.FenceKind.TheVariants.{Region, Whole}
+use Rattle.script_lines.specs.declared.answer.Answer.{Answer}
+use Rattle.script_lines.specs.declared.answer.Answer.TheVariants as answer
+use Rattle.petal_command.specs.declared.command.Command.{Command}
+use Rattle.petal_command.specs.declared.command.Command.TheVariants.{Caught, Drained, Join, Leave, MakeDisk, Moved, Snap, StartMove, Witness}
+use Rattle.spec_state.specs.State.{State, is_up_as, latest, links_of, told}
+use Rattle.spec_state.specs.Command.{act, after, is_new, may_join, move_of, moved_by, mover_in, note, with_disk, with_fence, with_move}
+use Rattle.spec_state.specs.Fence.{confirmed, effect, settled}
+use Rattle.spec_rules.specs.Clients.{verdict_answer, verdict_for}
+use Rattle.spec_rules.proofs.Tests.{by_test, none_some, not_true, number_itself, same_numbers, same_or_apart, same_some, true_false}
+use Rattle.law_state.specs.Plain.{IsPlain}
+use Rattle.law_state.proofs.Caughts.{act_caught}
+use Rattle.law_state.proofs.MovesOfDisks.{act_start}
+use Rattle.law_state.proofs.FencesPass.{one_passed, settled_keeps}
+use Rattle.law_state.proofs.ListLookups.{get_set_beside, get_set_here}
+use Rattle.law_state.proofs.SnapsQueueFences.{act_drained, act_snap, none_of}
+use Rattle.law_answers.specs.AskedCommands.{asker}
+
+-- ### One client is told
+
+told_here : (s : State) (c q : ℕ) (v : Verdict) → c < length s.verdicts → latest (told s c q v) c ≡ Some (record { seq = q; verdict = v })
+told_here s c q v low = ap (λ o. unwrap_or o None) (get_set_here s.verdicts c (Some (record { seq = q; verdict = v })) low)
+
+told_beside : (s : State) (d c q : ℕ) (v : Verdict) → c ≢ d → latest (told s d q v) c ≡ latest s c
+told_beside s d c q v apart = ap (λ o. unwrap_or o None) (get_set_beside s.verdicts d c (Some (record { seq = q; verdict = v })) apart)
+
+pub none_past : (s : State) (c : ℕ) → length s.verdicts ≤ c → latest s c ≡ None
+none_past s c high = ap (λ o. unwrap_or o None) (slice_get_past s.verdicts c high)
+
+many_told : (s : State) (d q : ℕ) (v : Verdict) → length (told s d q v).verdicts ≡ length s.verdicts
+many_told s d q v = length-set s.verdicts d (Some (record { seq = q; verdict = v }))
+
+told_itself : (s : State) (d c q : ℕ) (v : Verdict) → c ≡ d → c < length s.verdicts → latest (told s d q v) c ≡ Some (record { seq = q; verdict = v })
+told_itself s d c q v same low = subst (λ k. latest (told s k q v) c ≡ Some (record { seq = q; verdict = v })) same (told_here s c q v low)
+
+-- who is told is answered so
+pub told_answers : (s : State) (c seq : ℕ) (v : Verdict) (given : Answer) → c < length s.verdicts → verdict_answer v ≡ Some given
+    → verdict_for seq (latest (told s c seq v) c) ≡ Some given
+told_answers s c seq v given low is =
+    ap (verdict_for seq) (told_here s c seq v low) ∙ (λ i. if number_itself seq i then verdict_answer v else None) ∙ is
+
+told_now : (q seq : ℕ) (v : Verdict) (given : Answer) → verdict_for seq (Some (record { seq = q; verdict = v })) ≡ Some given
+    → (q ≡ seq) × (verdict_answer v ≡ Some given)
+told_now q seq v given h = by (q == seq) refl h
+  where
+    by : (b : Bool) → (q == seq) ≡ b → (if b then verdict_answer v else None) ≡ Some given → (q ≡ seq) × (verdict_answer v ≡ Some given)
+    by true e is = (same_numbers q seq e, is)
+    by false e is = none_some refl is
+
+-- what answers a client then answered it before, or it is the one that is told
+pub told_or : (s : State) (d c q seq : ℕ) (v : Verdict) (given : Answer) → verdict_for seq (latest (told s d q v) c) ≡ Some given
+    → (verdict_for seq (latest s c) ≡ Some given) ⊎ ((d ≡ c) × (q ≡ seq) × (verdict_answer v ≡ Some given))
+told_or s d c q seq v given h = elim (same_or_apart c d) [
+  | inr apart ↦ inl (sym (ap (verdict_for seq) (told_beside s d c q v apart)) ∙ h)
+  | inl same ↦ elim (cases_lt c (length s.verdicts)) [
+    | inl low ↦ (let both = told_now q seq v given (sym (ap (verdict_for seq) (told_itself s d c q v same low)) ∙ h) in inr (sym same, both.0, both.1))
+    | inr high ↦ none_some (ap (verdict_for seq) (none_past (told s d q v) c (let e = many_told s d q v in omega arith))) h
+  ]
+]
+
+not_below : (q r : ℕ) → r ≤ q → nat_lt q r ≡ false
+not_below q r le = grind (arith, nat_tests)
+
+-- who is answered was told last of this command
+judged_seq : (seq : ℕ) (last : Latest) (given : Answer) → verdict_for seq (Some last) ≡ Some given → last.seq ≡ seq
+judged_seq seq last given h = (told_now last.seq seq last.verdict given h).0
+
+-- so its number is old, and the next one is not
+pub judged_old : (seq : ℕ) (o : Option Latest) (given : Answer) → verdict_for seq o ≡ Some given → is_new seq o ≡ false
+judged_old seq None given h = none_some refl h
+judged_old seq (Some last) given h = not_below last.seq seq (let e = judged_seq seq last given h in omega arith)
+
+pub judged_last : {B : Type 0} (seq : ℕ) (o : Option Latest) (given : Answer) → verdict_for seq o ≡ Some given → is_new (suc seq) o ≡ false → B
+judged_last seq None given h old = none_some refl h
+judged_last seq (Some last) given h old = let e = judged_seq seq last given h in absurd (grind (arith, nat_tests))
+
+later_than : (seq q : ℕ) (o : Option Latest) (given : Answer) → verdict_for seq o ≡ Some given → is_new q o ≡ true → suc seq ≤ q
+later_than seq q None given h new = none_some refl h
+later_than seq q (Some last) given h new = let e = judged_seq seq last given h in grind (arith, nat_tests)
+
+-- ### A command that is not new stays so
+
+-- what is told is of no earlier command than the last
+abbrev pub IsOnward : State → (d q : ℕ) → Type 0
+IsOnward s d q = (r : ℕ) → is_new r (latest s d) ≡ false → r ≤ q
+
+pub onward_new : (q : ℕ) (o : Option Latest) → is_new q o ≡ true → (r : ℕ) → is_new r o ≡ false → r ≤ q
+onward_new q None new r old = true_false refl old
+onward_new q (Some last) new r old = grind (arith, nat_tests)
+
+onward_same : (q : ℕ) (last : Latest) → (last.seq == q) ≡ true → (r : ℕ) → is_new r (Some last) ≡ false → r ≤ q
+onward_same q last same r old = grind (arith, nat_tests)
+
+pub told_old : (s : State) (d c q seq : ℕ) (v : Verdict) → IsOnward s d q → is_new seq (latest s c) ≡ false → is_new seq (latest (told s d q v) c) ≡ false
+told_old s d c q seq v onward old = elim (same_or_apart c d) [
+  | inr apart ↦ ap (is_new seq) (told_beside s d c q v apart) ∙ old
+  | inl same ↦ elim (cases_lt c (length s.verdicts)) [
+    | inl low ↦ ap (is_new seq) (told_itself s d c q v same low)
+        ∙ not_below q seq (onward seq (ap (λ k. is_new seq (latest s k)) (sym same) ∙ old))
+    | inr high ↦ true_false (ap (is_new seq) (none_past s c high)) old
+  ]
+]
+
+-- what answers a client goes on to, until a later command of its own tells it
+pub told_stays : (s : State) (d c q seq : ℕ) (v : Verdict) (given : Answer) → is_new q (latest s d) ≡ true → verdict_for seq (latest s c) ≡ Some given
+    → (verdict_for seq (latest (told s d q v) c) ≡ Some given) ⊎ (is_new (suc seq) (latest (told s d q v) c) ≡ false)
+told_stays s d c q seq v given new h = elim (same_or_apart c d) [
+  | inr apart ↦ inl (ap (verdict_for seq) (told_beside s d c q v apart) ∙ h)
+  | inl same ↦ elim (cases_lt c (length s.verdicts)) [
+    | inl low ↦ inr (ap (is_new (suc seq)) (told_itself s d c q v same low)
+        ∙ not_below q (suc seq) (later_than seq q (latest s c) given h (ap (λ k. is_new q (latest s k)) same ∙ new)))
+    | inr high ↦ none_some (ap (verdict_for seq) (none_past s c high)) h
+  ]
+]
+
+-- ### What a command comes to
+
+-- a disk is not made where its command is not new, or its name is taken
+pub act_make : (P : State → Type 0) (s : State) (client seq : ℕ) (name tuple : List ℕ)
+    → (is_new seq (latest s client) ≡ false → P s)
+    → (is_new seq (latest s client) ≡ true → is_some (named s.disks.rows name) ≡ true → P (told s client seq verdict.Exists))
+    → (is_new seq (latest s client) ≡ true → named s.disks.rows name ≡ None → P (told (with_disk s name tuple) client seq verdict.Ok))
+    → P (act (MakeDisk client seq name tuple) s)
+act_make P s client seq name tuple old taken made =
+    by_test P (not (is_new seq (latest s client))) s _ (λ not_new. old (not_true (is_new seq (latest s client)) not_new))
+    (λ isnt. let new = not_false (is_new seq (latest s client)) isnt in
+    by_test P (is_some (named s.disks.rows name)) (told s client seq verdict.Exists) (told (with_disk s name tuple) client seq verdict.Ok)
+    (λ there. taken new there) (λ none. made new (none_of (named s.disks.rows name) none)))
+  where
+    not_false : (b : Bool) → not b ≡ false → b ≡ true
+    not_false true e = refl
+    not_false false e = true_false refl e
+
+-- a fence for a snapshot that passes tells its client that it was taken, where it is still its last command
+passes : (P : State → Type 0) (s : State) (disk : ℕ) (name : List ℕ) (client seq : ℕ)
+    → P (record s { view = passed s.view; disks = frozen s.disks disk name })
+    → ((last : Latest) → latest s client ≡ Some last → (last.seq == seq) ≡ true
+    → P (told (record s { view = passed s.view; disks = frozen s.disks disk name }) client seq verdict.Ok))
+    → P (effect (Whole disk name client seq) (record s { view = passed s.view }))
+passes P s disk name client seq silent tells = by (latest s client) refl
+  where
+    by : (o : Option Latest) → latest s client ≡ o → P (confirmed (record s { view = passed s.view; disks = frozen s.disks disk name }) client seq o)
+    by None is = silent
+    by (Some last) is = by_test P (last.seq == seq) _ _ (λ same. tells last is same) (λ other. silent)
+
+-- what answers a client after a fence has passed answered it before, or the fence is for its snapshot
+pub passed_or : (s : State) (fence : Fence) (disk : ℕ) (name : List ℕ) (d c q seq : ℕ) (given : Answer) → fence.kind ≡ Whole disk name d q
+    → verdict_for seq (latest (one_passed s fence) c) ≡ Some given
+    → (verdict_for seq (latest s c) ≡ Some given) ⊎ ((d ≡ c) × (q ≡ seq) × (verdict_answer verdict.Ok ≡ Some given))
+passed_or s fence disk name d c q seq given kind h =
+    passes (λ (t : State). verdict_for seq (latest t c) ≡ Some given
+    → (verdict_for seq (latest s c) ≡ Some given) ⊎ ((d ≡ c) × (q ≡ seq) × (verdict_answer verdict.Ok ≡ Some given)))
+    s disk name d q (λ e. inl e)
+    (λ last is same e. told_or (record s { view = passed s.view; disks = frozen s.disks disk name }) d c q seq verdict.Ok given e)
+    (subst (λ k. verdict_for seq (latest (effect k (record s { view = passed s.view })) c) ≡ Some given) kind h)
+
+-- what answers a client goes on to, where the fence for its snapshot tells it the same
+pub passed_stays : (s : State) (fence : Fence) (disk : ℕ) (name : List ℕ) (d c q seq : ℕ) (given : Answer) → fence.kind ≡ Whole disk name d q
+    → (d ≡ c → q ≡ seq → given ≡ answer.Ok) → verdict_for seq (latest s c) ≡ Some given → verdict_for seq (latest (one_passed s fence) c) ≡ Some given
+passed_stays s fence disk name d c q seq given kind ok h =
+    subst (λ k. verdict_for seq (latest (effect k (record s { view = passed s.view })) c) ≡ Some given) (sym kind)
+    (passes (λ (t : State). verdict_for seq (latest t c) ≡ Some given) s disk name d q h
+    (λ last is same. elim (same_or_apart c d) [
+      | inr apart ↦ ap (verdict_for seq) (told_beside t d c q verdict.Ok apart) ∙ h
+      | inl one ↦ elim (cases_lt c (length s.verdicts)) [
+        | inl low ↦
+            let seq_is = judged_seq seq last given (ap (verdict_for seq) (sym (ap (latest s) one ∙ is)) ∙ h) in
+            let number : q ≡ seq = sym (same_numbers last.seq q same) ∙ seq_is in
+            ap (verdict_for seq) (told_itself t d c q verdict.Ok one low)
+            ∙ (λ i. if number i == seq then Some answer.Ok else None) ∙ (λ i. if number_itself seq i then Some answer.Ok else None)
+            ∙ ap Some (sym (ok (sym one) number))
+        | inr high ↦ none_some (ap (verdict_for seq) (none_past s c high)) h
+      ]
+    ]))
+  where
+    t : State
+    t = record s { view = passed s.view; disks = frozen s.disks disk name }
+
+-- a Moved tells no client anything
+pub moved_verdicts : (s : State) (of region link : ℕ) → (act (Moved of region link) s).verdicts ≡ s.verdicts
+moved_verdicts s of region link = by (mover_in s of region)
+  where
+    noted_same : (disk : ℕ) → (note s of disk region link).verdicts ≡ s.verdicts
+    noted_same disk = by_test (λ (t : State). t.verdicts ≡ s.verdicts) (completes link (links_of s of) (move_of s disk)) _ _
+        (λ all. by_test (λ (t : State). t.verdicts ≡ s.verdicts) (region == 15) _ _ (λ last. refl) (λ more. refl)) (λ some. refl)
+
+    by : (o : Option ℕ) → (moved_by s of region link o).verdicts ≡ s.verdicts
+    by None = refl
+    by (Some disk) = by_test (λ (t : State). t.verdicts ≡ s.verdicts) (nat_lt link (links_of s of)) _ s (λ low. noted_same disk) (λ high. refl)
+
+-- ### One entry
+
+-- what no telling changes of what clients were told, where it tells of no earlier command than the last
+module _ (P : List (Option Latest) → Type 0)
+    (tells : (s : State) (d q : ℕ) (v : Verdict) → IsOnward s d q → P s.verdicts → P (told s d q v).verdicts) where
+  kept_act : (servers : ℕ) (e : Command) (s : State) → IsPlain servers e → P s.verdicts → P (act e s).verdicts
+  kept_act servers (MakeDisk client seq name tuple) s plain h =
+      act_make (λ (t : State). P t.verdicts) s client seq name tuple (λ old. h)
+      (λ new there. tells s client seq verdict.Exists (onward_new seq (latest s client) new) h)
+      (λ new none. tells (with_disk s name tuple) client seq verdict.Ok (onward_new seq (latest s client) new) h)
+  kept_act servers (Snap client seq disk name) s plain h =
+      act_snap (λ (t : State). P t.verdicts) s client seq disk name (λ old. h)
+      (λ new none. tells s client seq verdict.NoDisk (onward_new seq (latest s client) new) h)
+      (λ new row found taken. tells s client seq verdict.Exists (onward_new seq (latest s client) new) h)
+      (λ new row found free. tells (with_fence s (Whole row.id name client seq)) client seq verdict.Waiting (onward_new seq (latest s client) new) h)
+  kept_act servers (Join server inc blank) s plain h =
+      by_test (λ (t : State). P t.verdicts) (may_join (slice_get s.view.members server) inc) _ s (λ may. h) (λ no. h)
+  kept_act servers (Leave server inc) s plain h = by_test (λ (t : State). P t.verdicts) (is_up_as s server inc) _ s (λ up. h) (λ out. h)
+  kept_act servers (Caught of link holder holder_inc other other_inc) s plain h =
+      act_caught (λ (t : State). P t.verdicts) s of link holder holder_inc other other_inc (λ acts. h) h
+  kept_act servers (Drained server inc fence) s plain h = act_drained (λ (t : State). P t.verdicts) s server inc fence h (λ is up. h)
+  kept_act servers (StartMove client seq disk tuple) s plain h =
+      act_start (λ (t : State). P t.verdicts) s client seq disk tuple (λ old. h)
+      (λ new none. tells s client seq verdict.NoDisk (onward_new seq (latest s client) new) h)
+      (λ new row found busy. tells s client seq verdict.Moving (onward_new seq (latest s client) new) h)
+      (λ new row found free. tells (with_move s tuple row.id) client seq verdict.Ok (onward_new seq (latest s client) new) h)
+  kept_act servers (Moved of region link) s plain h = subst P (sym (moved_verdicts s of region link)) h
+  kept_act servers (Witness client seq turn) s plain h = h
+
+  kept_passed : (s : State) (kind : FenceKind) → P s.verdicts → P (effect kind (record s { view = passed s.view })).verdicts
+  kept_passed s (Whole disk name client seq) h =
+      passes (λ (t : State). P t.verdicts) s disk name client seq h
+      (λ last is same. tells (record s { view = passed s.view; disks = frozen s.disks disk name }) client seq verdict.Ok
+      (λ r old. onward_same seq last same r (sym (ap (is_new r) is) ∙ old)) h)
+  kept_passed s (Region disk region) h = h
+
+  kept_settled : (s : State) → P s.verdicts → P (settled s).verdicts
+  kept_settled s h = settled_keeps (λ (t : State). P t.verdicts) (λ t fence is now. kept_passed t fence.kind now) s h
+
+  pub kept_after : (servers : ℕ) (e : Command) (s : State) → IsPlain servers e → P s.verdicts → P (after s e).verdicts
+  kept_after servers e s plain h = kept_settled (act e s) (kept_act servers e s plain h)
+
+-- as many clients are told
+pub many_after : (servers : ℕ) (e : Command) (s : State) → IsPlain servers e → length (after s e).verdicts ≡ length s.verdicts
+many_after servers e s plain =
+    kept_after (λ verdicts. length verdicts ≡ length s.verdicts) (λ t d q v onward h. many_told t d q v ∙ h) servers e s plain refl
+
+pub old_after : (servers : ℕ) (e : Command) (s : State) (c seq : ℕ) → IsPlain servers e → is_new seq (latest s c) ≡ false
+    → is_new seq (latest (after s e) c) ≡ false
+old_after servers e s c seq plain old =
+    kept_after (λ verdicts. is_new seq (unwrap_or (slice_get verdicts c) None) ≡ false) (λ t d q v onward h. told_old t d c q seq v onward h)
+    servers e s plain old
+
+pub passed_old : (s : State) (fence : Fence) (c seq : ℕ) → is_new seq (latest s c) ≡ false → is_new seq (latest (one_passed s fence) c) ≡ false
+passed_old s fence c seq old =
+    kept_passed (λ verdicts. is_new seq (unwrap_or (slice_get verdicts c) None) ≡ false) (λ t d q v onward h. told_old t d c q seq v onward h)
+    s fence.kind old
+
+-- what is told a client of this number is then old
+pub old_now : (s : State) (d c q seq : ℕ) (v : Verdict) → d ≡ c → q ≡ seq → c < length s.verdicts → is_new seq (latest (told s d q v) c) ≡ false
+old_now s d c q seq v same number low = ap (is_new seq) (told_itself s d c q v (sym same) low) ∙ not_below q seq (omega arith)
+
+-- the client and number of a request's command
+asked_by : (d q c seq : ℕ) → (let pair : Option (ℕ × ℕ) = Some (d, q) in pair) ≡ Some (c, seq) → (d ≡ c) × (q ≡ seq)
+asked_by d q c seq e = let same = same_some e in (ap (λ (x : ℕ × ℕ). x.0) same, ap (λ (x : ℕ × ℕ). x.1) same)
+
+-- after a client's own command its number is old
+old_act : (e : Command) (s : State) (c seq : ℕ) → asker e ≡ Some (c, seq) → c < length s.verdicts → is_new seq (latest (act e s) c) ≡ false
+old_act (MakeDisk client q name tuple) s c seq own low =
+    let one = asked_by client q c seq own in
+    act_make (λ (t : State). is_new seq (latest t c) ≡ false) s client q name tuple
+    (λ old. (λ i. is_new (sym one.1 i) (latest s (sym one.0 i))) ∙ old)
+    (λ new there. old_now s client c q seq verdict.Exists one.0 one.1 low)
+    (λ new none. old_now (with_disk s name tuple) client c q seq verdict.Ok one.0 one.1 low)
+old_act (Snap client q disk name) s c seq own low =
+    let one = asked_by client q c seq own in
+    act_snap (λ (t : State). is_new seq (latest t c) ≡ false) s client q disk name
+    (λ old. (λ i. is_new (sym one.1 i) (latest s (sym one.0 i))) ∙ old)
+    (λ new none. old_now s client c q seq verdict.NoDisk one.0 one.1 low)
+    (λ new row found taken. old_now s client c q seq verdict.Exists one.0 one.1 low)
+    (λ new row found free. old_now (with_fence s (Whole row.id name client q)) client c q seq verdict.Waiting one.0 one.1 low)
+old_act (StartMove client q disk tuple) s c seq own low =
+    let one = asked_by client q c seq own in
+    act_start (λ (t : State). is_new seq (latest t c) ≡ false) s client q disk tuple
+    (λ old. (λ i. is_new (sym one.1 i) (latest s (sym one.0 i))) ∙ old)
+    (λ new none. old_now s client c q seq verdict.NoDisk one.0 one.1 low)
+    (λ new row found busy. old_now s client c q seq verdict.Moving one.0 one.1 low)
+    (λ new row found free. old_now (with_move s tuple row.id) client c q seq verdict.Ok one.0 one.1 low)
+old_act _ s c seq own low = none_some refl own
+
+pub settled_old : (s : State) (c seq : ℕ) → is_new seq (latest s c) ≡ false → is_new seq (latest (settled s) c) ≡ false
+settled_old s c seq old =
+    kept_settled (λ verdicts. is_new seq (unwrap_or (slice_get verdicts c) None) ≡ false) (λ t d q v onward h. told_old t d c q seq v onward h) s old
+
+pub old_following : (e : Command) (s : State) (c seq : ℕ) → asker e ≡ Some (c, seq) → c < length s.verdicts → is_new seq (latest (after s e) c) ≡ false
+old_following e s c seq own low = settled_old (act e s) c seq (old_act e s c seq own low)

@@ -1,0 +1,258 @@
+-- Each kind of job refuses for a reason.
+use Rattle.std.proofs.Common.{◌≡◌, ◌≤◌, ◌<◌, ℕ, List, true, false, Some, None, refl, sym, ap, ◌∙◌, subst, ◌⊎◌, inl, inr, arith}
+use Rattle.petal_base.specs.declared.cell.Cell.{Cell}
+use Rattle.petal_table.specs.Table.{Table, at, put}
+use Rattle.petal_msg.specs.declared.body.Body.{Body}
+use Rattle.petal_msg.specs.declared.body.Body.TheVariants as body
+use Rattle.petal_msg.specs.declared.letter.Actor.TheVariants as actor
+use Rattle.petal_msg.specs.declared.operation.Ending.{Ending}
+use Rattle.petal_msg.specs.declared.operation.Ending.TheVariants as ending
+use Rattle.petal_msg.specs.declared.operation.Finished.{Finished}
+use Rattle.petal_msg.specs.declared.operation.Pending.{Pending}
+use Rattle.spec_rules.specs.Lists.{In}
+use Rattle.spec_state.specs.Command.{state_after}
+use Rattle.spec_rules.specs.State.{first, second, in_both, is_in, is_second, leads_link, live}
+use Rattle.spec_rules.specs.Store.{cell_cmp}
+use Rattle.spec_rules.specs.Server.{PairState, JobContext, Post, JobResult}
+use Rattle.spec_rules.specs.Writes.{is_clients, ended, pending_on}
+use Rattle.spec_rules.specs.Writes.{moved_as}
+use Rattle.spec_rules.specs.World.{World, chosen_log}
+use Rattle.spec_rules.specs.declared.step.Step.TheVariants.{Work}
+use Rattle.spec_rules.specs.declared.step.WorkEnd.TheVariants as work_end
+use Rattle.spec_rules.proofs.Tests.{by_bool, none_some, same_some, true_false, is_the_one}
+use Rattle.law_state.specs.Steady.{IsSteady}
+use Rattle.law_state.proofs.Ages.{in_once}
+use Rattle.law_state.proofs.LoneHolders.{both_row, lead_first, second_both}
+use Rattle.law_state.proofs.CellsByLinkRows.{both_first, both_leads}
+use Rattle.law_steps.specs.DidStep.{Handled, IsSeated, own_place}
+use Rattle.law_steps.proofs.KindsInHistories.{own_steady}
+use Rattle.law_steps.proofs.WhoLeads.{dead_second}
+use Rattle.law_answers.specs.Refusals.{HadNoSlot, At_the_lead, At_the_second, Refusals}
+use Rattle.law_steps.proofs.Fronts.{one_front}
+use Rattle.law_answers.proofs.SlotLetters.{is_slot, is_of_slots, not_full, logged_not_full, one_client, AsksFor}
+use Rattle.law_answers.proofs.SlotLetters.{TellsNone, JobRefuses, Scene, still, moved_not_full}
+use Rattle.petal_msg.specs.Kinds.{Refused, is_logged, subject_of}
+use Rattle.law_steps.specs.Did.{Did}
+use Rattle.law_steps.specs.DidLead.{Asks, A_slot, An_entry_to_move, Of_the_log}
+use Rattle.law_steps.specs.DidSecond.{FoundNoSlot}
+use Rattle.law_steps.proofs.Restages.{Was, was_same}
+use Rattle.law_jobs.specs.Effects.{By_operation, For_a_fill, For_a_write, Had_no_slot, Is_declined, IsFinishedFor}
+use Rattle.law_jobs.specs.Sayings.{Asks_slot, Ends_fill, Has_no_slot, Moves, Moves_on, Repeats, Says, to_client, to_server}
+use Rattle.law_jobs.proofs.JobsSay.{letters_of_job}
+use Rattle.law_jobs.proofs.CountsGrow.{did_count}
+use Rattle.law_jobs.proofs.OperationsCome.{HasCome, Is_new, Stood, did_come, did_finish, finished_of}
+use Rattle.law_jobs.specs.Sayings as says
+
+module _ (R S : ℕ → ℕ → Type 0) (scene : Scene R S) where
+  abbrev w : World
+  w = scene.w
+
+  abbrev n : ℕ
+  n = scene.n
+
+  abbrev runs : (w.servers n).life.running ≡ true
+  runs = scene.runs
+
+  abbrev more : (c seq : ℕ) → R c seq → S c seq
+  more = scene.more
+
+  abbrev refusals : Refusals R scene.setting w
+  refusals = scene.refusals
+
+  abbrev here : JobContext
+  here = own_place scene.setting w n
+
+  abbrev own : PairState
+  own = (w.servers n).own
+
+  steady : IsSteady here.state
+  steady = own_steady scene.setting w scene.firm n
+
+  pending_seat : (cell : Cell) (op : Pending) → at cell_cmp own.pairs.pending cell ≡ Some op → is_in here.state n here.inc ≡ true
+  pending_seat cell op is = scene.rests.seated n cell op runs is
+
+  abbrev J : PairState → List Post → Type 0
+  J new posts = JobRefuses S scene.setting w n new posts
+
+  abbrev hears : Body → Type 0
+  hears = Handled w n
+
+  one_server : {i j : ℕ} → actor.Server i ≡ actor.Server j → i ≡ j
+  one_server e = cc
+
+  -- an operation that the second server has no slot for: its letter has the server's revision, so it is of this incarnation
+  declined_op : (op : Pending) → hears (body.PairFull op.op op.cell) → at cell_cmp own.pairs.pending op.cell ≡ Some op → is_clients op.kind ≡ true
+      → S op.client op.seq
+  declined_op op h is clients =
+      let d = refusals.declined h.letter op.op op.cell h.sent h.is in
+      let k = d.by in
+      let mine : k.server ≡ n = one_server (sym d.to ∙ h.own) in
+      let same : k.front ≡ (w.servers n).log.applied =
+      one_front k.front (w.servers n).log.applied (chosen_log scene.setting w) k.stands (scene.firm.servers n) (k.long ∙ h.at) in
+      let seated : is_in here.state n k.inc ≡ true =
+      subst (λ i. is_in here.state i k.inc ≡ true) mine
+      (subst (λ log. is_in (state_after scene.setting.servers log) k.server k.inc ≡ true) same k.seated) in
+      let inc_is : here.inc ≡ k.inc = in_once here.state n here.inc k.inc (pending_seat op.cell op is) seated in
+      more op.client op.seq (d.refused op (subst (λ i. (w.servers i).life.inc ≡ k.inc) (sym mine) inc_is)
+      (subst (λ i. at cell_cmp (w.servers i).own.pairs.pending op.cell ≡ Some op) (sym mine) is) refl clients)
+
+  slot_cell : {a b : ℕ} {c d : Cell} → body.Reserve a c ≡ body.Reserve b d → (a ≡ b) × (c ≡ d)
+  slot_cell {a} {b} {c} {d} e = (cc, cc)
+
+  -- a cell with a second server is live
+  in_live : (cell : Cell) (to : ℕ) → second here.state cell ≡ Some to → live here.state cell ≡ true
+  in_live cell to e = by_bool (live here.state cell) (λ on. on) (λ off. none_some (dead_second here.state cell off) e)
+
+  -- and its first server leads its link
+  first_of : (cell : Cell) → leads_link here.state n cell ≡ true → live here.state cell ≡ true → in_both here.state cell ≡ true
+      → first here.state cell ≡ Some n
+  first_of cell leads lives both =
+      let row = both_row here.state cell both in
+      let lead = sym (both_leads here.state cell row.row row.is row.both) ∙ is_the_one _ n leads in
+      both_first here.state cell row.row row.is lives row.both ∙ lead
+
+  -- what is asked of other servers: slots for operations that are pending
+  asks_slot : (number : ℕ) (cell : Cell) (post : Post) → Asks here own post → post.body ≡ body.Reserve number cell
+      → AsksFor scene.setting w n own number cell
+  asks_slot number cell _ (A_slot op to is stage e) says =
+      let same = slot_cell says in
+      let staged = (scene.rests.pending n).staged op.cell op is in
+      let both : in_both here.state op.cell ≡ true = second_both here.state steady op.cell to e in
+      subst (λ (c : Cell). AsksFor scene.setting w n own number c) same.1
+      (subst (λ k. AsksFor scene.setting w n own k op.cell) same.0 (record {
+        seated = pending_seat op.cell op is;
+        leads = first_of op.cell (staged.leads (in_live op.cell to e)) (in_live op.cell to e) both;
+        given = refusals.numbered n op.cell op is;
+      }))
+  asks_slot number cell post (An_entry_to_move _ next) says = true_false (ap is_of_slots says) (ap (λ (p : Post). is_of_slots p.body) next.is)
+  asks_slot number cell _ (Of_the_log post e) says = true_false (ap is_of_slots says) (logged_not_full post.body e)
+  asks_slot number cell _ _ says = true_false (ap is_of_slots says) refl
+
+  -- and nobody is told that there is none
+  asks_not_full : (post : Post) → Asks here own post → (what : Body) → post.body ≡ what → (is_slot what ≡ false) → is_of_slots what ≡ true
+      → ⊥
+  asks_not_full _ (A_slot op to is stage e) what says other full = true_false (ap is_slot (sym says)) other
+  asks_not_full post (An_entry_to_move _ next) what says other full =
+      true_false full (ap is_of_slots (sym says) ∙ ap (λ (p : Post). is_of_slots p.body) next.is)
+  asks_not_full _ (Of_the_log post e) what says other full = true_false full (ap is_of_slots (sym says) ∙ logged_not_full post.body e)
+  asks_not_full _ _ what says other full = true_false full (ap is_of_slots (sym says))
+
+  pub asks_refuses : (posts : List Post) → ((post : Post) → In post posts → Asks here own post) → J own posts
+  asks_refuses posts asks = record {
+    finished = λ c last is how. inl is;
+    next = omega arith;
+    pending = λ cell op is. inl (was_same own cell op is);
+    letters = λ post c seq i to says. absurd (asks_not_full post (asks post i) (body.Full seq) says refl refl);
+    reserves = λ post number cell i says. asks_slot number cell post (asks post i) says;
+    declined = λ post number cell i says. absurd (asks_not_full post (asks post i) (body.PairFull number cell) says refl refl);
+  }
+
+  -- an operation that is new is one of a server that is In as itself
+  new_seat : (done : JobResult) → IsSeated here own done → (cell : Cell) (op : Pending) → pending_on own cell ≡ None
+      → at cell_cmp done.own.pairs.pending cell ≡ Some op → is_in here.state n here.inc ≡ true
+  new_seat done (inl seat) cell op none there = seat
+  new_seat done (inr apart) cell op none there = none_some none (sym (ap (λ (o : PairState). at cell_cmp o.pairs.pending cell) apart.same) ∙ there)
+
+  -- a ballot, and an entry that is applied, leave them too
+  pub kept_refuses : (new : PairState) (posts : List Post) → new.pairs.finished ≡ own.pairs.finished → new.pairs.next ≡ own.pairs.next
+      → new.pairs.pending ≡ own.pairs.pending → ((post : Post) → In post posts → is_logged (subject_of post.body) ≡ true) → J new posts
+  kept_refuses new posts finished next pending says =
+      still S scene.setting w n posts new finished (omega arith) pending (λ post i. logged_not_full post.body (says post i))
+
+  -- ### A job that may refuse
+
+  abbrev Opens : PairState → Type 0
+  Opens new = (op : Pending) → pending_on own op.cell ≡ None → pending_on new op.cell ≡ Some op → is_in here.state n here.inc ≡ true
+
+  -- what has to be so of a letter
+  abbrev Duty : PairState → Post → Body → Type 0
+  Duty new post (body.Full seq) = (c : ℕ) → post.to ≡ actor.Client c → S c seq
+  Duty new post (body.Reserve number cell) = AsksFor scene.setting w n new number cell
+  Duty new post (body.PairFull number cell) = TellsNone S scene.setting w n post number cell
+  Duty new post _ = Unit {0}
+
+  no_duty : (new : PairState) (post : Post) (said : Body) → is_of_slots said ≡ false → Duty new post said
+  no_duty new post (body.Full seq) e = true_false refl e
+  no_duty new post (body.Reserve number cell) e = true_false refl e
+  no_duty new post (body.PairFull number cell) e = true_false refl e
+  no_duty new post _ e = tt
+
+  module _ (now : (c seq : ℕ) → HadNoSlot scene.setting w (actor.Server n) (Work work_end.Done) c seq → S c seq) where
+    -- a request is finished for want of a slot: the lead has none, or the second server told it that it has none
+    finish_refuses : (pending : Table Cell Pending) (client : ℕ) (last : Finished) → IsFinishedFor hears here own pending client last
+        → last.ending ≡ ending.Full → S client last.seq
+    finish_refuses pending _ _ (Had_no_slot want new full gone) how =
+        now want.client want.seq (At_the_lead n want.cell want.epoch want.bytes refl refl new.lead new.wanted new.newer new.none full)
+    finish_refuses pending _ _ (By_operation _ _ (Is_declined op h is reserved put) write gone) how = declined_op op h is (ap is_clients write)
+    finish_refuses pending _ _ (By_operation op ending.Written ended write gone) how =
+        absurd (let e : ending.Written ≡ ending.Full = how in cc)
+
+    ended_duty : (new : PairState) (client number : ℕ) (how : Ending) → (how ≡ ending.Full → S client number)
+        → Duty new (to_client client (ended number how)) (ended number how)
+    ended_duty new client number ending.Written refused = tt
+    ended_duty new client number ending.Full refused = λ c to. subst (λ x. S x number) (one_client to) (refused refl)
+
+    -- the second server tells the first one of its own state, which sent the letter that asked
+    declines : (number : ℕ) (cell : Cell) (to : ℕ) → hears (body.Reserve number cell) → is_second here.state n cell ≡ true
+        → FoundNoSlot own cell number → first here.state cell ≡ Some to
+        → TellsNone S scene.setting w n (to_server to (body.PairFull number cell)) number cell
+    declines number cell to h s no_room first_is =
+        let asked = refusals.reserves h.letter number cell h.sent h.is in
+        let same : asked.front ≡ (w.servers n).log.applied =
+        one_front asked.front (w.servers n).log.applied (chosen_log scene.setting w) asked.stands (scene.firm.servers n)
+        (asked.long ∙ h.at) in
+        let leads : first here.state cell ≡ Some asked.server =
+        subst (λ log. first (state_after scene.setting.servers log) cell ≡ Some asked.server) same asked.leads in
+        record {
+          letter = h.letter;
+          revision = h.at;
+          asked = asked;
+          to = ap actor.Server (same_some (sym first_is ∙ leads));
+          refused = λ op is numbered clients.
+              now op.client op.seq (At_the_second asked.server n cell op refl refl leads (is_the_one _ n s) is clients refl refl
+              (subst (λ j. hears (body.Reserve j cell)) (sym numbered) h) (subst (FoundNoSlot own cell) (sym numbered) no_room));
+        }
+
+    says_duty : (new : PairState) → Opens new → (post : Post) → Says hears here own new post → Duty new post post.body
+    says_duty new opens _ (says.Refuses to said is busy held) = no_duty new _ said (not_full said Refused is.refused refl)
+    says_duty new opens _ (Repeats want last same h lead is e) =
+        ended_duty new want.client want.seq last.ending
+        (λ how. subst (S want.client) (sym e) (more want.client last.seq (refusals.finished n want.client last runs is how)))
+    says_duty new opens _ (says.Ends client last why is) =
+        ended_duty new client last.seq last.ending (finish_refuses new.pairs.pending client last why)
+    says_duty new opens _ (says.Opens op to lead both none is number next so) =
+        record { seated = opens op none is; leads = lead_first here.state steady n op.cell lead both; given = omega arith }
+    says_duty new opens _ (Asks_slot op to same is stage so) =
+        let a = asks_slot op.op op.cell _ (A_slot op to is stage so) refl in
+        record { seated = a.seated; leads = a.leads; given = subst (λ (o : PairState). op.op < o.pairs.next) (sym same) a.given }
+    says_duty new opens _ (Has_no_slot number cell to same h follows found so) = declines number cell to h follows found so
+    says_duty new opens _ (Ends_fill op how to ended is none so) = no_duty new _ (moved_as op.key how) (moved_not_full op.key how)
+    says_duty new opens post (Moves _ same next) = subst (λ (p : Post). Duty new p p.body) (sym next.is) tt
+    says_duty new opens post (Moves_on key row _ same h is next) = subst (λ (p : Post). Duty new p p.body) (sym next.is) tt
+    says_duty new opens post (says.Of_the_log _ logged) = no_duty new post post.body (logged_not_full post.body logged)
+    says_duty new opens _ _ = tt
+
+    pending_refuses : (new : PairState) (cell : Cell) (op : Pending) → HasCome hears here own new.pairs.next cell op
+        → Was own cell op ⊎ ((own.pairs.next ≤ op.op) × (op.op < new.pairs.next))
+    pending_refuses new cell op (Stood was) = inl was
+    pending_refuses new cell op (Is_new _ (For_a_write want fresh) e same le) = let number = same.number in inr (omega arith, omega arith)
+    pending_refuses new cell op (Is_new _ (For_a_fill moving fresh) e same le) = let number = same.number in inr (omega arith, omega arith)
+
+    pub job_refuses : (done : JobResult) → Did hears here own done → IsSeated here own done → J done.own done.posts
+    job_refuses done d seat = record {
+      finished = λ c last is how.
+          elim (finished_of hears here own done.own.pairs.finished done.own.pairs.pending (did_finish hears here own done d) c last is) [
+            | inl was ↦ inl was
+            | inr why ↦ inr (finish_refuses done.own.pairs.pending c last why how)
+          ];
+      next = did_count hears here own done d;
+      pending = λ cell op is. pending_refuses done.own cell op (did_come hears here own done d cell op is);
+      letters = λ post c seq i to says. duty post i (body.Full seq) says c to;
+      reserves = λ post number cell i says. duty post i (body.Reserve number cell) says;
+      declined = λ post number cell i says. duty post i (body.PairFull number cell) says;
+    }
+      where
+        duty : (post : Post) → In post done.posts → (what : Body) → post.body ≡ what → Duty done.own post what
+        duty post i what is =
+            subst (Duty done.own post) is (says_duty done.own (λ op none there. new_seat done seat op.cell op none there) post
+            (letters_of_job hears here own done d post i))

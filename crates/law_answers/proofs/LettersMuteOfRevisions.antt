@@ -1,0 +1,48 @@
+-- What says nothing of other revisions and of servers that run: each letter of the log, and each that is handled at its sender's revision alone.
+use Rattle.std.proofs.Common.{◌≡◌, inl, inr, ◌++◌, Bool, true, false, List, [], refl}
+use Rattle.petal_msg.specs.Kinds.{is_logged, subject_of}
+use Rattle.petal_msg.specs.declared.body.Body.{Body}
+use Rattle.petal_msg.specs.declared.body.Body.TheVariants as body
+use Rattle.spec_rules.specs.Lists.{In}
+use Rattle.spec_rules.specs.Server.{JobResult, PairState, Post}
+use Rattle.spec_rules.proofs.ListLemmas.{in-append}
+use Rattle.spec_rules.proofs.Tests.{true_false}
+use Rattle.law_log.proofs.CopyJobsLeaveLog.{IsCalm}
+use Rattle.law_log.proofs.PairJobsLeaveLog.{IsDated}
+
+abbrev pub is_mute : Body → Bool
+is_mute (body.WrongRev seq) = false
+is_mute (body.Seen line round running inc full) = false
+is_mute _ = true
+
+abbrev pub IsMute : Body → Type 0
+IsMute said = is_mute said ≡ true
+
+abbrev pub AreMute : List Post → Type 0
+AreMute posts = (post : Post) → In post posts → IsMute post.body
+
+abbrev pub M : JobResult → Type 0
+M done = AreMute done.posts
+
+pub none_mute : AreMute []
+unfolding In
+none_mute post h = absurd h
+
+pub both_mute : (one other : List Post) → AreMute one → AreMute other → AreMute (one ++ other)
+both_mute one other a b post h = elim (in-append post one other h) [
+  | inl i ↦ a post i
+  | inr i ↦ b post i
+]
+
+pub logged_mute : (said : Body) → is_logged (subject_of said) ≡ true → IsMute said
+logged_mute (body.WrongRev seq) h = true_false h refl
+logged_mute (body.Seen line round running inc full) h = true_false h refl
+logged_mute _ h = refl
+
+pub dated_mute : (said : Body) → IsDated said → IsMute said
+dated_mute (body.WrongRev seq) h = true_false refl h
+dated_mute (body.Seen line round running inc full) h = true_false refl h
+dated_mute _ h = refl
+
+pub calm_mute : (own : PairState) (done : JobResult) → IsCalm own done → M done
+calm_mute own done calm post h = dated_mute post.body (calm.quiet.posts post h)

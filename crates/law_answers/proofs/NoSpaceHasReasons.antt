@@ -1,0 +1,235 @@
+-- Over every legal history, each answer that there was no space has a reason.
+use Rattle.std.proofs.Common.{◌≡◌, ℕ, List, [], ◌∷◌, ◌++◌, Bool, true, false, Option, Some, None, refl, sym}
+use Rattle.std.proofs.Common.{ap, ◌∙◌, subst, ◌⊎◌, inl, inr}
+use Rattle.std.specs.Prelude.{◌||◌, if◌then◌else◌, is_some, ◌==◌}
+use Rattle.std.specs.Ordering.{nat_cmp}
+use Rattle.petal_base.specs.declared.cell.Cell.{Cell}
+use Rattle.petal_command.specs.declared.command.Command.{Command}
+use Rattle.petal_table.proofs.Rows.{at-empty}
+use Rattle.global_tables.specs.declared.disk.Latest.{Latest}
+use Rattle.global_tables.specs.declared.disk.Verdict.{Verdict}
+use Rattle.global_tables.specs.declared.disk.Verdict.TheVariants as verdict
+use Rattle.petal_msg.specs.declared.body.Body.TheVariants as body
+use Rattle.petal_msg.specs.declared.letter.Actor.{Actor}
+use Rattle.petal_msg.specs.declared.letter.Actor.TheVariants as actor
+use Rattle.petal_msg.specs.declared.letter.Letter.{Letter}
+use Rattle.petal_msg.specs.declared.operation.Ending.TheVariants as ending
+use Rattle.script_lines.specs.declared.answer.Answer.{Answer}
+use Rattle.script_lines.specs.declared.answer.Answer.TheVariants as answer
+use Rattle.script_lines.specs.declared.request.Request.{Request}
+use Rattle.script_lines.specs.declared.request.Request.TheVariants as request
+use Rattle.script_lines.specs.declared.script.Script.{Script}
+use Rattle.spec_state.specs.CellState.{cell_asked}
+use Rattle.spec_state.specs.Command.{state_after}
+use Rattle.spec_state.specs.State.{latest}
+use Rattle.spec_state.specs.declared.answer.DiskView.{DiskView}
+use Rattle.spec_rules.specs.Boots.{stays}
+use Rattle.spec_rules.specs.Clients.{Asked, Reaction, Sight, epoch_for, is_unread, refusal, read_refusal}
+use Rattle.spec_rules.specs.Clients.{read_refusal_at, write_refusal, verdict_answer, verdict_for}
+use Rattle.spec_rules.specs.Lists.{In}
+use Rattle.spec_rules.specs.State.{State, find, lead}
+use Rattle.spec_rules.specs.Store.{cell_cmp}
+use Rattle.spec_rules.specs.World.{Setting, World, step, start, setting_of, client_step, client_state}
+use Rattle.spec_rules.specs.World.{next_line, MayActor}
+use Rattle.spec_rules.specs.declared.step.Step.{Step}
+use Rattle.spec_rules.proofs.Tests.{same_some, none_some, by_test}
+use Rattle.spec_history.specs.Steps.{world_after}
+use Rattle.spec_history.specs.declared.record.Record.{Record}
+use Rattle.law_state.proofs.Moments.{last_moment, moment_more}
+use Rattle.law_steps.specs.DidStep.{Heard}
+use Rattle.law_steps.specs.DidClient.{Turned, Goes_on, Is_told, Begins, Reads, Ends, Shown, Judges, IsReason, By_verdict, By_witness, IsSeenAs}
+use Rattle.law_steps.specs.DidClient.{Stops_it, Stops_at, Fails_it, Starts_it, Blanks_it, Has_no_space, Is_settled}
+use Rattle.law_steps.proofs.ClientStepKinds.{client_turns, is_call}
+use Rattle.law_jobs.proofs.Runs.{OneMore, Run, after, at_moment, by_run, firm_in, firm_then, follows_in, grown_then, longer, rests_in, setting_in, stepped_in}
+use Rattle.law_answers.proofs.SettlesAreAnswered.{shown_full}
+use Rattle.law_answers.specs.Refusals.{HadNoSlot, WasRefused, HasReason, Refusals}
+use Rattle.law_answers.specs.FullCauses.{HasFullServer}
+use Rattle.law_answers.proofs.NoSlotWasReported.{found_none}
+use Rattle.law_answers.proofs.StepRefusals.{step_kept}
+
+module _ (setting : Setting) where
+  -- ### Histories
+
+  abbrev W : List Record → World
+  W records = world_after setting (start setting) records
+
+  refused_more : (done : List Record) (own : Record) (c seq : ℕ) → WasRefused setting done c seq → WasRefused setting (done ++ own ∷ []) c seq
+  refused_more done own c seq r = record { moment = moment_more done own r.moment; reason = r.reason }
+
+  refused_now : (done : List Record) (own : Record) (c seq : ℕ) → HadNoSlot setting (W done) own.actor own.step c seq
+      → WasRefused setting (done ++ own ∷ []) c seq
+  refused_now done own c seq h = record { moment = last_moment done own; reason = h }
+
+  -- ### A refused write
+
+  abbrev given_as : ℕ → Answer → Option (ℕ × Answer)
+  given_as line given = Some (line, given)
+
+  answer_is : {a b : Answer} {i j : ℕ} → given_as i a ≡ given_as j b → (i ≡ j) × (a ≡ b)
+  answer_is {a} {b} {i} {j} e =
+      let one : ℕ × Answer = (i, a) in
+      let two : ℕ × Answer = (j, b) in
+      let same : one ≡ two = same_some e in
+      (ap (λ (p : ℕ × Answer). p.0) same, ap (λ (p : ℕ × Answer). p.1) same)
+
+  -- the client heard of a glance of its settle that found a server without a slot
+  record HeardSight (w : World) (c : ℕ) (asked : Asked) : Type 0 where
+    settles : asked.request ≡ request.Settle
+    rev : ℕ
+    sight : Sight
+    heard : Heard w (actor.Client c) rev (body.Seen asked.line sight.round sight.running sight.inc sight.full)
+    full : sight.full ≡ true
+
+  -- a client that answers so heard of it
+  record HeardFull (w : World) (c number : ℕ) : Type 0 where
+    asked : Asked
+    is : (w.clients c).asked ≡ Some asked
+    line : asked.line ≡ number
+    heard : Heard w (actor.Client c) asked.rev (body.Full asked.seq) ⊎ HeardSight w c asked
+
+  -- a state that can't serve a request tells of no want of slots, and no verdict does
+  verdict_spaced : (o : Option Latest) (seq : ℕ) → verdict_for seq o ≡ Some answer.NoSpace → ⊥
+  verdict_spaced None seq e = none_some refl e
+  verdict_spaced (Some last) seq e = by_test (λ o. o ≡ Some answer.NoSpace → ⊥) (last.seq == seq) _ _ (λ t. by last.verdict) (λ t f. none_some refl f) e
+    where
+      by : (verdict : Verdict) → verdict_answer verdict ≡ Some answer.NoSpace → ⊥
+      by verdict.Ok f = let g : answer.Ok ≡ answer.NoSpace = same_some f in cc
+      by verdict.Waiting f = none_some refl f
+      by verdict.Exists f = let g : answer.Exists ≡ answer.NoSpace = same_some f in cc
+      by verdict.NoDisk f = let g : answer.NoDisk ≡ answer.NoSpace = same_some f in cc
+      by verdict.Moving f = let g : answer.Moving ≡ answer.NoSpace = same_some f in cc
+
+  unavailable : (b : Bool) → (if b then None else Some answer.Unavailable) ≡ Some answer.NoSpace → ⊥
+  unavailable true e = none_some refl e
+  unavailable false e = let g : answer.Unavailable ≡ answer.NoSpace = same_some e in cc
+
+  unavailable_too : (b : Bool) → (if b then Some answer.Unavailable else None) ≡ Some answer.NoSpace → ⊥
+  unavailable_too true e = let g : answer.Unavailable ≡ answer.NoSpace = same_some e in cc
+  unavailable_too false e = none_some refl e
+
+  refusal_spaced : (state : State) (told : Bool) (asked : Request) → refusal state told asked ≡ Some answer.NoSpace → ⊥
+  unfolding refusal
+  refusal_spaced state told (request.Write name block pattern) e = by (find state name) e
+    where
+      by : (o : Option DiskView) → write_refusal state o block ≡ Some answer.NoSpace → ⊥
+      by None f = let g : answer.NoDisk ≡ answer.NoSpace = same_some f in cc
+      by (Some disk) f = unavailable (is_some (lead state (cell_asked state disk block false))) f
+  refusal_spaced state told (request.Read name snap block) e = by (find state name) e
+    where
+      at : (cell old : Cell) (o : Option ℕ) → read_refusal_at state cell old o ≡ Some answer.NoSpace → ⊥
+      at cell old None f = let g : answer.NoSnap ≡ answer.NoSpace = same_some f in cc
+      at cell old (Some epoch) f = unavailable_too (is_unread state cell || is_unread state old) f
+
+      by : (o : Option DiskView) → read_refusal state o snap block told ≡ Some answer.NoSpace → ⊥
+      by None f = let g : answer.NoDisk ≡ answer.NoSpace = same_some f in cc
+      by (Some disk) f = at (cell_asked state disk block false) (cell_asked state disk block told) (epoch_for state disk snap) f
+  refusal_spaced state told _ e = none_some refl e
+
+  reason_spaced : (c : ℕ) (asked : Asked) (state : State) (entry : Command) → IsReason c asked answer.NoSpace state entry → ⊥
+  reason_spaced c asked state entry (By_verdict command own so) = verdict_spaced (latest state c) asked.seq so
+  reason_spaced c asked state entry (By_witness none is so) = refusal_spaced state asked.told asked.request so
+
+  runs_spaced : (running : Bool) → answer.NoSpace ≡ (if running then answer.Ok else answer.Failed) → ⊥
+  runs_spaced true e = let g : answer.NoSpace ≡ answer.Ok = e in cc
+  runs_spaced false e = let g : answer.NoSpace ≡ answer.Failed = e in cc
+
+  -- a glance tells a settle alone of a want of slots
+  sight_spaced : (state : State) (asked : Asked) (sight : Sight) → IsSeenAs state asked sight answer.NoSpace
+      → (asked.request ≡ request.Settle) × (sight.full ≡ true)
+  sight_spaced state asked sight (Stops_it server is e) = absurd (let g : answer.NoSpace ≡ answer.Ok = e in cc)
+  sight_spaced state asked sight (Stops_at server at is e) = absurd (let g : answer.NoSpace ≡ answer.Ok = e in cc)
+  sight_spaced state asked sight (Fails_it server which kind at is e) = absurd (let g : answer.NoSpace ≡ answer.Ok = e in cc)
+  sight_spaced state asked sight (Starts_it server is e) = absurd (runs_spaced sight.running e)
+  sight_spaced state asked sight (Blanks_it server is e) = absurd (runs_spaced sight.running e)
+  sight_spaced state asked sight (Has_no_space is full e) = (is, full)
+  sight_spaced state asked sight (Is_settled is round seen all e) = absurd (let g : answer.NoSpace ≡ answer.Ok = e in cc)
+
+  heard_full : (w : World) (c : ℕ) (in_call : Bool) (reacted : Reaction)
+      → Turned (Heard w (actor.Client c)) setting.servers setting.lines c (w.clients c) in_call reacted → (number : ℕ)
+      → reacted.answer ≡ Some (number, answer.NoSpace) → HeardFull w c number
+  heard_full w c _ _ (Goes_on reacted seq stays only) number e = none_some only.unanswered e
+  heard_full w c _ _ (Is_told reacted asked h is reads seq stays only) number e = none_some only.unanswered e
+  heard_full w c _ _ (Begins reacted line asked is free seq there called only) number e = none_some only.unanswered e
+  heard_full w c _ _ (Reads asked bytes h is reads) number e = absurd (let g : answer.Data bytes ≡ answer.NoSpace = (answer_is e).1 in cc)
+  heard_full w c _ _ (Ends asked ending.Written h is writes) number e = absurd (let g : answer.Ok ≡ answer.NoSpace = (answer_is e).1 in cc)
+  heard_full w c _ _ (Ends asked ending.Full h is writes) number e =
+      record { asked = asked; is = is; line = (answer_is e).0; heard = inl h }
+  heard_full w c _ _ (Shown asked rev sight given h is seen) number e =
+      let why = sight_spaced _ asked sight (subst (IsSeenAs _ asked sight) (answer_is e).1 seen) in
+      record {
+        asked = asked;
+        is = is;
+        line = (answer_is e).0;
+        heard = inr (record { settles = why.0; rev = rev; sight = sight; heard = h; full = why.1 });
+      }
+  heard_full w c _ _ (Judges after asked given is gone seq judged) number e =
+      let at = state_after setting.servers (judged.front ++ judged.entry ∷ []) in
+      absurd (reason_spaced c asked at judged.entry (subst (λ (x : Answer). IsReason c asked x at judged.entry) (answer_is e).1 judged.reason))
+
+  answer_heard : (w : World) → (who : Actor) (what : Step) (stamp c number : ℕ) → who ≡ actor.Client c → MayActor who what setting w
+      → (step who what setting w stamp).answer ≡ Some (number, answer.NoSpace) → HeardFull w c number
+  unfolding step
+  answer_heard w (actor.Server n) what stamp c number e may given = none_some refl given
+  answer_heard w (actor.Client d) what stamp c number e may given =
+      subst (λ i. HeardFull w i number) (one_client e)
+      (heard_full w d (is_call what) (client_step what (client_state setting w d) d (w.clients d) (next_line setting.lines d (w.clients d)))
+      (client_turns setting w d what may.1).turned number given)
+    where
+      one_client : {i j : ℕ} → actor.Client i ≡ actor.Client j → i ≡ j
+      one_client e = cc
+
+-- ### From the start
+
+start_refusals : (R : ℕ → ℕ → Type 0) (script : Script) → Refusals R (setting_of script) (start (setting_of script))
+unfolding In
+start_refusals R script = record {
+  letters = λ letter c seq h to says. absurd h;
+  finished = λ n c last runs is how. none_some (at-empty nat_cmp c) is;
+  numbered = λ n cell op is. none_some (at-empty cell_cmp cell) is;
+  reserves = λ letter number cell h says. absurd h;
+  declined = λ letter number cell h says. absurd h;
+}
+
+-- what is kept of refusals, where each was made by one of the run's records
+abbrev AreRefused : Run → Type 0
+AreRefused run = Refusals (WasRefused (setting_in run) run.records) (setting_in run) (after run)
+
+refused_next : (it : OneMore) → AreRefused it.prior → AreRefused (longer it)
+refused_next it old =
+    let setting = setting_in it.prior in
+    let w = after it.prior in
+    let done = it.prior.records in
+    let e = stepped_in it in
+    subst (Refusals (WasRefused setting (longer it).records) setting) (sym e)
+    (step_kept setting (WasRefused setting done) (WasRefused setting (longer it).records) w (firm_in it.prior) (rests_in it.prior) it.own.actor it.own.step
+    it.own.stamp (follows_in it).may.may (firm_then it) (grown_then it)
+    (refused_more setting done it.own) (refused_now setting done it.own) old)
+
+are_refused : (run : Run) → AreRefused run
+are_refused = by_run AreRefused (λ script sound legal. start_refusals (WasRefused (setting_of script) []) script) refused_next
+
+-- a glance that showed a want of slots, and what was so before it
+full_copy : (run : Run) (letter : Letter) (line round : ℕ) (running : Bool) (inc : ℕ) (full : Bool) → In letter (after run).sent
+    → letter.body ≡ body.Seen line round running inc full → full ≡ true → HasFullServer (setting_in run) run.records line
+full_copy run letter line round running inc full h says so =
+    let found = shown_full run letter line round running inc full h says so in
+    record { found = found; full = found_none (at_moment run found.at.moment).prior found.server found.runs found.full }
+
+pub no_space_reason : (it : OneMore) (client line : ℕ) → it.own.actor ≡ actor.Client client → it.own.answer ≡ Some (line, answer.NoSpace)
+    → HasReason (setting_in it.prior) it.prior.records client line
+no_space_reason it client line who given =
+    let setting = setting_in it.prior in
+    let follows = follows_in it in
+    let h = answer_heard setting (after it.prior) it.own.actor it.own.step it.own.stamp client line who follows.may.may (sym follows.answer ∙ given) in
+    record {
+      opened = record { asked = h.asked; is = h.is; number = h.line };
+      refused = elim h.heard [
+        | inl full ↦ inl ((are_refused it.prior).letters full.letter client h.asked.seq full.sent full.own full.is)
+        | inr seen ↦ inr (
+          seen.settles,
+          subst (HasFullServer setting it.prior.records) h.line
+              (full_copy it.prior seen.heard.letter h.asked.line seen.sight.round seen.sight.running seen.sight.inc seen.sight.full seen.heard.sent
+              seen.heard.is seen.full),
+        )
+      ];
+    }

@@ -1,0 +1,188 @@
+-- A read that a server handles was called before; and where it is of an old map, its client was turned to that map before.
+use Rattle.std.proofs.Common.{◌≡◌, ◌++◌, ℕ, List, [], ◌∷◌, Bool, true, false, Some, length, refl, sym, ap, ◌∙◌, subst, arith, append_assoc}
+use Rattle.petal_base.specs.declared.cell.Cell.{Cell}
+use Rattle.petal_command.specs.declared.command.Command.{Command}
+use Rattle.petal_msg.specs.declared.body.Body.{Body}
+use Rattle.petal_msg.specs.declared.body.Body.TheVariants as body
+use Rattle.petal_msg.specs.declared.letter.Actor.TheVariants as actor
+use Rattle.petal_msg.specs.declared.letter.Letter.{Letter}
+use Rattle.spec_state.specs.CellState.{cell_asked}
+use Rattle.spec_state.specs.Command.{state_after}
+use Rattle.spec_state.specs.declared.answer.DiskView.{DiskView}
+use Rattle.script_lines.specs.declared.request.Line.{Line}
+use Rattle.script_lines.specs.declared.script.Script.{Script}
+use Rattle.spec_rules.specs.Clients.{Client}
+use Rattle.spec_rules.specs.Lists.{In}
+use Rattle.spec_rules.specs.Log.{rev_of}
+use Rattle.spec_rules.specs.State.{find, leaving}
+use Rattle.spec_rules.specs.World.{MayClient, Setting, World, chosen_log, reacts, setting_of, start, step}
+use Rattle.spec_rules.specs.declared.step.Step.{Step}
+use Rattle.spec_rules.specs.declared.step.Step.TheVariants.{Call}
+use Rattle.spec_rules.proofs.ListLemmas.{in_former, put_same}
+use Rattle.spec_rules.proofs.Tests.{by_bool, none_some, same_some, true_false}
+use Rattle.spec_history.specs.Claims.{IsPrefix}
+use Rattle.spec_history.specs.Steps.{AreSteps, stepped, world_after}
+use Rattle.spec_history.specs.Sound.{IsSound}
+use Rattle.spec_history.specs.declared.record.Record.{Record}
+use Rattle.law_state.specs.Plain.{IsPlainLog}
+use Rattle.law_state.proofs.EntriesOnlyAdd.{log_plain}
+use Rattle.law_state.proofs.NamedCells.{asked_takes}
+use Rattle.law_state.proofs.Steady.{front_plain, log_rev}
+use Rattle.law_log.proofs.LogInHistories.{history_grows}
+use Rattle.law_steps.specs.DidStep.{Handled}
+use Rattle.law_steps.specs.DidClient.{line_by}
+use Rattle.law_steps.proofs.MovesAreOfComingCells.{stage_facts}
+use Rattle.law_steps.proofs.Fronts.{front_on, one_front}
+use Rattle.law_answers.proofs.ClientReadSteps.{Asks}
+use Rattle.law_jobs.proofs.Runs.{run_of}
+use Rattle.law_jobs.proofs.LettersWereSent.{was_sent}
+use Rattle.law_answers.proofs.RecordsInOrder.{From_client, From_server, IsSentFrom, asked_at, legal_upto, next_is, sent_by}
+use Rattle.law_answers.proofs.OneReplyEachRead.{answers_read, is_of_read}
+use Rattle.law_answers.proofs.LawsBelow.{stands_after}
+use Rattle.law_answers.proofs.ClientHistorySteps.{own_asks, reacted_to}
+use Rattle.law_answers.proofs.ReadsTurnToOldMap.{WasCalled, WasTurned, was_called, was_turned}
+
+-- the client's request by which a read was sent, as the step leaves it
+record IsSentFor (setting : Setting) (v : World) (client seq : ℕ) (cell : Cell) (rev : ℕ) : Type 0 where
+  asks : Asks (state_after setting.servers (v.clients client).applied) client (v.clients client).asked client seq cell
+  long : rev ≡ length (v.clients client).applied
+
+-- the letter is the client's own
+client_sent : (setting : Setting) (w : World) (c : ℕ) (what : Step) (stamp : ℕ) → MayClient what setting w c → (letter : Letter)
+    → In letter (reacts w c stamp (reacted_to setting w c what)).letters → (client seq : ℕ) (cell : Cell) (epoch : ℕ)
+    → letter.body ≡ body.Read client seq cell epoch
+    → IsSentFor setting (step (actor.Client c) what setting w stamp).world client seq cell letter.rev
+unfolding step
+client_sent setting w c what stamp may letter i client seq cell epoch is =
+    let a = own_asks setting w c what may stamp letter i client seq cell epoch is in
+    let v = (reacts w c stamp (reacted_to setting w c what)).world in
+    let here : v.clients c ≡ (reacted_to setting w c what).client = put_same w.clients c (reacted_to setting w c what).client in
+    let so : IsSentFor setting v c seq cell letter.rev = record {
+      asks = subst (λ (x : Client). Asks (state_after setting.servers x.applied) c x.asked c seq cell) (sym here)
+          (subst (λ k. Asks (state_after setting.servers (reacted_to setting w c what).client.applied) c (reacted_to setting w c what).client.asked k seq cell)
+          a.0.same a.0);
+      long = a.1 ∙ ap (λ (x : Client). length x.applied) (sym here);
+    } in
+    subst (λ k. IsSentFor setting v k seq cell letter.rev) (sym a.0.same) so
+
+-- a turn of the first records is one of all
+turned_in : (setting : Setting) (records done following : List Record) → records ≡ done ++ following → (c seq rev : ℕ) → WasTurned setting done c seq rev
+    → WasTurned setting records c seq rev
+turned_in setting records done following e c seq rev t = record {
+  moment = record {
+    front = t.front;
+    own = t.own;
+    following = t.following ++ following;
+    is = e ∙ ap (λ rs. rs ++ following) t.is ∙ append_assoc t.front (t.own ∷ t.following) following;
+  };
+  letter = t.letter;
+  turn = t.turn;
+}
+
+no_reply : {B : Type 0} (what : Body) (client seq : ℕ) (cell : Cell) (epoch number : ℕ) → what ≡ body.Read client seq cell epoch
+    → answers_read what ≡ Some number → B
+no_reply what client seq cell epoch number is e = none_some (ap answers_read is) e
+
+module _ (script : Script) (sound : IsSound script) where
+  abbrev setting : Setting
+  setting = setting_of script
+
+  abbrev At : List Record → World
+  At records = world_after setting (start setting) records
+
+  -- where a read that has come to a server was sent
+  record IsSource (records : List Record) (client seq : ℕ) (cell : Cell) (rev : ℕ) : Type 0 where
+    front : List Record
+    own : Record
+    following : List Record
+    is : records ≡ (front ++ own ∷ []) ++ following
+    legal : AreSteps script (front ++ own ∷ [])
+    so : IsSentFor setting (At (front ++ own ∷ [])) client seq cell rev
+
+  source : (records : List Record) → AreSteps script records → (letter : Letter) → In letter (At records).sent → (client seq : ℕ) (cell : Cell)
+      (epoch : ℕ) → letter.body ≡ body.Read client seq cell epoch → IsSource records client seq cell letter.rev
+  source records legal letter i client seq cell epoch says =
+      let s = was_sent (run_of script sound records legal) letter i in
+      let there : AreSteps script (s.front ++ s.own ∷ s.following) = subst (AreSteps script) s.is legal in
+      let of_read : is_of_read letter.body ≡ true = ap is_of_read says in
+      let so = by s.front s.own (sent_by script sound s.front s.own s.following there letter s.sent of_read) in
+      record {
+        front = s.front;
+        own = s.own;
+        following = s.following;
+        is = s.is ∙ sym (append_assoc s.front (s.own ∷ []) s.following);
+        legal = legal_upto script sound s.front s.own s.following there;
+        so = subst (λ u. IsSentFor setting u client seq cell letter.rev) (sym (next_is script sound s.front s.own)) so;
+      }
+    where
+      by : (front : List Record) (own : Record) → IsSentFrom setting (At front) own letter
+          → IsSentFor setting (stepped setting (At front) own).world client seq cell letter.rev
+      by front own (From_server n who r) = no_reply letter.body client seq cell epoch r.seq says r.is
+      by front own (From_client c who may j) =
+          subst (λ a. IsSentFor setting (step a own.step setting (At front) own.stamp).world client seq cell letter.rev) (sym who)
+          (client_sent setting (At front) c own.step own.stamp may letter j client seq cell epoch says)
+
+  -- ### It was called
+
+  pub read_called : (records : List Record) → AreSteps script records → (n client seq : ℕ) (cell : Cell) (epoch : ℕ)
+      → Handled (At records) n (body.Read client seq cell epoch) → (line : Line) → line_by script.lines client seq ≡ Some line
+      → WasCalled records client line.number
+  read_called records legal n client seq cell epoch h line is =
+      let s = source records legal h.letter h.sent client seq cell epoch h.is in
+      let asks = s.so.asks in
+      let k = was_called (run_of script sound (s.front ++ s.own ∷ []) s.legal) client asks.asked asks.is in
+      let of = asked_at script sound (s.front ++ s.own ∷ []) s.legal client asks.asked asks.is in
+      let line_is : of.line ≡ line = same_some (sym of.is ∙ ap (line_by script.lines client) asks.seq_is ∙ is) in
+      record {
+        call = k.call;
+        there = subst (In k.call) (sym s.is) (in_former k.call (s.front ++ s.own ∷ []) s.following k.there);
+        who = k.who;
+        what = k.what ∙ ap Call (of.number ∙ ap (λ (l : Line). l.number) line_is);
+      }
+
+  -- ### It was turned
+
+  -- a cell that requests name is not leaving
+  named_stays : (log : List Command) → IsPlainLog script.servers log → (name : List ℕ) (disk : DiskView) (block : ℕ)
+      → find (state_after script.servers log) name ≡ Some disk
+      → leaving (state_after script.servers log) (cell_asked (state_after script.servers log) disk block false) ≡ false
+  named_stays log plain name disk block found =
+      let s = state_after script.servers log in
+      let p = log_plain script.servers log plain in
+      let most = (asked_takes script.servers s p name disk found block).1 in
+      by_bool (leaving s (cell_asked s disk block false))
+      (λ t. let three = (stage_facts script.servers log plain (cell_asked s disk block false)).leaves t in absurd (omega arith)) (λ f. f)
+
+  -- so one that is was asked for by the old way
+  old_way_of : (log : List Command) → IsPlainLog script.servers log → (cell : Cell) (name : List ℕ) (disk : DiskView) (block : ℕ) (way : Bool)
+      → find (state_after script.servers log) name ≡ Some disk → cell ≡ cell_asked (state_after script.servers log) disk block way
+      → leaving (state_after script.servers log) cell ≡ true → way ≡ true
+  old_way_of log plain cell name disk block true found is leaves = refl
+  old_way_of log plain cell name disk block false found is leaves =
+      true_false leaves (ap (leaving (state_after script.servers log)) is ∙ named_stays log plain name disk block found)
+
+  pub read_turned : (records : List Record) → AreSteps script records → (n client seq : ℕ) (cell : Cell) (epoch : ℕ)
+      → Handled (At records) n (body.Read client seq cell epoch) → leaving (state_after script.servers ((At records).servers n).log.applied) cell ≡ true
+      → WasTurned setting records client seq (rev_of ((At records).servers n).log)
+  read_turned records legal n client seq cell epoch h leaves =
+      let s = source records legal h.letter h.sent client seq cell epoch h.is in
+      let done = s.front ++ s.own ∷ [] in
+      let asks = s.so.asks in
+      let mine = ((At done).clients client).applied in
+      let firm = (stands_after script done sound s.legal).ground.ready.firm in
+      let firm_now = (stands_after script records sound legal).ground.ready.firm in
+      let grows : IsPrefix (chosen_log setting (At done)) (chosen_log setting (At records)) =
+      history_grows script records sound legal done s.following s.is in
+      let log_is : mine ≡ ((At records).servers n).log.applied =
+      one_front mine ((At records).servers n).log.applied (chosen_log setting (At records))
+      (front_on mine (chosen_log setting (At done)) (chosen_log setting (At records)) (firm.clients client) grows) (firm_now.servers n)
+      (sym s.so.long ∙ h.at) in
+      let leaves_then : leaving (state_after script.servers mine) cell ≡ true =
+      ap (λ log. leaving (state_after script.servers log) cell) log_is ∙ leaves in
+      let plain = front_plain script.servers mine (chosen_log setting (At done)) firm.plain (firm.clients client) in
+      let way = old_way_of mine plain cell asks.name asks.disk asks.block asks.asked.old_way asks.found asks.cell_is leaves_then in
+      let t = was_turned (run_of script sound done s.legal) client asks.asked asks.is way in
+      let rev_is : asks.asked.rev ≡ rev_of ((At records).servers n).log = asks.rev_is ∙ log_rev script.servers mine ∙ ap length log_is in
+      let here : WasTurned setting done client seq (rev_of ((At records).servers n).log) =
+      subst (WasTurned setting done client seq) rev_is (subst (λ k. WasTurned setting done client k asks.asked.rev) asks.seq_is t) in
+      turned_in setting records done s.following s.is client seq (rev_of ((At records).servers n).log) here

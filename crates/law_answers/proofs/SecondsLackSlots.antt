@@ -1,0 +1,58 @@
+-- Who tells a lead that its second server has no slot: that server, which was asked for one and had none. Each such letter was sent in such a step.
+use Rattle.std.proofs.Common.{◌≡◌, ℕ, refl, sym, ◌∙◌, subst}
+use Rattle.petal_base.specs.declared.cell.Cell.{Cell}
+use Rattle.petal_msg.specs.declared.body.Body.TheVariants as body
+use Rattle.petal_msg.specs.declared.letter.Actor.{Actor}
+use Rattle.petal_msg.specs.declared.letter.Actor.TheVariants as actor
+use Rattle.petal_msg.specs.declared.letter.Letter.{Letter}
+use Rattle.spec_rules.specs.Lists.{In}
+use Rattle.spec_rules.specs.World.{Setting, World}
+use Rattle.spec_rules.specs.declared.step.Step.{Step}
+use Rattle.spec_rules.proofs.Tests.{is_the_one}
+use Rattle.law_steps.specs.DidStep.{Handled}
+use Rattle.law_jobs.proofs.Runs.{At, OneMore, Run, after, at_moment, setting_in}
+use Rattle.law_jobs.proofs.LettersWereSent.{was_sent}
+use Rattle.law_answers.specs.FullCauses.{SecondHadNone, WasToldBySecond}
+use Rattle.law_answers.proofs.Reasons.{reason_found}
+
+-- the second server told this lead
+record TellsNow (setting : Setting) (w : World) (who : Actor) (what : Step) (letter : Letter) (number : ℕ) (cell : Cell) : Type 0 where
+  lead : ℕ
+  to : letter.to ≡ actor.Server lead
+  reason : SecondHadNone setting w who what lead number cell
+
+tells_now : (it : OneMore) (letter : Letter) (number : ℕ) (cell : Cell) → In letter it.own.sent → letter.body ≡ body.PairFull number cell
+    → TellsNow (setting_in it.prior) (after it.prior) it.own.actor it.own.step letter number cell
+tells_now it letter number cell i says =
+    let f = reason_found it letter (body.PairFull number cell) i says refl in
+    let t = f.reason in
+    record {
+      lead = t.lead;
+      to = t.goes;
+      reason = record {
+        server = f.server;
+        is = f.is;
+        works = f.works;
+        leads = t.leads;
+        follows = is_the_one _ f.server t.follows;
+        asked = t.asked;
+        none = t.none;
+      };
+    }
+
+-- so did it tell the one that handled the letter
+pub told_lead : (run : Run) (n number : ℕ) (cell : Cell) (heard : Handled (after run) n (body.PairFull number cell))
+    → WasToldBySecond (setting_in run) run.records heard.letter n number cell
+told_lead run n number cell heard =
+    let was = was_sent run heard.letter heard.sent in
+    let t = tells_now (at_moment run was.moment) heard.letter number cell was.sent heard.is in
+    record {
+      moment = was.moment;
+      sent = was.sent;
+      to = heard.own;
+      reason = subst (λ k. SecondHadNone (setting_in run) (At run.script was.front) was.own.actor was.own.step k number cell)
+          (one_server (sym t.to ∙ heard.own)) t.reason;
+    }
+  where
+    one_server : {i j : ℕ} → actor.Server i ≡ actor.Server j → i ≡ j
+    one_server e = cc

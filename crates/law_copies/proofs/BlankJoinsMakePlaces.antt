@@ -1,0 +1,111 @@
+-- A Join of a server with an empty store makes a new place of each of the server's links: so at one place of a link each of its two
+-- servers has one store.
+use Rattle.std.proofs.Common.{◌≡◌, ◌≤◌, ◌<◌, ◌+◌, ◌==◌, ◌&&◌, ℕ, List, [], ◌∷◌, true, if◌then◌else◌, refl, sym, ap, ◌∙◌, inl, inr, arith}
+use Rattle.std.specs.Prelude.{slice_get}
+use Rattle.global_tables.specs.Link.{has_server}
+use Rattle.global_tables.specs.declared.link.LinkRow.{LinkRow}
+use Rattle.petal_base.specs.declared.cell.Cell.{Cell}
+use Rattle.petal_command.specs.declared.command.Command.{Command}
+use Rattle.petal_command.specs.declared.command.Command.TheVariants.{Join}
+use Rattle.spec_history.specs.Claims.{IsPrefix}
+use Rattle.spec_state.specs.Command.{after, may_join, state_after}
+use Rattle.spec_state.specs.Place.{places_from, touches}
+use Rattle.spec_state.specs.State.{start}
+use Rattle.spec_rules.specs.Blanked.{blank_joins_from, joins_blank}
+use Rattle.spec_rules.specs.State.{State}
+use Rattle.spec_rules.specs.Store.{Store}
+use Rattle.spec_rules.specs.World.{Setting, blank_joins_in}
+use Rattle.spec_rules.proofs.Tests.{both_true, by_bool, same_numbers, true_false}
+use Rattle.law_state.specs.Plain.{IsPlainLog}
+use Rattle.law_state.proofs.BlankJoins.{joins_grow, joins_on}
+use Rattle.law_state.proofs.EntriesTouchLinks.{places_of_both}
+use Rattle.law_copies.specs.Visits.{IsLinked, place_by, store_by}
+use Rattle.law_copies.proofs.PlacesByFronts.{fronts_meet, place_of_later}
+
+-- the entry touches each link of the server
+joins_touch : (s : State) (entry : Command) (n : ℕ) (row : LinkRow) → has_server n row ≡ true → joins_blank s entry n ≡ true
+    → touches s entry row ≡ true
+joins_touch s (Join server inc true) n row has e =
+    let h = both_true (server == n) (may_join (slice_get s.view.members server) inc) e in
+    let same = same_numbers server n h.0 in
+    ap (λ b. b && has_server server row) h.1 ∙ ap (λ k. has_server k row) same ∙ has
+joins_touch s _ n row has e = true_false e refl
+
+joins_places : (s : State) (entries : List Command) (n : ℕ) (row : LinkRow) → has_server n row ≡ true
+    → blank_joins_from s entries n ≤ places_from s entries row
+joins_places s [] n row has = omega arith
+joins_places s (entry ∷ entries) n row has =
+    let rest = joins_places (after s entry) entries n row has in
+    by_bool (joins_blank s entry n)
+    (λ is.
+    let one : blank_joins_from s (entry ∷ entries) n ≡ blank_joins_from (after s entry) entries n + 1 =
+    ap (λ b. if b then blank_joins_from (after s entry) entries n + 1 else blank_joins_from (after s entry) entries n) is in
+    let place : places_from s (entry ∷ entries) row ≡ places_from (after s entry) entries row + 1 =
+    ap (λ b. if b then places_from (after s entry) entries row + 1 else places_from (after s entry) entries row)
+    (joins_touch s entry n row has is) in
+    omega arith)
+    (λ off.
+    let none : blank_joins_from s (entry ∷ entries) n ≡ blank_joins_from (after s entry) entries n =
+    ap (λ b. if b then blank_joins_from (after s entry) entries n + 1 else blank_joins_from (after s entry) entries n) off in
+    by_bool (touches s entry row)
+    (λ t.
+    let place : places_from s (entry ∷ entries) row ≡ places_from (after s entry) entries row + 1 =
+    ap (λ b. if b then places_from (after s entry) entries row + 1 else places_from (after s entry) entries row) t in
+    omega arith)
+    (λ f.
+    let place : places_from s (entry ∷ entries) row ≡ places_from (after s entry) entries row =
+    ap (λ b. if b then places_from (after s entry) entries row + 1 else places_from (after s entry) entries row) f in
+    omega arith))
+
+module _ (setting : Setting) where
+  -- between two fronts, there are at least as many new places of the link
+  pub joins_by_places : (front more : List Command) (row : LinkRow) (n : ℕ) → IsPrefix front more → has_server n row ≡ true
+      → blank_joins_in setting more n + place_by setting front row ≤ blank_joins_in setting front n + place_by setting more row
+  joins_by_places front more row n prefix has =
+      let s = state_after setting.servers front in
+      let places = places_of_both setting.servers front more row prefix in
+      let joins : blank_joins_in setting more n ≡ blank_joins_in setting front n + blank_joins_from s prefix.later n =
+      ap (λ log. blank_joins_from (start setting.servers) log n) prefix.is ∙ joins_on n (start setting.servers) front prefix.later in
+      let le = joins_places s prefix.later n row has in
+      omega arith
+
+  module _ (whole : List Command) (plain : IsPlainLog setting.servers whole) where
+    joins_at_up : (front more : List Command) (cell : Cell) (row now : LinkRow) (n : ℕ) → IsPrefix front more → IsPrefix more whole
+        → IsLinked setting front cell row → IsLinked setting more cell now → has_server n row ≡ true
+        → place_by setting front row ≡ place_by setting more now
+        → blank_joins_in setting front n ≡ blank_joins_in setting more n
+    joins_at_up front more cell row now n one two is end has same =
+        let le = joins_by_places front more row n one has in
+        let up = joins_grow setting.servers front more n one in
+        let counted = place_of_later setting whole plain front more more cell row now one two is end in
+        omega arith
+
+    -- at one place of a link each of its servers has as many
+    pub joins_at : (front more : List Command) (cell : Cell) (row now : LinkRow) (n : ℕ) → IsPrefix front whole → IsPrefix more whole
+        → IsLinked setting front cell row → IsLinked setting more cell now → has_server n row ≡ true → has_server n now ≡ true
+        → place_by setting front row ≡ place_by setting more now
+        → blank_joins_in setting front n ≡ blank_joins_in setting more n
+    joins_at front more cell row now n one two is end has has_now same = elim (fronts_meet front more whole one two) [
+      | inl p ↦ joins_at_up front more cell row now n p two is end has same
+      | inr p ↦ sym (joins_at_up more front cell now row n p one end is has_now (sym same))
+    ]
+
+    -- and so one store
+    pub store_at : (stores : ℕ → ℕ → Store) (front more : List Command) (cell : Cell) (row now : LinkRow) (n : ℕ) → IsPrefix front whole
+        → IsPrefix more whole → IsLinked setting front cell row → IsLinked setting more cell now → has_server n row ≡ true
+        → has_server n now ≡ true → place_by setting front row ≡ place_by setting more now
+        → store_by setting stores front n ≡ store_by setting stores more n
+    store_at stores front more cell row now n one two is end has has_now same =
+        ap (stores n) (joins_at front more cell row now n one two is end has has_now same)
+
+    -- with fewer of them a front is at an earlier place
+    pub joins_earlier : (front more : List Command) (cell : Cell) (row now : LinkRow) (n : ℕ) → IsPrefix front whole → IsPrefix more whole
+        → IsLinked setting front cell row → IsLinked setting more cell now → has_server n row ≡ true → has_server n now ≡ true
+        → blank_joins_in setting front n < blank_joins_in setting more n → place_by setting front row < place_by setting more now
+    joins_earlier front more cell row now n one two is end has has_now lt = elim (fronts_meet front more whole one two) [
+      | inl p ↦
+          let le = joins_by_places front more row n p has in
+          let counted = place_of_later setting whole plain front more more cell row now p two is end in
+          omega arith
+      | inr p ↦ let up = joins_grow setting.servers more front n p in absurd (omega arith)
+    ]

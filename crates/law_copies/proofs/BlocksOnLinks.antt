@@ -1,0 +1,50 @@
+-- Which blocks of a map lie on a link: by how many links the map has.
+use Rattle.std.proofs.Common.{◌≡◌, ◌==◌, ℕ, List, Some, sym, ap, ◌∙◌, inl, inr}
+use Rattle.std.specs.Prelude.{length, option_and_then}
+use Rattle.std.specs.Option.{option_map_or}
+use Rattle.global_tables.specs.Link.{is_link, link_at}
+use Rattle.global_tables.specs.Map.{tuple_of}
+use Rattle.global_tables.specs.Region.{link_of}
+use Rattle.global_tables.specs.declared.link.LinkRow.{LinkRow}
+use Rattle.petal_base.specs.declared.cell.Cell.{Cell}
+use Rattle.spec_state.specs.CellState.{cell_link}
+use Rattle.spec_rules.specs.Copies.{cell_at}
+use Rattle.spec_rules.specs.State.{State}
+use Rattle.spec_rules.proofs.Tests.{both_true, none_some, same_numbers, some_or_none}
+use Rattle.law_state.proofs.ListLookups.{found_at}
+use Rattle.law_copies.specs.CopyProgress.{links_of}
+
+module _ (state : State) (cell : Cell) (row : LinkRow) (is : cell_link state cell ≡ Some row) where
+  -- the cell's map is known
+  tuple_there : (tuple : List ℕ) × (tuple_of state.maps cell.map ≡ Some tuple)
+  tuple_there = elim (some_or_none (tuple_of state.maps cell.map)) [
+    | inl there ↦ there
+    | inr none ↦ none_some (ap (option_and_then (λ tuple. link_at state.links cell.map (link_of (length tuple) cell.block))) none) is
+  ]
+
+  abbrev links : ℕ
+  links = links_of state cell.map
+
+  links_are : length tuple_there.0 ≡ links
+  links_are = ap (λ o. option_map_or length o 0) (sym tuple_there.1)
+
+  -- a cell of the map is looked up by its block
+  found_by : (block : ℕ) → cell_link state (record { map = cell.map; block = block }) ≡ link_at state.links cell.map (link_of links block)
+  found_by block = ap (option_and_then (λ tuple. link_at state.links cell.map (link_of (length tuple) block))) tuple_there.1
+      ∙ ap (λ n. link_at state.links cell.map (link_of n block)) links_are
+
+  both : (row.map ≡ cell.map) × (row.link ≡ link_of links cell.block)
+  both =
+      let found = found_at (is_link cell.map (link_of links cell.block)) state.links row (sym (found_by cell.block) ∙ is) in
+      let two = both_true (row.map == cell.map) (row.link == link_of links cell.block) found.2 in
+      (same_numbers row.map cell.map two.0, same_numbers row.link (link_of links cell.block) two.1)
+
+  -- the cell's block is on its link
+  pub block_on : link_of (links_of state cell.map) cell.block ≡ row.link
+  block_on = sym both.1
+
+  -- and a block on the link is one of its cells
+  pub on_block : (block : ℕ) → link_of (links_of state cell.map) block ≡ row.link → cell_link state (cell_at row block) ≡ Some row
+  on_block block same =
+      let one : cell_at row block ≡ record { map = cell.map; block = block } = λ i. record { map = both.0 i; block = block } in
+      ap (cell_link state) one ∙ found_by block ∙ ap (link_at state.links cell.map) (same ∙ sym block_on) ∙ sym (found_by cell.block) ∙ is

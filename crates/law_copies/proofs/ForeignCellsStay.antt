@@ -1,0 +1,240 @@
+-- A job leaves a cell whose link the server is not of, or that has no link.
+use Rattle.std.proofs.Common.{◌≡◌, ◌<◌, ◌⊎◌, ℕ, true, false, Option, Some, None, refl, sym, ap, ◌∙◌, subst, inl, inr, arith}
+use Rattle.std.specs.Prelude.{option_and_then}
+use Rattle.global_tables.specs.Link.{has_server, other_of}
+use Rattle.global_tables.specs.declared.link.LinkRow.{LinkRow}
+use Rattle.global_tables.specs.declared.link.LinkState.TheVariants.{Both, Lost}
+use Rattle.petal_base.specs.declared.cell.Cell.{Cell}
+use Rattle.petal_msg.specs.declared.body.Body.{Body}
+use Rattle.spec_state.specs.CellState.{cell_link, row_lead}
+use Rattle.spec_state.specs.Command.{is_alone}
+use Rattle.spec_rules.specs.Copies.{cell_holder}
+use Rattle.spec_rules.specs.Server.{PairState, JobContext, JobResult}
+use Rattle.spec_rules.specs.State.{holder_of, is_second, leads_link, live, second}
+use Rattle.spec_rules.proofs.Tests.{by_bool, is_the_one, none_some, same_some, true_false}
+use Rattle.law_state.specs.Homes.{stage_at}
+use Rattle.law_state.specs.LinkRows.{ByBoth, ByNone, ByOne}
+use Rattle.law_state.specs.Steady.{IsLinked, IsSteady}
+use Rattle.law_state.proofs.LoneHolders.{IsBothRow}
+use Rattle.law_state.proofs.CellsByLinkRows.{IsInBoth, IsHeldBy as IsHeld, dead_second, link_led_by, second_by}
+use Rattle.law_state.proofs.Roles.{primary_is_one, secondary_is_one}
+use Rattle.law_steps.specs.DidLead.{DidLead}
+use Rattle.law_steps.specs.DidOther.{DidOther}
+use Rattle.law_steps.specs.DidSecond.{DidSecond}
+use Rattle.law_steps.specs.DidHolder.{DidHolder, Asks_page, Turns_page, Begins_copy, Goes_on_copying, Finds_it_full, Tidies}
+use Rattle.law_steps.specs.Did.{Did, Ignores, Refuses, By_read, By_lead, By_second, By_holder, By_other, By_filler, By_sweep}
+use Rattle.law_steps.proofs.WhoLeads.{live_stage}
+use Rattle.law_steps.proofs.Subjects.{of_read}
+use Rattle.law_copies.specs.LoneSteps.{IsBare, IsFit, IsNotOf, KeepsCell, KeepsRest}
+use Rattle.law_copies.proofs.OwnPartFrames.{keeps_itself}
+use Rattle.law_copies.proofs.RolesOfWorkers.{IsHeldHere, alone_both, begun_held, copying_held, holder_lives, holder_works, not_both, only_alone}
+use Rattle.law_copies.proofs.RolesOfWorkers.{other_alone, other_lives, other_row, page_held, taken_held}
+use Rattle.law_copies.proofs.WorkedCell.{Away, IsHeldBy, IsLedHere, IsSo, filler_beside, holder_beside, holder_cell, lead_beside, lead_cell, lead_leads, led_alive}
+use Rattle.law_copies.proofs.WorkedCell.{other_beside, other_cell, other_held, page_cell, second_beside, second_cell, second_follows, sweep_beside}
+
+pub away : (P : Cell → Type 0) (q : Cell) → (P q → ⊥) → (o : Option Cell) → IsSo P o → Away q o
+away P q not_so None so = tt
+away P q not_so (Some cell) so = λ e. not_so (subst P (sym e) so)
+
+-- a cell with a second server is live
+pub second_live : (here : JobContext) (cell : Cell) → is_second here.state here.me cell ≡ true → live here.state cell ≡ true
+second_live here cell e = by_bool (live here.state cell) (λ on. on)
+    (λ off. none_some (dead_second here.state cell off) (is_the_one (second here.state cell) here.me e))
+
+-- what a server has nothing to do with a cell for
+pub record IsIdleAt (here : JobContext) (q : Cell) : Type 0 where
+  pub no_lead : leads_link here.state here.me q ≡ true → ⊥
+  pub no_second : is_second here.state here.me q ≡ true → ⊥
+  pub no_holder : IsHeldHere here q → ⊥
+  pub no_other : (holder : ℕ) → cell_holder here q ≡ Some holder → ⊥
+
+-- a cell that is not live yet keeps what a server has of it: what is worked on was live
+module _ (heard : Body → Type 0) (here : JobContext) (own : PairState) (fit : IsFit heard here own) (q : Cell) (unborn : stage_at here.state q ≡ 0) where
+  not_live : live here.state q ≡ true → ⊥
+  not_live on = let up = (live_stage here.state q on).0 in absurd (omega arith)
+
+  pub unborn_keeps : (done : JobResult) → Did heard here own done → KeepsCell q own done.own
+  unborn_keeps _ Ignores = keeps_itself q own
+  unborn_keeps _ (Refuses to said is why because) = keeps_itself q own
+  unborn_keeps _ (By_read done d) = subst (KeepsCell q own) (sym (of_read heard here own done d).same) (keeps_itself q own)
+  unborn_keeps _ (By_lead done d) = lead_beside heard here own fit.ready done d q
+      (away (IsLedHere heard here own) q (λ led. let up = led.born in absurd (omega arith)) (lead_cell heard here own done d)
+      (lead_leads heard here own fit.ready done d))
+  unborn_keeps _ (By_second done d) = second_beside heard here own done d q
+      (λ e. not_live (ap (live here.state) e ∙ second_live here (second_cell heard here own done d) (second_follows heard here own done d)))
+  unborn_keeps _ (By_holder done d) = holder_beside heard here own done d q
+      (away (λ c. live here.state c ≡ true) q not_live (holder_cell heard here own done d) (holder_lives heard here own fit done d))
+  unborn_keeps _ (By_other done d) = other_beside heard here own done d q
+      (away (λ c. live here.state c ≡ true) q not_live (other_cell heard here own done d) (other_lives heard here own fit done d))
+  unborn_keeps _ (By_filler done d) = filler_beside heard here own done d q
+  unborn_keeps _ (By_sweep done d) = sweep_beside heard here own done d q (omega arith) (fit.bare q)
+
+  -- what it has then is what it had
+  pub unborn_bare : (done : JobResult) → Did heard here own done → IsBare done.own q
+  unborn_bare done d =
+      let k = unborn_keeps done d in
+      let bare = fit.bare q unborn in
+      record { chain = k.rest.chain ∙ bare.chain; marks = λ kind. k.marks kind ∙ bare.marks kind }
+
+module _ (heard : Body → Type 0) (here : JobContext) (own : PairState) (fit : IsFit heard here own) (q : Cell) (idle : IsIdleAt here q)
+    (alive : stage_at here.state q < 4) where
+  read_keeps : (done : JobResult) → done.own ≡ own → KeepsCell q own done.own
+  read_keeps done same = subst (KeepsCell q own) (sym same) (keeps_itself q own)
+
+  other_keeps : (done : JobResult) (d : DidOther heard here own done) → KeepsCell q own done.own
+  other_keeps done d = other_beside heard here own done d q
+      (away (IsHeldBy heard here own) q (λ h. idle.no_other h.holder h.held) (other_cell heard here own done d)
+      (other_held heard here own done d))
+
+  lead_keeps : (done : JobResult) (d : DidLead heard here own done) → KeepsCell q own done.own
+  lead_keeps done d = lead_beside heard here own fit.ready done d q
+      (away (IsLedHere heard here own) q (λ led. idle.no_lead (led_alive heard here own q alive led)) (lead_cell heard here own done d)
+      (lead_leads heard here own fit.ready done d))
+
+  second_keeps : (done : JobResult) (d : DidSecond heard here own done) → KeepsCell q own done.own
+  second_keeps done d = second_beside heard here own done d q
+      (λ e. idle.no_second (subst (λ (c : Cell). is_second here.state here.me c ≡ true) (sym e) (second_follows heard here own done d)))
+
+  -- where the cell's link isn't in Both
+  module _ (no_both : IsBothRow here.state q → ⊥) where
+    holder_keeps : (done : JobResult) (d : DidHolder heard here own done) → KeepsCell q own done.own
+    holder_keeps done d = holder_beside heard here own done d q
+        (away (λ cell. IsHeldHere here cell ⊎ IsBothRow here.state cell) q
+        (λ w. elim w [ inl held ↦ idle.no_holder held | inr both ↦ no_both both ])
+        (holder_cell heard here own done d) (holder_works heard here own fit done d))
+
+    pub did_keeps : (done : JobResult) → Did heard here own done → KeepsCell q own done.own
+    did_keeps _ Ignores = keeps_itself q own
+    did_keeps _ (Refuses to said is why because) = keeps_itself q own
+    did_keeps _ (By_read done d) = read_keeps done (of_read heard here own done d).same
+    did_keeps _ (By_lead done d) = lead_keeps done d
+    did_keeps _ (By_second done d) = second_keeps done d
+    did_keeps _ (By_holder done d) = holder_keeps done d
+    did_keeps _ (By_other done d) = other_keeps done d
+    did_keeps _ (By_filler done d) = filler_beside heard here own done d q
+    did_keeps _ (By_sweep done d) = sweep_beside heard here own done d q alive (fit.bare q)
+
+  -- and where it is, an old mark may go
+  held_away : (o : Option Cell) → IsSo (IsHeldHere here) o → Away q o
+  held_away o so = away (IsHeldHere here) q idle.no_holder o so
+
+  holder_rest : (done : JobResult) (d : DidHolder heard here own done) → KeepsRest q own done.own
+  holder_rest _ (Asks_page id row other held fresh) = (keeps_itself q own).rest
+  holder_rest _ (Turns_page id row other after block h held fresh at) =
+      (holder_beside heard here own _ (Turns_page id row other after block h held fresh at) q
+      (held_away (page_cell row block) (page_held heard here own fit id row other after block h held.is held.other_is))).rest
+  holder_rest done (Begins_copy id row other cell _ held next step) =
+      (holder_beside heard here own done (Begins_copy id row other cell _ held next step) q
+      (held_away (Some cell) (begun_held heard here own fit id row other cell held next))).rest
+  holder_rest done (Goes_on_copying cell now copy _ taken step) =
+      (holder_beside heard here own done (Goes_on_copying cell now copy _ taken step) q
+      (held_away (Some cell) (taken_held heard here own fit cell now copy taken))).rest
+  holder_rest _ (Finds_it_full cell copy h is trimmed lt) =
+      (holder_beside heard here own _ (Finds_it_full cell copy h is trimmed lt) q
+      (held_away (Some cell) (copying_held heard here own fit cell copy is))).rest
+  holder_rest _ (Tidies id row block kind is both idle_is left) =
+      record { chain = refl; pending = refl; copying = refl; last = refl; followed = refl }
+
+  pub did_rest : (done : JobResult) → Did heard here own done → KeepsRest q own done.own
+  did_rest _ Ignores = (keeps_itself q own).rest
+  did_rest _ (Refuses to said is why because) = (keeps_itself q own).rest
+  did_rest _ (By_read done d) = (read_keeps done (of_read heard here own done d).same).rest
+  did_rest _ (By_lead done d) = (lead_keeps done d).rest
+  did_rest _ (By_second done d) = (second_keeps done d).rest
+  did_rest _ (By_holder done d) = holder_rest done d
+  did_rest _ (By_other done d) = (other_keeps done d).rest
+  did_rest _ (By_filler done d) = (filler_beside heard here own done d q).rest
+  did_rest _ (By_sweep done d) = (sweep_beside heard here own done d q alive (fit.bare q)).rest
+
+-- ### Who is idle at a cell
+
+module _ (here : JobContext) (steady : IsSteady here.state) (cell : Cell) where
+  -- who leads the link
+  led_of : leads_link here.state here.me cell ≡ true → ((b : IsInBoth here.state cell) × (b.row.primary ≡ here.me)) ⊎ IsHeld here.state cell here.me
+  led_of e = link_led_by here.state steady cell here.me (is_the_one (option_and_then (row_lead here.state) (cell_link here.state cell)) here.me e)
+
+  unlinked_idle : cell_link here.state cell ≡ None → IsIdleAt here cell
+  unlinked_idle none = record {
+    no_lead = λ e. elim (led_of e) [
+      | inl b ↦ none_some none b.0.is
+      | inr held ↦ none_some none held.is
+    ];
+    no_second = λ e. none_some none (second_by here.state steady cell here.me (is_the_one (second here.state cell) here.me e)).0.is;
+    no_holder = λ held. none_some none held.is;
+    no_other = λ holder held. none_some (ap (option_and_then (holder_of here.me)) none) held;
+  }
+
+  -- a link that is Lost has nobody who works on it
+  module _ (row : LinkRow) (is : cell_link here.state cell ≡ Some row) (lost : row.state ≡ Lost) where
+    lost_state : (other : LinkRow) → cell_link here.state cell ≡ Some other → other.state ≡ Lost
+    lost_state other so = ap (λ (r : LinkRow). r.state) (same_some (sym so ∙ is)) ∙ lost
+
+    lost_alone : {B : Type 0} (n : ℕ) (other : LinkRow) → cell_link here.state cell ≡ Some other → is_alone n other.state ≡ true → B
+    lost_alone n other so alone = true_false alone (ap (is_alone n) (lost_state other so))
+
+    pub lost_not_row : IsBothRow here.state cell → ⊥
+    lost_not_row b = let f : Lost ≡ Both = sym (lost_state b.row b.is) ∙ b.both in absurd cc
+
+    pub lost_idle : IsIdleAt here cell
+    lost_idle = record {
+      no_lead = λ e. elim (led_of e) [
+        | inl b ↦ (let f : Lost ≡ Both = sym (lost_state b.0.row b.0.is) ∙ b.0.so in absurd cc)
+        | inr held ↦ lost_alone here.me held.row held.is (only_alone here.me held.row held.whole held.so)
+      ];
+      no_second = λ e.
+          let b = second_by here.state steady cell here.me (is_the_one (second here.state cell) here.me e) in
+          let f : Lost ≡ Both = sym (lost_state b.0.row b.0.is) ∙ b.0.so in
+          absurd cc;
+      no_holder = λ held. lost_alone here.me held.row held.is (other_alone here.state here.me held.other held.row held.other_is);
+      no_other = λ holder held.
+          lost_alone (other_of here.me row) row is (other_row here.me row holder (sym (ap (option_and_then (holder_of here.me)) is) ∙ held)).alone;
+    }
+
+  -- who serves a link alone is one of its servers
+  alone_server : (n : ℕ) (row : LinkRow) → IsLinked here.state cell row → is_alone n row.state ≡ true → has_server n row ≡ true
+  alone_server n row linked alone = elim linked.served [
+    | ByBoth so one other ↦ not_both n row alone so
+    | ByNone one other so pair out ↦ true_false alone (ap (is_alone n) so)
+    | ByOne holder other whole so pair out ↦
+        let same : holder ≡ n = alone_both holder n row.state (only_alone holder row whole so) alone in
+        elim pair [
+          | inl is ↦ primary_is_one row n (is.0 ∙ same)
+          | inr is ↦ secondary_is_one row n (is.1 ∙ same)
+        ]
+  ]
+
+  module _ (row : LinkRow) (is : cell_link here.state cell ≡ Some row) (no_server : has_server here.me row ≡ false) where
+    not_a_server : (other : LinkRow) → cell_link here.state cell ≡ Some other → has_server here.me other ≡ true → ⊥
+    not_a_server other so mine = true_false (ap (has_server here.me) (same_some (sym is ∙ so)) ∙ mine) no_server
+
+    stranger_idle : IsIdleAt here cell
+    stranger_idle = record {
+      no_lead = λ e. elim (led_of e) [
+        | inl b ↦ not_a_server b.0.row b.0.is (primary_is_one b.0.row here.me b.1)
+        | inr held ↦ not_a_server held.row held.is (alone_server here.me held.row held.linked (only_alone here.me held.row held.whole held.so))
+      ];
+      no_second = λ e.
+          let b = second_by here.state steady cell here.me (is_the_one (second here.state cell) here.me e) in
+          not_a_server b.0.row b.0.is (secondary_is_one b.0.row here.me b.1);
+      no_holder = λ held. not_a_server held.row held.is
+          (alone_server here.me held.row (steady.linked cell held.row held.is)
+          (other_alone here.state here.me held.other held.row held.other_is));
+      no_other = λ holder held. not_a_server row is
+          (other_row here.me row holder (sym (ap (option_and_then (holder_of here.me)) is) ∙ held)).one_of;
+    }
+
+  pub not_of_idle : IsNotOf here cell → IsIdleAt here cell
+  not_of_idle (inl none) = unlinked_idle none
+  not_of_idle (inr stranger) = stranger_idle stranger.0 stranger.1 stranger.2
+
+module _ (heard : Body → Type 0) (here : JobContext) (own : PairState) (fit : IsFit heard here own) (cell : Cell) (alive : stage_at here.state cell < 4) where
+  pub stranger_keeps : IsNotOf here cell → (done : JobResult) → Did heard here own done → KeepsRest cell own done.own
+  stranger_keeps not_of = did_rest heard here own fit cell (not_of_idle here fit.steady cell not_of) alive
+
+  pub unlinked_keeps : cell_link here.state cell ≡ None → (done : JobResult) → Did heard here own done → KeepsCell cell own done.own
+  unlinked_keeps none = did_keeps heard here own fit cell (unlinked_idle here fit.steady cell none) alive (λ both. none_some none both.is)
+
+  pub lost_keeps : (row : LinkRow) → cell_link here.state cell ≡ Some row → row.state ≡ Lost → (done : JobResult) → Did heard here own done
+      → KeepsCell cell own done.own
+  lost_keeps row is lost =
+      did_keeps heard here own fit cell (lost_idle here fit.steady cell row is lost) alive (lost_not_row here fit.steady cell row is lost)

@@ -1,0 +1,265 @@
+-- What is kept at a front where a step leaves the cell as it is at both servers of the link: what they were at the place, and their
+-- stores' chain and marks.
+use Rattle.std.proofs.Common.{◌≡◌, ◌≤◌, ◌+◌, ◌==◌, ◌⊎◌, ℕ, Bool, List, [], true, Option, Some, None, is_some, refl, sym, ap, ◌∙◌, subst, inl, inr, arith}
+use Rattle.std.specs.Ordering.{nat_cmp}
+use Rattle.busy_marks.specs.declared.marks.MarkKind.{MarkKind}
+use Rattle.busy_marks.specs.declared.marks.MarkKind.TheVariants.{Busy, Stale}
+use Rattle.global_tables.specs.Link.{has_server, other_of}
+use Rattle.global_tables.specs.declared.link.LinkRow.{LinkRow}
+use Rattle.global_tables.specs.declared.link.LinkState.TheVariants.{Only}
+use Rattle.petal_base.specs.declared.cell.Cell.{Cell}
+use Rattle.petal_command.specs.declared.command.Command.{Command}
+use Rattle.petal_table.specs.Table.{at}
+use Rattle.petal_msg.specs.declared.body.Body.{Body}
+use Rattle.petal_msg.specs.declared.operation.Pending.{Pending}
+use Rattle.spec_history.specs.Claims.{IsMarked, IsToBeCopied}
+use Rattle.spec_state.specs.Command.{state_after}
+use Rattle.spec_rules.specs.Server.{PairState, no_pairs}
+use Rattle.spec_rules.specs.Store.{Store, cell_cmp, chain_in, is_marked}
+use Rattle.spec_rules.proofs.Tests.{by_test, none_some, some_or_none}
+use Rattle.law_state.proofs.Roles.{primary_is_one, secondary_is_one}
+use Rattle.law_copies.specs.CopyProgress.{AreAlike, AreCopying, IsCovered, IsPage, IsTold, links_of, Is_equal, Is_marked_here, Is_marked_there, Is_to_be_copied}
+use Rattle.law_copies.specs.GoodCopies.{AloneOk, AreBeside, AreTwins, BothOk, SaidOk, pair_at}
+use Rattle.law_copies.specs.Pair.{IsRecalled, Known, PairOk, far, pair_of}
+use Rattle.law_copies.specs.Visits.{AliveIn, HasFilled, half, place_by}
+use Rattle.law_copies.proofs.PlacesByFronts.{has_filled_on}
+use Rattle.law_copies.proofs.VisitsAfterSteps.{then_of}
+use Rattle.law_copies.proofs.AtStep.{AtStep}
+use Rattle.law_copies.proofs.VisitsAfterSteps.{counted_up, none_before}
+
+-- ### Stores
+
+-- the cell's chain and marks stay
+pub record LeavesStore (old new : Store) (cell : Cell) : Type 0 where
+  pub chain : chain_in new.chains cell ≡ chain_in old.chains cell
+  pub marks : (kind : MarkKind) → is_marked new kind cell ≡ is_marked old kind cell
+
+pub store_itself : (store : Store) (cell : Cell) → LeavesStore store store cell
+store_itself store cell = record { chain = refl; marks = λ kind. refl }
+
+-- the same store by another name
+pub store_same : (old new : Store) (cell : Cell) → new ≡ old → LeavesStore old new cell
+store_same old new cell same = record { chain = λ i. chain_in (same i).chains cell; marks = λ kind i. is_marked (same i) kind cell }
+
+pub marked_on : (old new : Store) (cell : Cell) → LeavesStore old new cell → IsMarked old cell → IsMarked new cell
+marked_on old new cell same (inl busy) = inl (same.marks Busy ∙ busy)
+marked_on old new cell same (inr stale) = inr (same.marks Stale ∙ stale)
+
+pub marks_back : (old new : Store) (cell : Cell) → ((kind : MarkKind) → is_marked new kind cell ≡ is_marked old kind cell)
+    → IsMarked new cell → IsMarked old cell
+marks_back old new cell same (inl busy) = inl (sym (same Busy) ∙ busy)
+marks_back old new cell same (inr stale) = inr (sym (same Stale) ∙ stale)
+
+pub marked_back : (old new : Store) (cell : Cell) → LeavesStore old new cell → IsMarked new cell → IsMarked old cell
+marked_back old new cell same = marks_back old new cell same.marks
+
+pub recalled_on : (old new : Store) (cell : Cell) (op : Pending) → LeavesStore old new cell → IsRecalled op old cell → IsRecalled op new cell
+recalled_on old new cell op same r = record {
+  rests = r.rests;
+  marks = record {
+    busy = λ e. same.marks Busy ∙ r.marks.busy e;
+    stale = λ e. same.marks Stale ∙ r.marks.stale e;
+    lacks = λ fill unput. ap (λ c. at nat_cmp c op.key.epoch) same.chain ∙ r.marks.lacks fill unput;
+  };
+}
+
+-- ### Pairs
+
+-- the pair of the same memory and the same chains
+pub pair_same : (one other : Option PairState) (a b a' b' : Store) (cell : Cell) → chain_in a'.chains cell ≡ chain_in a.chains cell
+    → chain_in b'.chains cell ≡ chain_in b.chains cell → pair_of (half one a) (half other b) cell ≡ pair_of (half one a') (half other b') cell
+pair_same None None a b a' b' cell e f = λ i. record {
+  first = sym e i;
+  second = sym f i;
+  pending = at cell_cmp no_pairs.pending cell;
+  next = no_pairs.next;
+  last = at cell_cmp no_pairs.last cell;
+}
+pair_same (Some x) None a b a' b' cell e f = λ i. record {
+  first = sym e i;
+  second = sym f i;
+  pending = at cell_cmp x.pairs.pending cell;
+  next = x.pairs.next;
+  last = at cell_cmp no_pairs.last cell;
+}
+pair_same None (Some y) a b a' b' cell e f = λ i. record {
+  first = sym e i;
+  second = sym f i;
+  pending = at cell_cmp no_pairs.pending cell;
+  next = no_pairs.next;
+  last = at cell_cmp y.pairs.last cell;
+}
+pair_same (Some x) (Some y) a b a' b' cell e f = λ i. record {
+  first = sym e i;
+  second = sym f i;
+  pending = at cell_cmp x.pairs.pending cell;
+  next = x.pairs.next;
+  last = at cell_cmp y.pairs.last cell;
+}
+
+-- ### Alike
+
+-- what is to be copied is so still
+pub to_copy_on : (row : LinkRow) (old new : Store) (cell : Cell) → chain_in new.chains cell ≡ chain_in old.chains cell → IsToBeCopied row old cell
+    → IsToBeCopied row new cell
+to_copy_on row old new cell same all = record { whole = all.whole; stored = λ none. all.stored (sym same ∙ none) }
+
+pub covered_same : (row : LinkRow) (cell : Cell) (a b a' b' : Store) (visit : Option PairState) → LeavesStore a a' cell → LeavesStore b b' cell
+    → IsCovered row cell a b visit → IsCovered row cell a' b' visit
+covered_same row cell a b a' b' visit one two (Is_equal same) = Is_equal (one.chain ∙ same ∙ sym two.chain)
+covered_same row cell a b a' b' visit one two (Is_marked_here marked) = Is_marked_here (marked_on a a' cell one marked)
+covered_same row cell a b a' b' visit one two (Is_marked_there marked ahead) = Is_marked_there (marked_on b b' cell two marked) ahead
+covered_same row cell a b a' b' visit one two (Is_to_be_copied all copied) = Is_to_be_copied (to_copy_on row a a' cell one.chain all) copied
+
+pub alike_same : (row : LinkRow) (cell : Cell) (a b a' b' : Store) (visit : Option PairState) → LeavesStore a a' cell → LeavesStore b b' cell
+    → AreAlike row cell a b visit → AreAlike row cell a' b' visit
+alike_same row cell a b a' b' visit one two alike = record {
+  covered = covered_same row cell a b a' b' visit one two alike.covered;
+  caught = λ own is flagged. one.chain ∙ alike.caught own is flagged ∙ sym two.chain;
+}
+
+-- the other one of a link's two servers is one of them
+pub other_is_one : (row : LinkRow) (n : ℕ) → has_server (other_of n row) row ≡ true
+other_is_one row n = by_test (λ m. has_server m row ≡ true) (row.primary == n) row.secondary row.primary
+    (λ e. secondary_is_one row row.secondary refl) (λ e. primary_is_one row row.primary refl)
+
+-- ### At a front
+
+module _ (it : AtStep) where
+  open it use {setting, top, good, good.{visits}}
+  open then_of it use {visits as later, reached, next, olds, news}
+
+  -- the cell is as before at a server of its link: its store, too, unless the cell is dead
+  pub record LeavesAt (front : List Command) (n place : ℕ) (cell : Cell) : Type 0 where
+    pub visit : later n place cell ≡ visits n place cell
+    pub store : AliveIn (state_after setting.servers top) cell → LeavesStore (olds front n) (news front n) cell
+
+  -- at both
+  abbrev pub LeavesBoth : List Command → (place : ℕ) → Cell → LinkRow → Type 0
+  LeavesBoth front place cell row = (n : ℕ) → has_server n row ≡ true → LeavesAt front n place cell
+
+  pub pair_framed : (front : List Command) (place : ℕ) (cell : Cell) (n m : ℕ) → AliveIn (state_after setting.servers top) cell
+      → LeavesAt front n place cell → LeavesAt front m place cell
+      → pair_at (olds front) visits place cell n m ≡ pair_at (news front) later place cell n m
+  pair_framed front place cell n m alive one two =
+      pair_same (visits n place cell) (visits m place cell) (olds front n) (olds front m) (news front n) (news front m) cell (one.store alive).chain
+      (two.store alive).chain
+      ∙ (λ i. pair_of (half (sym one.visit i) (news front n)) (half (sym two.visit i) (news front m)) cell)
+
+  pub twins_framed : (front : List Command) (place : ℕ) (cell : Cell) (n m : ℕ) → AliveIn (state_after setting.servers top) cell
+      → LeavesAt front n place cell → LeavesAt front m place cell → AreTwins (olds front) visits place cell n m
+      → AreTwins (news front) later place cell n m
+  twins_framed front place cell n m alive one two twins =
+      let same = pair_framed front place cell n m alive one two in
+      record {
+        pair = subst PairOk same twins.pair;
+        recalled = λ own op is there. recalled_on (olds front n) (news front n) cell op (one.store alive) (twins.recalled own op (sym one.visit ∙ is) there);
+        lacks = λ own op is there fill le.
+            ap (λ c. at nat_cmp c op.key.epoch) (two.store alive).chain
+            ∙ twins.lacks own op (sym one.visit ∙ is) there fill (subst (λ p. far p ≤ op.op + op.op) (sym same) le);
+      }
+
+  pub beside_framed : (front : List Command) (place : ℕ) (row : LinkRow) (cell : Cell) (holder other : ℕ) → AliveIn (state_after setting.servers top) cell
+      → LeavesAt front holder place cell → LeavesAt front other place cell
+      → AreBeside (olds front) visits place row cell holder other → AreBeside (news front) later place row cell holder other
+  beside_framed front place row cell holder other alive one two beside = record {
+    alike = subst (AreAlike row cell (news front holder) (news front other)) (sym one.visit)
+        (alike_same row cell (olds front holder) (olds front other) (news front holder) (news front other) (visits holder place cell) (one.store alive)
+        (two.store alive) beside.alike);
+    still = λ own is. beside.still own (sym two.visit ∙ is) ∙ sym (two.store alive).chain;
+  }
+
+  pub page_framed : (front : List Command) (place : ℕ) (cell : Cell) (other : ℕ) (after block : Option ℕ)
+      → AliveIn (state_after setting.servers top) cell → LeavesAt front other place cell
+      → IsPage cell (olds front other) (visits other place cell) after block → IsPage cell (news front other) (later other place cell) after block
+  page_framed front place cell other after block alive two page = record {
+    met = ap is_some two.visit ∙ page.met;
+    least = λ ahead upto marked. page.least ahead upto (marked_back (olds front other) (news front other) cell (two.store alive) marked);
+  }
+
+  somes : (n place : ℕ) (cell : Cell) (own : PairState) → visits n place cell ≡ Some own → (o : PairState) × (later n place cell ≡ Some o)
+  somes n place cell own visit = elim (some_or_none (later n place cell)) [ inl h ↦ h | inr none ↦ none_some (none_before it n place cell none) visit ]
+
+  -- what was empty is so, or the holder has been at a place
+  pub filled_on : (front : List Command) (cell : Cell) (holder other : ℕ) → HasFilled setting top visits front cell holder other
+      → HasFilled setting top later front cell holder other
+  filled_on front cell holder other f =
+      let now = somes holder (place_by setting f.more f.row) cell f.own f.visited in
+      has_filled_on f f.within refl now.0 now.1
+
+  pub filled_framed : (front : List Command) (cell : Cell) (holder other : ℕ)
+      → chain_in (news front other).chains cell ≡ chain_in (olds front other).chains cell
+      → (chain_in (olds front other).chains cell ≡ []) ⊎ HasFilled setting top visits front cell holder other
+      → (chain_in (news front other).chains cell ≡ []) ⊎ HasFilled setting top later front cell holder other
+  filled_framed front cell holder other same (inl empty) = inl (same ∙ empty)
+  filled_framed front cell holder other same (inr f) = inr (filled_on front cell holder other f)
+
+  -- what counts less still counts less
+  pub last_before : (cell : Cell) (place : ℕ) → reached cell ≤ place → good.reached cell ≤ place
+  last_before cell place le = let more = counted_up it cell in omega arith
+
+  pub both_framed : (front : List Command) (cell : Cell) (row : LinkRow) → LeavesBoth front (place_by setting front row) cell row
+      → BothOk setting top good.stores visits good.reached front cell row → BothOk setting top next later reached front cell row
+  both_framed front cell row leaves ok = record {
+    twins = λ alive last. twins_framed front (place_by setting front row) cell row.primary row.secondary alive
+        (leaves row.primary (primary_is_one row row.primary refl)) (leaves row.secondary (secondary_is_one row row.secondary refl))
+        (ok.twins alive (last_before cell (place_by setting front row) last));
+  }
+
+  -- what is so of the visits alone
+  pub copying_framed : (links place : ℕ) (cell : Cell) (row : LinkRow) (holder : ℕ) → later holder place cell ≡ visits holder place cell
+      → later (other_of holder row) place cell ≡ visits (other_of holder row) place cell
+      → AreCopying links row cell (visits holder place cell) (visits (other_of holder row) place cell)
+      → AreCopying links row cell (later holder place cell) (later (other_of holder row) place cell)
+  copying_framed links place cell row holder one two old =
+      subst (λ o. AreCopying links row cell o (later (other_of holder row) place cell)) (sym one)
+      (subst (AreCopying links row cell (visits holder place cell)) (sym two) old)
+
+  pub told_framed : (place : ℕ) (cell : Cell) (row : LinkRow) (holder : ℕ) (said : Body) → later holder place cell ≡ visits holder place cell
+      → later (other_of holder row) place cell ≡ visits (other_of holder row) place cell
+      → IsTold row (visits holder place cell) (visits (other_of holder row) place cell) said
+      → IsTold row (later holder place cell) (later (other_of holder row) place cell) said
+  told_framed place cell row holder said one two old =
+      subst (λ o. IsTold row o (later (other_of holder row) place cell) said) (sym one)
+      (subst (λ o. IsTold row (visits holder place cell) o said) (sym two) old)
+
+  pub alone_framed : (front : List Command) (cell : Cell) (row : LinkRow) (holder : ℕ) → has_server holder row ≡ true
+      → LeavesBoth front (place_by setting front row) cell row → AloneOk setting top good.stores visits good.reached front cell row holder
+      → AloneOk setting top next later reached front cell row holder
+  alone_framed front cell row holder has leaves ok =
+      let place = place_by setting front row in
+      let other = other_of holder row in
+      let one = leaves holder has in
+      let two = leaves other (other_is_one row holder) in
+      record {
+        copying = copying_framed (links_of (state_after setting.servers front) cell.map) place cell row holder one.visit two.visit ok.copying;
+        beside = λ alive last. beside_framed front place row cell holder other alive one two (ok.beside alive (last_before cell place last));
+        stays = λ alive own is beyond.
+            let was = ok.stays alive own (sym one.visit ∙ is) (λ p lt. none_before it other p cell (beyond p lt)) in (
+              λ marked. marked_on (olds front holder) (news front holder) cell (one.store alive) (was.0 marked),
+              λ all copied. to_copy_on row (olds front holder) (news front holder) cell (one.store alive).chain (was.1 all copied),
+            );
+        unfilled = λ alive whole. filled_framed front cell holder other (two.store alive).chain (ok.unfilled alive whole);
+      }
+
+  pub said_framed : (front : List Command) (said : Body) (cell : Cell) (row : LinkRow)
+      → ((holder : ℕ) (whole : Bool) → row.state ≡ Only holder whole → has_server holder row ≡ true)
+      → LeavesBoth front (place_by setting front row) cell row → SaidOk setting top good.stores visits good.reached front said cell row
+      → SaidOk setting top next later reached front said cell row
+  said_framed front said cell row has leaves ok =
+      let place = place_by setting front row in
+      record {
+        both = λ alive both last of. subst (λ p. Known p said)
+            (pair_framed front place cell row.primary row.secondary alive (leaves row.primary (primary_is_one row row.primary refl))
+            (leaves row.secondary (secondary_is_one row row.secondary refl)))
+            (ok.both alive both (last_before cell place last) of);
+        alone = λ holder whole alone of.
+            told_framed place cell row holder said (leaves holder (has holder whole alone)).visit
+            (leaves (other_of holder row) (other_is_one row holder)).visit
+            (ok.alone holder whole alone of);
+        page = λ alive holder whole after block alone is last.
+            page_framed front place cell (other_of holder row) after block alive (leaves (other_of holder row) (other_is_one row holder))
+            (ok.page alive holder whole after block alone is (last_before cell place last));
+        met = λ holder whole after block alone is.
+            ap is_some (leaves (other_of holder row) (other_is_one row holder)).visit ∙ ok.met holder whole after block alone is;
+      }

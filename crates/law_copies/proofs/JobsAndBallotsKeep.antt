@@ -1,0 +1,277 @@
+-- What a job, and a ballot that is started, keeps by itself.
+use Rattle.global_tables.specs.declared.link.LinkState.TheVariants.{Both}
+use Rattle.law_jobs.proofs.CountsGrow.{did_count}
+use Rattle.law_copies.specs.Visits.{AliveIn}
+use Rattle.spec_state.specs.CellState.{cell_link}
+use Rattle.std.proofs.Common.{◌≡◌, ◌≢◌, ◌≤◌, ◌+◌, ℕ, true, false, List, [], Option, Some, None, refl, sym, ap, ◌∙◌, subst, inl, arith}
+use Rattle.std.specs.Ordering.{eq_by_cmp, nat_cmp}
+use Rattle.global_tables.specs.declared.link.LinkRow.{LinkRow}
+use Rattle.petal_base.specs.declared.cell.Cell.{Cell}
+use Rattle.petal_command.specs.declared.command.Command.{Command}
+use Rattle.petal_command.specs.declared.command.Command.TheVariants.{Caught}
+use Rattle.petal_table.specs.Table.{at}
+use Rattle.petal_msg.specs.Kinds.{is_logged, subject_of}
+use Rattle.petal_msg.specs.declared.copying.LinkId.{LinkId}
+use Rattle.spec_history.specs.Claims.{IsMarked}
+use Rattle.spec_rules.specs.Lists.{In}
+use Rattle.spec_rules.specs.Progress.{progress_on}
+use Rattle.spec_rules.specs.Returns.{holds_link, proposed}
+use Rattle.spec_rules.specs.Server.{PairState, Pairs, JobContext, Post, JobResult}
+use Rattle.spec_rules.specs.State.{holder_of, id_of, link_cmp, link_named, both}
+use Rattle.spec_rules.specs.Store.{Store, cell_cmp, chain_in, is_marked}
+use Rattle.spec_rules.proofs.Tests.{true_false}
+use Rattle.spec_rules.specs.World.{chosen_log, server_state}
+use Rattle.law_state.specs.Tables.{IsPlainState}
+use Rattle.law_state.proofs.LoneHolders.{so_both}
+use Rattle.law_state.proofs.EntriesOnlyAdd.{log_plain}
+use Rattle.law_state.proofs.Steady.{front_plain}
+use Rattle.law_log.proofs.BallotFlags.{progress_beside}
+use Rattle.law_steps.specs.Did.{Did}
+use Rattle.law_steps.specs.DidStep.{Handled, Starts, is_between, own_place}
+use Rattle.law_steps.specs.Operations.{progress}
+use Rattle.law_steps.specs.Ready.{IsRising}
+use Rattle.law_steps.proofs.WhoLeads.{stage_live}
+use Rattle.law_copies.specs.CopyProgress.{links_of}
+use Rattle.law_copies.specs.Pair.{HaveMarks, IsRecalled, Keeps, PairOk, pair_of}
+use Rattle.law_copies.specs.LoneSteps.{AreFilled, HolderKeeps, IsFollowing, IsHolding, OtherKeeps}
+use Rattle.law_copies.proofs.CellInBoth.{CellInBoth}
+use Rattle.law_copies.proofs.AtSeat.{AtSeat}
+use Rattle.law_copies.proofs.ForeignCellsStay.{lost_keeps, not_of_idle, unborn_bare, unborn_keeps, unlinked_keeps}
+use Rattle.law_copies.proofs.BallotsFindAllCopied.{IsBallot, ballot_alike, ballot_keeps}
+use Rattle.law_copies.proofs.EmptyCellsHaveNoChain.{did_filled}
+use Rattle.law_copies.proofs.OtherServerChanges.{kept_copying, kept_told}
+use Rattle.law_copies.proofs.OwnPartFrames.{keeps_alike}
+use Rattle.law_copies.proofs.HolderJobs as holders
+use Rattle.law_copies.proofs.LeadsFindMarks.{job_marked}
+use Rattle.law_copies.proofs.CellChangesKeepCopies as moves
+use Rattle.law_copies.proofs.MuteLettersTellNothing.{known_mute, logged_mute, no_page, told_mute}
+use Rattle.law_copies.proofs.OtherJobs as others
+use Rattle.law_copies.proofs.EpochsRise.{did_rising}
+use Rattle.law_copies.proofs.PlacesBeforeJobs as seated
+use Rattle.law_copies.proofs.CopyLetters.{page_link, page_map, page_sent, pages_sent}
+use Rattle.law_copies.proofs.LettersOfServedCells.{did_copied, did_lives, idle_silent}
+use Rattle.law_copies.proofs.RolesOfWorkers.{kept_lives, named_id, one_named}
+use Rattle.law_copies.proofs.TwinsAgree.{lead_step, second_step}
+use Rattle.law_copies.proofs.CellsWithoutLink.{did_pages, unlinked_apart}
+use Rattle.law_copies.proofs.AtJob.{IsKeeping}
+
+module _ (it : AtSeat) where
+  open it use {setting, w, k, firm, rests}
+
+  abbrev here : JobContext
+  here = own_place setting w k
+
+  abbrev own : PairState
+  own = (w.servers k).own
+
+  plain_here : IsPlainState setting.servers (server_state setting w k)
+  plain_here = log_plain setting.servers (w.servers k).log.applied
+      (front_plain setting.servers (w.servers k).log.applied (chosen_log setting w) firm.plain (firm.servers k))
+
+  -- how many links the cell's map has, by its own entries
+  abbrev links_at : Cell → ℕ
+  links_at cell = links_of (server_state setting w k) cell.map
+
+  -- a cell whose link is in Both
+  abbrev in_both : (cell : Cell) (row : LinkRow) → cell_link here.state cell ≡ Some row → AliveIn here.state cell → row.state ≡ Both → CellInBoth
+  in_both cell row is alive both = record {
+    heard = Handled w k;
+    here = here;
+    own = own;
+    steady = seated.steady it;
+    cell = cell;
+    row = row;
+    is_row = is;
+    alive = alive;
+    both_row = both;
+  }
+
+  -- ### A job
+
+  pub job_keeping : (done : JobResult) → Did (Handled w k) here own done → IsKeeping setting w k done
+  job_keeping done did =
+      let steady = seated.steady it in
+      let fit = seated.fit it in
+      let rising = seated.rising it in
+      let filled = seated.filled it in
+      let marks = seated.marks it in
+      let idle = seated.idle_copies it in
+      record {
+        lead = λ cell row second is alive both leads ok known.
+            lead_step (in_both cell row is alive both) leads second (rests.pending k) marks idle rising fit.bare ok known done did;
+        second = λ cell row first is alive both follows ok known.
+            second_step (in_both cell row is alive both) follows first (rests.pending k) rising fit.bare ok known done did;
+        holder = λ cell row other f. holders.holds (Handled w k) here (links_at cell) row other own cell f done did;
+        other = λ cell row holder f. others.follows f done did;
+        unlinked = λ cell none alive. unlinked_keeps (Handled w k) here own fit cell alive none done did;
+        lost = λ cell row is alive lost. lost_keeps (Handled w k) here own fit cell alive row is lost done did;
+        silent = λ cell not_of. idle_silent (Handled w k) here own fit cell (not_of_idle here steady cell not_of) done did;
+        lives = λ post i between cell of. did_lives (Handled w k) here own fit cell done did post i between of;
+        copied = λ cell last is. did_copied (Handled w k) here own fit cell done did last is;
+        paged = λ cell row is post i after block e.
+            let a = page_sent (Handled w k) here own done did post i row.map row.link after block e in
+            let same = sym a.is ∙ e in
+            let name : id_of a.row ≡ id_of row = (λ j. record { map = ap page_map same j; link = ap page_link same j }) in
+            let one : row ≡ a.row = one_named here.state cell row a.id a.row is a.named (sym name ∙ named_id here.state a.id a.row a.named) in
+            (a.holder, ap (holder_of k) one ∙ a.held);
+        pages = pages_sent (Handled w k) here own done did;
+        rising = did_rising (Handled w k) here own rising done did;
+        filled = did_filled (Handled w k) here own filled done did;
+        counts = did_count (Handled w k) here own done did;
+        marks = (job_marked (Handled w k) here own steady (rests.pending k) marks idle done did).marks;
+        unheard = λ cell unborn unheard. record {
+          bare = unborn_bare (Handled w k) here own fit cell unborn done did;
+          last = (unborn_keeps (Handled w k) here own fit cell unborn done did).rest.followed ∙ unheard.last;
+          pages = λ none row map_is.
+              did_pages (Handled w k) here own row (unlinked_apart setting.servers (server_state setting w k) plain_here cell none row map_is) done did
+              ∙ unheard.pages none row map_is;
+        };
+      }
+
+  -- ### A ballot
+
+  module _ (started : Option Command) (posts : List Post) (starts : Starts here own started)
+      (logged : (post : Post) → In post posts → is_logged (subject_of post.body) ≡ true) where
+    abbrev to : PairState
+    to = proposed (server_state setting w k) own started
+
+    abbrev begun : JobResult
+    begun = record { own = to; posts = posts; jobs = [] }
+
+    alike : IsBallot own to
+    alike = ballot_alike (server_state setting w k) own started
+
+    mute : (post : Post) → In post posts → is_between (subject_of post.body) ≡ false
+    mute post i = logged_mute (subject_of post.body) (logged post i)
+
+    store_same : to.store ≡ own.store
+    store_same = alike.2
+
+    pairs_same : to.pairs ≡ own.pairs
+    pairs_same = alike.1
+
+    marked : (cell : Cell) → IsMarked to.store cell → IsMarked own.store cell
+    marked cell m = subst (λ (s : Store). IsMarked s cell) store_same m
+
+    rises : (cell : Cell) → IsRising nat_cmp (chain_in own.store.chains cell) → IsRising nat_cmp (chain_in to.store.chains cell)
+    rises cell r = subst (λ (s : Store). IsRising nat_cmp (chain_in s.chains cell)) (sym store_same) r
+
+    first_keeps : (second : PairState) (cell : Cell) → PairOk (pair_of own second cell) → Keeps (pair_of own second cell) (pair_of to second cell)
+    first_keeps second cell ok =
+        subst (Keeps (pair_of own second cell)) (λ i. record {
+          first = chain_in (sym store_same i).chains cell;
+          second = chain_in second.store.chains cell;
+          pending = at cell_cmp (sym pairs_same i).pending cell;
+          next = (sym pairs_same i).next;
+          last = at cell_cmp second.pairs.last cell;
+        })
+        (moves.stays (pair_of own second cell) own.pairs.next ok (omega arith))
+
+    second_keeps : (first : PairState) (cell : Cell) → PairOk (pair_of first own cell) → Keeps (pair_of first own cell) (pair_of first to cell)
+    second_keeps first cell ok =
+        subst (Keeps (pair_of first own cell)) (λ i. record {
+          first = chain_in first.store.chains cell;
+          second = chain_in (sym store_same i).chains cell;
+          pending = at cell_cmp first.pairs.pending cell;
+          next = first.pairs.next;
+          last = at cell_cmp (sym pairs_same i).last cell;
+        })
+        (moves.stays (pair_of first own cell) first.pairs.next ok (omega arith))
+
+    -- of a link that the server's state has not it has nothing in mind
+    held_pages : (row : LinkRow)
+        → ((id : LinkId) (of : LinkRow) → link_named (server_state setting w k) id ≡ Some of → eq_by_cmp link_cmp (id_of row) (id_of of) ≡ false)
+        → (id : LinkId) (o : Option LinkRow) → link_named (server_state setting w k) id ≡ o → progress_on (holds_link own o) row ≡ progress_on own row
+    held_pages row apart id None is = refl
+    held_pages row apart id (Some of) is = progress_beside own of (record (progress_on own of) { caught = true }) row (apart id of is)
+
+    ballot_pages : (row : LinkRow)
+        → ((id : LinkId) (of : LinkRow) → link_named (server_state setting w k) id ≡ Some of → eq_by_cmp link_cmp (id_of row) (id_of of) ≡ false)
+        → (o : Option Command) → progress_on (proposed (server_state setting w k) own o) row ≡ progress_on own row
+    ballot_pages row apart None = refl
+    ballot_pages row apart (Some (Caught of link holder inc other other_inc)) =
+        held_pages row apart (record { map = of; link = link }) (link_named (server_state setting w k) (record { map = of; link = link })) refl
+    ballot_pages row apart (Some _) = refl
+
+    holder_keeps : (cell : Cell) (row : LinkRow) (other : Option PairState) → IsHolding (Handled w k) here (links_at cell) row cell own other
+        → HolderKeeps (Handled w k) (links_at cell) row cell own other begun
+    holder_keeps cell row other f =
+        let b = ballot_keeps here (links_at cell) row cell other own f.old f.is (kept_lives (Handled w k) here own f.fit cell f.alive) started starts in
+        record {
+          copying = b.copying;
+          told = b.told;
+          says = λ post i of. told_mute row (Some to) other post.body (mute post i);
+          marks = λ m. inl (subst (λ (s : Store). IsMarked s cell) (sym store_same) m);
+          stored = λ some. subst (λ (s : Store). chain_in s.chains cell ≢ []) (sym store_same) some;
+          alike = λ now still pages rising a. b.alike now a;
+          caught = λ flagged.
+              (ap (λ (s : Store). chain_in s.chains cell) store_same, λ m. (f.old.caught own refl flagged).unmarked (marked cell m), b.flagged flagged);
+        }
+
+    other_keeps : (cell : Cell) (row : LinkRow) (holder : Option PairState) → IsFollowing (Handled w k) here (links_at cell) row cell holder own
+        → OtherKeeps (links_at cell) row cell holder own begun
+    other_keeps cell row holder f =
+        let keeps = keeps_alike cell own to alike.0 in
+        record {
+          here = record {
+            copying = kept_copying f.old to keeps.rest;
+            told = kept_told f.old to keeps.rest;
+            says = λ post i of. told_mute row holder (Some to) post.body (mute post i);
+            marks = keeps.marks;
+            changes = inl keeps.rest.chain;
+          };
+          pages = λ post i after block e. no_page post.body (mute post i) row.map row.link after block e;
+          rising = rises cell (seated.rising it cell);
+        }
+
+    pub ballot_keeping : IsKeeping setting w k begun
+    ballot_keeping = record {
+      lead = λ cell row second is alive both leads ok known. record {
+        keeps = first_keeps second cell ok;
+        recalled = λ op there.
+            let was = ap (λ (p : Pairs). at cell_cmp p.pending cell) (sym pairs_same) ∙ there in
+            let staged = (rests.pending k).staged cell op was in
+            let on = stage_live (server_state setting w k) cell staged.born alive in
+            let marks = seated.marks it cell op on was in
+            subst (λ (s : Store). IsRecalled op s cell) (sym store_same)
+            (record { rests = staged.stage on (so_both (server_state setting w k) cell row is both); marks = marks });
+        lacks = λ old op there fill le. old op (ap (λ (p : Pairs). at cell_cmp p.pending cell) (sym pairs_same) ∙ there) fill le;
+        says = λ post i of. known_mute (pair_of to second cell) post.body (mute post i);
+        rising = rises cell;
+      };
+      second = λ cell row first is alive both follows ok known. record {
+        keeps = second_keeps first cell ok;
+        lacks = λ old op there fill le. ap (λ (s : Store). at nat_cmp (chain_in s.chains cell) op.key.epoch) store_same
+            ∙ old op there fill (subst (λ (p : Pairs). progress (at cell_cmp p.last cell) ≤ op.op + op.op) pairs_same le);
+        says = λ post i of. known_mute (pair_of first to cell) post.body (mute post i);
+        rising = rises cell;
+      };
+      holder = holder_keeps;
+      other = other_keeps;
+      unlinked = λ cell none alive. keeps_alike cell own to alike.0;
+      lost = λ cell row is alive lost. keeps_alike cell own to alike.0;
+      silent = λ cell not_of post i of. mute post i;
+      lives = λ post i between cell of. true_false between (mute post i);
+      copied = λ cell last is. (seated.fit it).copied cell last
+          (ap (λ t. at cell_cmp t cell) (sym alike.0.last) ∙ is);
+      paged = λ cell row is post i after block e. no_page post.body (mute post i) row.map row.link after block e;
+      pages = λ post i map link block after e. no_page post.body (mute post i) map link after (Some block) e;
+      rising = λ cell. rises cell (seated.rising it cell);
+      filled = subst (λ (s : Store). AreFilled s.chains) (sym store_same) (seated.filled it);
+      counts = (let e = ap (λ (p : Pairs). p.next) pairs_same in omega arith);
+      marks = subst (λ (s : Store). HaveMarks (server_state setting w k) to.pairs.pending s) (sym store_same)
+          (subst (λ (p : Pairs). HaveMarks (server_state setting w k) p.pending own.store) (sym pairs_same)
+          (seated.marks it));
+      unheard = λ cell unborn unheard. record {
+        bare = record {
+          chain = ap (λ (s : Store). chain_in s.chains cell) store_same ∙ unheard.bare.chain;
+          marks = λ kind. ap (λ (s : Store). is_marked s kind cell) store_same ∙ unheard.bare.marks kind;
+        };
+        last = alike_last cell ∙ unheard.last;
+        pages = λ none row map_is. ballot_pages row (unlinked_apart setting.servers (server_state setting w k) plain_here cell none row map_is) started
+            ∙ unheard.pages none row map_is;
+      };
+    }
+      where
+        alike_last : (cell : Cell) → at cell_cmp to.pairs.last cell ≡ at cell_cmp own.pairs.last cell
+        alike_last cell = ap (λ (p : Pairs). at cell_cmp p.last cell) pairs_same

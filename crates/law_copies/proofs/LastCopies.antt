@@ -1,0 +1,163 @@
+-- The last copy of a cell at the other server, and what letters tell of it: what was known stays known while the copy goes on, and once a
+-- newer one has come.
+use Rattle.std.proofs.Common.{◌≡◌, ◌≤◌, ◌<◌, ◌⊎◌, ℕ, [], Option, Some, refl, sym, ap, ◌∙◌, subst, inl, inr, arith}
+use Rattle.std.specs.Prelude.{slice_get}
+use Rattle.global_tables.specs.declared.link.LinkRow.{LinkRow}
+use Rattle.petal_base.specs.declared.cell.Cell.{Cell}
+use Rattle.petal_msg.specs.declared.body.Body.TheVariants as body
+use Rattle.petal_msg.specs.declared.copying.LastCopy.{LastCopy}
+use Rattle.spec_rules.specs.Copies.{epochs_beyond}
+use Rattle.spec_rules.specs.Progress.{last_copy}
+use Rattle.spec_rules.specs.Server.{PairState}
+use Rattle.spec_rules.specs.Store.{Stored}
+use Rattle.spec_rules.proofs.Tests.{same_some}
+use Rattle.law_copies.specs.CopyProgress.{HasPut, HasSent, HasTrimmed, IsOfLast, IsPast, IsTold}
+use Rattle.law_copies.specs.LoneSteps.{StaysTold}
+
+-- ### Letters, by the last copy
+
+-- a letter of a copy finds a last one
+pub past_last : (own : PairState) (cell : Cell) (number : ℕ) → IsPast (Some own) cell number
+    → (last : LastCopy) × (last_copy own cell ≡ Some last)
+past_last own cell number p = (p.last, ap (λ o. last_copy o cell) (same_some p.met) ∙ p.is)
+
+module _ (own : PairState) (cell : Cell) (last : LastCopy) (is : last_copy own cell ≡ Some last) where
+  same_last : (o : PairState) (l : LastCopy) → Some own ≡ Some o → last_copy o cell ≡ Some l → l ≡ last
+  same_last o l met there = same_some (sym there ∙ ap (λ x. last_copy x cell) (sym (same_some met)) ∙ is)
+
+  pub past_of : (number : ℕ) → IsPast (Some own) cell number → number ≤ last.op
+  past_of number p = subst (λ (l : LastCopy). number ≤ l.op) (same_last p.own p.last p.met p.is) p.past
+
+  abbrev pub to_past : (number : ℕ) → number ≤ last.op → IsPast (Some own) cell number
+  to_past number le = record { own = own; met = refl; last = last; is = is; past = le }
+
+  pub trimmed_of : (number : ℕ) → HasTrimmed (Some own) cell number → number ≡ last.op → epochs_beyond own cell last.epochs ≡ []
+  trimmed_of number h e =
+      let l = same_last h.past.own h.past.last h.past.met h.past.is in
+      ap (λ o. epochs_beyond o cell last.epochs) (same_some h.past.met)
+      ∙ ap (λ (l : LastCopy). epochs_beyond h.past.own cell l.epochs) (sym l)
+      ∙ h.trimmed (e ∙ ap (λ (l : LastCopy). l.op) (sym l))
+
+  abbrev pub to_trimmed : (number : ℕ) → number ≤ last.op → (number ≡ last.op → epochs_beyond own cell last.epochs ≡ [])
+      → HasTrimmed (Some own) cell number
+  to_trimmed number le trimmed = record { past = to_past number le; trimmed = trimmed }
+
+  pub put_of : (number index : ℕ) → HasPut (Some own) cell number index → number ≡ last.op → index < last.index
+  put_of number index h e =
+      let l = same_last h.past.own h.past.last h.past.met h.past.is in
+      subst (λ (l : LastCopy). index < l.index) l (h.put (e ∙ ap (λ (l : LastCopy). l.op) (sym l)))
+
+  abbrev pub to_put : (number index : ℕ) → number ≤ last.op → (number ≡ last.op → index < last.index) → HasPut (Some own) cell number index
+  to_put number index le put = record { past = to_past number le; put = put }
+
+  pub of_last : (row : LinkRow) (holder : Option PairState) (number index : ℕ) (entry : ℕ × Stored)
+      → HasSent row holder (Some own) cell number index entry
+      → number ≡ last.op
+      → IsOfLast row holder cell last entry.0 index
+  of_last row holder number index entry h e =
+      let p = h.trimmed.past in
+      let l = same_last p.own p.last p.met p.is in
+      subst (λ (l : LastCopy). IsOfLast row holder cell l entry.0 index) l (h.of_last (e ∙ ap (λ (l : LastCopy). l.op) (sym l)))
+
+-- ### Onward
+
+-- the last copy goes on
+pub record GoesOn (own to : PairState) (cell : Cell) (last : LastCopy) : Type 0 where
+  pub now : LastCopy
+  pub is : last_copy to cell ≡ Some now
+  pub op_is : now.op ≡ last.op
+  pub epochs_are : now.epochs ≡ last.epochs
+  pub onward : last.index ≤ now.index
+  pub trimmed : epochs_beyond own cell last.epochs ≡ [] → epochs_beyond to cell now.epochs ≡ []
+
+-- a newer one has come
+pub record HasNewer (to : PairState) (cell : Cell) (last : LastCopy) : Type 0 where
+  pub now : LastCopy
+  pub is : last_copy to cell ≡ Some now
+  pub newer : last.op < now.op
+
+abbrev pub GoesOnward : PairState → PairState → Cell → Type 0
+GoesOnward own to cell = (last : LastCopy) → last_copy own cell ≡ Some last → GoesOn own to cell last ⊎ HasNewer to cell last
+
+module _ (own to : PairState) (cell : Cell) (onward : GoesOnward own to cell) where
+  past_onward : (number : ℕ) → IsPast (Some own) cell number → IsPast (Some to) cell number
+  past_onward number p =
+      let last = past_last own cell number p in
+      let le = past_of own cell last.0 last.1 number p in
+      elim (onward last.0 last.1) [
+        | inl g ↦ (let e = g.op_is in to_past to cell g.now g.is number (omega arith))
+        | inr n ↦ (let lt = n.newer in to_past to cell n.now n.is number (omega arith))
+      ]
+
+  trimmed_onward : (number : ℕ) → HasTrimmed (Some own) cell number → HasTrimmed (Some to) cell number
+  trimmed_onward number h =
+      let last = past_last own cell number h.past in
+      let le = past_of own cell last.0 last.1 number h.past in
+      elim (onward last.0 last.1) [
+        | inl g ↦ (let e = g.op_is in to_trimmed to cell g.now g.is number (omega arith)
+            (λ same. g.trimmed (trimmed_of own cell last.0 last.1 number h (same ∙ e))))
+        | inr n ↦ (let lt = n.newer in to_trimmed to cell n.now n.is number (omega arith) (λ same. absurd (omega arith)))
+      ]
+
+  put_onward : (number index : ℕ) → HasPut (Some own) cell number index → HasPut (Some to) cell number index
+  put_onward number index h =
+      let last = past_last own cell number h.past in
+      let le = past_of own cell last.0 last.1 number h.past in
+      elim (onward last.0 last.1) [
+        | inl g ↦ (let e = g.op_is in let more = g.onward in to_put to cell g.now g.is number index (omega arith)
+            (λ same. let lt = put_of own cell last.0 last.1 number index h (same ∙ e) in omega arith))
+        | inr n ↦ (let lt = n.newer in to_put to cell n.now n.is number index (omega arith) (λ same. absurd (omega arith)))
+      ]
+
+  -- an entry is of the copy as before
+  same_entry : (row : LinkRow) (holder : Option PairState) (epoch index : ℕ) (last : LastCopy) (g : GoesOn own to cell last)
+      → IsOfLast row holder cell last epoch index
+      → IsOfLast row holder cell g.now epoch index
+  same_entry row holder epoch index last g o = record {
+    epoch_is = ap (λ epochs. slice_get epochs index) g.epochs_are ∙ o.epoch_is;
+    near = (let near = o.near in let more = g.onward in omega arith);
+    own = o.own;
+    met = o.met;
+    left = λ e. o.left (let near = o.near in let more = g.onward in omega arith);
+  }
+
+  sent_onward : (row : LinkRow) (holder : Option PairState) (number index : ℕ) (entry : ℕ × Stored)
+      → HasSent row holder (Some own) cell number index entry
+      → HasSent row holder (Some to) cell number index entry
+  sent_onward row holder number index entry h =
+      let last = past_last own cell number h.trimmed.past in
+      let le = past_of own cell last.0 last.1 number h.trimmed.past in
+      elim (onward last.0 last.1) [
+        | inl g ↦ (let e = g.op_is in record {
+          trimmed = to_trimmed to cell g.now g.is number (omega arith)
+              (λ same. g.trimmed (trimmed_of own cell last.0 last.1 number h.trimmed (same ∙ e)));
+          of_last = λ same. same_entry row holder entry.0 index last.0 g
+              (of_last own cell last.0 last.1 row holder number index entry h (same ∙ e));
+          sent = h.sent;
+        })
+        | inr n ↦ (let lt = n.newer in record {
+          trimmed = to_trimmed to cell n.now n.is number (omega arith) (λ same. absurd (omega arith));
+          of_last = λ same. absurd (omega arith);
+          sent = h.sent;
+        })
+      ]
+
+  -- what was known of letters of the cell is known later
+  pub stays_told : (row : LinkRow) (holder : Option PairState) → StaysTold row cell holder (Some own) holder (Some to)
+  stays_told row holder (body.Trim number c epochs) e =
+      subst (λ (q : Cell). IsTold row holder (Some own) (body.Trim number q epochs) → IsTold row holder (Some to) (body.Trim number q epochs))
+      (sym (same_some e))
+      (λ told. elim told [ inl past ↦ inl (past_onward number past) | inr asked ↦ inr asked ])
+  stays_told row holder (body.Trimmed number c) e =
+      subst (λ (q : Cell). IsTold row holder (Some own) (body.Trimmed number q) → IsTold row holder (Some to) (body.Trimmed number q))
+      (sym (same_some e))
+      (trimmed_onward number)
+  stays_told row holder (body.Sync number key version index bytes) e =
+      subst (λ (q : Cell). HasSent row holder (Some own) q number index (key.epoch, record { version = version; bytes = bytes })
+      → HasSent row holder (Some to) q number index (key.epoch, record { version = version; bytes = bytes })) (sym (same_some e))
+      (sent_onward row holder number index (key.epoch, record { version = version; bytes = bytes }))
+  stays_told row holder (body.Synced number c index) e =
+      subst (λ (q : Cell). IsTold row holder (Some own) (body.Synced number q index) → IsTold row holder (Some to) (body.Synced number q index))
+      (sym (same_some e))
+      (put_onward number index)
+  stays_told row holder _ e = λ told. tt

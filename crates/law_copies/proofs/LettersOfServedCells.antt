@@ -1,0 +1,156 @@
+-- A server speaks of pairs and copies only of live cells whose link it is of.
+use Rattle.std.proofs.Common.{◌≡◌, ℕ, true, false, Some, refl, sym, ap, ◌∙◌, subst, ◌⊎◌, inl, inr}
+use Rattle.petal_base.specs.declared.cell.Cell.{Cell}
+use Rattle.petal_base.specs.Cells.{cell_of}
+use Rattle.petal_msg.specs.Kinds.{about, subject_of}
+use Rattle.petal_msg.specs.declared.body.Body.{Body}
+use Rattle.petal_msg.specs.declared.body.Body.TheVariants as body
+use Rattle.petal_msg.specs.declared.copying.Copying.{Copying}
+use Rattle.petal_msg.specs.declared.copying.LastCopy.{LastCopy}
+use Rattle.petal_msg.specs.declared.operation.Ending.{Ending}
+use Rattle.petal_msg.specs.declared.operation.Ending.TheVariants as ending
+use Rattle.petal_msg.specs.declared.operation.Pending.{Pending}
+use Rattle.spec_rules.specs.Copies.{Entry}
+use Rattle.spec_rules.specs.Lists.{In}
+use Rattle.spec_rules.specs.Progress.{last_copy}
+use Rattle.spec_rules.specs.Server.{PairState, JobContext, Post, JobResult}
+use Rattle.spec_rules.specs.State.{is_lead, is_second, leads_link, live, second}
+use Rattle.spec_rules.specs.Writes.{ended, follows, pending_on}
+use Rattle.spec_rules.proofs.CellTables.{cell_apart}
+use Rattle.spec_rules.proofs.Tests.{by_bool, none_some, same_some, true_false}
+use Rattle.law_state.proofs.CellsByLinkRows.{dead_second}
+use Rattle.law_steps.specs.Did.{Did, Refuses}
+use Rattle.law_steps.specs.DidLead.{Repeats, Opens}
+use Rattle.law_steps.specs.DidLead.{Of_the_log}
+use Rattle.law_steps.specs.DidHolder.{Asks_page}
+use Rattle.law_steps.specs.DidOther.{IsOfCopy}
+use Rattle.law_steps.specs.DidStep.{is_between}
+use Rattle.law_steps.proofs.WhoLeads.{lead_links}
+use Rattle.law_steps.proofs.OperationsRest.{same_cell_or_apart}
+use Rattle.law_jobs.specs.Effects.{Effect, Is_begun, Is_copied, Is_further, IsCopiedFor, May, applied}
+use Rattle.law_jobs.proofs.JobsAreEffects.{job_keeps}
+use Rattle.law_jobs.specs.Sayings as says
+use Rattle.law_jobs.specs.Sayings.{Asks_copy, Asks_slot, Begins, Ends, Ends_fill, Goes_on, Has_copy, Has_slot, Is_sync_full, Is_synced, IsCopying}
+use Rattle.law_jobs.specs.Sayings.{Moves, Moves_on, Says, Syncs, Tells_page, Trims}
+use Rattle.law_jobs.proofs.JobsSay.{letters_of_job}
+use Rattle.law_copies.specs.LoneSteps.{IsFit}
+use Rattle.law_copies.proofs.ForeignCellsStay.{IsIdleAt, second_live}
+use Rattle.law_copies.proofs.LeftToCopy.{next_is}
+use Rattle.law_copies.proofs.MuteLettersTellNothing.{logged_mute}
+use Rattle.law_copies.proofs.CopyLetters.{moved_fills}
+use Rattle.law_copies.proofs.RolesOfWorkers.{IsHeldHere, begun_held, entry_lives, taken_held, taken_lives}
+use Rattle.law_copies.proofs.WorkedCell.{IsHeldBy}
+
+ended_mute : (seq : ℕ) (how : Ending) → is_between (subject_of (ended seq how)) ≡ false
+ended_mute seq ending.Written = refl
+ended_mute seq ending.Full = refl
+
+module _ (heard : Body → Type 0) (here : JobContext) (own : PairState) where
+  -- the cell is live, and the server has to do with it
+  pub record IsSpoken (cell : Cell) : Type 0 where
+    pub lives : live here.state cell ≡ true
+    pub role : (leads_link here.state here.me cell ≡ true) ⊎ (is_second here.state here.me cell ≡ true) ⊎ IsHeldHere here cell ⊎ IsHeldBy heard here own cell
+
+  led_spoken : (cell : Cell) → is_lead here.state here.me cell ≡ true → IsSpoken cell
+  led_spoken cell lead = let led = lead_links here.state here.me cell lead in record { lives = led.0; role = inl led.1 }
+
+  second_spoken : (cell : Cell) → is_second here.state here.me cell ≡ true → IsSpoken cell
+  second_spoken cell so = record { lives = second_live here cell so; role = inr (inl so) }
+
+  module _ (fit : IsFit heard here own) (q : Cell) where
+    -- ### What is remembered of copies
+
+    abbrev IsLive : PairState → Type 0
+    IsLive now = (last : LastCopy) → last_copy now q ≡ Some last → live here.state q ≡ true
+
+    copied_live : (cell : Cell) (last : LastCopy) → IsCopiedFor heard own cell last → live here.state cell ≡ true
+    copied_live cell _ (Is_begun number epochs h) = fit.lives (body.Trim number cell epochs) h refl cell refl
+    copied_live cell _ (Is_further last index is) = fit.copied cell last is
+
+    each_live : (now : PairState) (e : Effect) → May heard here own now e → IsLive now → IsLive (applied now e)
+    each_live now (Is_copied cell next) may so last is = elim (same_cell_or_apart q cell) [
+      | inl e ↦ ap (live here.state) e ∙ copied_live cell next may
+      | inr ne ↦ so last (sym (cell_apart now.copies.last cell next q ne) ∙ is)
+    ]
+    each_live now _ may so last is = so last is
+
+    pub did_copied : (done : JobResult) → Did heard here own done → IsLive done.own
+    did_copied = job_keeps heard here own IsLive each_live (fit.copied q)
+
+    -- ### What is said
+
+    abbrev MaySpeak : Body → Type 0
+    MaySpeak said = (is_between (subject_of said) ≡ false) ⊎ IsSpoken q
+
+    spoken : (cell : Cell) → IsSpoken cell → Some cell ≡ Some q → IsSpoken q
+    spoken cell so e = subst IsSpoken (same_some e) so
+
+    op_spoken : (op : Pending) (to : ℕ) → pending_on own op.cell ≡ Some op → second here.state op.cell ≡ Some to → IsSpoken op.cell
+    op_spoken op to is so =
+        let on = by_second op.cell to so in
+        record { lives = on; role = inl ((fit.ready.staged op.cell op is).leads on) }
+      where
+        by_second : (cell : Cell) (to : ℕ) → second here.state cell ≡ Some to → live here.state cell ≡ true
+        by_second cell to so = by_bool (live here.state cell) (λ on. on) (λ off. none_some (dead_second here.state cell off) so)
+
+    copying_spoken : (cell : Cell) (now : PairState) (copy : Copying) → IsCopying heard here own cell now copy → IsSpoken cell
+    copying_spoken cell _ _ (Begins id row other held next) = record {
+      lives = (next_is here.state id row own held.is cell next).lives;
+      role = inr (inr (inl (begun_held heard here own fit id row other cell held next)));
+    }
+    copying_spoken cell _ _ (Goes_on now copy taken) =
+        record { lives = taken_lives heard here own fit cell now copy taken; role = inr (inr (inl (taken_held heard here own fit cell now copy taken))) }
+
+    entry_spoken : (entry : Entry) (holder : ℕ) (last : LastCopy) → IsOfCopy heard here own entry holder last → IsSpoken (cell_of entry.key)
+    entry_spoken entry holder last of =
+        record { lives = entry_lives heard here own fit entry holder last of; role = inr (inr (inr (record { holder = holder; held = of.held }))) }
+
+    may_speak : (new : PairState) → IsLive new → (post : Post) → Says heard here own new post → (about post.body).cell ≡ Some q → MaySpeak post.body
+    may_speak new lives _ (says.Refuses to said is busy held) e = inl (ap is_between is.refused)
+    may_speak new lives _ (says.Repeats want last same h lead is so) e = inl (ended_mute want.seq last.ending)
+    may_speak new lives _ (Ends client last why is) e = inl (ended_mute last.seq last.ending)
+    may_speak new lives _ (says.Opens op to lead both none is number next so) e = inr (spoken op.cell (led_spoken op.cell lead) e)
+    may_speak new lives _ (Asks_slot op to same is stage so) e = inr (spoken op.cell (op_spoken op to is so) e)
+    may_speak new lives _ (Asks_copy op to same is stage so) e =
+        inr (spoken op.cell (op_spoken op to is so) (ap Some (sym (fit.ready.staged op.cell op is).keyed) ∙ e))
+    may_speak new lives _ (Has_slot number cell to follows so) e = inr (spoken cell (second_spoken cell follows) e)
+    may_speak new lives _ (says.Has_no_slot number cell to same h follows found so) e = inr (spoken cell (second_spoken cell follows) e)
+    may_speak new lives _ (Has_copy number cell to follows so) e = inr (spoken cell (second_spoken cell follows) e)
+    may_speak new lives _ (says.Asks_page row to same so fresh) e = none_some refl e
+    may_speak new lives _ (Tells_page id row after to same h named held) e = none_some refl e
+    may_speak new lives _ (Trims cell copy to copies fresh so) e = inr (spoken cell (copying_spoken cell new copy copies) e)
+    may_speak new lives _ (says.Is_trimmed cell last holder held is none) e =
+        let same : cell ≡ q = same_some e in
+        inr (record {
+          lives = lives last (subst (λ (c : Cell). last_copy new c ≡ Some last) same is);
+          role = inr (inr (inr (subst (IsHeldBy heard here own) same (record { holder = holder; held = held }))));
+        })
+    may_speak new lives _ (Syncs cell copy row to copies trimmed spot so) e = inr (spoken cell (copying_spoken cell new copy copies) e)
+    may_speak new lives _ (Is_synced entry holder last of) e = inr (spoken (cell_of entry.key) (entry_spoken entry holder last of) e)
+    may_speak new lives _ (Is_sync_full entry holder last same of spot full) e = inr (spoken (cell_of entry.key) (entry_spoken entry holder last of) e)
+    may_speak new lives _ (Ends_fill op how to ended is none so) e = inl (ap is_between (moved_fills op.key how))
+    may_speak new lives post (Moves _ same next) e = inl (ap (λ (p : Post). is_between (subject_of p.body)) next.is)
+    may_speak new lives post (Moves_on key row _ same h is next) e = inl (ap (λ (p : Post). is_between (subject_of p.body)) next.is)
+    may_speak new lives post (says.Of_the_log _ logged) e = inl (logged_mute (subject_of post.body) logged)
+    may_speak new lives _ _ e = inl refl
+
+    did_say : (done : JobResult) → Did heard here own done → (post : Post) → In post done.posts → (about post.body).cell ≡ Some q → MaySpeak post.body
+    did_say done d post i e = may_speak done.own (did_copied done d) post (letters_of_job heard here own done d post i) e
+
+    -- two servers speak of live cells alone
+    pub did_lives : (done : JobResult) → Did heard here own done → (post : Post) → In post done.posts → is_between (subject_of post.body) ≡ true
+        → (about post.body).cell ≡ Some q → live here.state q ≡ true
+    did_lives done d post i between e = elim (did_say done d post i e) [ inl mute ↦ true_false between mute | inr so ↦ so.lives ]
+
+    -- and of none with which they have nothing to do
+    pub idle_silent : IsIdleAt here q → (done : JobResult) → Did heard here own done → (post : Post) → In post done.posts → (about post.body).cell ≡ Some q
+        → is_between (subject_of post.body) ≡ false
+    idle_silent idle done d post i e = elim (did_say done d post i e) [
+      | inl mute ↦ mute
+      | inr so ↦ elim so.role [
+        | inl leads ↦ absurd (idle.no_lead leads)
+        | inr (inl second) ↦ absurd (idle.no_second second)
+        | inr (inr (inl held)) ↦ absurd (idle.no_holder held)
+        | inr (inr (inr other)) ↦ absurd (idle.no_other other.holder other.held)
+      ]
+    ]

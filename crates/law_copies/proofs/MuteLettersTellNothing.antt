@@ -1,0 +1,72 @@
+-- Letters that speak neither of pairs nor of copies tell nothing of two copies.
+use Rattle.std.proofs.Common.{◌≡◌, ◌||◌, ℕ, List, true, false, Option, refl, ap}
+use Rattle.global_tables.specs.Link.{other_of}
+use Rattle.global_tables.specs.declared.link.LinkRow.{LinkRow}
+use Rattle.petal_base.specs.declared.cell.Cell.{Cell}
+use Rattle.petal_command.specs.declared.command.Command.{Command}
+use Rattle.petal_msg.specs.Kinds.{Subject, is_asked, is_logged, is_paired, subject_of, Logged, Paired, Read_asked, Write_asked}
+use Rattle.petal_msg.specs.declared.body.Body.{Body}
+use Rattle.petal_msg.specs.declared.body.Body.TheVariants as body
+use Rattle.spec_rules.specs.Server.{PairState}
+use Rattle.spec_rules.specs.Store.{Store}
+use Rattle.spec_rules.specs.World.{Setting}
+use Rattle.spec_rules.proofs.Tests.{true_false}
+use Rattle.law_steps.specs.DidStep.{is_between}
+use Rattle.law_copies.specs.CopyProgress.{IsTold}
+use Rattle.law_copies.specs.GoodCopies.{SaidOk, pair_at}
+use Rattle.law_copies.specs.Pair.{Known, Pair}
+use Rattle.law_copies.specs.Visits.{Visits, place_by, store_by}
+
+-- a letter that is of no pair tells nothing of it
+pub unpaired_known : (pair : Pair) (said : Body) → is_paired (subject_of said) ≡ false → Known pair said
+unpaired_known pair (body.Reserve number cell) e = cc
+unpaired_known pair (body.Reserved number cell) e = cc
+unpaired_known pair (body.PairFull number cell) e = cc
+unpaired_known pair (body.Replicate number key version bytes) e = cc
+unpaired_known pair (body.Replicated number cell) e = cc
+unpaired_known pair _ e = tt
+
+mute_unpaired : (subject : Subject) → is_between subject ≡ false → is_paired subject ≡ false
+mute_unpaired Paired e = cc
+mute_unpaired _ e = refl
+
+pub known_mute : (pair : Pair) (said : Body) → is_between (subject_of said) ≡ false → Known pair said
+known_mute pair said e = unpaired_known pair said (mute_unpaired (subject_of said) e)
+
+pub told_mute : (row : LinkRow) (holder other : Option PairState) (said : Body) → is_between (subject_of said) ≡ false → IsTold row holder other said
+told_mute row holder other (body.Trim number cell epochs) e = cc
+told_mute row holder other (body.Trimmed number cell) e = cc
+told_mute row holder other (body.Sync number key version index bytes) e = cc
+told_mute row holder other (body.Synced number cell index) e = cc
+told_mute row holder other _ e = tt
+
+-- a page is no such letter
+pub no_page : {B : Type 0} (said : Body) → is_between (subject_of said) ≡ false → (map link : ℕ) (after block : Option ℕ)
+    → said ≡ body.Hello map link after block → B
+no_page said e map link after block is = true_false (ap (λ (b : Body). is_between (subject_of b)) is) e
+
+pub said_mute : (setting : Setting) (top : List Command) (stores : ℕ → ℕ → Store) (visits : Visits) (reached : Cell → ℕ) (front : List Command)
+    (said : Body) (cell : Cell)
+    (row : LinkRow) → is_between (subject_of said) ≡ false → SaidOk setting top stores visits reached front said cell row
+said_mute setting top stores visits reached front said cell row e = record {
+  both = λ alive both last of. known_mute (pair_at (store_by setting stores front) visits (place_by setting front row) cell row.primary row.secondary) said e;
+  alone = λ holder whole alone of.
+      told_mute row (visits holder (place_by setting front row) cell) (visits (other_of holder row) (place_by setting front row) cell) said e;
+  page = λ alive holder whole after block alone is last. no_page said e row.map row.link after block is;
+  met = λ holder whole after block alone is. no_page said e row.map row.link after block is;
+}
+
+-- what clients send, and what speaks of the agreed log
+pub asked_mute : (subject : Subject) → (is_asked subject || is_logged subject) ≡ true → is_between subject ≡ false
+asked_mute Logged e = refl
+asked_mute Read_asked e = refl
+asked_mute Write_asked e = refl
+asked_mute _ e = cc
+
+pub logged_mute : (subject : Subject) → is_logged subject ≡ true → is_between subject ≡ false
+logged_mute Logged e = refl
+logged_mute _ e = cc
+
+-- so is what speaks of the log
+pub logged_known : (pair : Pair) (said : Body) → is_logged (subject_of said) ≡ true → Known pair said
+logged_known pair said e = known_mute pair said (logged_mute (subject_of said) e)

@@ -1,0 +1,496 @@
+-- The chosen log grows by an entry that no server has applied: what was kept at the fronts so far is kept at the new one. Where the
+-- entry touches a link, no server has been at the link's new place. Where it is a Join of a server with an empty store, that store is the
+-- server's from the new front on.
+use Rattle.std.proofs.Common.{◌≡◌, ◌≢◌, ◌≤◌, ◌==◌, ◌⊎◌, ℕ, Bool, List, [], ◌∷◌, length, length-append, true, false}
+use Rattle.std.proofs.Common.{Some, None, refl, sym, ap, ◌∙◌, subst, inl, inr, arith}
+use Rattle.std.specs.Prelude.{slice_get}
+use Rattle.std.specs.Ordering.{nat_cmp}
+use Rattle.busy_marks.specs.Marks.{has_mark}
+use Rattle.global_tables.specs.Link.{has_server, left_state, other_of, row_blanked, row_left}
+use Rattle.global_tables.specs.declared.link.LinkRow.{LinkRow}
+use Rattle.global_tables.specs.declared.link.LinkState.TheVariants.{Both, Only}
+use Rattle.petal_base.specs.declared.cell.Cell.{Cell}
+use Rattle.petal_command.specs.declared.command.Command.{Command}
+use Rattle.petal_command.specs.declared.command.Command.TheVariants.{Join, Leave}
+use Rattle.spec_history.specs.Claims.{IsPrefix}
+use Rattle.petal_msg.specs.Kinds.{subject_of}
+use Rattle.petal_msg.specs.declared.body.Body.{Body}
+use Rattle.petal_msg.specs.declared.copying.LinkId.{LinkId}
+use Rattle.spec_state.specs.CellState.{cell_link, serves}
+use Rattle.spec_state.specs.Command.{after, may_join, state_after}
+use Rattle.spec_state.specs.Place.{touches}
+use Rattle.spec_rules.specs.Blanked.{joins_blank}
+use Rattle.spec_rules.specs.Server.{PairState}
+use Rattle.spec_rules.specs.State.{id_of, is_in, is_whole}
+use Rattle.spec_rules.specs.Store.{Store, cell_cmp, chain_in, is_marked, mark_on}
+use Rattle.spec_rules.specs.World.{blank_joins_in, server_state, with_store}
+use Rattle.spec_rules.proofs.Tests.{by_bool, none_some, same_some, true_false}
+use Rattle.petal_table.proofs.Rows.{at-empty}
+use Rattle.law_log.specs.ProposedCommands.{WasStarted}
+use Rattle.law_state.specs.Homes.{stage_at}
+use Rattle.law_state.specs.LinkChanges.{IsCaughtBy, By_caught, By_join, By_leave, row_joined}
+use Rattle.law_state.specs.LinkRows.{ByBoth, ByNone, ByOne}
+use Rattle.law_state.specs.StartedBallots.{is_flagged}
+use Rattle.law_state.proofs.CaughtsMadeBoth.{left_not_both, left_row, stays_row}
+use Rattle.law_state.proofs.GrownStates.{alone_not_both, one_before}
+use Rattle.law_state.proofs.Roles.{primary_is_one, secondary_is_one}
+use Rattle.law_state.proofs.Steady.{log_steady}
+use Rattle.law_state.proofs.EntriesTouchLinks.{log_touched}
+use Rattle.law_steps.specs.DidStep.{is_between}
+use Rattle.law_steps.specs.Ready.{IsRising}
+use Rattle.law_steps.proofs.Fronts.{front_itself, front_long, front_more, front_on}
+use Rattle.law_copies.specs.CopyProgress.{AreCopying, IsCovered, IsPage, Is_equal, links_of}
+use Rattle.law_copies.specs.GoodCopies.{AloneOk, AreBeside, AreTwins, BothOk, Good, IsUnheard, SaidOk, StaysLeft, pair_at}
+use Rattle.law_copies.specs.Pair.{HaveMarks, Known}
+use Rattle.law_copies.specs.LoneSteps.{AreFilled, IsBare}
+use Rattle.law_copies.specs.Visits.{AliveIn, AreReached, HasFilled, IsHere, IsLinked, Visits, place_by, store_by}
+use Rattle.law_copies.proofs.PlacesByFronts.{has_filled_on, reached_on}
+use Rattle.law_copies.proofs.BlankJoinsMakePlaces.{joins_at, store_at}
+use Rattle.law_copies.proofs.FramesKeepFronts.{other_is_one}
+use Rattle.law_copies.proofs.ServedAtLaterFronts.{alone_not_lost, holder_is_one, other_than}
+use Rattle.law_copies.proofs.MuteLettersTellNothing.{said_mute}
+use Rattle.law_copies.proofs.NewPlaces.{beside_same, both_cover, cover_again, in_common, new_alone, new_twins, twins_same}
+use Rattle.law_copies.proofs.PlacesByFronts.{below_at, front_or_all, links_up, other_later}
+use Rattle.law_copies.proofs.BlankJoinsRenewLinks.{blanked_alone, counts_same, filled_cover, joined_not_both, joins_so, no_blank_join, no_chains}
+use Rattle.law_copies.proofs.AtNext.{AtNext, next_of, IsGrownTo}
+use Rattle.law_copies.proofs.NextEntry.{alive_before, born_then, by_next, front_stores, later_then, next_store, next_stores}
+use Rattle.law_copies.proofs.NextEntry.{no_blank, no_caught, no_leave, old_stores, plain_entry, plain_top, reached_below}
+use Rattle.law_copies.proofs.NextEntry.{row_then, steady_top, still_empty, stores_so}
+
+module _ (it : AtNext) where
+  open it use {setting, records, top, entry, u, old, new, good, following, all, started, recounts}
+  open next_of it use {next, here, then_state, v, stores}
+
+  -- ### In Both
+
+  twins_top : (cell : Cell) (row : LinkRow) → IsLinked setting top cell row → AliveIn here cell → row.state ≡ Both
+      → AreTwins old good.visits (place_by setting top row) cell row.primary row.secondary
+  twins_top cell row is alive both = subst (λ s. AreTwins s good.visits (place_by setting top row) cell row.primary row.secondary) (old_stores it)
+      ((good.both top cell row (front_itself top) is both).twins alive (reached_below it cell row is))
+
+  beside_top : (cell : Cell) (row : LinkRow) (holder : ℕ) (whole : Bool) → IsLinked setting top cell row → AliveIn here cell
+      → row.state ≡ Only holder whole → AreBeside old good.visits (place_by setting top row) row cell holder (other_of holder row)
+  beside_top cell row holder whole is alive alone =
+      subst (λ s. AreBeside s good.visits (place_by setting top row) row cell holder (other_of holder row)) (old_stores it)
+      ((good.alone top cell row holder whole (front_itself top) is alone).beside alive (reached_below it cell row is))
+
+  -- the holder has the link in mind
+  minded : (cell : Cell) (row : LinkRow) → IsLinked setting top cell row → AliveIn here cell → (acts : IsCaughtBy here entry row)
+      → (own : PairState) × (good.visits acts.holder (place_by setting top row) cell ≡ Some own) × (is_flagged own (id_of row) ≡ true)
+  minded cell row is alive acts =
+      let told = started row.map row.link acts.holder acts.inc (other_of acts.holder row) acts.other_inc acts.is in
+      good.started acts.holder acts.inc acts.whole top cell row (front_itself top) is alive acts.alone acts.holds told
+
+  -- by its Caught, for which the holder was done: then the copies were equal
+  caught_equal : (cell : Cell) (row : LinkRow) → IsLinked setting top cell row → AliveIn here cell → (acts : IsCaughtBy here entry row)
+      → chain_in (new row.primary).chains cell ≡ chain_in (new row.secondary).chains cell
+  caught_equal cell row is alive acts =
+      let mind = minded cell row is alive acts in
+      let same = no_caught it row.map row.link acts.holder acts.inc (other_of acts.holder row) acts.other_inc acts.is in
+      let beside = beside_top cell row acts.holder acts.whole is alive acts.alone in
+      ap (λ (s : Store). chain_in s.chains cell) (same row.primary)
+      ∙ in_common (λ n. chain_in (old n).chains cell) row acts.holder (holder_is_one here (steady_top it) acts.holder cell row is acts.alone)
+      (beside.alike.caught mind.0 mind.1 mind.2)
+      ∙ ap (λ (s : Store). chain_in s.chains cell) (sym (same row.secondary))
+
+  both_moved : (cell : Cell) (row now : LinkRow) → IsLinked setting top cell row → IsLinked setting next cell now → touches here entry row ≡ true
+      → AliveIn here cell → now.state ≡ Both
+      → chain_in (new now.primary).chains cell ≡ chain_in (new now.secondary).chains cell
+  both_moved cell row now is end on alive both = elim (log_touched setting.servers top entry cell row (plain_top it) (plain_entry it) is on) [
+    | By_leave left there seats ↦ left_not_both (other_of left.server row) row.state
+        (sym (left_row row left.server left.one_of) ∙ ap (λ (r : LinkRow). r.state) (same_some (sym there ∙ row_then it cell now end)) ∙ both)
+    | By_join joined there apart seats ↦
+        joined_not_both row joined.server joined.blank apart (ap (λ (r : LinkRow). r.state) (same_some (sym there ∙ row_then it cell now end)) ∙ both)
+    | By_caught acts stays ↦ (
+        let so = later_then it cell row now is end in
+        ap (λ n. chain_in (new n).chains cell) so.primary ∙ caught_equal cell row is alive acts ∙ ap (λ n. chain_in (new n).chains cell) (sym so.secondary))
+  ]
+
+  both_on : (f : List Command) (cell : Cell) (row : LinkRow) → IsPrefix f top → BothOk setting top good.stores good.visits good.reached f cell row
+      → BothOk setting next stores good.visits good.reached f cell row
+  both_on f cell row prefix b = record {
+    twins = λ alive last. subst (λ s. AreTwins s good.visits (place_by setting f row) cell row.primary row.secondary) (front_stores it f prefix)
+        (b.twins (alive_before it cell alive) last);
+  }
+
+  -- at a place that stays each server of the link has the store that it had
+  same_store : (cell : Cell) (now : LinkRow) (n : ℕ) → IsLinked setting top cell now → IsLinked setting next cell now
+      → place_by setting next now ≡ place_by setting top now → has_server n now ≡ true → store_by setting stores next n ≡ store_by setting stores top n
+  same_store cell now n is end same has = store_at setting next all stores next top cell now now n (front_itself next)
+      (front_more top entry) end is has has same
+
+  -- two equal copies, of which nobody has anything in memory
+  made_twins : (cell : Cell) (now : LinkRow) → ((k : ℕ) → good.visits k (place_by setting next now) cell ≡ None)
+      → (AliveIn here cell → chain_in (new now.primary).chains cell ≡ chain_in (new now.secondary).chains cell)
+      → BothOk setting next stores good.visits good.reached next cell now
+  made_twins cell now unseen same = record {
+    twins = λ alive last. subst (λ s. AreTwins s good.visits (place_by setting next now) cell now.primary now.secondary) (next_stores it)
+        (new_twins new good.visits (place_by setting next now) cell now.primary now.secondary unseen (same (alive_before it cell alive)));
+  }
+
+  both_next : (cell : Cell) (now : LinkRow) → IsLinked setting next cell now → now.state ≡ Both
+      → BothOk setting next stores good.visits good.reached next cell now
+  both_next cell now end both = by_next it cell now end
+      (λ is same. record {
+        twins = λ alive last. subst (λ place. AreTwins (store_by setting stores next) good.visits place cell now.primary now.secondary) (sym same)
+            (twins_same (store_by setting stores top) (store_by setting stores next) good.visits (place_by setting top now) cell now.primary now.secondary
+            (same_store cell now now.primary is end same (primary_is_one now now.primary refl))
+            (same_store cell now now.secondary is end same (secondary_is_one now now.secondary refl))
+            ((both_on top cell now (front_itself top) (good.both top cell now (front_itself top) is both)).twins alive
+            (subst (λ place. good.reached cell ≤ place) same last)));
+      })
+      (λ row is on unseen. made_twins cell now unseen (λ alive. both_moved cell row now is end on alive both))
+      (λ none unseen. made_twins cell now unseen (λ alive. still_empty it cell none now.primary now.secondary))
+
+  -- ### Alone
+
+  cover_same : (now : LinkRow) (cell : Cell) (n m : ℕ) → new n ≡ old n → new m ≡ old m → IsCovered now cell (old n) (old m) None
+      → IsCovered now cell (new n) (new m) None
+  cover_same now cell n m one two covered =
+      subst (λ a. IsCovered now cell a (new m) None) (sym one) (subst (λ b. IsCovered now cell (old n) b None) (sym two) covered)
+
+  -- a link that one server held alone, and holds so still
+  alone_cover : (cell : Cell) (row now : LinkRow) (holder : ℕ) (whole : Bool) → IsLinked setting top cell row → IsLinked setting next cell now
+      → AliveIn here cell → row.state ≡ Only holder whole → now.state ≡ Only holder whole → IsCovered now cell (old holder) (old (other_of holder now)) None
+  alone_cover cell row now holder whole is end alive alone still =
+      let beside = beside_top cell row holder whole is alive alone in
+      subst (λ m. IsCovered now cell (old holder) (old m) None) (sym (other_later row now holder (later_then it cell row now is end)))
+      (cover_again row now cell (old holder) (old (other_of holder row)) (good.visits holder (place_by setting top row) cell)
+      (λ all. ap is_whole (still ∙ sym alone) ∙ all) beside.alike.covered)
+
+  -- one of its two servers has left
+  left_cover : (cell : Cell) (row now : LinkRow) (holder server : ℕ) (whole : Bool) → IsLinked setting top cell row → IsLinked setting next cell now
+      → AliveIn here cell → has_server server row ≡ true → row_left server row ≡ now → now.state ≡ Only holder whole
+      → IsCovered now cell (old holder) (old (other_of holder now)) None
+  left_cover cell row now holder server whole is end alive has same alone = elim ((steady_top it).linked cell row is).served [
+    | ByBoth so one other ↦ (
+        let later = later_then it cell row now is end in
+        let has_holder : has_server holder row ≡ true = sym (one_before row now holder later)
+        ∙ holder_is_one then_state (log_steady setting.servers next all) holder cell now end alone in
+        subst (λ m. IsCovered now cell (old holder) (old m) None) (sym (other_later row now holder later))
+        (both_cover old good.visits (place_by setting top row) row now cell (twins_top cell row is alive so) holder has_holder))
+    | ByOne h other kept so pair out ↦
+        alone_cover cell row now holder whole is end alive (ap (λ (r : LinkRow). r.state) (sym (stays_row row server h has so) ∙ same) ∙ alone) alone
+    | ByNone one other so pair out ↦ alone_not_lost now holder alone
+        (ap (λ (r : LinkRow). r.state) (sym same) ∙ left_row row server has ∙ ap (left_state (other_of server row)) so)
+  ]
+
+  -- one of them has joined with nothing: the other one holds the link, and is to copy all
+  blank_other : (cell : Cell) (row now : LinkRow) (holder server : ℕ) (whole : Bool) → IsLinked setting top cell row → IsLinked setting next cell now
+      → has_server server row ≡ true → row_blanked server row ≡ now → row.state ≢ Both → now.state ≡ Only holder whole → other_of holder now ≡ server
+  blank_other cell row now holder server whole is end has same apart alone =
+      let kept = blanked_alone row server holder whole has apart (ap (λ (r : LinkRow). r.state) same ∙ alone) in
+      let later = later_then it cell row now is end in
+      let its = sym (one_before row now holder later)
+      ∙ holder_is_one (state_after setting.servers next) (log_steady setting.servers next all) holder cell now end alone in
+      other_later row now holder later ∙ other_than holder server row its has kept.0
+
+  blank_cover : (cell : Cell) (row now : LinkRow) (holder server : ℕ) (whole : Bool) → IsLinked setting top cell row → IsLinked setting next cell now
+      → has_server server row ≡ true → row_blanked server row ≡ now → row.state ≢ Both → joins_blank here entry server ≡ true → now.state ≡ Only holder whole
+      → IsCovered now cell (new holder) (new (other_of holder now)) None
+  blank_cover cell row now holder server whole is end has same apart on alone =
+      let kept = blanked_alone row server holder whole has apart (ap (λ (r : LinkRow). r.state) same ∙ alone) in
+      subst (λ m. IsCovered now cell (new holder) (new m) None) (sym (blank_other cell row now holder server whole is end has same apart alone))
+      (filled_cover now cell (new holder) (new server) (ap is_whole alone ∙ kept.1) (no_chains (new server) cell (recounts.renewed server on).chains))
+
+  alone_moved : (cell : Cell) (row now : LinkRow) (holder : ℕ) (whole : Bool) → IsLinked setting top cell row → IsLinked setting next cell now
+      → touches here entry row ≡ true → AliveIn here cell → now.state ≡ Only holder whole → IsCovered now cell (new holder) (new (other_of holder now)) None
+  alone_moved cell row now holder whole is end on alive alone = elim (log_touched setting.servers top entry cell row (plain_top it) (plain_entry it) is on) [
+    | By_leave left there seats ↦
+        cover_same now cell holder (other_of holder now) (no_leave it left.server left.inc left.is holder)
+        (no_leave it left.server left.inc left.is (other_of holder now))
+        (left_cover cell row now holder left.server whole is end alive left.one_of (same_some (sym there ∙ row_then it cell now end)) alone)
+    | By_join joined there apart seats ↦ joins joined.server joined.inc joined.blank joined.is joined.may joined.one_of there apart
+    | By_caught acts stays ↦ alone_not_both now holder alone (ap (λ (r : LinkRow). r.state) (same_some (sym (row_then it cell now end) ∙ stays.same)))
+  ]
+    where
+      joins : (server inc : ℕ) (blank : Bool) → entry ≡ Join server inc blank → may_join (slice_get here.view.members server) inc ≡ true
+          → has_server server row ≡ true → cell_link (after here entry) cell ≡ Some (row_joined server blank row) → row.state ≢ Both
+          → IsCovered now cell (new holder) (new (other_of holder now)) None
+      joins server inc false e may has there apart =
+          cover_same now cell holder (other_of holder now) (no_blank it server inc e holder) (no_blank it server inc e (other_of holder now))
+          (alone_cover cell row now holder whole is end alive (ap (λ (r : LinkRow). r.state) (same_some (sym there ∙ row_then it cell now end)) ∙ alone) alone)
+      joins server inc true e may has there apart =
+          blank_cover cell row now holder server whole is end has (same_some (sym there ∙ row_then it cell now end)) apart
+          (ap (λ (c : Command). joins_blank here c server) e ∙ joins_so here server inc may) alone
+
+  -- ### What the other server has, where all is to be copied to it
+
+  filled_on : (f : List Command) (cell : Cell) (holder other : ℕ) → HasFilled setting top good.visits f cell holder other
+      → HasFilled setting next good.visits f cell holder other
+  filled_on f cell holder other h = has_filled_on h (front_on h.more top next h.within (front_more top entry)) refl h.own h.visited
+
+  -- after as many of its Joins with an empty store
+  filled_next : (cell : Cell) (holder other : ℕ) → blank_joins_in setting next other ≡ blank_joins_in setting top other
+      → HasFilled setting top good.visits top cell holder other → HasFilled setting next good.visits next cell holder other
+  filled_next cell holder other same h = has_filled_on h (front_on h.more top next h.within (front_more top entry)) (sym same) h.own h.visited
+
+  abbrev IsUnfilled : Cell → LinkRow → ℕ → Type 0
+  IsUnfilled cell now holder =
+      (chain_in (new (other_of holder now)).chains cell ≡ []) ⊎ HasFilled setting next good.visits next cell holder (other_of holder now)
+
+  still_unfilled : (cell : Cell) (row now : LinkRow) (holder : ℕ) (whole : Bool) → IsLinked setting top cell row → IsLinked setting next cell now
+      → AliveIn here cell → row.state ≡ Only holder whole → joins_blank here entry (other_of holder row) ≡ false → whole ≡ true → IsUnfilled cell now holder
+  still_unfilled cell row now holder whole is end alive alone off all_of =
+      let other = other_of holder row in
+      subst (λ m. (chain_in (new m).chains cell ≡ []) ⊎ HasFilled setting next good.visits next cell holder m)
+      (sym (other_later row now holder (later_then it cell row now is end)))
+      (elim ((good.alone top cell row holder whole (front_itself top) is alone).unfilled alive (ap is_whole alone ∙ all_of)) [
+        | inl empty ↦ inl (ap (λ (s : Store). chain_in s.chains cell) (recounts.same other off ∙ sym (good.now other)) ∙ empty)
+        | inr h ↦ inr (filled_next cell holder other (counts_same setting top entry other off) h)
+      ])
+
+  -- one of the link's two servers has left
+  left_unfilled : (cell : Cell) (row now : LinkRow) (holder server inc : ℕ) (whole : Bool) → IsLinked setting top cell row → IsLinked setting next cell now
+      → AliveIn here cell → entry ≡ Leave server inc → has_server server row ≡ true → row_left server row ≡ now → now.state ≡ Only holder whole
+      → whole ≡ true → IsUnfilled cell now holder
+  left_unfilled cell row now holder server inc whole is end alive entry_is has same alone all_of = elim ((steady_top it).linked cell row is).served [
+    | ByBoth so one other ↦ true_false all_of
+        (sym (ap is_whole alone) ∙ ap (λ (r : LinkRow). is_whole r.state) (sym same) ∙ ap is_whole (left_row row server has)
+        ∙ ap (λ x. is_whole (left_state (other_of server row) x)) so)
+    | ByOne h other kept so pair out ↦
+        still_unfilled cell row now holder whole is end alive (ap (λ (r : LinkRow). r.state) (sym (stays_row row server h has so) ∙ same) ∙ alone)
+        (no_blank_join here entry (λ s i e. let f : Leave server inc ≡ Join s i true = sym entry_is ∙ e in absurd cc) (other_of holder row)) all_of
+    | ByNone one other so pair out ↦ alone_not_lost now holder alone
+        (ap (λ (r : LinkRow). r.state) (sym same) ∙ left_row row server has ∙ ap (left_state (other_of server row)) so)
+  ]
+
+  unfilled_moved : (cell : Cell) (row now : LinkRow) (holder : ℕ) (whole : Bool) → IsLinked setting top cell row → IsLinked setting next cell now
+      → touches here entry row ≡ true → AliveIn here cell → now.state ≡ Only holder whole → whole ≡ true → IsUnfilled cell now holder
+  unfilled_moved cell row now holder whole is end on alive alone all_of =
+      elim (log_touched setting.servers top entry cell row (plain_top it) (plain_entry it) is on) [
+        | By_leave left there seats ↦
+            left_unfilled cell row now holder left.server left.inc whole is end alive left.is left.one_of
+            (same_some (sym there ∙ row_then it cell now end)) alone all_of
+        | By_join joined there apart seats ↦ joins joined.server joined.inc joined.blank joined.is joined.may joined.one_of there apart
+        | By_caught acts stays ↦ alone_not_both now holder alone (ap (λ (r : LinkRow). r.state) (same_some (sym (row_then it cell now end) ∙ stays.same)))
+      ]
+    where
+      joins : (server inc : ℕ) (blank : Bool) → entry ≡ Join server inc blank → may_join (slice_get here.view.members server) inc ≡ true
+          → has_server server row ≡ true → cell_link (after here entry) cell ≡ Some (row_joined server blank row) → row.state ≢ Both
+          → IsUnfilled cell now holder
+      joins server inc false e may has there apart =
+          still_unfilled cell row now holder whole is end alive (ap (λ (r : LinkRow). r.state) (same_some (sym there ∙ row_then it cell now end)) ∙ alone)
+          (no_blank_join here entry (λ s i f. let g : Join server inc false ≡ Join s i true = sym e ∙ f in absurd cc) (other_of holder row)) all_of
+      joins server inc true e may has there apart =
+          let other = blank_other cell row now holder server whole is end has (same_some (sym there ∙ row_then it cell now end)) apart alone in
+          inl (ap (λ n. chain_in (new n).chains cell) other ∙ no_chains (new server) cell
+          (recounts.renewed server (ap (λ (c : Command). joins_blank here c server) e ∙ joins_so here server inc may)).chains)
+
+  alone_on : (f : List Command) (cell : Cell) (row : LinkRow) (holder : ℕ) → IsPrefix f top
+      → AloneOk setting top good.stores good.visits good.reached f cell row holder
+      → AloneOk setting next stores good.visits good.reached f cell row holder
+  alone_on f cell row holder prefix a =
+      let other = other_of holder row in
+      record {
+        copying = a.copying;
+        beside = λ alive last. subst (λ s. AreBeside s good.visits (place_by setting f row) row cell holder other) (front_stores it f prefix)
+            (a.beside (alive_before it cell alive) last);
+        stays = λ alive own visit beyond. subst (λ (s : ℕ → Store). StaysLeft row cell own (s holder)) (front_stores it f prefix)
+            (a.stays (alive_before it cell alive) own visit beyond);
+        unfilled = λ alive all_of. elim (a.unfilled (alive_before it cell alive) all_of) [
+          | inl empty ↦ inl (subst (λ (s : ℕ → Store). chain_in (s other).chains cell ≡ []) (front_stores it f prefix) empty)
+          | inr h ↦ inr (filled_on f cell holder other h)
+        ];
+      }
+
+  same_alone : (cell : Cell) (now : LinkRow) (holder : ℕ) (whole : Bool) → IsLinked setting top cell now → IsLinked setting next cell now
+      → now.state ≡ Only holder whole
+      → place_by setting next now ≡ place_by setting top now → AloneOk setting next stores good.visits good.reached top cell now holder
+      → AloneOk setting next stores good.visits good.reached next cell now holder
+  same_alone cell now holder whole is end alone same a =
+      let other = other_of holder now in
+      let has = holder_is_one here (steady_top it) holder cell now is alone in
+      let one = same_store cell now holder is end same has in
+      let two = same_store cell now other is end same (other_is_one now holder) in
+      record {
+        copying = subst (λ many. AreCopying many now cell (good.visits holder (place_by setting next now) cell)
+            (good.visits other (place_by setting next now) cell))
+            (sym (links_up setting next all top next cell now (front_more top entry) (front_itself next) is))
+            (subst (λ place. AreCopying (links_of here cell.map) now cell (good.visits holder place cell) (good.visits other place cell)) (sym same) a.copying);
+        beside = λ alive last. subst (λ place. AreBeside (store_by setting stores next) good.visits place now cell holder other) (sym same)
+            (beside_same (store_by setting stores top) (store_by setting stores next) good.visits (place_by setting top now) cell now holder other one two
+            (a.beside alive (subst (λ place. good.reached cell ≤ place) same last)));
+        stays = λ alive own visit beyond. subst (λ s. StaysLeft now cell own s) (sym one)
+            (a.stays alive own (ap (λ p. good.visits holder p cell) (sym same) ∙ visit) (λ p lt. beyond p (let e = same in omega arith)));
+        unfilled = λ alive all_of. elim (a.unfilled alive all_of) [
+          | inl empty ↦ inl (ap (λ (s : Store). chain_in s.chains cell) two ∙ empty)
+          | inr h ↦ inr (record {
+            more = h.more;
+            within = h.within;
+            row = h.row;
+            linked = h.linked;
+            joins = h.joins
+                ∙ sym (joins_at setting next all next top cell now now other (front_itself next) (front_more top entry) end is (other_is_one now holder)
+                (other_is_one now holder) same);
+            own = h.own;
+            visited = h.visited;
+          })
+        ];
+      }
+
+  made_alone : (cell : Cell) (now : LinkRow) (holder : ℕ) → ((k : ℕ) → good.visits k (place_by setting next now) cell ≡ None)
+      → (AliveIn here cell → IsCovered now cell (new holder) (new (other_of holder now)) None)
+      → (AliveIn here cell → is_whole now.state ≡ true → IsUnfilled cell now holder)
+      → AloneOk setting next stores good.visits good.reached next cell now holder
+  made_alone cell now holder unseen covered unfilled =
+      let other = other_of holder now in
+      new_alone setting next stores good.visits good.reached next cell now holder unseen
+      (λ alive. subst (λ (s : ℕ → Store). IsCovered now cell (s holder) (s other) None) (next_stores it) (covered (alive_before it cell alive)))
+      (λ alive. subst (λ (s : ℕ → Store). is_whole now.state ≡ true → (chain_in (s other).chains cell ≡ [])
+      ⊎ HasFilled setting next good.visits next cell holder other)
+      (next_stores it) (unfilled (alive_before it cell alive)))
+
+  alone_next : (cell : Cell) (now : LinkRow) (holder : ℕ) (whole : Bool) → IsLinked setting next cell now → now.state ≡ Only holder whole
+      → AloneOk setting next stores good.visits good.reached next cell now holder
+  alone_next cell now holder whole end alone = by_next it cell now end
+      (λ is same. same_alone cell now holder whole is end alone same
+      (alone_on top cell now holder (front_itself top) (good.alone top cell now holder whole (front_itself top) is alone)))
+      (λ row is on unseen. made_alone cell now holder unseen (λ alive. alone_moved cell row now holder whole is end on alive alone)
+      (λ alive all_of. unfilled_moved cell row now holder whole is end on alive alone (sym (ap is_whole alone) ∙ all_of)))
+      (λ none unseen. made_alone cell now holder unseen (λ alive. Is_equal (still_empty it cell none holder (other_of holder now)))
+      (λ alive all_of. inl (born_then it cell none (other_of holder now))))
+
+  -- ### All of it
+
+  -- what is so of each front so far, and of the new one
+  at_fronts : (P : List Command → Type 0) → ((front : List Command) → IsPrefix front top → P front) → P next → (front : List Command) → IsPrefix front next
+      → P front
+  at_fronts P before last front prefix = elim (front_or_all front top entry prefix) [
+    | inl p ↦ before front p
+    | inr same ↦ subst P (sym same) last
+  ]
+
+  -- a front as long as some revision so far is one so far
+  by_length : {B : Type 0} (front : List Command) → IsPrefix front next → length front ≤ length top → (IsPrefix front top → B) → B
+  by_length front prefix le so = elim (front_or_all front top entry prefix) [
+    | inl p ↦ so p
+    | inr same ↦ absurd (omega (arith, ap length same, length-append top (entry ∷ [])))
+  ]
+
+  below_next : (cell : Cell) (now : LinkRow) (n : ℕ) (own : PairState) → IsLinked setting next cell now → serves n now now.state ≡ true
+      → good.visits n (place_by setting next now) cell ≡ Some own → place_by setting next now ≤ good.reached cell
+  below_next cell now n own end serving visited = by_next it cell now end
+      (λ is same. subst (λ place. place ≤ good.reached cell) (sym same)
+      (good.reaching.below top cell now n own (front_itself top) is serving (subst (λ place. good.visits n place cell ≡ Some own) same visited)))
+      (λ row is on unseen. none_some (unseen n) visited)
+      (λ none unseen. none_some (unseen n) visited)
+
+  reaching_next : AreReached setting next good.visits good.reached
+  reaching_next = record {
+    below = λ front cell row n own prefix.
+        at_fronts (λ f. IsLinked setting f cell row → serves n row row.state ≡ true → good.visits n (place_by setting f row) cell ≡ Some own
+        → place_by setting f row ≤ good.reached cell)
+        (λ f p. good.reaching.below f cell row n own p) (below_next cell row n own) front prefix;
+    by = λ cell. elim (good.reaching.by cell) [
+      | inl none ↦ inl none
+      | inr r ↦ inr (reached_on r (front_on r.front top next r.prefix (front_more top entry)) r.own r.visited)
+    ];
+  }
+
+  -- a cell that is not live yet then was not before
+  unborn_before : (cell : Cell) → stage_at then_state cell ≡ 0 → stage_at here cell ≡ 0
+  unborn_before cell none = let le = (below_at setting next all top next (front_more top entry) (front_itself next)).stages cell in omega arith
+
+  said_on : (f : List Command) (said : Body) (cell : Cell) (row : LinkRow) → IsPrefix f top
+      → SaidOk setting top good.stores good.visits good.reached f said cell row
+      → SaidOk setting next stores good.visits good.reached f said cell row
+  said_on f said cell row prefix s =
+      let place = place_by setting f row in
+      record {
+        both = λ alive both last of. subst (λ t. Known (pair_at t good.visits place cell row.primary row.secondary) said) (front_stores it f prefix)
+            (s.both (alive_before it cell alive) both last of);
+        alone = s.alone;
+        page = λ alive holder whole after block alone told last.
+            subst (λ (t : ℕ → Store). IsPage cell (t (other_of holder row)) (good.visits (other_of holder row) place cell) after block)
+            (front_stores it f prefix)
+            (s.page (alive_before it cell alive) holder whole after block alone told last);
+        met = s.met;
+      }
+
+  -- no server was past the entry at a world on the way
+  not_started : {B : Type 0} (holder inc : ℕ) (id : LinkId) → WasStarted setting records holder inc next id → B
+  not_started holder inc id was =
+      let le = front_long _ top (following.ever was.before was.later was.is holder) in
+      absurd (omega (arith, ap length was.at, length-append top (entry ∷ [])))
+
+  here_next : (n : ℕ) (cell : Cell) (row : LinkRow) → IsLinked setting (u.servers n).log.applied cell row
+      → is_in (server_state setting u n) n (u.servers n).life.inc ≡ true → AliveIn (server_state setting u n) cell → IsHere setting v good.visits n cell row
+  here_next n cell row is seat alive =
+      let h = good.here n cell row is seat alive in
+      by_bool (joins_blank here entry n)
+      (λ on. true_false seat (recounts.renewed n on).out)
+      (λ off. record { own = h.own; is = h.is; same = h.same ∙ ap (λ (s : Store). (with_store (u.servers n) s).own) (sym (recounts.same n off)) })
+
+  rising_next : (n : ℕ) (cell : Cell) → IsRising nat_cmp (chain_in (new n).chains cell)
+  rising_next n cell = by_bool (joins_blank here entry n)
+      (λ on. subst (IsRising nat_cmp) (sym (no_chains (new n) cell (recounts.renewed n on).chains)) tt)
+      (λ off. subst (λ (s : Store). IsRising nat_cmp (chain_in s.chains cell)) (sym (recounts.same n off)) (good.rising n cell))
+
+  unheard_next : (n : ℕ) (cell : Cell) → stage_at (server_state setting u n) cell ≡ 0 → IsUnheard (server_state setting u n) (v.servers n).own cell
+  unheard_next n cell none =
+      let h = good.unheard n cell none in
+      let bare : IsBare (v.servers n).own cell = by_bool (joins_blank here entry n)
+      (λ on. record {
+        chain = no_chains (new n) cell (recounts.renewed n on).chains;
+        marks = λ kind. ap (has_mark (mark_on kind cell)) (recounts.renewed n on).marks;
+      })
+      (λ off. record {
+        chain = ap (λ (s : Store). chain_in s.chains cell) (recounts.same n off) ∙ h.bare.chain;
+        marks = λ kind. ap (λ (s : Store). is_marked s kind cell) (recounts.same n off) ∙ h.bare.marks kind;
+      }) in
+      record { bare = bare; last = h.last; pages = h.pages }
+
+  pub grow_one : Good setting records next v
+  grow_one = record {
+    visits = good.visits;
+    reached = good.reached;
+    reaching = reaching_next;
+    stores = stores;
+    now = next_store it;
+    here = here_next;
+    been = λ n place cell own visit. let b = good.been n place cell own visit in record { front = b.front; within = b.within; placed = b.placed };
+    came = good.came;
+    born = λ cell none. born_then it cell (unborn_before cell none);
+    unheard = unheard_next;
+    rising = rising_next;
+    ever = λ n joins cell. by_bool (joins == blank_joins_in setting next n)
+        (λ t. subst (λ (s : Store). IsRising nat_cmp (chain_in s.chains cell)) (sym (stores_so it n joins true t)) (rising_next n cell))
+        (λ f. subst (λ (s : Store). IsRising nat_cmp (chain_in s.chains cell)) (sym (stores_so it n joins false f)) (good.ever n joins cell));
+    counts = good.counts;
+    filled = λ n. by_bool (joins_blank here entry n)
+        (λ on. subst AreFilled (sym (recounts.renewed n on).chains) (λ cell there. none_some (at-empty cell_cmp cell) there))
+        (λ off. subst (λ (s : Store). AreFilled s.chains) (sym (recounts.same n off)) (good.filled n));
+    marks = λ n when. by_bool (joins_blank here entry n)
+        (λ on. (recounts.renewed n on).rested when)
+        (λ off. subst (HaveMarks (server_state setting u n) (u.servers n).own.pairs.pending) (sym (recounts.same n off)) (good.marks n when));
+    both = λ front cell row prefix. at_fronts (λ f. IsLinked setting f cell row → row.state ≡ Both
+        → BothOk setting next stores good.visits good.reached f cell row)
+        (λ f p is both. both_on f cell row p (good.both f cell row p is both)) (both_next cell row) front prefix;
+    alone = λ front cell row holder whole prefix.
+        at_fronts (λ f. IsLinked setting f cell row → row.state ≡ Only holder whole → AloneOk setting next stores good.visits good.reached f cell row holder)
+        (λ f p is alone. alone_on f cell row holder p (good.alone f cell row holder whole p is alone)) (alone_next cell row holder whole) front prefix;
+    revs = λ letter sent between. let le = good.revs letter sent between in omega (arith, length-append top (entry ∷ []));
+    letters = λ letter sent front cell row prefix long is alive. by_bool (is_between (subject_of letter.body))
+        (λ between. let le = good.revs letter sent between in
+        by_length front prefix (omega arith) (λ p. said_on front letter.body cell row p (good.letters letter sent front cell row p long is alive)))
+        (λ mute. said_mute setting next stores good.visits good.reached front letter.body cell row mute);
+    lives = λ letter sent between front prefix long cell of.
+        let le = good.revs letter sent between in
+        by_length front prefix (omega arith) (λ p. good.lives letter sent between front p long cell of);
+    copied = good.copied;
+    pages = λ letter sent front prefix long of link block after said.
+        let le = good.revs letter sent (ap (λ (b : Body). is_between (subject_of b)) said) in
+        by_length front prefix (omega arith) (λ p. good.pages letter sent front p long of link block after said);
+    started = λ holder inc whole front cell row prefix.
+        at_fronts (λ f. IsLinked setting f cell row → AliveIn (state_after setting.servers f) cell → row.state ≡ Only holder whole → is_in
+        (state_after setting.servers f) holder inc ≡ true
+        → WasStarted setting records holder inc f (id_of row)
+        → (own : PairState) × (good.visits holder (place_by setting f row) cell ≡ Some own) × (is_flagged own (id_of row) ≡ true))
+        (λ f p. good.started holder inc whole f cell row p) (λ is alive alone seat was. not_started holder inc (id_of row) was) front prefix;
+  }
+
+  pub grown_one : (visits : Visits) (reached : Cell → ℕ) → ((n place : ℕ) (cell : Cell) → good.visits n place cell ≡ visits n place cell)
+      → ((cell : Cell) → good.reached cell ≡ reached cell) → IsGrownTo setting records v visits reached next
+  unfolding grow_one
+  grown_one visits reached same counts = record { good = grow_one; visits_are = same; reached_is = counts }

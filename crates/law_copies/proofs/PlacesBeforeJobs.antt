@@ -1,0 +1,247 @@
+-- What a server that is In as itself has before a job, at the place of each cell's link by its own entries.
+use Rattle.std.proofs.Common.{◌≡◌, ◌≢◌, ◌≤◌, ◌&&◌, ℕ, List, Bool, true, if◌then◌else◌, Option, Some, None, refl, sym, ap, ◌∙◌, subst, inl, inr}
+use Rattle.std.specs.Ordering.{nat_cmp}
+use Rattle.global_tables.specs.Link.{has_server, other_of}
+use Rattle.global_tables.specs.declared.link.LinkRow.{LinkRow}
+use Rattle.global_tables.specs.declared.link.LinkState.TheVariants.{Both, Only}
+use Rattle.petal_base.specs.declared.cell.Cell.{Cell}
+use Rattle.petal_command.specs.declared.command.Command.{Command}
+use Rattle.petal_msg.specs.Kinds.{about, subject_of}
+use Rattle.petal_msg.specs.declared.body.Body.{Body}
+use Rattle.petal_msg.specs.declared.body.Body.TheVariants as body
+use Rattle.petal_msg.specs.declared.copying.Copying.{Copying}
+use Rattle.spec_state.specs.Command.{is_alone, state_after}
+use Rattle.spec_rules.specs.Progress.{copying_on}
+use Rattle.spec_rules.specs.Server.{PairState, JobContext}
+use Rattle.spec_rules.specs.State.{holder_of}
+use Rattle.spec_rules.specs.Store.{Store, chain_in}
+use Rattle.spec_rules.specs.World.{chosen_log, server_state}
+use Rattle.spec_rules.specs.Writes.{pending_on}
+use Rattle.spec_rules.proofs.Tests.{number_itself, same_numbers, true_false}
+use Rattle.law_state.specs.LinkRows.{ByBoth, ByNone, ByOne}
+use Rattle.law_state.specs.Steady.{IsSteady}
+use Rattle.law_state.proofs.Leaves.{other_between}
+use Rattle.law_state.proofs.Roles.{primary_is_one, secondary_is_one}
+use Rattle.law_state.proofs.Steady.{front_plain, log_steady}
+use Rattle.law_steps.specs.DidStep.{Handled, is_between, own_place}
+use Rattle.law_steps.specs.Ready.{IsRising}
+use Rattle.law_steps.proofs.WhoLeads.{live_stage}
+use Rattle.law_copies.specs.CopyProgress.{AreCopying, IsTold, links_of}
+use Rattle.law_copies.specs.GoodCopies.{AloneOk, AreTwins, SaidOk, pair_at}
+use Rattle.law_copies.specs.Pair.{HaveMarks, Known, PairOk, pair_of}
+use Rattle.law_copies.specs.LoneSteps.{AreFilled, IsBare, IsFit, IsFollowing, IsHolding, PagesOf}
+use Rattle.law_copies.specs.Visits.{AliveIn, IsLinked, half, place_by, store_by, with_stores}
+use Rattle.law_copies.proofs.AtSeat.{AtSeat}
+use Rattle.law_copies.proofs.ServedAtLaterFronts.{both_last}
+use Rattle.law_copies.proofs.RolesOfWorkers.{copying_held, other_alone}
+
+-- ### The other one of a link's two servers
+
+-- of two servers of a link each is the other one's
+pub other_back : (row : LinkRow) (n m : ℕ) → has_server n row ≡ true → has_server m row ≡ true → n ≢ m → other_of n row ≡ m
+other_back row n m one two ne = elim (other_between row n one) [
+  | inl p ↦ elim (other_between row m two) [ inl q ↦ absurd (ne (sym p.1 ∙ q.1)) | inr q ↦ sym p.0 ∙ q.0 ]
+  | inr p ↦ elim (other_between row m two) [ inl q ↦ sym p.1 ∙ q.1 | inr q ↦ absurd (ne (sym p.0 ∙ q.0)) ]
+]
+
+-- it knows the other one as the holder
+pub holder_other : {whole : Bool} (row : LinkRow) (n holder : ℕ) → has_server n row ≡ true → other_of n row ≡ holder → row.state ≡ Only holder whole
+    → holder_of n row ≡ Some holder
+holder_other row n holder has other alone =
+    ap (λ b. if b && is_alone (other_of n row) row.state then Some (other_of n row) else None) has
+    ∙ ap (λ b. if b then Some (other_of n row) else None)
+    (ap (λ m. is_alone m row.state) other ∙ ap (is_alone holder) alone ∙ number_itself holder)
+    ∙ ap Some other
+
+-- ### At its own place
+
+module _ (it : AtSeat) where
+  open it use {setting, records, w, stores, k, good, firm, rests, works}
+
+  abbrev pub front : List Command
+  front = (w.servers k).log.applied
+
+  abbrev pub here : JobContext
+  here = own_place setting w k
+
+  abbrev pub own : PairState
+  own = (w.servers k).own
+
+  abbrev pub heard : Body → Type 0
+  heard = Handled w k
+
+  -- the stores by the server's own entries
+  abbrev pub by : ℕ → Store
+  by = store_by setting good.stores front
+
+  pub steady : IsSteady (server_state setting w k)
+  steady = log_steady setting.servers front (front_plain setting.servers front (chosen_log setting w) firm.plain (firm.servers k))
+
+  pub own_same : ((with_stores w stores).servers k).own ≡ own
+  own_same = λ i. record (w.servers k).own { store = works.real i }
+
+  -- its own one is as it is now
+  pub own_store : by k ≡ own.store
+  own_store = ap (good.stores k) works.counts ∙ good.now k ∙ works.real
+
+  pub here_visit : (cell : Cell) (row : LinkRow) → IsLinked setting front cell row → AliveIn (server_state setting w k) cell
+      → good.visits k (place_by setting front row) cell ≡ Some own
+  here_visit cell row is alive = let h = good.here k cell row is works.seat alive in h.is ∙ ap Some (h.same ∙ own_same)
+
+  -- what it handles tells what is known of it at the place
+  pub heard_said : (said : Body) → heard said → (cell : Cell) (row : LinkRow) → IsLinked setting front cell row → AliveIn (server_state setting w k) cell
+      → SaidOk setting (chosen_log setting w) good.stores good.visits good.reached front said cell row
+  heard_said said h cell row is alive =
+      subst (λ b. SaidOk setting (chosen_log setting w) good.stores good.visits good.reached front b cell row) h.is
+      (good.letters h.letter h.sent front cell row (firm.servers k) (sym h.at) is alive)
+
+  pub marks : HaveMarks (server_state setting w k) own.pairs.pending own.store
+  marks = subst (HaveMarks (server_state setting w k) own.pairs.pending) works.real (good.marks k (inl works.runs))
+
+  pub rising : (cell : Cell) → IsRising nat_cmp (chain_in own.store.chains cell)
+  rising cell = subst (λ (s : Store). IsRising nat_cmp (chain_in s.chains cell)) works.real (good.rising k cell)
+
+  pub filled : AreFilled own.store.chains
+  filled = subst (λ (s : Store). AreFilled s.chains) works.real (good.filled k)
+
+  pub fit : IsFit heard here own
+  fit = record {
+    steady = steady;
+    ready = rests.pending k;
+    resting = rests.resting k;
+    marks = marks;
+    rising = rising;
+    filled = filled;
+    bare = λ q none. subst (λ (o : PairState). IsBare o q) own_same (good.unheard k q none).bare;
+    lives = λ said h between q of.
+        good.lives h.letter h.sent (ap (λ (b : Body). is_between (subject_of b)) h.is ∙ between) front (firm.servers k) (sym h.at) q
+        (ap (λ (b : Body). (about b).cell) h.is ∙ of);
+    copied = good.copied k;
+    pages = λ q link after h. good.pages h.letter h.sent front (firm.servers k) (sym h.at) q.map link q.block after h.is;
+  }
+
+  module _ (cell : Cell) (row : LinkRow) (is : IsLinked setting front cell row) (alive : AliveIn (server_state setting w k) cell) where
+    abbrev place : ℕ
+    place = place_by setting front row
+
+    -- the cell is not dead by what is chosen, either
+    abbrev IsAliveLast : Type 0
+    IsAliveLast = AliveIn (state_after setting.servers (chosen_log setting w)) cell
+
+    -- ### In Both
+
+    module _ (lives : IsAliveLast) (both : row.state ≡ Both) (has : has_server k row ≡ true) where
+      -- no server of the link has been at a later place
+      pub last_here : good.reached cell ≤ place
+      last_here = both_last setting records w stores firm good k works.runs works.seat cell row is both has
+
+      pub twins_here : AreTwins by good.visits place cell row.primary row.secondary
+      twins_here = (good.both front cell row (firm.servers k) is both).twins lives last_here
+
+      pub known_here : (said : Body) → heard said → (about said).cell ≡ Some cell → Known (pair_at by good.visits place cell row.primary row.secondary) said
+      known_here said h of = (heard_said said h cell row is alive).both lives both last_here of
+
+    -- what the other server is, by its store as it is now
+    abbrev pub beside : ℕ → PairState
+    beside n = half (good.visits n place cell) (by n)
+
+    first_pair : (m : ℕ) → pair_at by good.visits place cell k m ≡ pair_of own (beside m) cell
+    first_pair m = λ i. pair_of (half (here_visit cell row is alive i) (own_store i)) (beside m) cell
+
+    second_pair : (n : ℕ) → pair_at by good.visits place cell n k ≡ pair_of (beside n) own cell
+    second_pair n = λ i. pair_of (beside n) (half (here_visit cell row is alive i) (own_store i)) cell
+
+    -- as the first server
+    module _ (lives : IsAliveLast) (both : row.state ≡ Both) (leads : row.primary ≡ k) where
+      pub first_at : pair_at by good.visits place cell row.primary row.secondary ≡ pair_of own (beside row.secondary) cell
+      first_at = (λ i. pair_at by good.visits place cell (leads i) row.secondary) ∙ first_pair row.secondary
+
+      pub first_ok : PairOk (pair_of own (beside row.secondary) cell)
+      first_ok = subst PairOk first_at (twins_here lives both (primary_is_one row k leads)).pair
+
+      pub first_known : (said : Body) → heard said → (about said).cell ≡ Some cell → Known (pair_of own (beside row.secondary) cell) said
+      first_known said h of = subst (λ p. Known p said) first_at (known_here lives both (primary_is_one row k leads) said h of)
+
+    -- as the second one
+    module _ (lives : IsAliveLast) (both : row.state ≡ Both) (follows : row.secondary ≡ k) where
+      pub second_at : pair_at by good.visits place cell row.primary row.secondary ≡ pair_of (beside row.primary) own cell
+      second_at = (λ i. pair_at by good.visits place cell row.primary (follows i)) ∙ second_pair row.primary
+
+      pub second_ok : PairOk (pair_of (beside row.primary) own cell)
+      second_ok = subst PairOk second_at (twins_here lives both (secondary_is_one row k follows)).pair
+
+      pub second_known : (said : Body) → heard said → (about said).cell ≡ Some cell → Known (pair_of (beside row.primary) own cell) said
+      second_known said h of = subst (λ p. Known p said) second_at (known_here lives both (secondary_is_one row k follows) said h of)
+
+    -- ### Alone
+
+    abbrev pub links : ℕ
+    links = links_of (server_state setting w k) cell.map
+
+    pub alone_here : (holder : ℕ) (whole : Bool) → row.state ≡ Only holder whole
+        → AloneOk setting (chosen_log setting w) good.stores good.visits good.reached front cell row holder
+    alone_here holder whole alone = good.alone front cell row holder whole (firm.servers k) is alone
+
+    -- as the holder
+    module _ (whole : Bool) (alone : row.state ≡ Only k whole) where
+      abbrev pub visit_beside : Option PairState
+      visit_beside = good.visits (other_of k row) place cell
+
+      pub copying_here : AreCopying links row cell (Some own) visit_beside
+      copying_here = subst (λ o. AreCopying links row cell o visit_beside) (here_visit cell row is alive) (alone_here k whole alone).copying
+
+      pub holding : IsHolding heard here links row cell own visit_beside
+      holding = record {
+        fit = fit;
+        is = is;
+        alive = alive;
+        links_are = refl;
+        whole = whole;
+        held = alone;
+        old = copying_here;
+        told = λ said h of. subst (λ o. IsTold row o visit_beside said) (here_visit cell row is alive)
+            ((heard_said said h cell row is alive).alone k whole alone of);
+        met = λ after block h. (heard_said (body.Hello row.map row.link after block) h cell row is alive).met k whole after block alone refl;
+      }
+
+      -- pages that it handles tell of the other server's store as it is now, where no server has been at a later place
+      pub pages_here : IsAliveLast → good.reached cell ≤ place → PagesOf heard row cell (by (other_of k row)) visit_beside
+      pages_here lives last after block h =
+          (heard_said (body.Hello row.map row.link after block) h cell row is alive).page lives k whole after block alone refl last
+
+    -- as the other server
+    module _ (holder : ℕ) (whole : Bool) (alone : row.state ≡ Only holder whole) (other : other_of holder row ≡ k) where
+      abbrev pub visit_holder : Option PairState
+      visit_holder = good.visits holder place cell
+
+      other_visit : good.visits (other_of holder row) place cell ≡ Some own
+      other_visit = ap (λ n. good.visits n place cell) other ∙ here_visit cell row is alive
+
+      pub follows_here : AreCopying links row cell visit_holder (Some own)
+      follows_here = subst (AreCopying links row cell visit_holder) other_visit (alone_here holder whole alone).copying
+
+      pub following : has_server k row ≡ true → other_of k row ≡ holder → IsFollowing heard here links row cell visit_holder own
+      following has back = record {
+        fit = fit;
+        is = is;
+        alive = alive;
+        by = holder;
+        held = holder_other row k holder has back alone;
+        old = follows_here;
+        told = λ said h of. subst (λ o. IsTold row visit_holder o said) other_visit ((heard_said said h cell row is alive).alone holder whole alone of);
+      }
+
+  -- a cell of which a copy is under way has no operation
+  pub idle_copies : (q : Cell) (copy : Copying) → copying_on own q ≡ Some copy → pending_on own q ≡ None
+  idle_copies q copy there =
+      let held = copying_held heard here own fit q copy there in
+      let alive = (live_stage (server_state setting w k) q ((rests.resting k).copying q copy there).live).1 in
+      let alone = other_alone here.state k held.other held.row held.other_is in
+      elim (steady.linked q held.row held.is).served [
+        | ByBoth so one other ↦ true_false alone (ap (is_alone k) so)
+        | ByNone one other so pair out ↦ true_false alone (ap (is_alone k) so)
+        | ByOne holder other whole so pair out ↦ (
+            let mine : holder ≡ k = same_numbers holder k (sym (ap (is_alone k) so) ∙ alone) in
+            let is_mine : held.row.state ≡ Only k whole = so ∙ ap (λ n. Only n whole) mine in
+            ((copying_here q held.row held.is alive whole is_mine).copying own copy refl there).free)
+      ]

@@ -1,0 +1,142 @@
+-- What a step of the second server of a cell in Both keeps of its two copies.
+use Rattle.std.proofs.Common.{◌≡◌, ◌≢◌, ℕ, ◌+◌, ◌≤◌, List, Some, refl, ap, sym, ◌∙◌, subst, ◌⊎◌, inl, inr, arith}
+use Rattle.std.specs.Ordering.{nat_cmp}
+use Rattle.petal_base.specs.declared.cell.Cell.{Cell}
+use Rattle.petal_base.specs.declared.cell.Key.{Key}
+use Rattle.petal_base.specs.Cells.{cell_of}
+use Rattle.petal_table.specs.Table.{at, put}
+use Rattle.petal_msg.specs.Kinds.{about}
+use Rattle.petal_msg.specs.declared.body.Body.{Body}
+use Rattle.petal_msg.specs.declared.body.Body.TheVariants as body
+use Rattle.petal_msg.specs.declared.operation.Far.{Far}
+use Rattle.petal_msg.specs.declared.operation.Far.TheVariants as far_is
+use Rattle.petal_msg.specs.declared.operation.LastOp.{LastOp}
+use Rattle.spec_rules.specs.Lists.{In}
+use Rattle.spec_rules.specs.Store.{Chain, cell_cmp, chain_in, version_of}
+use Rattle.spec_rules.specs.Server.{PairState, JobContext, Post, JobResult}
+use Rattle.spec_rules.specs.Writes.{with_last, tells, follows}
+use Rattle.spec_rules.proofs.CellTables.{cell_same, cell_apart}
+use Rattle.spec_rules.proofs.Tests.{same_some}
+use Rattle.law_steps.specs.Operations.{progress}
+use Rattle.law_steps.specs.DidSecond.{DidSecond, with_tickets, Sets_apart, Promises, Declines, Follows}
+use Rattle.law_steps.proofs.Letters.{posted}
+use Rattle.law_steps.proofs.OperationsRest.{same_cell_or_apart}
+use Rattle.law_steps.proofs.Subjects.{told_own}
+use Rattle.law_copies.specs.BothSteps.{SaysKnown}
+use Rattle.law_copies.specs.Pair.{Pair, pair_of, far, PairOk, IsPutting, Keeps, Known}
+use Rattle.law_jobs.proofs.ChainsApart.{chain_put, chain_apart}
+use Rattle.law_copies.proofs.CellChangesKeepCopies as moves
+
+-- what a step leaves of the cell, and of what it tells
+pub record IsSecondKept (first own new : PairState) (posts : List Post) (cell : Cell) : Type 0 where
+  pub keeps : Keeps (pair_of first own cell) (pair_of first new cell)
+  pub says : SaysKnown posts cell (pair_of first new cell)
+
+-- a second server that has not followed was asked to by an operation that is pending
+pub asked : (number : ℕ) (key : Key) (bytes : List ℕ) (pair : Pair) → pair.last ≡ Some (record { op = number; far = far_is.Reserved })
+    → IsPutting pair.pending number key bytes ⊎ (number + number + 1 ≤ far pair) → IsPutting pair.pending number key bytes
+asked number key bytes pair last (inl putting) = putting
+asked number key bytes pair last (inr past) = let e : far pair ≡ number + number = ap progress last in absurd (omega arith)
+
+module _ (heard : Body → Type 0) (here : JobContext) (first own : PairState) (cell : Cell) (ok : PairOk (pair_of first own cell))
+    (known : (said : Body) → heard said → (about said).cell ≡ Some cell → Known (pair_of first own cell) said) where
+  abbrev F : PairState → List Post → Type 0
+  F new posts = IsSecondKept first own new posts cell
+
+  ok_at : (q : Cell) → q ≡ cell → PairOk (pair_of first own q)
+  ok_at q e = subst (λ (c : Cell). PairOk (pair_of first own c)) (sym e) ok
+
+  known_at : (said : Body) → heard said → (q : Cell) → (about said).cell ≡ Some q → q ≡ cell → Known (pair_of first own q) said
+  known_at said h q is e = subst (λ (c : Cell). Known (pair_of first own c) said) (sym e) (known said h (is ∙ ap Some e))
+
+  -- copy and last operation stay
+  pub off : (new : PairState) → chain_in new.store.chains cell ≡ chain_in own.store.chains cell → at cell_cmp new.pairs.last cell ≡ at cell_cmp own.pairs.last cell
+      → Keeps (pair_of first own cell) (pair_of first new cell)
+  off new chain last =
+      subst (Keeps (pair_of first own cell)) (λ i. record {
+        first = chain_in first.store.chains cell;
+        second = sym chain i;
+        pending = at cell_cmp first.pairs.pending cell;
+        next = first.pairs.next;
+        last = sym last i;
+      })
+      (moves.stays (pair_of first own cell) first.pairs.next ok (omega arith))
+
+  -- a step that changes the copy and the last operation of one cell
+  at_cell : (q : Cell) (new : PairState) → ((c : Cell) → c ≢ q → chain_in new.store.chains c ≡ chain_in own.store.chains c)
+      → ((c : Cell) → c ≢ q → at cell_cmp new.pairs.last c ≡ at cell_cmp own.pairs.last c)
+      → (q ≡ cell → Keeps (pair_of first own q) (pair_of first new q)) → Keeps (pair_of first own cell) (pair_of first new cell)
+  at_cell q new chains last keeps = elim (same_cell_or_apart cell q) [
+    | inl e ↦ subst (λ (c : Cell). Keeps (pair_of first own c) (pair_of first new c)) (sym e) (keeps (sym e))
+    | inr ne ↦ off new (chains cell ne) (last cell ne)
+  ]
+
+  says_at : (q : Cell) (new : PairState) (posts : List Post) (said : Body) → ((post : Post) → In post posts → post.body ≡ said) → (about said).cell ≡ Some q
+      → (q ≡ cell → Known (pair_of first new q) said) → SaysKnown posts cell (pair_of first new cell)
+  says_at q new posts said all of h post i is =
+      let e : q ≡ cell = same_some (sym of ∙ sym (ap (λ b. (about b).cell) (all post i)) ∙ is) in
+      subst (Known (pair_of first new cell)) (sym (all post i)) (subst (λ (c : Cell). Known (pair_of first new c) said) e (h e))
+
+  -- how far it is, where the last operation stands so
+  told_known : (new : PairState) (q : Cell) (number : ℕ) (how : Far) → at cell_cmp new.pairs.last q ≡ Some (record { op = number; far = how })
+      → SaysKnown (tells here new q number how).posts cell (pair_of first new cell)
+  told_known new q number far_is.Reserved is =
+      let e : progress (at cell_cmp new.pairs.last q) ≡ number + number = ap progress is in
+      says_at q new _ (body.Reserved number q) (λ post i. posted _ _ post i) refl (λ same. omega arith)
+  told_known new q number far_is.Replicated is =
+      let e : progress (at cell_cmp new.pairs.last q) ≡ number + number + 1 = ap progress is in
+      says_at q new _ (body.Replicated number q) (λ post i. posted _ _ post i) refl (λ same. omega arith)
+
+  reserves_keeps : (number : ℕ) (q : Cell) (tickets : ℕ) → heard (body.Reserve number q) → progress (at cell_cmp own.pairs.last q) ≤ number + number
+      → F (with_last (with_tickets own tickets) q number far_is.Reserved)
+      (tells here (with_last (with_tickets own tickets) q number far_is.Reserved) q number far_is.Reserved).posts
+  reserves_keeps number q tickets h le =
+      let now : LastOp = record { op = number; far = far_is.Reserved } in
+      let new = with_last (with_tickets own tickets) q number far_is.Reserved in
+      let there : at cell_cmp new.pairs.last q ≡ Some now = cell_same own.pairs.last q now in
+      record {
+        keeps = at_cell q new (λ c ne. refl) (λ c ne. cell_apart own.pairs.last q now c ne)
+            (λ e. subst (Keeps (pair_of first own q)) (λ i. record (pair_of first new q) { last = sym there i })
+            (moves.reserves (pair_of first own q) number (ok_at q e) le (known_at _ h q refl e)));
+        says = told_known new q number far_is.Reserved there;
+      }
+
+  follows_keeps : (number : ℕ) (key : Key) (version : ℕ) (bytes : List ℕ) → heard (body.Replicate number key version bytes)
+      → at cell_cmp own.pairs.last (cell_of key) ≡ Some (record { op = number; far = far_is.Reserved })
+      → F (follows here own number key bytes).own (follows here own number key bytes).posts
+  follows_keeps number key version bytes h is =
+      let q = cell_of key in
+      let chains = own.store.chains in
+      let new = (follows here own number key bytes).own in
+      let now : LastOp = record { op = number; far = far_is.Replicated } in
+      let there : at cell_cmp new.pairs.last q ≡ Some now = cell_same own.pairs.last q now in
+      let chain : Chain = put nat_cmp (chain_in chains q) key.epoch (record { version = version_of (chain_in chains q) + 1; bytes = bytes }) in
+      record {
+        keeps = at_cell q new (λ c ne. chain_apart chains q chain c ne) (λ c ne. cell_apart own.pairs.last q now c ne)
+            (λ e. subst (Keeps (pair_of first own q))
+            (λ i. record {
+              first = chain_in first.store.chains q;
+              second = sym (chain_put chains q chain) i;
+              pending = at cell_cmp first.pairs.pending q;
+              next = first.pairs.next;
+              last = sym there i;
+            })
+            (moves.follows (pair_of first own q) number key bytes (ok_at q e) is
+            (asked number key bytes (pair_of first own q) is (known_at _ h q refl e))));
+        says = told_known new q number far_is.Replicated there;
+      }
+
+  pub second_keeps : (done : JobResult) → DidSecond heard here own done → F done.own done.posts
+  second_keeps _ (Sets_apart number q tickets h s le) = reserves_keeps number q tickets h le
+  second_keeps _ (Promises number q how s is) =
+      let same = told_own here own q number how in
+      record {
+        keeps = off (tells here own q number how).own (ap (λ (o : PairState). chain_in o.store.chains cell) same)
+            (ap (λ (o : PairState). at cell_cmp o.pairs.last cell) same);
+        says = subst (λ (o : PairState). SaysKnown (tells here own q number how).posts cell (pair_of first o cell)) (sym same) (told_known own q number how is);
+      }
+  second_keeps _ (Declines number q h s no_room) = record {
+    keeps = off own refl refl;
+    says = says_at q own _ (body.PairFull number q) (λ post i. posted _ _ post i) refl (λ e. known_at _ h q refl e);
+  }
+  second_keeps _ (Follows number key version bytes h s is) = follows_keeps number key version bytes h is

@@ -1,0 +1,341 @@
+-- Each step of a server that is allowed keeps what is kept of two copies, by the stores that count.
+use Rattle.std.proofs.Common.{◌≡◌, ◌≤◌, ◌++◌, ◌==◌, ℕ, true, false, if◌then◌else◌, List, [], ◌∷◌, Option, Some, None, refl, sym}
+use Rattle.std.proofs.Common.{ap, ◌∙◌, subst, ◌⊎◌, inl, inr}
+use Rattle.std.specs.Prelude.{map}
+use Rattle.std.specs.Ordering.{nat_cmp}
+use Rattle.busy_marks.specs.Marks.{has_mark}
+use Rattle.petal_command.specs.declared.command.Command.{Command}
+use Rattle.petal_command.specs.declared.command.Command.TheVariants.{Caught}
+use Rattle.petal_msg.specs.Kinds.{subject_of}
+use Rattle.petal_msg.specs.declared.body.Body.TheVariants as body
+use Rattle.petal_msg.specs.declared.letter.Letter.{Letter}
+use Rattle.spec_state.specs.Command.{state_after}
+use Rattle.spec_history.specs.Claims.{IsPrefix}
+use Rattle.spec_history.specs.Steps.{world_after}
+use Rattle.spec_rules.specs.Ballots.{post_of}
+use Rattle.spec_rules.specs.Blanked.{BeforeBlank, kept_store}
+use Rattle.spec_rules.specs.Boots.{awake, raised, stays, wakes}
+use Rattle.spec_rules.specs.Crossing.{crossed, settled_by}
+use Rattle.spec_rules.specs.Jobs.{Acted}
+use Rattle.spec_rules.specs.Lists.{In}
+use Rattle.spec_rules.specs.Log.{state_in}
+use Rattle.spec_rules.specs.Progress.{last_copy}
+use Rattle.spec_rules.specs.Returns.{proposed}
+use Rattle.spec_rules.specs.Server.{PairState, Server, Post, Sender, JobResult, silent, sender, letters_of}
+use Rattle.spec_rules.specs.State.{State, is_in, live}
+use Rattle.spec_rules.specs.Store.{Store, chain_in, mark_on}
+use Rattle.spec_rules.specs.World.{Setting, World, acts, before_blanks, blank_joins_in, counted_by, kept}
+use Rattle.spec_rules.specs.World.{server_state, stamped, start, with_store}
+use Rattle.spec_rules.specs.declared.step.Step.{Step}
+use Rattle.spec_rules.proofs.ListLemmas.{in-append, put_apart, put_same}
+use Rattle.spec_rules.proofs.Settled.{settling}
+use Rattle.spec_rules.proofs.Tests.{by_bool, true_false}
+use Rattle.law_state.specs.Homes.{stage_at}
+use Rattle.law_steps.specs.DidStep.{Serving, Goes, Ends, Stays, Wakes, Fails, By_job, By_ballot, By_entry, Starts}
+use Rattle.law_steps.specs.DidStep.{served_so, stopped_so, shown_so, is_between, own_place, without_rev}
+use Rattle.law_steps.specs.Ready.{IsRising}
+use Rattle.law_steps.proofs.Fronts.{front_itself, front_more}
+use Rattle.law_copies.specs.GoodCopies.{IsUnheard}
+use Rattle.law_copies.specs.Pair.{HaveMarks}
+use Rattle.law_copies.specs.LoneSteps.{AreFilled}
+use Rattle.law_copies.proofs.CopiesKnownOfWorlds.{OneMore, before_of}
+use Rattle.law_copies.proofs.AtEntry.{at_entry}
+use Rattle.law_copies.proofs.CopiesGround.{Ground}
+use Rattle.law_copies.proofs.AtStep.{IsStep, at_step}
+use Rattle.law_copies.proofs.JobsKeepEachFront as jobs
+use Rattle.law_copies.proofs.EntriesKeepCopies as entries
+use Rattle.law_copies.proofs.LeftByEntry.{IsCrossed}
+use Rattle.law_copies.proofs.FramesKeepFronts.{store_same}
+use Rattle.law_copies.proofs.JobsAndBallotsKeep.{ballot_keeping, job_keeping}
+use Rattle.law_copies.proofs.MuteLettersTellNothing.{logged_mute}
+use Rattle.law_copies.proofs.StepsLeaveCopies as quiet
+use Rattle.law_copies.proofs.StepsLeaveCopies.{posts_mute}
+use Rattle.law_copies.proofs.AtSeat.{AtSeat, IsAtWork}
+use Rattle.law_copies.proofs.StepsKeepCopies.{GoesOn, IsSoundOwn, IsTrue}
+use Rattle.law_copies.proofs.VisitsAfterSteps.{IsThen, counted as reached_then, later, stored}
+use Rattle.law_copies.proofs.AtJob.{AtJob, at_job, IsKeeping}
+use Rattle.law_copies.proofs.WakingKeepsCopies.{woken_sound}
+
+-- what a server that stops tells the others
+all_down : (me inc : ℕ) (others : List ℕ) (post : Post) → In post (map (post_of (body.Down me inc)) others) → is_between (subject_of post.body) ≡ false
+unfolding In
+all_down me inc [] post h = absurd h
+all_down me inc (n ∷ others) post (inl e) = ap (λ (p : Post). is_between (subject_of p.body)) e
+all_down me inc (n ∷ others) post (inr h) = all_down me inc others post h
+
+-- a server that is not In as itself starts no ballot for a Caught
+out_ballot : (setting : Setting) (w : World) (k : ℕ) (o : Option Command) → Starts (own_place setting w k) (w.servers k).own o
+    → is_in (server_state setting w k) k (w.servers k).life.inc ≡ false → proposed (server_state setting w k) (w.servers k).own o ≡ (w.servers k).own
+out_ballot setting w k None starts out = refl
+out_ballot setting w k (Some (Caught of link holder inc other other_inc)) starts out = true_false starts.seated out
+out_ballot setting w k (Some _) starts out = refl
+
+-- of two stores that are alike in this, the ones that count are so
+kept_alike : {X : Type 0} (f : Store → X) (joins : ℕ) (o : Option BeforeBlank) (a b : Store) → f a ≡ f b → f (kept_store joins o a) ≡ f (kept_store joins o b)
+kept_alike f joins None a b e = e
+kept_alike f joins (Some before) a b e = by_bool (before.joins == joins)
+    (λ t. ap (λ c. f (if c then before.store else a)) t ∙ sym (ap (λ c. f (if c then before.store else b)) t))
+    (λ off. ap (λ c. f (if c then before.store else a)) off ∙ e ∙ sym (ap (λ c. f (if c then before.store else b)) off))
+
+module _ (it : OneMore) where
+  open it use {setting, records, w, known, good, own}
+  open before_of it use {top, before}
+
+  -- and the world then, by the stores that count by what was chosen before
+  abbrev pub GoesTo : World → Type 0
+  GoesTo v = world_after setting (start setting) (records ++ own ∷ []) ≡ v → GoesOn setting records top top before (counted_by setting top v) good own
+
+  pub then_so : (v : World) → world_after setting (start setting) (records ++ own ∷ []) ≡ v → IsThen setting (records ++ own ∷ []) (counted_by setting top v)
+  then_so v is = subst (λ u. IsThen setting (records ++ own ∷ []) (counted_by setting top u)) is (λ n. refl)
+
+  at_work : (k : ℕ) → (w.servers k).life.running ≡ true → is_in (server_state setting w k) k (w.servers k).life.inc ≡ true
+      → IsAtWork setting w (kept setting w) k
+  at_work k runs seat = record {
+    runs = runs;
+    seat = seat;
+    real = known.real k runs seat (w.servers k).own.store;
+    counts = known.counts k (w.servers k).log.applied (known.firm.servers k) seat;
+  }
+
+  abbrev ground : Ground
+  ground = record { setting = setting; records = records; w = w; stores = kept setting w; good = good; firm = known.firm; rests = known.rests }
+
+  abbrev seated : (k : ℕ) → (w.servers k).life.running ≡ true → is_in (server_state setting w k) k (w.servers k).life.inc ≡ true → AtSeat
+  seated k runs seat = record { ground = ground; k = k; works = at_work k runs seat }
+
+  -- ### A step of a server
+
+  module _ (k stamp : ℕ) (what : Step) (acted : Acted) (unblanked : before_blanks what setting w k ≡ w.before_blank) where
+    abbrev then_world : World
+    then_world = (acts setting w k what stamp acted).world
+
+    abbrev v : World
+    v = counted_by setting top then_world
+
+    -- the store that counts, where this one is the server's
+    abbrev kept_here : Store → Store
+    kept_here store = kept_store (blank_joins_in setting top k) (w.before_blank k) store
+
+    abbrev server : Server
+    server = with_store acted.server (kept_here acted.server.own.store)
+
+    was_blank : (n : ℕ) → v.before_blank n ≡ None → before.before_blank n ≡ None
+    was_blank n none = ap (λ f. f n) (sym unblanked) ∙ none
+
+    step_of : IsPrefix (w.servers k).log.applied acted.server.log.applied → IsPrefix acted.server.log.applied top → IsStep setting top before v k server
+    step_of onward within = record {
+      here = λ i. with_store (put_same w.servers k acted.server i)
+          (kept_store (blank_joins_in setting top k) (unblanked i k) (put_same w.servers k acted.server i).own.store);
+      others = λ n ne. λ i. with_store (put_apart w.servers k acted.server n ne i)
+          (kept_store (blank_joins_in setting top n) (unblanked i n) (put_apart w.servers k acted.server n ne i).own.store);
+      plain = known.firm.plain;
+      before = known.firm.servers;
+      onward = onward;
+      within = within;
+      blanks = was_blank;
+    }
+
+    same_step : acted.server.log.applied ≡ (w.servers k).log.applied → IsStep setting top before v k server
+    same_step applied =
+        step_of (subst (IsPrefix (w.servers k).log.applied) (sym applied) (front_itself (w.servers k).log.applied))
+        (subst (λ f. IsPrefix f top) (sym applied) (known.firm.servers k))
+
+    -- each letter was sent before, or in this step
+    sent_by : (P : Letter → Type 0) → ((letter : Letter) → In letter (stamped stamp acted.letters) → P letter) → (letter : Letter) → In letter v.sent
+        → In letter w.sent ⊎ P letter
+    sent_by P new letter i = elim (in-append letter (stamped stamp acted.letters) w.sent i) [ inl n ↦ inr (new letter n) | inr old ↦ inl old ]
+
+    abbrev IsTold : IsStep setting top before v k server → Letter → Type 0
+    IsTold step = IsTrue setting top (stored (at_step good step)) (later (at_step good step))
+        (reached_then (at_step good step))
+
+    -- its letters speak neither of pairs nor of copies
+    mute_letters : (step : IsStep setting top before v k server) (who : Sender) (posts : List Post) → acted.letters ≡ letters_of who 0 posts
+        → ((post : Post) → In post posts → is_between (subject_of post.body) ≡ false) → (letter : Letter) → In letter v.sent
+        → In letter w.sent ⊎ IsTold step letter
+    mute_letters step who posts is mute = sent_by (IsTold step) (λ letter i.
+        posts_mute setting top (stored (at_step good step)) (later (at_step good step))
+        (reached_then (at_step good step)) who stamp posts mute letter (subst (λ letters. In letter (stamped stamp letters)) is i))
+
+    -- the server's own part is as it was, and it does not run where it did not
+    module _ (own_same : acted.server.own ≡ (w.servers k).own) (applied : acted.server.log.applied ≡ (w.servers k).log.applied)
+        (ran : acted.server.life.running ≡ true → (w.servers k).life.running ≡ true) where
+      counts_same : server.own ≡ (before.servers k).own
+      counts_same = ap (λ (o : PairState). record o { store = kept_here o.store }) own_same
+
+      then_so_state : (P : State → Type 0) → P (server_state setting w k) → P (state_in setting.servers acted.server.log)
+      then_so_state P p = subst (λ f. P (state_after setting.servers f)) (sym applied) p
+
+      same_sound : IsSoundOwn setting top v k server
+      same_sound = record {
+        unheard = λ cell none. then_so_state (λ s. IsUnheard s server.own cell)
+            (subst (λ (o : PairState). IsUnheard (server_state setting w k) o cell) (sym counts_same)
+            (good.unheard k cell (ap (λ f. stage_at (state_after setting.servers f) cell) (sym applied) ∙ none)));
+        copied = λ cell last there. then_so_state (λ s. live s cell ≡ true)
+            (good.copied k cell last (ap (λ (o : PairState). last_copy o cell) (sym counts_same) ∙ there));
+        rising = λ cell. subst (λ (o : PairState). IsRising nat_cmp (chain_in o.store.chains cell)) (sym counts_same) (good.rising k cell);
+        counts = subst (λ (o : PairState). 1 ≤ o.pairs.next) (sym counts_same) (good.counts k);
+        filled = subst (λ (o : PairState). AreFilled o.store.chains) (sym counts_same) (good.filled k);
+        marks = λ when. then_so_state (λ s. HaveMarks s server.own.pairs.pending server.own.store)
+            (subst (λ (o : PairState). HaveMarks (server_state setting w k) o.pairs.pending o.store) (sym counts_same)
+            (good.marks k (elim when [ inl runs ↦ inl (ran runs) | inr none ↦ inr (was_blank k none) ])));
+      }
+
+      -- and it says nothing of pairs or copies
+      quiet_goes : acted.server.life.inc ≡ (w.servers k).life.inc → (who : Sender) (posts : List Post) → acted.letters ≡ letters_of who 0 posts
+          → ((post : Post) → In post posts → is_between (subject_of post.body) ≡ false) → GoesTo then_world
+      quiet_goes inc who posts is mute then_is =
+          let step = same_step applied in
+          quiet.quiet_good (at_step good step)
+          (quiet.same_visits (at_step good step) counts_same applied inc)
+          (λ cell alive. store_same (before.servers k).own.store server.own.store cell (ap (λ (o : PairState). o.store) counts_same))
+          own (then_so then_world then_is) same_sound (mute_letters step who posts is mute)
+
+    -- a server that is not In as itself then, with its blocks and marks as they were
+    module _ (out : is_in (state_in setting.servers acted.server.log) k acted.server.life.inc ≡ false)
+        (step : IsStep setting top before v k server) (chains : acted.server.own.store.chains ≡ (w.servers k).own.store.chains)
+        (marks : acted.server.own.store.marks ≡ (w.servers k).own.store.marks) (sound : IsSoundOwn setting top v k server) where
+      out_goes : (who : Sender) (posts : List Post) → acted.letters ≡ letters_of who 0 posts
+          → ((post : Post) → In post posts → is_between (subject_of post.body) ≡ false) → GoesTo then_world
+      out_goes who posts is mute then_is =
+          let joins = blank_joins_in setting top k in
+          let same = kept_alike (λ (s : Store). s.chains) joins (w.before_blank k) acted.server.own.store (w.servers k).own.store chains in
+          let marks_same = kept_alike (λ (s : Store). s.marks) joins (w.before_blank k) acted.server.own.store (w.servers k).own.store marks in
+          quiet.quiet_good (at_step good step)
+          (quiet.out_visits (at_step good step) out)
+          (λ cell alive. record { chain = ap (λ t. chain_in t cell) same; marks = λ kind. ap (λ ms. has_mark (mark_on kind cell) ms) marks_same })
+          own (then_so then_world then_is) sound (mute_letters step who posts is mute)
+
+    -- a server that is In as itself does a job, or starts a ballot
+    module _ (runs : (w.servers k).life.running ≡ true) (seat : is_in (server_state setting w k) k (w.servers k).life.inc ≡ true) (done : JobResult)
+        (keeping : IsKeeping setting w k done) (own_is : acted.server.own ≡ done.own) (applied : acted.server.log.applied ≡ (w.servers k).log.applied)
+        (inc : acted.server.life.inc ≡ (w.servers k).life.inc) where
+      abbrev the_job : AtJob
+      the_job = at_job ground (record {
+        step = same_step applied;
+        works = at_work k runs seat;
+        keeping = keeping;
+        own_is = ap (λ (s : Store). record acted.server.own { store = s }) (known.real k runs seat acted.server.own.store) ∙ own_is;
+        applied = applied;
+        inc = inc;
+      }) known.started
+
+      job_goes : ((letter : Letter) → In letter (stamped stamp acted.letters) → IsTold (same_step applied) letter) → GoesTo then_world
+      job_goes told then_is =
+          jobs.job_good the_job own (then_so then_world then_is)
+          (sent_by (IsTold (same_step applied)) told)
+
+      -- its letters go
+      job_sends : acted.letters ≡ letters_of (sender (own_place setting w k)) 0 done.posts → GoesTo then_world
+      job_sends is = job_goes (λ letter i.
+          jobs.sends the_job stamp letter
+          (subst (λ letters. In letter (stamped stamp letters)) is i))
+
+      -- or it stops, and tells the others that
+      job_stops : (who : Sender) (posts : List Post) → acted.letters ≡ letters_of who 0 posts
+          → ((post : Post) → In post posts → is_between (subject_of post.body) ≡ false) → GoesTo then_world
+      job_stops who posts is mute = job_goes (λ letter i.
+          let step = same_step applied in
+          posts_mute setting top (stored (at_step good step)) (later (at_step good step))
+          (reached_then (at_step good step)) who stamp posts mute letter
+          (subst (λ letters. In letter (stamped stamp letters)) is i))
+
+    -- it applies an entry
+    module _ (runs : (w.servers k).life.running ≡ true) (entry : Command) (more : acted.server.log.applied ≡ (w.servers k).log.applied ++ entry ∷ [])
+        (within : IsPrefix acted.server.log.applied top)
+        (own_is : acted.server.own ≡ settled_by (own_place setting w k) entry (crossed (server_state setting w k) entry (w.servers k).own))
+        (inc : acted.server.life.inc ≡ (w.servers k).life.inc) where
+      entry_step : IsStep setting top before v k server
+      entry_step = step_of (subst (IsPrefix (w.servers k).log.applied) (sym more) (front_more (w.servers k).log.applied entry)) within
+
+      entry_left : IsCrossed (server_state setting w k) entry (before.servers k).own server.own
+      entry_left =
+          let joins = blank_joins_in setting top k in
+          let settles = settling (own_place setting w k) entry (crossed (server_state setting w k) entry (w.servers k).own) in
+          record {
+            pairs = ap (λ (o : PairState). o.pairs) own_is ∙ settles.pairs;
+            copies = ap (λ (o : PairState). o.copies) own_is ∙ settles.copies;
+            chains = kept_alike (λ (s : Store). s.chains) joins (w.before_blank k) acted.server.own.store (w.servers k).own.store
+                (ap (λ (o : PairState). o.store.chains) own_is ∙ settles.chains);
+            marks = kept_alike (λ (s : Store). s.marks) joins (w.before_blank k) acted.server.own.store (w.servers k).own.store
+                (ap (λ (o : PairState). o.store.marks) own_is ∙ settles.marks);
+          }
+
+      entry_goes : (who : Sender) (posts : List Post) → acted.letters ≡ letters_of who 0 posts
+          → ((post : Post) → In post posts → is_between (subject_of post.body) ≡ false) → GoesTo then_world
+      entry_goes who posts is mute then_is =
+          entries.entered_good (at_entry ground (record {
+            step = entry_step;
+            runs = runs;
+            more = more;
+            left = entry_left;
+            inc = inc;
+            counts = λ seat. known.counts k acted.server.log.applied within (ap (is_in (state_in setting.servers acted.server.log) k) (sym inc) ∙ seat);
+          }))
+          own (then_so then_world then_is) (mute_letters entry_step who posts is mute)
+
+  no_posts : (post : Post) → In post [] → is_between (subject_of post.body) ≡ false
+  unfolding In
+  no_posts post i = absurd i
+
+  pub server_goes : (k stamp : ℕ) (what : Step) (acted : Acted) → before_blanks what setting w k ≡ w.before_blank → Serving setting w k what acted
+      → GoesTo (acts setting w k what stamp acted).world
+  server_goes k stamp what _ unblanked (Goes _ _ queue runs (By_job log done same did (inl seat)) queued works) =
+      job_sends k stamp what (served_so setting w k log done queue) unblanked runs seat done
+      (job_keeping (seated k runs seat) done did) refl same refl refl
+  server_goes k stamp what _ unblanked (Goes _ _ queue runs (By_job log done same did (inr apart)) queued works) =
+      quiet_goes k stamp what (served_so setting w k log done queue) unblanked apart.same same (λ on. runs) refl
+      (sender (own_place setting w k)) done.posts refl apart.mute
+  server_goes k stamp what _ unblanked (Goes _ _ queue runs (By_ballot log started posts same starts logged) queued works) =
+      let done : JobResult = record { own = proposed (server_state setting w k) (w.servers k).own started; posts = posts; jobs = [] } in
+      let acted = served_so setting w k log done queue in
+      by_bool (is_in (server_state setting w k) k (w.servers k).life.inc)
+      (λ seat. job_sends k stamp what acted unblanked runs seat done
+      (ballot_keeping (seated k runs seat) started posts starts logged) refl same refl refl)
+      (λ out. quiet_goes k stamp what acted unblanked (out_ballot setting w k started starts out) same (λ on. runs) refl
+      (sender (own_place setting w k)) posts refl
+      (λ post i. logged_mute (subject_of post.body) (logged post i)))
+  server_goes k stamp what _ unblanked (Goes _ _ queue runs (By_entry log entry more front) queued works) =
+      entry_goes k stamp what (served_so setting w k log (silent
+      (settled_by (own_place setting w k) entry (crossed (server_state setting w k) entry (w.servers k).own))) queue)
+      unblanked runs entry more front refl refl
+      (sender (own_place setting w k)) [] refl no_posts
+  server_goes k stamp what _ unblanked (Ends _ _ runs (By_job log done same did (inl seat))) =
+      job_stops k stamp what (stopped_so setting w k log done) unblanked runs seat done
+      (job_keeping (seated k runs seat) done did) refl same refl
+      (without_rev (own_place setting w k)) _ refl
+      (all_down k (w.servers k).life.inc _)
+  server_goes k stamp what _ unblanked (Ends _ _ runs (By_job log done same did (inr apart))) =
+      quiet_goes k stamp what (stopped_so setting w k log done) unblanked apart.same same (λ on. runs) refl (without_rev (own_place setting w k)) _ refl
+      (all_down k (w.servers k).life.inc _)
+  server_goes k stamp what _ unblanked (Ends _ _ runs (By_ballot log started posts same starts logged)) =
+      let done : JobResult = record { own = proposed (server_state setting w k) (w.servers k).own started; posts = posts; jobs = [] } in
+      let acted = stopped_so setting w k log done in
+      by_bool (is_in (server_state setting w k) k (w.servers k).life.inc)
+      (λ seat. job_stops k stamp what acted unblanked runs seat done
+      (ballot_keeping (seated k runs seat) started posts starts logged) refl same refl
+      (without_rev (own_place setting w k)) _ refl (all_down k (w.servers k).life.inc _))
+      (λ out. quiet_goes k stamp what acted unblanked (out_ballot setting w k started starts out) same (λ on. runs) refl
+      (without_rev (own_place setting w k)) _ refl
+      (all_down k (w.servers k).life.inc _))
+  server_goes k stamp what _ unblanked (Ends _ _ runs (By_entry log entry more front)) =
+      entry_goes k stamp what (stopped_so setting w k log (silent
+      (settled_by (own_place setting w k) entry (crossed (server_state setting w k) entry (w.servers k).own))))
+      unblanked runs entry more front refl refl
+      (without_rev (own_place setting w k)) _ refl (all_down k (w.servers k).life.inc _)
+  server_goes k stamp what _ unblanked (Stays who posts from shown) =
+      quiet_goes k stamp what (shown_so w k who posts) unblanked refl refl (λ on. on) refl who posts refl (λ post i. ap is_between (shown post i))
+  server_goes k stamp what _ unblanked (Wakes booted asleep) =
+      let woken = awake (raised (w.servers k)) in
+      let acted = wakes (own_place setting w k) woken in
+      let wake = known.wake k in
+      out_goes k stamp what acted unblanked wake.out (step_of k stamp what acted unblanked wake.onward wake.chosen) refl refl
+      (woken_sound it (v k stamp what acted unblanked) k (server k stamp what acted unblanked)
+      (step_of k stamp what acted unblanked wake.onward wake.chosen) refl refl
+      (kept_alike (λ (s : Store). s.chains) (blank_joins_in setting top k) (w.before_blank k) woken.own.store (w.servers k).own.store refl)
+      (kept_alike (λ (s : Store). s.marks) (blank_joins_in setting top k) (w.before_blank k) woken.own.store (w.servers k).own.store refl)) _ _ refl
+      (all_down k (w.servers k).life.inc _)
+  server_goes k stamp what _ unblanked (Fails booted asleep) =
+      let acted = stays (raised (w.servers k)) in
+      out_goes k stamp what acted unblanked (known.next k) (same_step k stamp what acted unblanked refl) refl refl
+      (same_sound k stamp what acted unblanked refl refl (λ on. on)) (sender (own_place setting w k)) [] refl no_posts

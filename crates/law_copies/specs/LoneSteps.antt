@@ -1,0 +1,158 @@
+-- What a job of a server leaves of a cell whose link one server holds alone: at the holder, at the other server of the link, and at a
+-- server that the link is not of.
+use Rattle.std.specs.Prelude.{◌≡◌, ◌≢◌, ◌<◌, ◌⊎◌, ℕ, Bool, true, false, [], Option, Some, None, is_some}
+use Rattle.std.specs.Ordering.{nat_cmp}
+use Rattle.busy_marks.specs.declared.marks.MarkKind.{MarkKind}
+use Rattle.global_tables.specs.Link.{has_server}
+use Rattle.global_tables.specs.declared.link.LinkRow.{LinkRow}
+use Rattle.global_tables.specs.declared.link.LinkState.TheVariants.{Only}
+use Rattle.petal_base.specs.declared.cell.Cell.{Cell}
+use Rattle.petal_msg.specs.Kinds.{about, subject_of}
+use Rattle.petal_msg.specs.declared.body.Body.{Body}
+use Rattle.petal_msg.specs.declared.body.Body.TheVariants as body
+use Rattle.petal_msg.specs.declared.copying.LastCopy.{LastCopy}
+use Rattle.spec_state.specs.CellState.{cell_link}
+use Rattle.petal_table.specs.Table.{Table, at}
+use Rattle.spec_history.specs.Claims.{IsMarked}
+use Rattle.spec_rules.specs.Lists.{In}
+use Rattle.spec_rules.specs.Progress.{copying_on, has_proposed, last_copy}
+use Rattle.spec_rules.specs.Server.{PairState, JobContext, Post, JobResult}
+use Rattle.spec_rules.specs.State.{holder_of, id_of, live}
+use Rattle.spec_rules.specs.Store.{Chain, Store, cell_cmp, chain_in, is_marked}
+use Rattle.spec_rules.specs.Writes.{last_on, pending_on}
+use Rattle.law_state.specs.Homes.{stage_at}
+use Rattle.law_state.specs.StartedBallots.{is_flagged}
+use Rattle.law_state.specs.Steady.{IsSteady}
+use Rattle.law_steps.specs.DidStep.{is_between}
+use Rattle.law_steps.specs.Ready.{IsReady, IsRising}
+use Rattle.law_steps.specs.RestingCopies.{AreResting}
+use Rattle.law_copies.specs.CopyProgress.{AreAlike, AreCopying, IsLeft, IsOfLink, IsPage, IsTold, links_of}
+use Rattle.law_copies.specs.Pair.{HaveMarks}
+
+-- a cell without entries has no chain
+abbrev pub AreFilled : Table Cell Chain → Type 0
+AreFilled chains = (cell : Cell) → at cell_cmp chains cell ≢ Some []
+
+-- a server has nothing of the cell
+pub record IsBare (own : PairState) (cell : Cell) : Type 0 where
+  pub chain : chain_in own.store.chains cell ≡ []
+  pub marks : (kind : MarkKind) → is_marked own.store kind cell ≡ false
+
+-- what a server has before a job, by its own state
+pub record IsFit (heard : Body → Type 0) (here : JobContext) (own : PairState) : Type 0 where
+  pub steady : IsSteady here.state
+  pub ready : IsReady here.state here.me (has_proposed here.state own) own.pairs.pending
+  pub resting : AreResting here.state here.me own
+  pub marks : HaveMarks here.state own.pairs.pending own.store
+  pub rising : (q : Cell) → IsRising nat_cmp (chain_in own.store.chains q)
+  pub filled : AreFilled own.store.chains
+  -- of cells that are not live yet; and what is told of, or was copied here, is of live ones
+  pub bare : (q : Cell) → stage_at here.state q ≡ 0 → IsBare own q
+  pub lives : (said : Body) → heard said → is_between (subject_of said) ≡ true → (q : Cell) → (about said).cell ≡ Some q → live here.state q ≡ true
+  pub copied : (q : Cell) (last : LastCopy) → last_copy own q ≡ Some last → live here.state q ≡ true
+  -- a page tells of a block of its own link
+  pub pages : (q : Cell) (link : ℕ) (after : Option ℕ) → heard (body.Hello q.map link after (Some q.block)) → IsOfLink here.state q link
+
+-- ### At the holder
+
+-- the server holds the cell's link alone, and what stands before the job, where the other server has been as this
+pub record IsHolding (heard : Body → Type 0) (here : JobContext) (links : ℕ) (row : LinkRow) (cell : Cell) (own : PairState) (other : Option PairState) : Type 0 where
+  pub fit : IsFit heard here own
+  pub is : cell_link here.state cell ≡ Some row
+  pub alive : stage_at here.state cell < 4
+  pub links_are : links_of here.state cell.map ≡ links
+  pub whole : Bool
+  pub held : row.state ≡ Only here.me whole
+  pub old : AreCopying links row cell (Some own) other
+  pub told : (said : Body) → heard said → (about said).cell ≡ Some cell → IsTold row (Some own) other said
+  pub met : (after block : Option ℕ) → heard (body.Hello row.map row.link after block) → is_some other ≡ true
+
+-- what was known of letters of the cell is known later
+abbrev pub StaysTold : LinkRow → (cell : Cell) → (holder other holder' other' : Option PairState) → Type 0
+StaysTold row cell holder other holder' other' = (said : Body) → (about said).cell ≡ Some cell → IsTold row holder other said
+    → IsTold row holder' other' said
+
+-- the other server's store, as it is now, has the chain that the server had when it last was at the place
+abbrev pub IsStill : Cell → Option PairState → Store → Type 0
+IsStill cell visit now = (by : PairState) → visit ≡ Some by → chain_in by.store.chains cell ≡ chain_in now.chains cell
+
+-- each page that was heard tells of the other server's store as it is now
+abbrev pub PagesOf : (heard : Body → Type 0) → LinkRow → Cell → Store → Option PairState → Type 0
+PagesOf heard row cell now visit = (after block : Option ℕ) → heard (body.Hello row.map row.link after block)
+    → IsPage cell now visit after block
+
+-- what the job keeps, with what is known of what it sends; a mark goes only by a copy, whose other server was there; what the holder
+-- has stays; and nothing is changed of the cell once a ballot was started for the link's Caught
+pub record HolderKeeps (heard : Body → Type 0) (links : ℕ) (row : LinkRow) (cell : Cell) (own : PairState) (other : Option PairState) (done : JobResult) : Type 0 where
+  pub copying : AreCopying links row cell (Some done.own) other
+  pub told : StaysTold row cell (Some own) other (Some done.own) other
+  pub says : (post : Post) → In post done.posts → (about post.body).cell ≡ Some cell → IsTold row (Some done.own) other post.body
+  pub marks : IsMarked own.store cell → IsMarked done.own.store cell ⊎ (is_some other ≡ true)
+  pub stored : chain_in own.store.chains cell ≢ [] → chain_in done.own.store.chains cell ≢ []
+  pub alike : (now : Store) → IsStill cell other now → PagesOf heard row cell now other → IsRising nat_cmp (chain_in now.chains cell)
+      → AreAlike row cell own.store now (Some own) → AreAlike row cell done.own.store now (Some done.own)
+  pub caught : is_flagged own (id_of row) ≡ true
+      → (chain_in done.own.store.chains cell ≡ chain_in own.store.chains cell) × (IsMarked done.own.store cell → ⊥) ×
+      (is_flagged done.own (id_of row) ≡ true)
+
+-- what a ballot that is started keeps: stores stay as they are
+pub record BallotKeeps (links : ℕ) (row : LinkRow) (cell : Cell) (own : PairState) (other : Option PairState) (to : PairState) : Type 0 where
+  pub copying : AreCopying links row cell (Some to) other
+  pub told : StaysTold row cell (Some own) other (Some to) other
+  pub store : to.store ≡ own.store
+  pub alike : (now : Store) → AreAlike row cell own.store now (Some own) → AreAlike row cell to.store now (Some to)
+  pub flagged : is_flagged own (id_of row) ≡ true → is_flagged to (id_of row) ≡ true
+
+-- ### At the other server
+
+-- the server is the other one of the cell's link, and what stands before the job, where the holder has been as this
+pub record IsFollowing (heard : Body → Type 0) (here : JobContext) (links : ℕ) (row : LinkRow) (cell : Cell) (holder : Option PairState) (own : PairState) : Type 0 where
+  pub fit : IsFit heard here own
+  pub is : cell_link here.state cell ≡ Some row
+  pub alive : stage_at here.state cell < 4
+  pub by : ℕ
+  pub held : holder_of here.me row ≡ Some by
+  pub old : AreCopying links row cell holder (Some own)
+  pub told : (said : Body) → heard said → (about said).cell ≡ Some cell → IsTold row holder (Some own) said
+
+-- the holder has been at the place, and had the block left to copy
+pub record IsLeftBy (row : LinkRow) (holder : Option PairState) (cell : Cell) : Type 0 where
+  pub by : PairState
+  pub met : holder ≡ Some by
+  pub left : IsLeft by row cell
+
+-- what the job keeps, with what is known of what it sends; the cell's chain changes only where the holder has the block left to copy
+pub record KeepsHere (links : ℕ) (row : LinkRow) (cell : Cell) (holder : Option PairState) (own : PairState) (done : JobResult) : Type 0 where
+  pub copying : AreCopying links row cell holder (Some done.own)
+  pub told : StaysTold row cell holder (Some own) holder (Some done.own)
+  pub says : (post : Post) → In post done.posts → (about post.body).cell ≡ Some cell → IsTold row holder (Some done.own) post.body
+  pub marks : (kind : MarkKind) → is_marked done.own.store kind cell ≡ is_marked own.store kind cell
+  pub changes : (chain_in done.own.store.chains cell ≡ chain_in own.store.chains cell) ⊎ IsLeftBy row holder cell
+
+-- and of its pages and chains
+pub record OtherKeeps (links : ℕ) (row : LinkRow) (cell : Cell) (holder : Option PairState) (own : PairState) (done : JobResult) : Type 0 where
+  pub here : KeepsHere links row cell holder own done
+  pub open here use *
+  pub pages : (post : Post) → In post done.posts → (after block : Option ℕ) → post.body ≡ body.Hello row.map row.link after block
+      → IsPage cell done.own.store (Some done.own) after block
+  pub rising : IsRising nat_cmp (chain_in done.own.store.chains cell)
+
+-- ### At a server that the link is not of
+
+-- the cell has no link, or one that the server is not of
+abbrev pub IsNotOf : JobContext → Cell → Type 0
+IsNotOf here cell = (cell_link here.state cell ≡ None) ⊎
+    ((row : LinkRow) × (cell_link here.state cell ≡ Some row) × (has_server here.me row ≡ false))
+
+-- all that concerns the cell is as before, but for its marks
+pub record KeepsRest (cell : Cell) (own to : PairState) : Type 0 where
+  pub chain : chain_in to.store.chains cell ≡ chain_in own.store.chains cell
+  pub pending : pending_on to cell ≡ pending_on own cell
+  pub copying : copying_on to cell ≡ copying_on own cell
+  pub last : last_copy to cell ≡ last_copy own cell
+  pub followed : last_on to cell ≡ last_on own cell
+
+-- and its marks
+pub record KeepsCell (cell : Cell) (own to : PairState) : Type 0 where
+  pub rest : KeepsRest cell own to
+  pub marks : (kind : MarkKind) → is_marked to.store kind cell ≡ is_marked own.store kind cell

@@ -1,0 +1,68 @@
+-- A legal history, and one with a record more: what the lemmas here and in the laws above are told of.
+use Rattle.std.proofs.Common.{◌≡◌, List, [], ◌∷◌, ◌++◌, refl, subst}
+use Rattle.petal_command.specs.declared.command.Command.{Command}
+use Rattle.script_lines.specs.declared.script.Script.{Script}
+use Rattle.spec_state.specs.Command.{state_after}
+use Rattle.spec_rules.specs.State.{State}
+use Rattle.spec_rules.specs.World.{Setting, World, chosen_log, setting_of}
+use Rattle.spec_history.specs.Claims.{IsPrefix}
+use Rattle.spec_history.specs.Steps.{AreSteps}
+use Rattle.spec_history.specs.declared.record.Record.{Record}
+use Rattle.law_state.specs.Plain.{IsPlainLog}
+use Rattle.law_log.proofs.LogInHistories.{history_grows, history_is_firm}
+pub use Rattle.law_jobs.proofs.Runs.{OneMore, Run}
+use Rattle.law_jobs.proofs.Runs.{At, before_part}
+
+-- where it has led
+pub record End : Type 0 where
+  pub setting : Setting
+  pub w : World
+  pub chosen : List Command
+  pub By : List Command → State
+
+abbrev pub end_of : Run → End
+end_of h = record {
+  setting = setting_of h.script;
+  w = At h.script h.records;
+  chosen = chosen_log (setting_of h.script) (At h.script h.records);
+  By = state_after h.script.servers;
+}
+
+-- a front of it
+abbrev pub cut : (h : Run) (front later : List Record) → h.records ≡ front ++ later → Run
+cut h front later is = record {
+  script = h.script;
+  sound = h.sound;
+  records = front;
+  legal = before_part h.script front later (subst (AreSteps h.script) is h.legal);
+}
+
+-- where it had led before the last record, and where it leads with it
+pub record Ends (script : Script) : Type 0 where
+  pub setting : Setting
+  pub records : List Record
+  pub present : Run
+  pub w : World
+  pub v : World
+  pub top : List Command
+  pub whole : List Command
+  pub By : List Command → State
+  pub top_whole : IsPrefix top whole
+  pub plain : IsPlainLog script.servers whole
+
+abbrev pub ends_of : (it : OneMore) → Ends it.prior.script
+ends_of it =
+    let h = it.prior in
+    let all = h.records ++ it.own ∷ [] in
+    record {
+      setting = setting_of h.script;
+      records = all;
+      present = record { script = h.script; sound = h.sound; records = all; legal = it.legal };
+      w = At h.script h.records;
+      v = At h.script all;
+      top = chosen_log (setting_of h.script) (At h.script h.records);
+      whole = chosen_log (setting_of h.script) (At h.script all);
+      By = state_after h.script.servers;
+      top_whole = history_grows h.script all h.sound it.legal h.records (it.own ∷ []) refl;
+      plain = (history_is_firm h.script all h.sound it.legal).plain;
+    }

@@ -1,0 +1,83 @@
+-- What is in time stays so while the era of its cell does not rise; and a cell that has died was leaving before.
+use Rattle.std.proofs.Common.{◌≡◌, ◌≤◌, ◌+◌, ℕ, List, true, Some, sym, ap, ◌∙◌, inl, inr, arith}
+use Rattle.std.specs.Prelude.{nat_le, option_and_then, if◌then◌else◌, length}
+use Rattle.std.specs.Option.{option_map_or}
+use Rattle.std.proofs.lemmas.Bool.Decides.{nat_tests}
+use Rattle.global_tables.specs.Link.{link_at}
+use Rattle.global_tables.specs.Map.{tuple_of}
+use Rattle.global_tables.specs.Region.{link_of}
+use Rattle.global_tables.specs.declared.link.LinkRow.{LinkRow}
+use Rattle.petal_base.specs.declared.cell.Cell.{Cell}
+use Rattle.petal_command.specs.declared.command.Command.{Command}
+use Rattle.petal_command.specs.declared.command.Command.TheVariants.{Moved}
+use Rattle.petal_msg.specs.declared.operation.Pending.{Pending}
+use Rattle.spec_history.specs.Claims.{IsPrefix}
+use Rattle.spec_state.specs.CellState.{cell_link}
+use Rattle.spec_state.specs.Command.{state_after}
+use Rattle.spec_state.specs.State.{links_of}
+use Rattle.spec_rules.specs.State.{State}
+use Rattle.spec_rules.proofs.Tests.{none_some, some_or_none}
+use Rattle.global_tables.specs.Region.{region_of}
+use Rattle.law_state.specs.Homes.{epoch_at, era_at, era_by, stage_at}
+use Rattle.law_state.specs.Plain.{IsPlainLog}
+use Rattle.law_state.proofs.EntriesOnlyAdd.{log_plain}
+use Rattle.law_state.proofs.Eras.{era_low}
+use Rattle.law_state.proofs.NewMapLinks.{proper}
+use Rattle.law_state.proofs.LinksAreNoted.{log_dead}
+use Rattle.law_state.proofs.Steady.{front_plain, log_below, log_grown, tuple_on}
+use Rattle.law_steps.proofs.Fronts.{front_more, front_on}
+use Rattle.law_copies.proofs.PlacesByFronts.{at_most_or_above}
+use Rattle.law_epochs.specs.InTime.{IsTimely}
+
+era_high : (e a : ℕ) → 3 ≤ a → era_by e a ≡ e + 1
+era_high e a high = ap (λ b. e + (if b then 1 else 0)) (yes high)
+  where
+    yes : 3 ≤ a → nat_le 3 a ≡ true
+    yes le = grind (arith, nat_tests)
+
+module _ (servers : ℕ) (front whole : List Command) (cell : Cell) (plain : IsPlainLog servers whole) (prefix : IsPrefix front whole) where
+  abbrev was : State
+  was = state_after servers front
+
+  abbrev now : State
+  now = state_after servers whole
+
+  -- the era is the epoch while the cell does not leave; so at an equal era neither has changed
+  pub on_time : (op : Pending) → IsTimely servers front cell op → era_at now cell ≡ era_at was cell → IsTimely servers whole cell op
+  on_time op timely same =
+      let below = log_below servers front whole plain prefix in
+      let epochs = below.epochs cell in
+      let stages = below.stages cell in
+      let low = era_low (epoch_at was cell) (stage_at was cell) timely.stays in
+      elim (at_most_or_above (stage_at now cell) 2) [
+        | inl stays ↦ record {
+          epoch = sym (era_low (epoch_at now cell) (stage_at now cell) stays) ∙ same ∙ low ∙ timely.epoch;
+          born = (let born = timely.born in omega arith);
+          stays = stays;
+        }
+        | inr leaves ↦ let high = era_high (epoch_at now cell) (stage_at now cell) leaves in absurd (omega arith)
+      ]
+
+  -- a cell that had a link, and is dead, was leaving
+  pub record WasLeaving : Type 0 where
+    pub until : List Command
+    pub lies : IsPrefix until whole
+    pub leaves : stage_at (state_after servers until) cell ≡ 3
+
+  pub was_leaving : (row : LinkRow) → cell_link was cell ≡ Some row → stage_at now cell ≡ 4 → WasLeaving
+  was_leaving row linked dead = elim (some_or_none (tuple_of was.maps cell.map)) [
+    | inl h ↦
+        let p = log_plain servers whole plain in
+        let later : tuple_of now.maps cell.map ≡ Some h.0 =
+        tuple_on servers was now (log_plain servers front (front_plain servers front whole plain prefix)) p (log_grown servers front whole plain prefix)
+        cell.map h.0 h.1 in
+        let ids = proper servers h.0 (p.tuples cell.map h.0 later) in
+        let many : links_of now cell.map ≡ length h.0 = ap (λ o. option_map_or length o 0) later in
+        let moved = log_dead servers whole cell 0 plain dead (let two = ids.two in omega arith) in
+        record {
+          until = moved.until;
+          lies = front_on moved.until _ whole (front_more moved.until (Moved cell.map (region_of cell.block) 0)) moved.stands;
+          leaves = moved.leaves;
+        }
+    | inr none ↦ none_some (ap (option_and_then (λ ids. link_at was.links cell.map (link_of (length ids) cell.block))) none) linked
+  ]

@@ -1,0 +1,167 @@
+-- A client's write that is under way is in time: had the era of its cell risen, its server would have reported before, with no such write
+-- under way.
+use Rattle.std.proofs.Common.{◌≡◌, ◌<◌, ◌++◌, ◌⊎◌, ℕ, true, false, List, [], ◌∷◌, Some, length, sym, ◌∙◌, subst, inl, inr, arith}
+use Rattle.petal_base.specs.declared.cell.Cell.{Cell}
+use Rattle.petal_command.specs.declared.command.Command.{Command}
+use Rattle.petal_command.specs.declared.command.Command.TheVariants.{Drained}
+use Rattle.petal_table.specs.Table.{at}
+use Rattle.petal_msg.specs.declared.operation.Pending.{Pending}
+use Rattle.script_lines.specs.declared.script.Script.{Script}
+use Rattle.spec_state.specs.Command.{state_after}
+use Rattle.spec_rules.specs.State.{held, is_in, leads_link}
+use Rattle.spec_rules.specs.Store.{cell_cmp}
+use Rattle.spec_rules.specs.Writes.{is_clients, is_writes_held}
+use Rattle.spec_rules.specs.World.{Setting, World, chosen_log, server_state, setting_of}
+use Rattle.spec_rules.proofs.Tests.{same_or_apart}
+use Rattle.spec_history.specs.Claims.{IsPrefix}
+use Rattle.spec_history.specs.Steps.{AreSteps}
+use Rattle.spec_history.specs.Sound.{IsSound}
+use Rattle.spec_history.specs.declared.record.Record.{Record}
+use Rattle.law_state.specs.Epochs.{era_at}
+use Rattle.law_state.specs.Firm.{Firm}
+use Rattle.law_state.specs.Plain.{IsPlainLog}
+use Rattle.law_state.proofs.ErasRiseAfterReports.{log_epochs, log_unheld}
+use Rattle.law_state.proofs.Steady.{front_plain}
+use Rattle.law_log.specs.ProposedCommands.{WasDraining}
+use Rattle.law_log.proofs.LogInHistories.{history_is_firm, report_was_made}
+use Rattle.law_steps.proofs.Fronts.{front_itself, front_long, front_more, front_on, one_front}
+use Rattle.law_steps.proofs.MovesAreOfComingCells.{stage_facts}
+use Rattle.law_steps.proofs.KindsInHistories.{runs_now}
+use Rattle.law_jobs.proofs.Runs.{At}
+use Rattle.law_requests.proofs.OpenWhileRunning.{chosen_front}
+use Rattle.law_epochs.specs.InTime.{IsTimely}
+use Rattle.law_epochs.proofs.ReportedHaveNoPending.{asking, resting}
+use Rattle.law_epochs.proofs.InTimeStays.{on_time}
+
+-- a write that a server opened by these entries: they are chosen, the server was In and led the cell, no fence held the cell's writes, and the
+-- write was in time
+pub record IsOpened (script : Script) (chosen : List Command) (n inc : ℕ) (cell : Cell) (op : Pending) : Type 0 where
+  pub opened : List Command
+  pub lies : IsPrefix opened chosen
+  pub long : length opened ≡ op.rev
+  pub seated : is_in (state_after script.servers opened) n inc ≡ true
+  pub unfenced : is_writes_held (held (state_after script.servers opened) cell) ≡ false
+  pub leads : leads_link (state_after script.servers opened) n cell ≡ true
+  pub timely : IsTimely script.servers opened cell op
+
+module _ (script : Script) (sound : IsSound script) (records : List Record) (legal : AreSteps script records) where
+  abbrev setting : Setting
+  setting = setting_of script
+
+  abbrev w : World
+  w = At script records
+
+  abbrev chosen : List Command
+  chosen = chosen_log setting w
+
+  pub firm : Firm setting w
+  firm = history_is_firm script records sound legal
+
+  pub chosen_plain : (front : List Command) → IsPrefix front chosen → IsPlainLog script.servers front
+  chosen_plain front lies = front_plain script.servers front chosen firm.plain lies
+
+  -- what is pending was opened as the incarnation that ran last, which leads the cell by the server's own state
+  abbrev pub ran : ℕ → ℕ
+  ran n = (asking script sound records legal).asks.lives.ran n
+
+  pub was_opened : (n : ℕ) (cell : Cell) (op : Pending) → at cell_cmp (w.servers n).own.pairs.pending cell ≡ Some op → is_clients op.kind ≡ true
+      → IsOpened script chosen n (ran n) cell op
+  was_opened n cell op is clients =
+      let p = (asking script sound records legal).asks.known.pending n cell op is clients in
+      let sent = p.known.sent in
+      let lies = chosen_front setting w firm op.client op.rev sent.at in
+      let first = p.along sent.at.front (front_itself sent.at.front) p.opened in
+      let led = (stage_facts script.servers sent.at.front (chosen_plain sent.at.front lies) cell).leads n first.leads in
+      record {
+        opened = sent.at.front;
+        lies = lies;
+        long = sent.at.long;
+        seated = first.seated;
+        unfenced = p.unfenced;
+        leads = led.0;
+        timely = record { epoch = sym sent.epoch; born = led.1; stays = led.2 };
+      }
+
+  -- and is still In as it, by its own entries
+  pub seated_now : (n : ℕ) (cell : Cell) (op : Pending) → at cell_cmp (w.servers n).own.pairs.pending cell ≡ Some op → is_clients op.kind ≡ true
+      → is_in (server_state setting w n) n (ran n) ≡ true
+  seated_now n cell op is clients =
+      let asks = (asking script sound records legal).asks in
+      let p = asks.known.pending n cell op is clients in
+      subst (λ log. is_in (state_after script.servers log) n (ran n) ≡ true) (asks.known.come n cell op is clients)
+      (p.along p.upto p.opened (front_itself p.upto)).seated
+
+  -- and it has applied the entries by which it was opened
+  pub opened_by : (n : ℕ) (cell : Cell) (op : Pending) (is : at cell_cmp (w.servers n).own.pairs.pending cell ≡ Some op) (clients : is_clients op.kind ≡ true)
+      → IsPrefix (was_opened n cell op is clients).opened (w.servers n).log.applied
+  unfolding was_opened
+  opened_by n cell op is clients =
+      let known = (asking script sound records legal).asks.known in
+      let p = known.pending n cell op is clients in
+      subst (IsPrefix p.known.sent.at.front) (known.come n cell op is clients) p.opened
+
+  -- as long as the server is In, the era rises only after a report of the server's, made on the way
+  pub record IsReported (n inc : ℕ) (cell : Cell) (opened front : List Command) : Type 0 where
+    pub until : List Command
+    pub following : IsPrefix opened until
+    pub before : IsPrefix until front
+    pub seated : is_in (state_after script.servers until) n inc ≡ true
+    pub holds : is_writes_held (held (state_after script.servers until) cell) ≡ true
+    pub made : WasDraining setting records n inc until
+
+  pub timely_or_reported : (n inc : ℕ) (cell : Cell) (op : Pending) (opened front : List Command) → IsPrefix opened front → IsPrefix front chosen
+      → is_in (state_after script.servers opened) n inc ≡ true → is_in (state_after script.servers front) n inc ≡ true
+      → is_writes_held (held (state_after script.servers opened) cell) ≡ false → IsTimely script.servers opened cell op
+      → IsTimely script.servers front cell op ⊎ IsReported n inc cell opened front
+  timely_or_reported n inc cell op opened front more lies was now unfenced timely =
+      let plain = chosen_plain front lies in
+      let le = log_epochs script.servers opened front cell plain more in
+      elim (same_or_apart (era_at (state_after script.servers front) cell) (era_at (state_after script.servers opened) cell)) [
+        | inl same ↦ inl (on_time script.servers opened front cell plain more op timely same)
+        | inr ne ↦ (
+            let reported = log_unheld script.servers opened front n inc cell plain more was now unfenced timely.born timely.stays (omega arith) in
+            inr (record {
+              until = reported.until;
+              following = reported.following;
+              before = front_on reported.until _ front (front_more reported.until (Drained n inc reported.fence)) reported.stands;
+              seated = reported.seated;
+              holds = reported.holds;
+              made = report_was_made script records sound legal reported.until n inc reported.fence
+                  (front_on (reported.until ++ Drained n inc reported.fence ∷ []) front chosen reported.stands lies);
+            }))
+      ]
+
+  -- a client's write that is pending after a report was opened later
+  pub opened_later : (n inc : ℕ) (cell : Cell) (op : Pending) (until : List Command) → WasDraining setting records n inc until
+      → is_writes_held (held (state_after script.servers until) cell) ≡ true
+      → at cell_cmp (w.servers n).own.pairs.pending cell ≡ Some op → is_clients op.kind ≡ true → length until < op.rev
+  opened_later n inc cell op until was holds is clients = (asking script sound records legal).drained n inc until was cell op is clients holds
+
+  -- a client's write that is pending is in time
+  pub present : (n inc : ℕ) (cell : Cell) (op : Pending) (opened front : List Command) → at cell_cmp (w.servers n).own.pairs.pending cell ≡ Some op
+      → is_clients op.kind ≡ true → IsPrefix opened front → IsPrefix front chosen → length opened ≡ op.rev
+      → is_in (state_after script.servers opened) n inc ≡ true → is_in (state_after script.servers front) n inc ≡ true
+      → IsTimely script.servers front cell op
+  present n inc cell op opened front is clients more lies long was now =
+      let o = was_opened n cell op is clients in
+      let same : o.opened ≡ opened = one_front o.opened opened chosen o.lies (front_on opened front chosen more lies) (o.long ∙ sym long) in
+      let seat : is_in (state_after script.servers o.opened) n inc ≡ true = subst (λ log. is_in (state_after script.servers log) n inc ≡ true) (sym same) was in
+      elim (timely_or_reported n inc cell op o.opened front (subst (λ log. IsPrefix log front) (sym same) more) lies seat now o.unfenced o.timely) [
+        | inl timely ↦ timely
+        | inr reported ↦ (
+            let lt = opened_later n inc cell op reported.until reported.made reported.holds is clients in
+            let le = front_long o.opened reported.until reported.following in
+            let rev = o.long in
+            absurd (omega arith))
+      ]
+
+  -- so it is by all that is chosen, at a server that runs
+  pub present_now : (n : ℕ) (cell : Cell) (op : Pending) → (w.servers n).life.running ≡ true
+      → at cell_cmp (w.servers n).own.pairs.pending cell ≡ Some op → is_clients op.kind ≡ true → IsTimely script.servers chosen cell op
+  present_now n cell op runs is clients =
+      let o = was_opened n cell op is clients in
+      let inc = (w.servers n).life.inc in
+      let same = (asking script sound records legal).asks.known.lived.ran n runs in
+      present n inc cell op o.opened chosen is clients o.lies (front_itself chosen) o.long
+      (subst (λ i. is_in (state_after script.servers o.opened) n i ≡ true) same o.seated)
+      (runs_now setting w firm n runs ((resting script sound records legal).seated n cell op runs is))

@@ -1,0 +1,111 @@
+-- The Caught that a server wants: of a link that it holds alone, whose other server is In; and that it has it in mind once it has
+-- started the ballot.
+use Rattle.std.proofs.Common.{◌≡◌, ◌&&◌, ℕ, true, List, [], ◌∷◌, Option, Some, None, refl, sym, ap, ◌∙◌, inl, inr}
+use Rattle.std.specs.List.{flat_map}
+use Rattle.global_tables.specs.Link.{link_at, other_of}
+use Rattle.global_tables.specs.declared.link.LinkRow.{LinkRow}
+use Rattle.petal_command.specs.declared.command.Command.{Command}
+use Rattle.petal_command.specs.declared.command.Command.TheVariants.{Caught}
+use Rattle.spec_state.specs.Command.{is_alone, may_catch}
+use Rattle.spec_state.specs.State.{inc_of, is_up}
+use Rattle.spec_rules.specs.Copies.{next_copy}
+use Rattle.spec_rules.specs.Lists.{In as Among}
+use Rattle.spec_rules.specs.Progress.{progress_on}
+use Rattle.spec_rules.specs.Returns.{caught_as, caught_links, caught_of, holds_link, is_nothing, proposed}
+use Rattle.spec_rules.specs.Server.{PairState, JobContext}
+use Rattle.spec_rules.specs.State.{State, id_of, link_named, other_in}
+use Rattle.spec_rules.proofs.ListLemmas.{in-append}
+use Rattle.spec_rules.proofs.Tests.{both_true, by_test, none_some, number_itself, same_some}
+use Rattle.law_state.specs.StartedBallots.{is_flagged}
+use Rattle.law_log.proofs.CopyJobsLeaveLog.{IsKept, kept_itself}
+use Rattle.law_log.proofs.BallotFlags.{flag_put, flags_put}
+
+-- the command is the Caught of this link, which the server holds alone, whose other server is In, and of which nothing is left to copy
+pub record IsOfLink (here : JobContext) (own : PairState) (command : Command) : Type 0 where
+  pub row : LinkRow
+  pub there : Among row here.state.links
+  pub inc : ℕ
+  pub is : command ≡ Caught row.map row.link here.me here.inc (other_of here.me row) inc
+  pub alone : is_alone here.me row.state ≡ true
+  pub other_is : other_in here.state here.me row ≡ Some (other_of here.me row)
+  pub nothing : is_nothing (next_copy here.state row own) ≡ true
+  pub joins : inc_of here.state (other_of here.me row) ≡ Some inc
+
+none_among : {A B : Type 0} (x : A) → Among x [] → B
+unfolding Among
+none_among x h = absurd h
+
+only_among : {A : Type 0} (x y : A) → Among x (y ∷ []) → x ≡ y
+unfolding Among
+only_among x y (inl e) = e
+only_among x y (inr h) = absurd h
+
+-- the holder's other server, where it is In
+other_is : (state : State) (me other : ℕ) (row : LinkRow) → other_in state me row ≡ Some other → (is_alone me row.state ≡ true) × (other_of me row ≡ other)
+other_is state me other row = by_test (λ (o : Option ℕ). o ≡ Some other → (is_alone me row.state ≡ true) × (other_of me row ≡ other))
+    (is_alone me row.state && is_up state (other_of me row)) (Some (other_of me row)) None
+    (λ e is. ((both_true (is_alone me row.state) (is_up state (other_of me row)) e).0, same_some is)) (λ e is. none_some refl is)
+
+module _ (here : JobContext) (own : PairState) where
+  caught_from : (row : LinkRow) → Among row here.state.links → (other : ℕ) → other_in here.state here.me row ≡ Some other → (o : Option ℕ)
+      → inc_of here.state other ≡ o → is_nothing (next_copy here.state row own) ≡ true → (c : Command)
+      → Among c (caught_as here row other o) → IsOfLink here own c
+  caught_from row there other is None joins nothing c h = none_among c h
+  caught_from row there other is (Some inc) joins nothing c h =
+      let found = other_is here.state here.me other row is in record {
+        row = row;
+        there = there;
+        inc = inc;
+        is = only_among c _ h ∙ (λ i. Caught row.map row.link here.me here.inc (sym found.1 i) inc);
+        alone = found.0;
+        other_is = is ∙ ap Some (sym found.1);
+        nothing = nothing;
+        joins = ap (inc_of here.state) found.1 ∙ joins;
+      }
+
+  caught_row : (row : LinkRow) → Among row here.state.links → (o : Option ℕ) → other_in here.state here.me row ≡ o → (c : Command)
+      → Among c (caught_of here own row o) → IsOfLink here own c
+  caught_row row there None is c h = none_among c h
+  caught_row row there (Some other) is c h =
+      by_test (λ (xs : List Command). Among c xs → IsOfLink here own c) (is_nothing (next_copy here.state row own))
+      (caught_as here row other (inc_of here.state other)) []
+      (λ e. caught_from row there other is (inc_of here.state other) refl e c) (λ e. none_among c) h
+
+  caught_rows : (rows : List LinkRow) → ((row : LinkRow) → Among row rows → Among row here.state.links) → (c : Command)
+      → Among c (flat_map (λ row. caught_of here own row (other_in here.state here.me row)) rows) → IsOfLink here own c
+  unfolding Among
+  caught_rows [] all c h = none_among c h
+  caught_rows (row ∷ rows) all c h =
+      elim (in-append c (caught_of here own row (other_in here.state here.me row))
+      (flat_map (λ row. caught_of here own row (other_in here.state here.me row)) rows) h) [
+        | inl now ↦ caught_row row (all row (inl refl)) (other_in here.state here.me row) refl c now
+        | inr later ↦ caught_rows rows (λ other i. all other (inr i)) c later
+      ]
+
+  pub caught_among : (c : Command) → Among c (caught_links here own) → IsOfLink here own c
+  caught_among c h = caught_rows here.state.links (λ row i. i) c h
+
+  -- the Caught acts where each row is found
+  pub caught_may : (c : Command) (of_link : IsOfLink here own c) → link_at here.state.links of_link.row.map of_link.row.link ≡ Some of_link.row
+      → may_catch here.me (other_of here.me of_link.row) (link_at here.state.links of_link.row.map of_link.row.link) ≡ true
+  caught_may c of_link found =
+      ap (may_catch here.me (other_of here.me of_link.row)) found
+      ∙ (λ i. of_link.alone i && number_itself (other_of here.me of_link.row) i)
+
+  -- and the server has it in mind
+  pub caught_minded : (c : Command) (of_link : IsOfLink here own c) → link_at here.state.links of_link.row.map of_link.row.link ≡ Some of_link.row
+      → is_flagged (proposed here.state own (Some c)) (id_of of_link.row) ≡ true
+  caught_minded c of_link found =
+      ap (λ d. is_flagged (proposed here.state own (Some d)) (id_of of_link.row)) of_link.is
+      ∙ ap (λ o. is_flagged (holds_link own o) (id_of of_link.row)) found
+      ∙ flag_put own of_link.row (record (progress_on own of_link.row) { caught = true }) refl
+
+-- a ballot for any command forgets nothing
+kept_link : (own : PairState) (o : Option LinkRow) → IsKept own (holds_link own o)
+kept_link own None = kept_itself own
+kept_link own (Some row) = record { flags = flags_put own row (record (progress_on own row) { caught = true }) (λ h. refl) }
+
+pub kept_proposed : (state : State) (own : PairState) (o : Option Command) → IsKept own (proposed state own o)
+kept_proposed state own (Some (Caught of link holder holder_inc other other_inc)) = kept_link own (link_named state (record { map = of; link = link }))
+kept_proposed state own (Some _) = kept_itself own
+kept_proposed state own None = kept_itself own

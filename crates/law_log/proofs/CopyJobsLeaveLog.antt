@@ -1,0 +1,316 @@
+-- Jobs of copies: they say nothing of the log, put no letter into the queue, and forget no Caught for which a ballot was started.
+use Rattle.std.proofs.Common.{refl, ◌≡◌, ◌==◌, ◌&&◌, not, ℕ, Bool, true, false, List, [], ◌∷◌, Option, Some, None, inl, inr}
+use Rattle.std.specs.Prelude.{nat_lt}
+use Rattle.std.specs.List.{flat_map}
+use Rattle.global_tables.specs.declared.link.LinkRow.{LinkRow}
+use Rattle.global_tables.specs.declared.link.LinkState.{LinkState}
+use Rattle.global_tables.specs.declared.link.LinkState.TheVariants.{Both, Only, Lost}
+use Rattle.busy_marks.specs.Marks.{above}
+use Rattle.petal_base.specs.declared.cell.Cell.{Cell}
+use Rattle.petal_base.specs.Cells.{cell_of}
+use Rattle.petal_msg.specs.declared.body.Body.{Body}
+use Rattle.petal_msg.specs.declared.body.Body.TheVariants as body
+use Rattle.petal_msg.specs.declared.copying.CopyAction.{CopyAction}
+use Rattle.petal_msg.specs.declared.copying.CopyAction.TheVariants as copy_action
+use Rattle.petal_msg.specs.declared.copying.Copying.{Copying}
+use Rattle.petal_msg.specs.declared.copying.LastCopy.{LastCopy}
+use Rattle.petal_msg.specs.declared.copying.LinkId.{LinkId}
+use Rattle.petal_msg.specs.declared.copying.NextCopy.{NextCopy}
+use Rattle.petal_msg.specs.declared.copying.NextCopy.TheVariants.{Ask, Block, Wait, Nothing}
+use Rattle.petal_msg.specs.declared.letter.Letter.{Letter}
+use Rattle.spec_state.specs.CellState.{cell_link}
+use Rattle.spec_rules.specs.Copies.{copies_on, copies_with, copy_acts, copy_stage, sends_entry, closes, repair_after, with_copied, begins_copy, goes_for}
+use Rattle.spec_rules.specs.Copies.{catches_up, clears_old_marks, takes_mark, repairs_row, mends_found, repairs, next_copy, idle_mark, cell_at, answers_page, on_hello_ask}
+use Rattle.spec_rules.specs.Copies.{with_page, hears_page, hears_hello, on_hello, same_block, cell_holder, trims_first, trims_for, trims_on, trims_newly}
+use Rattle.spec_rules.specs.Copies.{trims_again, hears_trim, hears_trim_of, on_trim, Entry, puts_entry, hears_entry, hears_sync, on_sync, hears_trimmed}
+use Rattle.spec_rules.specs.Copies.{on_trimmed, is_syncing, hears_synced, on_synced, hears_sync_full, on_sync_full, page_asked, page_wanted, page_for}
+use Rattle.spec_rules.specs.Copies.{page_posts, copy_awaited, copy_posts}
+use Rattle.spec_rules.specs.Lists.{In as Among}
+use Rattle.spec_rules.specs.Progress.{copying_on, last_copy, progress_on, with_progress, with_copying, without_copying, with_last_copy}
+use Rattle.spec_rules.specs.Server.{PairState, JobContext, Post, JobResult, silent, says_to}
+use Rattle.spec_rules.specs.State.{State, link_named, other_in}
+use Rattle.spec_rules.specs.declared.job.Job.TheVariants as job
+use Rattle.spec_rules.proofs.ListLemmas.{in-append}
+use Rattle.spec_rules.proofs.Tests.{by_test}
+use Rattle.law_state.specs.StartedBallots.{is_flagged}
+use Rattle.law_log.proofs.BallotFlags.{flags_put}
+use Rattle.law_log.proofs.PairJobsLeaveLog.{IsDated, IsQuiet, no_letter, only_stage, posted_dated, quiet_says_to}
+use Rattle.law_log.proofs.ScheduleTurns.{no_posts}
+
+-- what a job leaves of what it has started ballots for
+pub record IsKept (before after : PairState) : Type 0 where
+  pub flags : (id : LinkId) → is_flagged before id ≡ true → is_flagged after id ≡ true
+
+pub record IsCalm (own : PairState) (done : JobResult) : Type 0 where
+  pub quiet : IsQuiet done
+  pub kept : IsKept own done.own
+
+pub kept_itself : (own : PairState) → IsKept own own
+kept_itself own = record { flags = λ id h. h }
+
+pub calm_silent : (own : PairState) → IsCalm own (silent own)
+calm_silent own = record { quiet = record { posts = λ post i. no_posts post i; jobs = no_letter }; kept = kept_itself own }
+
+calm_says : (own : PairState) (to : Option ℕ) (what : Body) → IsDated what → IsCalm own (says_to own to what)
+calm_says own to what h = record { quiet = quiet_says_to own to what h; kept = kept_itself own }
+
+only_mend : (letter : Letter) (id : LinkId) → Among (job.Letter letter) (job.Repair id ∷ []) → ⊥
+unfolding Among
+only_mend letter id (inl e) = let f : job.Letter letter ≡ job.Repair id = e in absurd cc
+only_mend letter id (inr h) = h
+
+-- the link goes on
+calm_mend : (own to : PairState) (id : LinkId) → IsKept own to → IsCalm own (record { own = to; posts = []; jobs = job.Repair id ∷ [] })
+calm_mend own to id kept = record { quiet = record { posts = λ post i. no_posts post i; jobs = λ letter i. only_mend letter id i }; kept = kept }
+
+-- ### The holder
+
+kept_copied : (row : Option LinkRow) (own : PairState) (block : ℕ) → IsKept own (with_copied row own block)
+kept_copied None own block = kept_itself own
+kept_copied (Some row) own block =
+    by_test (IsKept own) (above (progress_on own row).copied block) (with_progress own row (record (progress_on own row) { copied = Some block })) own
+    (λ e. record { flags = flags_put own row (record (progress_on own row) { copied = Some block }) (λ h. h) }) (λ e. kept_itself own)
+
+mends_only : (row : Option LinkRow) (letter : Letter) → Among (job.Letter letter) (repair_after row) → ⊥
+mends_only None letter i = no_letter letter i
+mends_only (Some row) letter i = only_mend letter _ i
+
+calm_closes : (here : JobContext) (own : PairState) (cell : Cell) → IsCalm own (closes here own cell)
+calm_closes here own cell =
+    let k = kept_copied (cell_link here.state cell) (without_copying own cell) cell.block in record {
+      quiet = record { posts = λ post i. no_posts post i; jobs = mends_only (cell_link here.state cell) };
+      kept = record { flags = k.flags };
+    }
+
+calm_entry : (here : JobContext) (own : PairState) (cell : Cell) (copy : Copying) (row : _) → IsCalm own (sends_entry here own cell copy row)
+calm_entry here own cell copy None = calm_silent own
+calm_entry here own cell copy (Some row) = calm_says own _ _ refl
+
+calm_act : (here : JobContext) (own : PairState) (cell : Cell) (copy : Copying) (what : CopyAction) → IsCalm own (copy_acts here own cell copy what)
+calm_act here own cell copy copy_action.Trim = calm_says own _ _ refl
+calm_act here own cell copy copy_action.Sync = calm_entry here own cell copy _
+calm_act here own cell copy (copy_action.Unmark kind) = record {
+  quiet = record { posts = λ post i. no_posts post i; jobs = λ letter i. only_stage letter cell i };
+  kept = record { flags = λ id h. h };
+}
+calm_act here own cell copy copy_action.Close = calm_closes here own cell
+
+calm_with : (here : JobContext) (own : PairState) (cell : Cell) (copy : Option Copying) → IsCalm own (copies_with here own cell copy)
+calm_with here own cell None = calm_silent own
+calm_with here own cell (Some copy) = calm_act here own cell copy _
+
+pub calm_copies : (here : JobContext) (own : PairState) (cell : Cell) → IsCalm own (copies_on here own cell)
+unfolding copies_on
+calm_copies here own cell = calm_with here own cell (copying_on own cell)
+
+-- where the copy is changed first
+calm_from : (own from : PairState) (done : JobResult) → IsKept own from → IsCalm from done → IsCalm own done
+calm_from own from done kept calm = record {
+  quiet = calm.quiet;
+  kept = record { flags = λ id h. calm.kept.flags id (kept.flags id h) };
+}
+
+calm_goes : (here : JobContext) (own : PairState) (row : LinkRow) (other : ℕ) (next : NextCopy) → IsCalm own (goes_for here own row other next)
+calm_goes here own row other Ask = calm_says own (Some other) (page_wanted own row) refl
+calm_goes here own row other (Block cell) =
+    calm_from own (begins_copy own cell) _ (record { flags = λ id h. h }) (calm_copies here (begins_copy own cell) cell)
+calm_goes here own row other Wait = calm_silent own
+calm_goes here own row other Nothing = calm_silent own
+
+calm_catches : (here : JobContext) (own : PairState) (row : LinkRow) (other : Option ℕ) → IsCalm own (catches_up here own row other)
+calm_catches here own row None = calm_silent own
+calm_catches here own row (Some other) = calm_goes here own row other (next_copy here.state row own)
+
+calm_takes_mark : (own : PairState) (row : LinkRow) (cell : Cell) (kind : _) → IsCalm own (takes_mark own row cell kind)
+calm_takes_mark own row cell None = calm_silent own
+calm_takes_mark own row cell (Some kind) = calm_mend own _ _ (record { flags = λ id h. h })
+
+calm_tidies : (own : PairState) (row : LinkRow) (block : Option ℕ) → IsCalm own (clears_old_marks own row block)
+calm_tidies own row None = calm_silent own
+calm_tidies own row (Some block) = calm_takes_mark own row (cell_at row block) _
+
+calm_row : (here : JobContext) (own : PairState) (row : LinkRow) (state : LinkState) → IsCalm own (repairs_row here own row state)
+calm_row here own row Both = calm_tidies own row (idle_mark here.state row own)
+calm_row here own row (Only holder whole) = calm_catches here own row (other_in here.state here.me row)
+calm_row here own row Lost = calm_silent own
+
+calm_found : (here : JobContext) (own : PairState) (row : Option LinkRow) → IsCalm own (mends_found here own row)
+calm_found here own None = calm_silent own
+calm_found here own (Some row) = calm_row here own row row.state
+
+pub calm_mends : (here : JobContext) (own : PairState) (id : LinkId) → IsCalm own (repairs here own id)
+unfolding repairs
+calm_mends here own id = calm_found here own (link_named here.state id)
+
+-- ### Pages
+
+calm_answers : (here : JobContext) (own : PairState) (after : Option ℕ) (row : Option LinkRow) → IsCalm own (answers_page here own after row)
+calm_answers here own after None = calm_silent own
+calm_answers here own after (Some row) = calm_says own _ _ refl
+
+pub calm_hello_ask : (here : JobContext) (own : PairState) (id : LinkId) (after : Option ℕ) → IsCalm own (on_hello_ask here own id after)
+unfolding on_hello_ask
+calm_hello_ask here own id after = calm_answers here own after (link_named here.state id)
+
+kept_page : (own : PairState) (row : LinkRow) (block : Option ℕ) → IsKept own (with_page own row (progress_on own row) block)
+kept_page own row None = record { flags = flags_put own row (record (progress_on own row) { paged = true }) (λ h. h) }
+kept_page own row (Some block) = record { flags = flags_put own row (record (progress_on own row) { after = Some block }) (λ h. h) }
+
+calm_page : (own : PairState) (after block : Option ℕ) (row : LinkRow) (other : Option ℕ) → IsCalm own (hears_page own after block row other)
+calm_page own after block row None = calm_silent own
+calm_page own after block row (Some other) =
+    by_test (IsCalm own) (not (progress_on own row).paged && same_block after (progress_on own row).after) _ _
+    (λ e. calm_mend own _ _ (kept_page own row block)) (λ e. calm_silent own)
+
+calm_hears_hello : (here : JobContext) (own : PairState) (after block : Option ℕ) (row : Option LinkRow) → IsCalm own (hears_hello here own after block row)
+calm_hears_hello here own after block None = calm_silent own
+calm_hears_hello here own after block (Some row) = calm_page own after block row (other_in here.state here.me row)
+
+pub calm_hello : (here : JobContext) (own : PairState) (id : LinkId) (after block : Option ℕ) → IsCalm own (on_hello here own id after block)
+unfolding on_hello
+calm_hello here own id after block = calm_hears_hello here own after block (link_named here.state id)
+
+-- ### The other server
+
+calm_first : (own : PairState) (cell : Cell) (number holder : ℕ) (epochs : List ℕ) → IsCalm own (trims_first own cell number holder epochs)
+calm_first own cell number holder [] = calm_says own (Some holder) (body.Trimmed number cell) refl
+calm_first own cell number holder (epoch ∷ epochs) = record {
+  quiet = record { posts = λ post i. no_posts post i; jobs = λ letter i. only_stage letter cell i };
+  kept = record { flags = λ id h. h };
+}
+
+calm_trims_for : (own : PairState) (cell : Cell) (holder : Option ℕ) (last : Option LastCopy) → IsCalm own (trims_for own cell holder last)
+calm_trims_for own cell None last = calm_silent own
+calm_trims_for own cell (Some holder) None = calm_silent own
+calm_trims_for own cell (Some holder) (Some last) = calm_first own cell last.op holder _
+
+pub calm_trims : (here : JobContext) (own : PairState) (cell : Cell) → IsCalm own (trims_on here own cell)
+unfolding trims_on
+calm_trims here own cell = calm_trims_for own cell (cell_holder here cell) (last_copy own cell)
+
+calm_newly : (here : JobContext) (own : PairState) (number : ℕ) (cell : Cell) (epochs : List ℕ) → IsCalm own (trims_newly here own number cell epochs)
+calm_newly here own number cell epochs = let from = with_last_copy own cell (record { op = number; epochs = epochs; index = 0 }) in
+    calm_from own from _ (record { flags = λ id h. h }) (calm_trims here from cell)
+
+calm_again : (own : PairState) (cell : Cell) (number holder : ℕ) (epochs : List ℕ) → IsCalm own (trims_again own cell number holder epochs)
+calm_again own cell number holder [] = calm_says own (Some holder) (body.Trimmed number cell) refl
+calm_again own cell number holder (epoch ∷ epochs) = calm_silent own
+
+calm_hears_trim : (here : JobContext) (own : PairState) (number : ℕ) (cell : Cell) (epochs : List ℕ) (holder : ℕ) (last : Option LastCopy)
+    → IsCalm own (hears_trim here own number cell epochs holder last)
+calm_hears_trim here own number cell epochs holder None = calm_newly here own number cell epochs
+calm_hears_trim here own number cell epochs holder (Some last) =
+    by_test (IsCalm own) (nat_lt number last.op) _ _ (λ e. calm_silent own)
+    (λ e. by_test (IsCalm own) (number == last.op) _ _ (λ f. calm_again own cell number holder _) (λ f. calm_newly here own number cell epochs))
+
+calm_trim_of : (here : JobContext) (own : PairState) (number : ℕ) (cell : Cell) (epochs : List ℕ) (holder : Option ℕ)
+    → IsCalm own (hears_trim_of here own number cell epochs holder)
+calm_trim_of here own number cell epochs None = calm_silent own
+calm_trim_of here own number cell epochs (Some holder) = calm_hears_trim here own number cell epochs holder (last_copy own cell)
+
+pub calm_trim : (here : JobContext) (own : PairState) (number : ℕ) (cell : Cell) (epochs : List ℕ) → IsCalm own (on_trim here own number cell epochs)
+unfolding on_trim
+calm_trim here own number cell epochs = calm_trim_of here own number cell epochs (cell_holder here cell)
+
+calm_puts : (own : PairState) (entry : Entry) (last : LastCopy) (holder : ℕ) (room : Bool) → IsCalm own (puts_entry own entry last holder room)
+calm_puts own entry last holder true = record {
+  quiet = quiet_says_to _ (Some holder) (body.Synced entry.op (cell_of entry.key) entry.index) refl;
+  kept = record { flags = λ id h. h };
+}
+calm_puts own entry last holder false = calm_says own (Some holder) (body.SyncFull entry.op (cell_of entry.key)) refl
+
+calm_hears_entry : (own : PairState) (entry : Entry) (holder : ℕ) (last : LastCopy) → IsCalm own (hears_entry own entry holder last)
+calm_hears_entry own entry holder last =
+    by_test (IsCalm own) (nat_lt entry.index last.index) _ _ (λ e. calm_says own (Some holder) (body.Synced entry.op (cell_of entry.key) entry.index) refl)
+    (λ e. by_test (IsCalm own) (entry.index == last.index) _ _ (λ f. calm_puts own entry last holder _) (λ f. calm_silent own))
+
+calm_hears_sync : (own : PairState) (entry : Entry) (holder : Option ℕ) (last : Option LastCopy) → IsCalm own (hears_sync own entry holder last)
+calm_hears_sync own entry None last = calm_silent own
+calm_hears_sync own entry (Some holder) None = calm_silent own
+calm_hears_sync own entry (Some holder) (Some last) =
+    by_test (IsCalm own) (entry.op == last.op) _ _ (λ e. calm_hears_entry own entry holder last) (λ e. calm_silent own)
+
+pub calm_sync : (here : JobContext) (own : PairState) (entry : Entry) → IsCalm own (on_sync here own entry)
+unfolding on_sync
+calm_sync here own entry = calm_hears_sync own entry (cell_holder here (cell_of entry.key)) (last_copy own (cell_of entry.key))
+
+-- ### The holder hears
+
+calm_copying : (here : JobContext) (own : PairState) (cell : Cell) (copy : Copying) → IsCalm own (copies_on here (with_copying own cell copy) cell)
+calm_copying here own cell copy =
+    calm_from own (with_copying own cell copy) _ (record { flags = λ id h. h }) (calm_copies here (with_copying own cell copy) cell)
+
+calm_hears_trimmed : (here : JobContext) (own : PairState) (number : ℕ) (cell : Cell) (copy : Option Copying) → IsCalm own (hears_trimmed here own number cell copy)
+calm_hears_trimmed here own number cell None = calm_silent own
+calm_hears_trimmed here own number cell (Some copy) =
+    by_test (IsCalm own) ((copy.op == number) && not copy.trimmed) _ _ (λ e. calm_copying here own cell _) (λ e. calm_silent own)
+
+pub calm_trimmed : (here : JobContext) (own : PairState) (number : ℕ) (cell : Cell) → IsCalm own (on_trimmed here own number cell)
+unfolding on_trimmed
+calm_trimmed here own number cell = calm_hears_trimmed here own number cell (copying_on own cell)
+
+calm_hears_synced : (here : JobContext) (own : PairState) (number : ℕ) (cell : Cell) (index : ℕ) (copy : Option Copying)
+    → IsCalm own (hears_synced here own number cell index copy)
+calm_hears_synced here own number cell index None = calm_silent own
+calm_hears_synced here own number cell index (Some copy) =
+    by_test (IsCalm own) (is_syncing own cell copy number && (copy.index == index)) _ _ (λ e. calm_copying here own cell _) (λ e. calm_silent own)
+
+pub calm_synced : (here : JobContext) (own : PairState) (number : ℕ) (cell : Cell) (index : ℕ) → IsCalm own (on_synced here own number cell index)
+unfolding on_synced
+calm_synced here own number cell index = calm_hears_synced here own number cell index (copying_on own cell)
+
+calm_hears_full : (own : PairState) (number : ℕ) (cell : Cell) (copy : Option Copying) → IsCalm own (hears_sync_full own number cell copy)
+calm_hears_full own number cell None = calm_silent own
+calm_hears_full own number cell (Some copy) =
+    by_test (IsCalm own) (is_syncing own cell copy number) _ _
+    (λ e. record {
+      quiet = record { posts = λ post i. no_posts post i; jobs = no_letter };
+      kept = record { flags = λ id h. h };
+    }) (λ e. calm_silent own)
+
+pub calm_sync_full : (own : PairState) (number : ℕ) (cell : Cell) → IsCalm own (on_sync_full own number cell)
+unfolding on_sync_full
+calm_sync_full own number cell = calm_hears_full own number cell (copying_on own cell)
+
+-- ### A tick
+
+dated_copy : (here : JobContext) (own : PairState) (cell : Cell) (copy : Copying) (what : CopyAction) (post : Post) → Among post (copy_awaited here own cell copy what)
+    → IsDated post.body
+dated_copy here own cell copy copy_action.Trim post i = (calm_act here own cell copy copy_action.Trim).quiet.posts post i
+dated_copy here own cell copy copy_action.Sync post i = (calm_act here own cell copy copy_action.Sync).quiet.posts post i
+dated_copy here own cell copy (copy_action.Unmark kind) post i = no_posts post i
+dated_copy here own cell copy copy_action.Close post i = no_posts post i
+
+dated_copies : (here : JobContext) (own : PairState) (rows : List (Cell × Copying)) (post : Post)
+    → Among post (flat_map (λ (row : Cell × Copying). copy_awaited here own row.0 row.1 (copy_stage own.store row.0 row.1)) rows) → IsDated post.body
+dated_copies here own [] post i = no_posts post i
+dated_copies here own (row ∷ rows) post i = elim (in-append post (copy_awaited here own row.0 row.1 (copy_stage own.store row.0 row.1))
+    (flat_map (λ (row : Cell × Copying). copy_awaited here own row.0 row.1 (copy_stage own.store row.0 row.1)) rows) i) [
+      | inl now ↦ dated_copy here own row.0 row.1 (copy_stage own.store row.0 row.1) post now
+      | inr later ↦ dated_copies here own rows post later
+    ]
+
+pub dated_copy_posts : (here : JobContext) (own : PairState) (post : Post) → Among post (copy_posts here own) → IsDated post.body
+dated_copy_posts here own post i = dated_copies here own own.copies.pending post i
+
+dated_page : (own : PairState) (row : LinkRow) (other : ℕ) (next : NextCopy) (post : Post) → Among post (page_asked own row other next) → IsDated post.body
+dated_page own row other Ask post i = posted_dated (Some other) (page_wanted own row) refl post i
+dated_page own row other (Block cell) post i = no_posts post i
+dated_page own row other Wait post i = no_posts post i
+dated_page own row other Nothing post i = no_posts post i
+
+dated_page_for : (state : State) (own : PairState) (row : LinkRow) (other : Option ℕ) (post : Post) → Among post (page_for state own row other) → IsDated post.body
+dated_page_for state own row None post i = no_posts post i
+dated_page_for state own row (Some other) post i = dated_page own row other (next_copy state row own) post i
+
+dated_pages : (here : JobContext) (own : PairState) (rows : List LinkRow) (post : Post)
+    → Among post (flat_map (λ row. page_for here.state own row (other_in here.state here.me row)) rows) → IsDated post.body
+dated_pages here own [] post i = no_posts post i
+dated_pages here own (row ∷ rows) post i = elim (in-append post (page_for here.state own row (other_in here.state here.me row))
+    (flat_map (λ row. page_for here.state own row (other_in here.state here.me row)) rows) i) [
+      | inl now ↦ dated_page_for here.state own row (other_in here.state here.me row) post now
+      | inr later ↦ dated_pages here own rows post later
+    ]
+
+pub dated_page_posts : (here : JobContext) (own : PairState) (post : Post) → Among post (page_posts here own) → IsDated post.body
+dated_page_posts here own post i = dated_pages here own here.state.links post i

@@ -1,0 +1,423 @@
+-- Each job of the log, as the schedule has it.
+use Rattle.std.proofs.Common.{◌≡◌, ◌<◌, ◌+◌, ◌⊎◌, inl, inr, ℕ, zero, suc, Bool, true, false, if◌then◌else◌, ◌||◌, List, [], ◌∷◌, ◌++◌, length}
+use Rattle.std.proofs.Common.{Option, Some, None, is_some, refl, sym, ap, ◌∙◌, subst, arith, length-append}
+use Rattle.std.specs.Prelude.{slice_get, nat_lt, fold, not}
+use Rattle.std.proofs.lemmas.Bool.Decides.{nat_tests}
+use Rattle.petal_command.specs.Same.{has_command, same_command}
+use Rattle.petal_command.specs.declared.command.Command.{Command}
+use Rattle.petal_command.specs.declared.command.Command.TheVariants.{Leave}
+use Rattle.petal_command.specs.declared.pax.Pax.{Pax}
+use Rattle.petal_command.specs.declared.pax.Pax.TheVariants as pax
+use Rattle.petal_msg.specs.declared.body.Body.{Body}
+use Rattle.petal_msg.specs.declared.body.Body.TheVariants as body
+use Rattle.petal_msg.specs.declared.letter.Actor.{Actor}
+use Rattle.petal_msg.specs.declared.letter.Actor.TheVariants as actor
+use Rattle.petal_msg.specs.declared.letter.Letter.{Letter}
+use Rattle.spec_paxos.specs.Acceptor.{is_open}
+use Rattle.spec_paxos.specs.Kept.{acceptor_of, known_at}
+use Rattle.spec_paxos.specs.Kept.{inc_of as told_inc}
+use Rattle.spec_paxos.proofs.Committed.{inc_accepted, inc_chosen, inc_promise}
+use Rattle.spec_paxos.specs.Member.{In}
+use Rattle.spec_paxos.specs.Proposer.{Step, hear}
+use Rattle.spec_paxos.specs.Schedule.{sent, World}
+use Rattle.spec_paxos.specs.declared.phase.Heard.{Heard}
+use Rattle.spec_paxos.specs.declared.phase.Heard.TheVariants.{Nothing, Send, Refused}
+use Rattle.spec_paxos.specs.declared.phase.Heard.TheVariants.{Chosen as Decided}
+use Rattle.spec_paxos.specs.declared.phase.Phase.{Phase}
+use Rattle.spec_paxos.specs.declared.phase.Phase.TheVariants.{Idle}
+use Rattle.spec_state.specs.State.{inc_of}
+use Rattle.spec_rules.specs.Agreement.{IsTold, IsProposer}
+use Rattle.spec_rules.specs.Ballots.{is_due, own_leave, leave_before, with_leave, wanted, on_down, on_propose, on_pax, first_wanted}
+use Rattle.spec_rules.specs.Ballots.{starts, starts_for, hears_of_ballot, proposes}
+use Rattle.spec_rules.specs.Entries.{learns, applies_then, unknown_from, learns_first, on_news, with_entry, applies}
+use Rattle.spec_rules.specs.Entries.{applies_known, before_known, known_run, on_ask}
+use Rattle.spec_rules.specs.Jobs.{log_does, hears_log}
+use Rattle.spec_rules.specs.Lists.{In as Among}
+use Rattle.spec_rules.specs.Log.{Log, LogDone, Voter, state_in, rev_of, next_place, known, keeps}
+use Rattle.spec_rules.specs.Server.{Post}
+use Rattle.spec_rules.specs.declared.job.Job.{Job}
+use Rattle.spec_rules.specs.declared.job.Job.TheVariants as job
+use Rattle.spec_rules.proofs.ListLemmas.{in-append}
+use Rattle.spec_rules.proofs.Tests.{only, by_test, none_some}
+use Rattle.law_log.specs.AgreedLog.{IsBacked, IsSaidBy}
+use Rattle.law_log.proofs.RunningLog.{VotingLog, voter_at}
+use Rattle.law_log.proofs.ListPlaces.{at_last, kept_among}
+use Rattle.law_log.proofs.ProposersInSchedule.{pax_turn, start_turn}
+use Rattle.law_log.proofs.AcceptorsInSchedule.{learn_turn}
+use Rattle.law_log.proofs.ScheduleTurns.{HasTurn, still, no_posts, proposer_there}
+
+-- ### Lists of entries
+
+-- an entry of a News that isn't known is one of its commands
+abbrev IsListed : ℕ → List Command → ℕ × Command → Type 0
+IsListed place commands first = (i : ℕ) × (first.0 ≡ place + i) × (slice_get commands i ≡ Some first.1)
+
+listed_by : (place : ℕ) (command : Command) (commands : List Command) (later : List (ℕ × Command)) (first : ℕ × Command) (rest : List (ℕ × Command))
+    → (later ≡ first ∷ rest → IsListed (place + 1) commands first) → (b : Bool) → (if b then later else (place, command) ∷ later) ≡ first ∷ rest
+    → IsListed place (command ∷ commands) first
+listed_by place command commands later first rest known true e = let h = known e in (suc h.0, (let f = h.1 in omega arith), h.2)
+listed_by place command commands later first rest known false e =
+    let f : (place, command) ≡ first = cc in (
+      0,
+      (let g : place ≡ first.0 = ap (λ (x : ℕ × Command). x.0) f in omega arith),
+      ap (λ (x : ℕ × Command). Some x.1) f,
+    )
+
+is_listed : (log : Log) (place : ℕ) (commands : List Command) (first : ℕ × Command) (rest : List (ℕ × Command)) → unknown_from log place commands ≡ first ∷ rest
+    → IsListed place commands first
+is_listed log place [] first rest e = absurd cc
+is_listed log place (command ∷ commands) first rest e =
+    listed_by place command commands (unknown_from log (place + 1) commands) first rest (is_listed log (place + 1) commands first rest)
+    (is_some (known log place)) e
+
+-- what is told of a run is known
+run_by : (log : Log) (place : ℕ) (command : Command) (later : List Command)
+    → ((i : ℕ) → slice_get later i ≡ Some command → known log (place + 1 + i) ≡ Some command)
+    → (o : Option Command) → known log place ≡ o → (i : ℕ) → slice_get (before_known o later) i ≡ Some command → known log (place + i) ≡ Some command
+run_by log place command later h None is i e = none_some refl e
+run_by log place command later h (Some first) is zero e = let at : place + 0 ≡ place = omega arith in ap (known log) at ∙ is ∙ e
+run_by log place command later h (Some first) is (suc i) e = let at : place + suc i ≡ place + 1 + i = omega arith in ap (known log) at ∙ h i e
+
+pub run_known : (log : Log) (most place i : ℕ) (command : Command) → slice_get (known_run log place most) i ≡ Some command
+    → known log (place + i) ≡ Some command
+run_known log zero place i command e = none_some refl e
+run_known log (suc most) place i command e =
+    run_by log place command (known_run log (place + 1) most) (λ i. run_known log most (place + 1) i command) (known log place) refl i e
+
+-- ### What follows a job up, and what is wanted afterwards
+
+no_follow : {A : Type 0} (letter : Letter) → Among (job.Letter letter) [] → A
+unfolding Among
+no_follow letter h = absurd h
+
+applies_follow : {A : Type 0} (letter : Letter) (before : Option Command) (next : Bool) → Among (job.Letter letter) (applies_then before next) → A
+unfolding Among
+applies_follow letter None true (inl e) = let f : job.Letter letter ≡ job.Apply = e in absurd cc
+applies_follow letter None true (inr h) = absurd h
+applies_follow letter None false h = absurd h
+applies_follow letter (Some c) next h = absurd h
+
+-- what comes of a job of the log: what is wanted then was wanted before, or may be
+pub record Outcome (servers n : ℕ) (log : Log) (own : Job) (p : World) (Good : ℕ → Command → Type 0) (Fine : Command → Type 0) (done : LogDone) : Type 0 where
+  pub turn : HasTurn servers n true done.log done.posts p Good
+  pub wants : (command : Command) → Among command done.log.wants → Fine command
+  pub leaves : (command : Command) → Among command done.log.leaves → Fine command
+  pub follows : (letter : Letter) → Among (job.Letter letter) done.jobs → own ≡ job.Letter letter
+  pub incs : told_inc done.log.records ≡ told_inc log.records
+  pub applied : (done.log.applied ≡ log.applied) ⊎ (length log.applied < length done.log.applied)
+
+pub one_longer : (entries : List Command) (entry : Command) → length entries < length (entries ++ entry ∷ [])
+one_longer entries entry = simp length-append (omega arith)
+
+-- the same is wanted and applied, and the incarnation is the same
+pub record WantsSame (before later : Log) : Type 0 where
+  pub wants : later.wants ≡ before.wants
+  pub leaves : later.leaves ≡ before.leaves
+  pub incs : told_inc later.records ≡ told_inc before.records
+  pub applied : later.applied ≡ before.applied
+
+-- ### Letters of a ballot
+
+out_wants : (voter : Voter) (log : Log) (step : Step) (said : Heard) → WantsSame log (proposes voter log step said).log
+out_wants voter log step Nothing = record { wants = refl; leaves = refl; incs = refl; applied = refl }
+out_wants voter log step (Send said) = record { wants = refl; leaves = refl; incs = refl; applied = refl }
+out_wants voter log step (Decided place command) = record { wants = refl; leaves = refl; incs = refl; applied = refl }
+out_wants voter log step (Refused promised) = record { wants = refl; leaves = refl; incs = refl; applied = refl }
+
+out_follows : {A : Type 0} (voter : Voter) (log : Log) (step : Step) (said : Heard) (letter : Letter)
+    → Among (job.Letter letter) (proposes voter log step said).jobs → A
+out_follows voter log step Nothing letter h = no_follow letter h
+out_follows voter log step (Send said) letter h = no_follow letter h
+out_follows voter log step (Decided place command) letter h = no_follow letter h
+out_follows voter log step (Refused promised) letter h = no_follow letter h
+
+learn_wants : (log : Log) (place : ℕ) (command : Command) → WantsSame log (learns log place command).log
+unfolding learns
+learn_wants log place command = record { wants = refl; leaves = refl; incs = inc_chosen log.records place command; applied = refl }
+
+learn_follows : {A : Type 0} (log : Log) (place : ℕ) (command : Command) (letter : Letter) → Among (job.Letter letter) (learns log place command).jobs → A
+unfolding learns
+learn_follows log place command letter h = applies_follow letter (known log place) _ h
+
+pax_wants : (voter : Voter) (log : Log) (from : ℕ) (said : Pax) → WantsSame log (hears_of_ballot voter log from said).log
+pax_wants voter log from (pax.Prepare place b) =
+    by_test (WantsSame log) (is_open (acceptor_of log.records place) b) _ _
+    (λ e. record { wants = refl; leaves = refl; incs = inc_promise log.records place b; applied = refl })
+    (λ e. record { wants = refl; leaves = refl; incs = refl; applied = refl })
+pax_wants voter log from (pax.Accept place b command) =
+    by_test (WantsSame log) (is_open (acceptor_of log.records place) b) _ _
+    (λ e. record { wants = refl; leaves = refl; incs = inc_accepted log.records place b command; applied = refl })
+    (λ e. record { wants = refl; leaves = refl; incs = refl; applied = refl })
+pax_wants voter log from (pax.Chosen place command) = learn_wants log place command
+pax_wants voter log from (pax.Promise place b best) = out_wants voter log (hear voter.servers log.phase from (pax.Promise place b best)) _
+pax_wants voter log from (pax.Accepted place b) = out_wants voter log (hear voter.servers log.phase from (pax.Accepted place b)) _
+pax_wants voter log from (pax.Refuse place b promised) = out_wants voter log (hear voter.servers log.phase from (pax.Refuse place b promised)) _
+
+pax_follows : {A : Type 0} (voter : Voter) (log : Log) (from : ℕ) (said : Pax) (letter : Letter)
+    → Among (job.Letter letter) (hears_of_ballot voter log from said).jobs → A
+pax_follows voter log from (pax.Prepare place b) letter h = no_follow letter h
+pax_follows voter log from (pax.Accept place b command) letter h = no_follow letter h
+pax_follows voter log from (pax.Chosen place command) letter h = learn_follows log place command letter h
+pax_follows voter log from (pax.Promise place b best) letter h = out_follows voter log (hear voter.servers log.phase from (pax.Promise place b best)) _ letter h
+pax_follows voter log from (pax.Accepted place b) letter h = out_follows voter log (hear voter.servers log.phase from (pax.Accepted place b)) _ letter h
+pax_follows voter log from (pax.Refuse place b promised) letter h =
+    out_follows voter log (hear voter.servers log.phase from (pax.Refuse place b promised)) _ letter h
+
+-- ### Each job
+
+idle_too : (phase : Phase) (o : Option Phase) → IsProposer true phase o → IsProposer true Idle o
+idle_too phase None h = h
+idle_too phase (Some there) h = (refl, tt)
+
+pub start_wants : (voter : Voter) (log : Log) (o : Option Command) → WantsSame log (starts_for voter log o).log
+start_wants voter log (Some want) = record { wants = refl; leaves = refl; incs = inc_promise log.records _ _; applied = refl }
+start_wants voter log None = record { wants = refl; leaves = refl; incs = refl; applied = refl }
+
+start_follows : {A : Type 0} (voter : Voter) (log : Log) (o : Option Command) (letter : Letter) → Among (job.Letter letter) (starts_for voter log o).jobs → A
+start_follows voter log (Some want) letter h = no_follow letter h
+start_follows voter log None letter h = no_follow letter h
+
+one_more : (c command : Command) (wants : List Command) → Among c (wants ++ command ∷ []) → Among c wants ⊎ (c ≡ command)
+one_more c command wants h = elim (in-append c wants (command ∷ []) h) [
+  | inl i ↦ inl i
+  | inr i ↦ inr (only (λ x. x ≡ command) command c i refl)
+]
+
+-- ### Leaves
+
+-- one Leave more is one of those before, or this one
+one_leave : (xs : List Command) (leave c : Command) → Among c (with_leave xs leave) → Among c xs ⊎ (c ≡ leave)
+unfolding Among
+one_leave [] leave c h = elim h [ inl e ↦ inr e | inr none ↦ absurd none ]
+one_leave (first ∷ xs) leave c h =
+    by_test (λ (ys : List Command). Among c ys → Among c (first ∷ xs) ⊎ (c ≡ leave)) (same_command first leave) _ _ (λ e i. inl i)
+    (λ e. by_test (λ (ys : List Command). Among c ys → Among c (first ∷ xs) ⊎ (c ≡ leave)) (leave_before leave first) _ _
+    (λ f i. elim i [ inl is ↦ inr is | inr old ↦ inl old ])
+    (λ f i. elim i [ inl is ↦ inl (inl is) | inr j ↦ elim (one_leave xs leave c j) [ inl old ↦ inl (inr old) | inr is ↦ inr is ] ])) h
+
+pub all_leaves : (more xs : List Command) (c : Command) → Among c (fold with_leave xs more) → Among c xs ⊎ Among c more
+unfolding Among
+all_leaves [] xs c h = inl h
+all_leaves (leave ∷ more) xs c h = elim (all_leaves more (with_leave xs leave) c h) [
+  | inl i ↦ elim (one_leave xs leave c i) [ inl old ↦ inl old | inr is ↦ inr (inl is) ]
+  | inr i ↦ inr (inr i)
+]
+
+-- its own Leave is of an earlier incarnation
+pub own_leaves : {A : Type 0} (me inc : ℕ) (o : Option ℕ) (c : Command) → ((earlier : ℕ) → earlier < inc → c ≡ Leave me earlier → A)
+    → Among c (own_leave me inc o) → A
+unfolding Among
+own_leaves me inc None c so h = absurd h
+own_leaves {A} me inc (Some earlier) c so h = by_test (λ (xs : List Command). Among c xs → A) (nat_lt earlier inc) _ _
+    (λ lt i. elim i [ inl is ↦ so earlier (less earlier inc lt) is | inr none ↦ absurd none ]) (λ e i. absurd i) h
+  where
+    less : (a b : ℕ) → nat_lt a b ≡ true → a < b
+    less a b e = grind (arith, nat_tests)
+
+-- such a log before a job, and in which sense its commands are called for: those that the server wants, and each Leave that it may want
+pub record JobLog : Type 1 where
+  pub voting : VotingLog
+  pub open voting use {running, servers, n, log, p, low, seen, busy, inc}
+  pub one : (place : ℕ) (c d : Command) → IsTold p place c → IsTold p place d → d ≡ c
+  pub Good : ℕ → Command → Type 0
+  pub Fine : Command → Type 0
+  pub fine : (c : Command) → Among c log.wants → Fine c
+  pub leaving : (c : Command) → Among c log.leaves → Fine c
+  pub own_leaving : (earlier : ℕ) → earlier < inc → Fine (Leave n earlier)
+  pub good : (c : Command) → Fine c → Good (next_place log) c
+
+module _ (it : JobLog) where
+  open it use {voting, running, servers, n, log, p, low, seen, busy, inc, one, Good, Fine, fine, leaving, own_leaving, good}
+
+  abbrev Left : Job → LogDone → Type 0
+  Left own done = Outcome servers n log own p Good Fine done
+
+  abbrev voter : Voter
+  voter = voter_at voting
+
+  still_fine : (later : Log) → WantsSame log later → (c : Command) → Among c later.wants → Fine c
+  still_fine later same c h = fine c (subst (Among c) same.wants h)
+
+  still_leaving : (later : Log) → WantsSame log later → (c : Command) → Among c later.leaves → Fine c
+  still_leaving later same c h = leaving c (subst (Among c) same.leaves h)
+
+  kept : (own : Job) → Left own (keeps log)
+  kept own = record {
+    turn = still servers n true log [] p Good low seen busy (λ post i. no_posts post i);
+    wants = fine;
+    leaves = leaving;
+    follows = λ letter h. no_follow letter h;
+    incs = refl;
+    applied = inl refl;
+  }
+
+  stopped : (own : Job) (server stop : ℕ) → Fine (Leave server stop) → Left own (on_down log server stop)
+  unfolding on_down
+  stopped own server stop f = record {
+    turn = still servers n true (record log { leaves = with_leave log.leaves (Leave server stop) }) [] p Good low seen busy (λ post i. no_posts post i);
+    wants = fine;
+    leaves = λ c h. elim (one_leave log.leaves (Leave server stop) c h) [ inl old ↦ leaving c old | inr is ↦ subst Fine (sym is) f ];
+    follows = λ letter h. no_follow letter h;
+    incs = refl;
+    applied = inl refl;
+  }
+
+  proposed : (own : Job) (command : Command) → Fine command → Left own (on_propose log command)
+  unfolding on_propose
+  proposed own command f =
+      by_test (Left own) (has_command log.applied command || has_command log.wants command) _ _ (λ e. kept own)
+      (λ e. record {
+        turn = still servers n true (record log { wants = log.wants ++ command ∷ [] }) [] p Good low seen busy (λ post i. no_posts post i);
+        wants = λ c h. elim (one_more c command log.wants h) [ inl old ↦ fine c old | inr is ↦ subst Fine (sym is) f ];
+        leaves = leaving;
+        follows = λ letter h. no_follow letter h;
+        incs = refl;
+        applied = inl refl;
+      })
+
+  told : (own : Job) (who : Actor) (rev : ℕ) → Left own (on_ask log who rev)
+  unfolding on_ask
+  told own who rev = record {
+    turn = still servers n true log _ p Good low seen busy
+        (λ post i. only (λ (x : Post). IsBacked p (λ command. ⊥) (λ said. In (sent n said) p.letters) x.body) _ post i
+        (λ i c e. let at : rev + 1 + i ≡ rev + i + 1 = omega arith in subst (λ place. IsTold p place c) at
+        (seen.told (rev + 1 + i) c (run_known log 64 (rev + 1) i c e))));
+    wants = fine;
+    leaves = leaving;
+    follows = λ letter h. no_follow letter h;
+    incs = refl;
+    applied = inl refl;
+  }
+
+  learnt : (own : Job) (place : ℕ) (c : Command) → IsTold p place c → Left own (learns log place c)
+  unfolding learns
+  learnt own place c t =
+      let at = proposer_there log.phase (p.proposers n) busy.proposer in
+      let h = learn_turn running Good at.0 at.1 place c t (λ d u. one place c d t u) in
+      record {
+        turn = record { events = h.events; wanted = h.wanted; turns = h.turns };
+        wants = still_fine _ (learn_wants log place c);
+        leaves = still_leaving _ (learn_wants log place c);
+        follows = λ letter h. learn_follows log place c letter h;
+        incs = (learn_wants log place c).incs;
+        applied = inl (learn_wants log place c).applied;
+      }
+
+  told_first : (letter : Letter) (after : ℕ) (commands : List Command) → ((i : ℕ) (c : Command) → slice_get commands i ≡ Some c → IsTold p (after + i + 1) c)
+      → (first : ℕ × Command) (rest : List (ℕ × Command)) → unknown_from log (after + 1) commands ≡ first ∷ rest → IsTold p first.0 first.1
+  told_first letter after commands told first rest e =
+      let at = is_listed log (after + 1) commands first rest e in
+      let f = at.1 in
+      let same : after + at.0 + 1 ≡ first.0 = omega arith in
+      subst (λ place. IsTold p place first.1) same (told at.0 first.1 at.2)
+
+  heard_news : (letter : Letter) (after : ℕ) (commands : List Command) → ((i : ℕ) (c : Command) → slice_get commands i ≡ Some c → IsTold p (after + i + 1) c)
+      → (listed : List (ℕ × Command)) → unknown_from log (after + 1) commands ≡ listed → Left (job.Letter letter) (learns_first log letter listed)
+  heard_news letter after commands told [] e = kept (job.Letter letter)
+  heard_news letter after commands told (first ∷ []) e = learnt (job.Letter letter) first.0 first.1 (told_first letter after commands told first [] e)
+  heard_news letter after commands told (first ∷ next ∷ more) e =
+      let h = learnt (job.Letter letter) first.0 first.1 (told_first letter after commands told first (next ∷ more) e) in
+      record {
+        turn = record { events = h.turn.events; wanted = h.turn.wanted; turns = h.turn.turns };
+        wants = h.wants;
+        leaves = h.leaves;
+        follows = λ own i. elim (in-append (job.Letter own) (learns log first.0 first.1).jobs (job.Letter letter ∷ []) i) [
+          | inl j ↦ learn_follows log first.0 first.1 own j
+          | inr j ↦ only (λ x. job.Letter letter ≡ x) (job.Letter letter) (job.Letter own) j refl
+        ];
+        incs = h.incs;
+        applied = h.applied;
+      }
+
+  news : (letter : Letter) (after : ℕ) (commands : List Command) → ((i : ℕ) (c : Command) → slice_get commands i ≡ Some c → IsTold p (after + i + 1) c)
+      → Left (job.Letter letter) (on_news log letter after commands)
+  unfolding on_news
+  news letter after commands told = heard_news letter after commands told (unknown_from log (after + 1) commands) refl
+
+  ballots : (own : Job) (who : Actor) (said : Pax) → IsSaidBy p who said → Left own (on_pax voter log who said)
+  unfolding on_pax
+  ballots own (actor.Server from) said i =
+      let at = proposer_there log.phase (p.proposers n) busy.proposer in
+      record {
+        turn = pax_turn voting Good at.0 at.1 one at.2 from said i;
+        wants = still_fine _ (pax_wants voter log from said);
+        leaves = still_leaving _ (pax_wants voter log from said);
+        follows = λ letter h. pax_follows voter log from said letter h;
+        incs = (pax_wants voter log from said).incs;
+        applied = inl (pax_wants voter log from said).applied;
+      }
+  ballots own (actor.Client c) said i = kept own
+
+  applied_one : (own : Job) (o : Option Command) → known log (next_place log) ≡ o → Left own (applies_known log o)
+  applied_one own None e = kept own
+  applied_one own (Some entry) e = record {
+    turn = still servers n true (with_entry log entry) [] p Good low
+        (record {
+          acceptors = seen.acceptors;
+          known = seen.known;
+          inc = seen.inc;
+          votes = seen.votes;
+          told = seen.told;
+          applied = λ i c is. elim (at_last log.applied entry i c is) [
+            | inl old ↦ seen.applied i c old
+            | inr last ↦ ap (λ k. known_at log.records (k + 1)) last.0 ∙ e ∙ ap Some (sym last.1)
+          ];
+        })
+        (record { proposer = idle_too log.phase (p.proposers n) busy.proposer; asked = tt }) (λ post i. no_posts post i);
+    wants = λ c h. fine c (kept_among (λ other. not (same_command other entry)) log.wants c h);
+    leaves = leaving;
+    follows = λ letter h. applies_follow letter None _ h;
+    incs = refl;
+    applied = inr (one_longer log.applied entry);
+  }
+
+  pub fine_wanted : (returning : List Command) (c : Command) → Among c (wanted voter log returning) → Fine c ⊎ Among c returning
+  fine_wanted returning c h = elim (in-append c _ log.wants h) [
+    | inl former ↦ elim (in-append c _ returning former) [
+      | inl i ↦ elim (all_leaves (own_leave n inc (inc_of (state_in servers log) n)) _ c i) [
+        | inl due ↦ inl (leaving c (kept_among (is_due (state_in servers log)) log.leaves c due))
+        | inr own ↦ inl (own_leaves n inc (inc_of (state_in servers log) n) c (λ earlier lt is. subst Fine (sym is) (own_leaving earlier lt)) own)
+      ]
+      | inr own ↦ inr own
+    ]
+    | inr i ↦ inl (fine c i)
+  ]
+
+  -- a ballot starts for one of these commands
+  pub started : (own : Job) (wants : List Command) → ((c : Command) → first_wanted log.phase (rev_of log) wants ≡ Some c → Good (next_place log) c)
+      → Left own (starts voter log wants)
+  unfolding starts
+  started own wants all =
+      let at = proposer_there log.phase (p.proposers n) busy.proposer in
+      let turn = start_turn voting Good at.0 at.1 wants all in
+      let same = start_wants voter log (first_wanted log.phase (rev_of log) wants) in
+      record {
+        turn = record { events = turn.events; wanted = turn.wanted; turns = turn.turns };
+        wants = still_fine _ same;
+        leaves = still_leaving _ same;
+        follows = λ letter h. start_follows voter log (first_wanted log.phase (rev_of log) wants) letter h;
+        incs = same.incs;
+        applied = inl same.applied;
+      }
+
+  pub applied_next : (own : Job) → Left own (applies log)
+  unfolding applies
+  applied_next own = applied_one own (known log (next_place log)) refl
+
+  letter_done : (letter : Letter) (what : Body) → IsBacked p Fine (IsSaidBy p letter.from) what
+      → Left (job.Letter letter) (hears_log voter log letter what)
+  unfolding hears_log
+  letter_done letter (body.Down server stop) h = stopped (job.Letter letter) server stop h
+  letter_done letter (body.Propose command) h = proposed (job.Letter letter) command h
+  letter_done letter (body.Pax said) h = ballots (job.Letter letter) letter.from said h
+  letter_done letter (body.Ask rev) h = told (job.Letter letter) letter.from rev
+  letter_done letter (body.News after commands) h = news letter after commands h
+  letter_done letter _ h = kept (job.Letter letter)
+
+  -- what a job's letter says stands there
+  pub job_done : (own : Job) → ((letter : Letter) → own ≡ job.Letter letter → IsBacked p Fine (IsSaidBy p letter.from) letter.body)
+      → Left own (log_does voter log own)
+  unfolding log_does
+  job_done (job.Letter letter) backed = letter_done letter letter.body (backed letter refl)
+  job_done job.Apply backed = applied_next job.Apply
+  job_done what backed = kept what

@@ -1,0 +1,127 @@
+-- What is done with a letter of the pairs, and each stage, is calm: what it says is handled at its revision alone, it puts no letter into the queue,
+-- and it forgets no Caught for which a ballot was started. A job may besides tell a client of another revision.
+use Rattle.std.proofs.Common.{◌==◌, ◌++◌, not, [], ℕ, false, Option, Some, None, refl, ap, ◌∙◌, inl, inr}
+use Rattle.std.specs.Prelude.{if◌then◌else◌, is_some}
+use Rattle.std.specs.Option.{option_map_or}
+use Rattle.petal_base.specs.declared.cell.Cell.{Cell}
+use Rattle.petal_msg.specs.declared.body.Body.{Body}
+use Rattle.petal_msg.specs.declared.body.Body.TheVariants as body
+use Rattle.petal_msg.specs.declared.copying.Progress.{Progress}
+use Rattle.petal_msg.specs.declared.letter.Actor.{Actor}
+use Rattle.petal_msg.specs.declared.letter.Actor.TheVariants as actor
+use Rattle.petal_msg.specs.declared.letter.Letter.{Letter}
+use Rattle.petal_table.specs.Table.{at}
+use Rattle.spec_rules.specs.Jobs.{handles, wrong_rev, at_other_rev, is_from_in, on_letter, stages, does, asked_by, copies_again}
+use Rattle.spec_rules.specs.Copies.{copy_posts, page_posts}
+use Rattle.spec_rules.specs.Fills.{fill_posts}
+use Rattle.spec_rules.specs.Lists.{In as Among}
+use Rattle.spec_rules.specs.Progress.{copying_on}
+use Rattle.spec_rules.specs.Server.{PairState, Copies, JobContext, Post, JobResult, silent}
+use Rattle.spec_rules.specs.State.{is_in, link_cmp}
+use Rattle.spec_rules.specs.Writes.{pending_on}
+use Rattle.spec_rules.specs.declared.job.Job.{Job}
+use Rattle.spec_rules.specs.declared.job.Job.TheVariants as job
+use Rattle.spec_rules.proofs.ListLemmas.{in-append}
+use Rattle.spec_rules.proofs.Tests.{by_test, only}
+use Rattle.law_log.proofs.CopyJobsLeaveLog.{IsCalm, IsKept, kept_itself, calm_silent, calm_copies, calm_mends, calm_hello_ask}
+use Rattle.law_log.proofs.CopyJobsLeaveLog.{calm_hello, calm_trims, calm_trim, calm_sync}
+use Rattle.law_log.proofs.CopyJobsLeaveLog.{calm_trimmed, calm_synced, calm_sync_full, dated_copy_posts, dated_page_posts}
+use Rattle.law_log.proofs.FillJobsLeaveLog.{calm_fill_full, calm_filled, calm_sweeps, dated_fill_posts, pair_fill}
+use Rattle.law_log.proofs.PairJobsLeaveLog.{IsDated, IsOther, Leaves, no_letter, other_dated, pair_goes, pair_read, pair_write, pair_reserve, pair_reserved}
+use Rattle.law_log.proofs.PairJobsLeaveLog.{pair_pair_full, pair_replicate, pair_replicated}
+use Rattle.law_log.proofs.ScheduleTurns.{no_posts}
+
+-- an operation leaves the copies as they are
+calm_pair : (own : PairState) (done : JobResult) → Leaves own done → IsCalm own done
+calm_pair own done pair = record {
+  quiet = pair.quiet;
+  kept = record {
+    flags = λ id h. ap (λ (x : Copies). option_map_or (λ (p : Progress). p.caught) (at link_cmp x.progress id) false) pair.copies ∙ h;
+  };
+}
+
+pub calm_handles : (here : JobContext) (own : PairState) (what : Body) → IsCalm own (handles here own what)
+unfolding handles
+calm_handles here own (body.Read client seq cell epoch) =
+    calm_pair own _ (pair_read here own client seq cell epoch)
+calm_handles here own (body.Write client seq cell epoch bytes) = calm_pair own _ (pair_write here own _)
+calm_handles here own (body.Reserve number cell) = calm_pair own _ (pair_reserve here own number cell)
+calm_handles here own (body.Reserved number cell) = calm_pair own _ (pair_reserved here own number cell)
+calm_handles here own (body.PairFull number cell) = calm_pair own _ (pair_pair_full here own number cell)
+calm_handles here own (body.Replicate number key version bytes) =
+    calm_pair own _ (pair_replicate here own number key bytes)
+calm_handles here own (body.Replicated number cell) = calm_pair own _ (pair_replicated here own number cell)
+calm_handles here own (body.HelloAsk map link after) = calm_hello_ask here own _ after
+calm_handles here own (body.Hello map link after block) = calm_hello here own _ after block
+calm_handles here own (body.Trim number cell epochs) = calm_trim here own number cell epochs
+calm_handles here own (body.Trimmed number cell) = calm_trimmed here own number cell
+calm_handles here own (body.Sync number key version index bytes) = calm_sync here own _
+calm_handles here own (body.Synced number cell index) = calm_synced here own number cell index
+calm_handles here own (body.SyncFull number cell) = calm_sync_full own number cell
+calm_handles here own (body.Fill key bytes) = calm_pair own _ (pair_fill here own _)
+calm_handles here own (body.Filled key) = calm_filled here own key
+calm_handles here own (body.FillFull key) = calm_fill_full here own key
+calm_handles here own _ = calm_silent own
+
+pub calm_stages : (here : JobContext) (own : PairState) (cell : Cell) → IsCalm own (stages here own cell)
+calm_stages here own cell =
+    by_test (IsCalm own) (is_some (pending_on own cell)) _ _ (λ e. calm_pair own _ (pair_goes here own cell))
+    (λ e. by_test (IsCalm own) (is_some (copying_on own cell)) _ _ (λ f. calm_copies here own cell) (λ f. calm_trims here own cell))
+
+-- what a job of the pairs leaves: no letter of the log was sent or queued
+pub record IsHarmless (own : PairState) (done : JobResult) : Type 0 where
+  pub posts : (post : Post) → Among post done.posts → IsOther post.body
+  pub jobs : (letter : Letter) → Among (job.Letter letter) done.jobs → ⊥
+  pub kept : IsKept own done.own
+
+harmless : (own : PairState) (done : JobResult) → IsCalm own done → IsHarmless own done
+harmless own done calm = record { posts = λ post i. other_dated post.body (calm.quiet.posts post i); jobs = calm.quiet.jobs; kept = calm.kept }
+
+harmless_silent : (own : PairState) → IsHarmless own (silent own)
+harmless_silent own = harmless own _ (calm_silent own)
+
+harmless_wrong : (own : PairState) (client : ℕ) (o : Option ℕ) → IsHarmless own (wrong_rev own client o)
+harmless_wrong own client None = harmless_silent own
+harmless_wrong own client (Some seq) = record {
+  posts = λ post i. only (λ (x : Post). IsOther x.body) (record { to = actor.Client client; body = body.WrongRev seq }) post i refl;
+  jobs = no_letter;
+  kept = kept_itself own;
+}
+
+harmless_elsewhere : (own : PairState) (letter : Letter) (who : Actor) → IsHarmless own (at_other_rev own letter who)
+harmless_elsewhere own letter (actor.Server n) = harmless_silent own
+harmless_elsewhere own letter (actor.Client c) = harmless_wrong own c (asked_by letter.body)
+
+harmless_letter : (here : JobContext) (own : PairState) (letter : Letter) → IsHarmless own (on_letter here own letter)
+harmless_letter here own letter =
+    by_test (IsHarmless own) (not (is_in here.state here.me here.inc)) _ _ (λ e. harmless_silent own)
+    (λ e. by_test (IsHarmless own) (not (letter.rev == here.state.rev)) _ _ (λ f. harmless_elsewhere own letter letter.from)
+    (λ f. by_test (IsHarmless own) (not (is_from_in here.state letter.inc letter.from)) _ _ (λ g. harmless_silent own)
+    (λ g. harmless own _ (calm_handles here own letter.body))))
+
+-- where the server is In as itself
+pub calm_where_in : (here : JobContext) (own : PairState) (done : JobResult) → IsCalm own done → IsCalm own (if is_in here.state here.me here.inc then done else silent own)
+calm_where_in here own done calm = by_test (IsCalm own) (is_in here.state here.me here.inc) _ _ (λ e. calm) (λ e. calm_silent own)
+
+pub harmless_job : (here : JobContext) (own : PairState) (what : Job) → IsHarmless own (does here own what)
+unfolding does
+harmless_job here own (job.Letter letter) = harmless_letter here own letter
+harmless_job here own (job.Stage cell) = harmless own _ (calm_where_in here own _ (calm_stages here own cell))
+harmless_job here own (job.Repair link) = harmless own _ (calm_where_in here own _ (calm_mends here own link))
+harmless_job here own job.Sweep = harmless own _ (calm_where_in here own _ (calm_sweeps here own))
+harmless_job here own job.Apply = harmless_silent own
+harmless_job here own job.Start = harmless_silent own
+
+-- what a tick sends for copies and fills
+pub dated_copies_again : (here : JobContext) (own : PairState) (post : Post) → Among post (copies_again here own) → IsDated post.body
+dated_copies_again here own post i =
+    by_test (λ posts. Among post posts → IsDated post.body) (is_in here.state here.me here.inc)
+    (copy_posts here own ++ page_posts here own ++ fill_posts here own) []
+    (λ e j. elim (in-append post (copy_posts here own ++ page_posts here own) (fill_posts here own) j) [
+      | inl former ↦ elim (in-append post (copy_posts here own) (page_posts here own) former) [
+        | inl copy ↦ dated_copy_posts here own post copy
+        | inr page ↦ dated_page_posts here own post page
+      ]
+      | inr fill ↦ dated_fill_posts here own post fill
+    ])
+    (λ e j. no_posts post j) i

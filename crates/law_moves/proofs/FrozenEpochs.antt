@@ -1,0 +1,113 @@
+-- What is frozen of a cell is of no epoch above the one that the cell's disk had as its region's fence took effect, so by each front from there on.
+use Rattle.std.proofs.Common.{◌≡◌, ◌≤◌, ℕ, List, [], ◌∷◌, Option, Some, None, refl, sym, ap, ◌∙◌, inl, inr, arith}
+use Rattle.std.specs.Prelude.{is_some, option_map}
+use Rattle.std.specs.Ordering.{nat_cmp}
+use Rattle.petal_base.specs.declared.cell.Cell.{Cell}
+use Rattle.petal_command.specs.declared.command.Command.{Command}
+use Rattle.petal_table.specs.Table.{at}
+use Rattle.script_lines.specs.declared.script.Script.{Script}
+use Rattle.spec_state.specs.Command.{state_after}
+use Rattle.spec_rules.specs.State.{authority}
+use Rattle.spec_rules.specs.Store.{Chain, Store, Stored, chain_in}
+use Rattle.spec_rules.specs.World.{World, blank_joins_in, chosen_log, chosen_state, kept, setting_of}
+use Rattle.spec_rules.proofs.Tests.{none_some, same_or_apart, same_some, some_or_none, true_false}
+use Rattle.spec_history.specs.Claims.{IsPrefix}
+use Rattle.spec_history.specs.Steps.{AreSteps}
+use Rattle.spec_history.specs.Sound.{IsSound}
+use Rattle.spec_history.specs.declared.record.Record.{Record}
+use Rattle.law_state.specs.Homes.{epoch_at, stage_at}
+use Rattle.law_state.proofs.Steady.{front_plain, log_below}
+use Rattle.law_log.proofs.LogInHistories.{history_grows, history_is_firm}
+use Rattle.law_steps.proofs.Fronts.{front_itself}
+use Rattle.law_jobs.proofs.Runs.{At, by_run, run_of}
+use Rattle.law_copies.proofs.PlacesByFronts.{at_most_or_above, fronts_meet}
+use Rattle.law_epochs.proofs.EntriesNeverEarly.{IsKnownBy, all_early, before_then, kept_by, now_then}
+use Rattle.law_epochs.proofs.EntryPredicates.{AreWithin}
+use Rattle.law_moves.specs.Fills.{Has}
+use Rattle.law_moves.proofs.FrozenIsWhatCounted.{frozen_at, frozen_same, none_early}
+use Rattle.law_moves.proofs.AllKeptOfMoves.{AreFrozenEarly}
+use Rattle.law_epochs.proofs.EpochScenes.{OneMore, ends_of}
+
+pub entry_of : (chain : Chain) (epoch : ℕ) → Has chain epoch → (entry : Stored) × (at nat_cmp chain epoch ≡ Some entry)
+entry_of chain epoch has = elim (some_or_none (at nat_cmp chain epoch)) [ inl h ↦ h | inr none ↦ true_false has (ap is_some none) ]
+
+abbrev pub AreFrozenThen : Script → World → Type 0
+AreFrozenThen script w = (old : Cell) (before : Chain) (epoch : ℕ) (f : List Command) → w.frozen old ≡ Some before → Has before epoch
+    → IsPrefix f (chosen_log (setting_of script) w) → 3 ≤ stage_at (state_after script.servers f) old → epoch ≤ epoch_at (state_after script.servers f) old
+
+module _ (it : OneMore) (known : AreFrozenThen it.prior.script (At it.prior.script it.prior.records)) where
+  open it use {prior, prior.{script, sound, records as front}, own, legal}
+  open ends_of it use {setting, w, v, By, records}
+
+  on : IsPrefix (chosen_log setting w) (chosen_log setting v)
+  on = history_grows script records sound legal front (own ∷ []) refl
+
+  module _ (old : Cell) (before : Chain) (epoch : ℕ) (f : List Command) (frozen : v.frozen old ≡ Some before) (has : Has before epoch)
+      (lies : IsPrefix f (chosen_log setting v)) (three : 3 ≤ stage_at (By f) old) where
+    onward : IsPrefix (chosen_log setting w) f → epoch_at (By (chosen_log setting w)) old ≤ epoch_at (By f) old
+    onward more =
+        (log_below script.servers (chosen_log setting w) f
+        (front_plain script.servers f (chosen_log setting v) (history_is_firm script records sound legal).plain lies) more).epochs old
+
+    -- it was frozen before
+    was_so : 3 ≤ stage_at (chosen_state setting w) old → epoch ≤ epoch_at (By f) old
+    was_so high =
+        let was : w.frozen old ≡ Some before = sym (frozen_same it old (inl high)) ∙ frozen in
+        elim (fronts_meet f (chosen_log setting w) (chosen_log setting v) lies on) [
+          | inl back ↦ known old before epoch f was has back three
+          | inr more ↦
+              let le = known old before epoch (chosen_log setting w) was has (front_itself (chosen_log setting w)) high in
+              let up = onward more in
+              omega arith
+        ]
+
+    -- it is frozen now: what a server has is of an epoch that it knew
+    of_store : (n : ℕ) (entry : Stored) → at nat_cmp (chain_in (kept setting v n).chains old) epoch ≡ Some entry
+        → epoch ≤ epoch_at (By (chosen_log setting w)) old
+    of_store n entry is =
+        let early = all_early script front sound prior.legal in
+        let log = (w.servers n).log.applied in
+        let all : AreWithin (IsKnownBy script.servers log) (kept setting v n).chains =
+        kept_by (λ (s : Store). AreWithin (IsKnownBy script.servers log) s.chains) (blank_joins_in setting (chosen_log setting v) n) (v.before_blank n)
+        (v.servers n).own.store (before_then it early n) (now_then it early n) in
+        let within = (all old epoch entry is).within in
+        let firm = history_is_firm script front sound prior.legal in
+        let up = (log_below script.servers log (chosen_log setting w) firm.plain (firm.servers n)).epochs old in
+        omega arith
+
+    now_so : stage_at (chosen_state setting w) old ≤ 2 → stage_at (chosen_state setting v) old ≡ 3 → epoch ≤ epoch_at (By f) old
+    now_so low leaves = by (authority (chosen_state setting v) old) (sym (frozen_at it old low leaves) ∙ frozen)
+      where
+        by : (o : Option ℕ) → option_map (λ n. chain_in (kept setting v n).chains old) o ≡ Some before → epoch ≤ epoch_at (By f) old
+        by None e = none_some refl e
+        by (Some n) e =
+            let entry = entry_of before epoch has in
+            let le = of_store n entry.0 (ap (λ c. at nat_cmp c epoch) (same_some e) ∙ entry.1) in
+            elim (fronts_meet f (chosen_log setting w) (chosen_log setting v) lies on) [
+              | inl back ↦
+                  let up = (log_below script.servers f (chosen_log setting w) (history_is_firm script front sound prior.legal).plain back).stages old in
+                  absurd (omega arith)
+              | inr more ↦ let up = onward more in omega arith
+            ]
+
+    pub then_next : epoch ≤ epoch_at (By f) old
+    then_next = elim (at_most_or_above (stage_at (chosen_state setting w) old) 2) [
+      | inr high ↦ was_so high
+      | inl low ↦ elim (same_or_apart (stage_at (chosen_state setting v) old) 3) [
+        | inl leaves ↦ now_so low leaves
+        | inr apart ↦ none_some (none_early script front sound prior.legal old low) (sym (frozen_same it old (inr apart)) ∙ frozen)
+      ]
+    ]
+
+pub frozen_then : (script : Script) (records : List Record) → IsSound script → AreSteps script records → AreFrozenThen script (At script records)
+frozen_then script records sound legal =
+    by_run (λ run. AreFrozenThen run.script (At run.script run.records))
+    (λ script sound legal old before epoch f frozen has lies three. none_some refl frozen) then_next (run_of script sound records legal)
+
+pub frozen_early : (script : Script) (records : List Record) → IsSound script → AreSteps script records → AreFrozenEarly (setting_of script) (At script records)
+frozen_early script records sound legal cell before epoch frozen has =
+    let chosen = chosen_log (setting_of script) (At script records) in
+    elim (at_most_or_above (stage_at (state_after script.servers chosen) cell) 2) [
+      | inl low ↦ none_some (none_early script records sound legal cell low) frozen
+      | inr high ↦ frozen_then script records sound legal cell before epoch chosen frozen has (front_itself chosen) high
+    ]

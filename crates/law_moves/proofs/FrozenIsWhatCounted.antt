@@ -1,0 +1,127 @@
+-- What is kept of an old map's cells as their region's fence took effect: the step that chooses that entry writes it, from the copy that counts
+-- then, and no other one changes it.
+use Rattle.std.proofs.Common.{◌≡◌, ◌≢◌, ◌≤◌, ◌⊎◌, ◌++◌, ◌&&◌, not, if◌then◌else◌, ℕ, List, [], ◌∷◌, Bool, true, false}
+use Rattle.std.proofs.Common.{Option, Some, None, refl, ap, ◌∙◌, inl, inr, arith}
+use Rattle.petal_base.specs.declared.cell.Cell.{Cell}
+use Rattle.script_lines.specs.declared.script.Script.{Script}
+use Rattle.spec_rules.specs.State.{State, leaving}
+use Rattle.spec_rules.specs.Store.{Chain}
+use Rattle.spec_rules.specs.World.{Setting, World, begins_to_leave, chain_that_counts, chosen_log, chosen_state, frozen_by, setting_of}
+use Rattle.spec_rules.proofs.Tests.{both_true, by_bool, none_some, true_false}
+use Rattle.spec_history.specs.Steps.{AreSteps}
+use Rattle.spec_history.specs.Sound.{IsSound}
+use Rattle.spec_history.specs.declared.record.Record.{Record}
+use Rattle.law_state.specs.Homes.{HasStage, stage_at}
+use Rattle.law_state.specs.Plain.{IsPlainLog}
+use Rattle.law_state.proofs.Steady.{log_below}
+use Rattle.law_log.proofs.LogInHistories.{history_grows, history_is_firm}
+use Rattle.law_steps.specs.DidStep.{Happens, Serves, Blanks, Turns}
+use Rattle.law_steps.proofs.MovesAreOfComingCells.{stage_facts}
+use Rattle.law_steps.proofs.WorldsAreFirm.{always_firm}
+use Rattle.law_steps.proofs.Fronts.{below_itself}
+use Rattle.law_steps.proofs.KindsInHistories.{last_happens}
+use Rattle.law_jobs.proofs.Runs.{At, before_part, after, by_run, run_of, setting_in, since}
+use Rattle.law_copies.proofs.PlacesByFronts.{at_most_or_above}
+use Rattle.law_epochs.proofs.EpochScenes.{OneMore, ends_of}
+
+-- ### One step
+
+-- a client's step chooses nothing
+stays_frozen : (leaves : Bool) (made kept : Option Chain) → kept ≡ (if leaves && not leaves then made else kept)
+stays_frozen true made kept = refl
+stays_frozen false made kept = refl
+
+frozen_is : (setting : Setting) (state : State) (w v : World) → Happens setting state w v → (cell : Cell) → v.frozen cell ≡ frozen_by setting w v cell
+frozen_is setting state w _ (Serves n stamp what acted lt within unblanked serving) cell = refl
+frozen_is setting state w _ (Blanks n stamp lt within asleep) cell = refl
+frozen_is setting state w v (Turns c stamp in_call reacted lt within turned onward) cell =
+    stays_frozen (leaving (chosen_state setting w) cell) (chain_that_counts setting v cell) (w.frozen cell)
+
+module _ (it : OneMore) (cell : Cell) where
+  open it use {prior.{script, sound, records as front}, own, legal}
+  open ends_of it use {setting, w, v, records}
+
+  abbrev stage_was : ℕ
+  stage_was = stage_at (chosen_state setting w) cell
+
+  abbrev stage_now : ℕ
+  stage_now = stage_at (chosen_state setting v) cell
+
+  was_frozen : v.frozen cell ≡ frozen_by setting w v cell
+  was_frozen =
+      let state = chosen_state setting v in
+      frozen_is setting state w v (last_happens script front own (always_firm script records sound legal) legal state (below_itself state)) cell
+
+  plain_was : IsPlainLog script.servers (chosen_log setting w)
+  plain_was = (history_is_firm script front sound (before_part script front (own ∷ []) legal)).plain
+
+  plain_now : IsPlainLog script.servers (chosen_log setting v)
+  plain_now = (history_is_firm script records sound legal).plain
+
+  pub stage_grows : stage_was ≤ stage_now
+  stage_grows =
+      (log_below script.servers (chosen_log setting w) (chosen_log setting v) plain_now
+      (history_grows script records sound legal front (own ∷ []) refl)).stages cell
+
+  facts_was : HasStage (chosen_state setting w) cell
+  facts_was = stage_facts script.servers (chosen_log setting w) plain_was cell
+
+  facts_now : HasStage (chosen_state setting v) cell
+  facts_now = stage_facts script.servers (chosen_log setting v) plain_now cell
+
+  begins : Bool
+  begins = begins_to_leave setting w v cell
+
+  -- it begins to leave where it comes to the stage of leaving
+  begins_so : begins ≡ true → (stage_was ≤ 2) × (stage_now ≡ 3)
+  unfolding begins
+  begins_so e =
+      let both = both_true (leaving (chosen_state setting v) cell) (not (leaving (chosen_state setting w) cell)) e in
+      let now = facts_now.leaves both.0 in
+      let up = stage_grows in (
+        elim (at_most_or_above stage_was 2) [
+          | inl low ↦ low
+          | inr high ↦ true_false both.1 (ap not (facts_was.left (omega arith)))
+        ],
+        now,
+      )
+
+  so_begins : stage_was ≤ 2 → stage_now ≡ 3 → begins ≡ true
+  unfolding begins
+  so_begins low three =
+      let stays : leaving (chosen_state setting w) cell ≡ false =
+      by_bool (leaving (chosen_state setting w) cell) (λ t. let is = facts_was.leaves t in absurd (omega arith)) (λ no. no) in
+      (λ i. facts_now.left three i && not (stays i))
+
+  pub frozen_same : (3 ≤ stage_was) ⊎ (stage_now ≢ 3) → v.frozen cell ≡ w.frozen cell
+  unfolding begins
+  frozen_same why =
+      was_frozen ∙ ap (λ b. if b then chain_that_counts setting v cell else w.frozen cell) (by_bool begins
+      (λ t. let so = begins_so t in elim why [ inl three ↦ let low = so.0 in absurd (omega arith) | inr apart ↦ absurd (apart so.1) ]) (λ no. no))
+
+  -- what is written is the copy that counts, by what is then chosen
+  pub frozen_at : stage_was ≤ 2 → stage_now ≡ 3 → v.frozen cell ≡ chain_that_counts setting v cell
+  unfolding begins
+  frozen_at low three = was_frozen ∙ ap (λ b. if b then chain_that_counts setting v cell else w.frozen cell) (so_begins low three)
+
+-- ### Every history
+
+abbrev NoneEarly : Script → World → Type 0
+NoneEarly script w = (cell : Cell) → stage_at (chosen_state (setting_of script) w) cell ≤ 2 → w.frozen cell ≡ None
+
+-- nothing is frozen of a cell that has not begun to leave
+pub none_early : (script : Script) (records : List Record) → IsSound script → AreSteps script records → NoneEarly script (At script records)
+none_early script records sound legal =
+    by_run (λ run. NoneEarly run.script (At run.script run.records)) (λ script sound legal cell low. refl)
+    (λ it old cell low. let up = stage_grows it cell in frozen_same it cell (inr (λ three. omega arith)) ∙ old cell (omega arith))
+    (run_of script sound records legal)
+
+-- so what is frozen stays so
+pub frozen_stays : (script : Script) (front back : List Record) (cell : Cell) (before : Chain) → IsSound script → AreSteps script (front ++ back)
+    → (At script front).frozen cell ≡ Some before → (At script (front ++ back)).frozen cell ≡ Some before
+frozen_stays script front back cell before sound legal is =
+    since (λ run. (after run).frozen cell ≡ Some before) (λ it old.
+    elim (at_most_or_above (stage_at (chosen_state (setting_in it.prior) (after it.prior)) cell) 2) [
+      | inl low ↦ none_some (none_early it.prior.script it.prior.records it.prior.sound it.prior.legal cell low) old
+      | inr high ↦ frozen_same it cell (inl high) ∙ old
+    ]) (run_of script sound (front ++ back) legal) front back refl (λ part. is)

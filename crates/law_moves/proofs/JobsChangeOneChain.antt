@@ -1,0 +1,253 @@
+-- A job changes at most one chain: that of an operation that is pending here, of one whose lead asked to follow, or of a cell whose
+-- link the other server holds alone, and copies to this one.
+use Rattle.std.proofs.Common.{◌≡◌, ◌+◌, ℕ, List, [], true, false, Some, refl, sym, ap, ◌∙◌, ◌≢◌, ◌<◌, ◌∷◌, ◌⊎◌, inl, inr}
+use Rattle.petal_base.specs.declared.cell.Cell.{Cell}
+use Rattle.petal_base.specs.declared.cell.Key.{Key}
+use Rattle.petal_base.specs.Cells.{cell_of, key_at}
+use Rattle.petal_table.specs.Table.{Table}
+use Rattle.petal_msg.specs.declared.body.Body.{Body}
+use Rattle.petal_msg.specs.declared.body.Body.TheVariants as body
+use Rattle.petal_msg.specs.declared.copying.Copying.{Copying}
+use Rattle.petal_msg.specs.declared.copying.LastCopy.{LastCopy}
+use Rattle.petal_msg.specs.declared.dead.Dead.{Dead}
+use Rattle.petal_msg.specs.declared.dead.Dead.TheVariants as dead
+use Rattle.petal_msg.specs.declared.operation.Ending.TheVariants.{Full, Written}
+use Rattle.petal_msg.specs.declared.operation.Far.TheVariants as far
+use Rattle.petal_msg.specs.declared.operation.Pending.{Pending}
+use Rattle.petal_msg.specs.declared.operation.Stage.{Stage}
+use Rattle.spec_rules.specs.Copies.{Entry, cell_holder, epochs_beyond}
+use Rattle.spec_rules.specs.Progress.{last_copy, with_last_copy}
+use Rattle.spec_rules.specs.State.{is_in, is_second, live}
+use Rattle.spec_rules.specs.Sweeping.{without_dead}
+use Rattle.spec_rules.specs.Store.{Chain, Store, Stored, chain_in, chains_with, version_of, without_entry}
+use Rattle.spec_rules.specs.Server.{PairState, JobContext, JobResult}
+use Rattle.spec_rules.specs.Writes.{gives_back, pending_on, last_on, without_pending}
+use Rattle.law_steps.specs.DidLead.{DidLead, Gives_up, Puts, Closes, Marks_alone, Puts_alone}
+use Rattle.law_steps.specs.DidLead.{Unmarks_alone, Closes_alone, Goes_on_dead, Taken}
+use Rattle.law_steps.specs.DidSecond.{DidSecond, Promises, Follows}
+use Rattle.law_steps.specs.DidHolder.{DidHolder, CopyStep, TakenCopy, Closes_copy, Copy_as_is, Copy_trimmed, Copy_synced}
+use Rattle.law_steps.specs.DidHolder.{Turns_page, Begins_copy, Goes_on_copying}
+use Rattle.law_steps.specs.DidOther.{DidOther, TrimStep, first_last, Is_trimmed, Drops_entry, Is_copied_to}
+use Rattle.law_steps.specs.DidOther.{Goes_on_trimming, Puts_entry}
+use Rattle.law_steps.specs.Did.{Did, Ignores, Refuses, By_read, By_lead, By_second, By_holder, By_other, By_filler, By_sweep}
+use Rattle.law_steps.specs.DidStep.{IsSeated}
+use Rattle.law_steps.specs.DidSweep.{Sweeps, cell_swept}
+use Rattle.law_steps.proofs.Subjects.{of_ending, of_filler, of_read, told_own}
+use Rattle.law_steps.proofs.TakenUpAlone.{taking}
+use Rattle.law_jobs.proofs.ChainsApart.{chain_apart, copied_chains, drop_apart, drop_none, page_chains}
+
+-- an operation that is pending here was put
+pub record PutsOwn (own new : PairState) : Type 0 where
+  pub op : Pending
+  pub is : pending_on own op.cell ≡ Some op
+  pub fresh : op.stage.put ≡ false
+  pub entry : Stored
+  pub bytes : entry.bytes ≡ op.bytes
+  pub chains : new.store.chains ≡ chains_with own.store.chains op.key entry
+
+-- the second server has put what it was asked to
+pub record PutsAsked (heard : Body → Type 0) (here : JobContext) (own new : PairState) : Type 0 where
+  pub number : ℕ
+  pub key : Key
+  pub version : ℕ
+  pub bytes : List ℕ
+  pub asked : heard (body.Replicate number key version bytes)
+  pub seat : is_in here.state here.me here.inc ≡ true
+  pub seconds : is_second here.state here.me (cell_of key) ≡ true
+  pub last : last_on own (cell_of key) ≡ Some (record { op = number; far = far.Reserved })
+  pub entry : Stored
+  pub put : entry.bytes ≡ bytes
+  pub chains : new.store.chains ≡ chains_with own.store.chains key entry
+
+-- what a copy does to the chain of a cell: an entry is put that the holder sent, in its turn; or one goes that the holder has not, by a
+-- copy that is new here, or by the last one
+pub data CopiesSo (heard : Body → Type 0) (own : PairState) (cell : Cell) (chains : Table Cell Chain) : Type 0 where
+  Is_put : (entry : Entry) (last : LastCopy) → cell_of entry.key ≡ cell
+      → heard (body.Sync entry.op entry.key entry.stored.version entry.index entry.stored.bytes) → last_copy own cell ≡ Some last
+      → entry.op ≡ last.op
+      → entry.index ≡ last.index → chains ≡ chains_with own.store.chains entry.key entry.stored → CopiesSo heard own cell chains
+  Is_dropped_first : (number : ℕ) (epochs : List ℕ) (epoch : ℕ) → heard (body.Trim number cell epochs)
+      → ((last : LastCopy) → last_copy own cell ≡ Some last → last.op < number)
+      → chains ≡ (without_entry own.store (key_at cell epoch)).chains
+      → CopiesSo heard own cell chains
+  Is_dropped : (last : LastCopy) (epoch : ℕ) (epochs : List ℕ) → last_copy own cell ≡ Some last
+      → epochs_beyond own cell last.epochs ≡ epoch ∷ epochs
+      → chains ≡ (without_entry own.store (key_at cell epoch)).chains → CopiesSo heard own cell chains
+
+pub record PutsCopy (heard : Body → Type 0) (here : JobContext) (own new : PairState) : Type 0 where
+  pub cell : Cell
+  pub holder : ℕ
+  pub held : cell_holder here cell ≡ Some holder
+  pub seat : is_in here.state here.me here.inc ≡ true
+  pub how : CopiesSo heard own cell new.store.chains
+
+-- another cell's chain stays
+pub copied_apart : (heard : Body → Type 0) (own : PairState) (cell : Cell) (chains : Table Cell Chain) → CopiesSo heard own cell chains
+    → (q : Cell) → q ≢ cell
+    → chain_in chains q ≡ chain_in own.store.chains q
+copied_apart heard own cell chains (Is_put entry last e h is number index same) q ne =
+    ap (λ c. chain_in c q) same ∙ chain_apart own.store.chains (cell_of entry.key) _ q (λ f. ne (f ∙ e))
+copied_apart heard own cell chains (Is_dropped_first number epochs epoch h newer same) q ne =
+    ap (λ c. chain_in c q) same ∙ drop_apart own.store (key_at cell epoch) q ne
+copied_apart heard own cell chains (Is_dropped last epoch epochs is beyond same) q ne =
+    ap (λ c. chain_in c q) same ∙ drop_apart own.store (key_at cell epoch) q ne
+
+-- something goes of a cell that is not live
+pub record Drops (here : JobContext) (own new : PairState) : Type 0 where
+  pub cell : Cell
+  pub seat : is_in here.state here.me here.inc ≡ true
+  pub off : live here.state cell ≡ false
+  pub others : (q : Cell) → q ≢ cell → chain_in new.store.chains q ≡ chain_in own.store.chains q
+  pub none : (q : Cell) → chain_in own.store.chains q ≡ [] → chain_in new.store.chains q ≡ []
+
+pub data StoresSo (heard : Body → Type 0) (here : JobContext) (own new : PairState) : Type 0 where
+  Nothing_new : new.store.chains ≡ own.store.chains → StoresSo heard here own new
+  An_own : PutsOwn own new → StoresSo heard here own new
+  An_asked : PutsAsked heard here own new → StoresSo heard here own new
+  A_copy : PutsCopy heard here own new → StoresSo heard here own new
+  Of_the_dead : Drops here own new → StoresSo heard here own new
+
+-- no operation of a cell that is not live goes on
+abbrev pub NeverDead : JobContext → PairState → Type 0
+NeverDead here own = (now : PairState) (op : Pending) → Taken own now op → live here.state op.cell ≡ false → ⊥
+
+module _ (heard : Body → Type 0) (here : JobContext) (own : PairState) (never : NeverDead here own) where
+  abbrev S : PairState → Type 0
+  S new = StoresSo heard here own new
+
+  -- a server that is not In as itself stores nothing
+  abbrev pub seated_only : (done : JobResult) → IsSeated here own done → (is_in here.state here.me here.inc ≡ true → S done.own) → S done.own
+  seated_only done (inl seat) stores = stores seat
+  seated_only done (inr apart) stores = Nothing_new (ap (λ (o : PairState). o.store.chains) apart.same)
+
+  abbrev pub lead_stores : (done : JobResult) → DidLead heard here own done → S done.own
+  lead_stores _ (Puts op is both stage) =
+      An_own (record { op = op; is = is; fresh = ap (λ (s : Stage). s.put) stage; entry = _; bytes = refl; chains = refl })
+  lead_stores _ (Puts_alone now op taken alone stale put) =
+      let k = taking own now op taken in
+      let entry : Stored = record { version = version_of (chain_in now.store.chains op.cell) + 1; bytes = op.bytes } in
+      An_own (record {
+        op = k.old;
+        is = ap (λ (o : Pending). pending_on own o.cell) (sym k.is) ∙ k.was;
+        fresh = ap (λ (o : Pending). o.stage.put) (sym k.is) ∙ put;
+        entry = entry;
+        bytes = ap (λ (o : Pending). o.bytes) k.is;
+        chains = λ i. chains_with (k.store i).chains (k.is i).key entry;
+      })
+  lead_stores _ (Gives_up op h is reserved put) =
+      Nothing_new (ap (λ (x : Store). x.chains) (of_ending here (gives_back (without_pending own op.cell)) op op.kind Full).store)
+  lead_stores _ (Closes op is both stage) =
+      Nothing_new (ap (λ (x : Store). x.chains) (of_ending here (without_pending own op.cell) op op.kind Written).store)
+  lead_stores _ (Marks_alone now op taken alone fresh) = Nothing_new (λ i. ((taking own now op taken).store i).chains)
+  lead_stores _ (Unmarks_alone now op taken alone stale put busy) = Nothing_new (λ i. ((taking own now op taken).store i).chains)
+  lead_stores _ (Closes_alone now op taken alone stale put free) =
+      Nothing_new (ap (λ (x : Store). x.chains) (of_ending here (without_pending now op.cell) op op.kind Written).store
+      ∙ λ i. ((taking own now op taken).store i).chains)
+  lead_stores _ (Goes_on_dead now op taken off) = absurd (never now op taken off)
+  lead_stores _ _ = Nothing_new refl
+
+  abbrev pub second_stores : (done : JobResult) → IsSeated here own done → DidSecond heard here own done → S done.own
+  second_stores _ seated (Promises number c how s is) = Nothing_new (ap (λ (o : PairState). o.store.chains) (told_own here own c number how))
+  second_stores done seated (Follows number key version bytes h s is) = seated_only done seated (λ seat.
+      An_asked (record {
+        number = number;
+        key = key;
+        version = version;
+        bytes = bytes;
+        asked = h;
+        seat = seat;
+        seconds = s;
+        last = is;
+        entry = record { version = version_of (chain_in own.store.chains (cell_of key)) + 1; bytes = bytes };
+        put = refl;
+        chains = refl;
+      }))
+  second_stores _ seated _ = Nothing_new refl
+
+  -- ### Copies
+
+  step_chains : (now : PairState) (cell : Cell) (copy : Copying) (done : JobResult) → CopyStep here now cell copy done
+      → done.own.store.chains ≡ now.store.chains
+  step_chains now cell copy _ (Closes_copy synced left) = copied_chains here now cell
+  step_chains now cell copy _ _ = refl
+
+  pub taken_chains : (cell : Cell) (now : PairState) (copy : Copying) → TakenCopy heard own cell now copy → now.store.chains ≡ own.store.chains
+  taken_chains cell _ _ (Copy_as_is copy is) = refl
+  taken_chains cell _ _ (Copy_trimmed copy h is fresh) = refl
+  taken_chains cell _ _ (Copy_synced copy h is trimmed lt) = refl
+
+  -- the holder keeps its chains
+  pub holder_chains : (done : JobResult) → DidHolder heard here own done → done.own.store.chains ≡ own.store.chains
+  holder_chains _ (Turns_page id row other after block h held fresh at) = page_chains own row block
+  holder_chains done (Begins_copy id row other cell _ held next step) = step_chains _ cell _ done step
+  holder_chains done (Goes_on_copying cell now copy _ taken step) = step_chains now cell copy done step ∙ taken_chains cell now copy taken
+  holder_chains _ _ = refl
+
+  -- nothing is stored, or the copy's
+  abbrev pub OtherStores : PairState → Type 0
+  OtherStores new = (new.store.chains ≡ own.store.chains) ⊎ PutsCopy heard here own new
+
+  seated_copy : (done : JobResult) → IsSeated here own done → (is_in here.state here.me here.inc ≡ true → PutsCopy heard here own done.own)
+      → OtherStores done.own
+  seated_copy done (inl seat) puts = inr (puts seat)
+  seated_copy done (inr apart) puts = inl (ap (λ (o : PairState). o.store.chains) apart.same)
+
+  -- what is not the holder's goes, one entry at a time
+  trim_changes : (now : PairState) → now.store ≡ own.store → (cell : Cell) (last : LastCopy) (holder : ℕ) (done : JobResult) → IsSeated here own done
+      → cell_holder here cell ≡ Some holder
+      → ((epoch : ℕ) (epochs : List ℕ) → epochs_beyond now cell last.epochs ≡ epoch ∷ epochs
+      → done.own.store.chains ≡ (without_entry own.store (key_at cell epoch)).chains → CopiesSo heard own cell done.own.store.chains)
+      → TrimStep now cell last holder done → OtherStores done.own
+  trim_changes now same cell last holder _ seated held how (Is_trimmed none) = inl (ap (λ (s : Store). s.chains) same)
+  trim_changes now same cell last holder done seated held how (Drops_entry epoch epochs beyond) = seated_copy done seated (λ seat.
+      record {
+        cell = cell;
+        holder = holder;
+        held = held;
+        seat = seat;
+        how = how epoch epochs beyond (ap (λ (s : Store). (without_entry s (key_at cell epoch)).chains) same);
+      })
+
+  pub other_changes : (done : JobResult) → IsSeated here own done → DidOther heard here own done → OtherStores done.own
+  other_changes done seated (Is_copied_to number cell epochs holder _ h held newer step) =
+      trim_changes (with_last_copy own cell (first_last number epochs)) refl cell (first_last number epochs) holder done seated held
+      (λ epoch later is chains. Is_dropped_first number epochs epoch h newer chains) step
+  other_changes done seated (Goes_on_trimming cell holder last _ held is step) =
+      trim_changes own refl cell last holder done seated held
+      (λ epoch later beyond chains. Is_dropped last epoch later is beyond chains) step
+  other_changes done seated (Puts_entry entry holder last of_copy at room) = seated_copy done seated (λ seat.
+      record {
+        cell = cell_of entry.key;
+        holder = holder;
+        held = of_copy.held;
+        seat = seat;
+        how = Is_put entry last refl of_copy.said of_copy.last_is of_copy.op_is at refl;
+      })
+  other_changes _ seated _ = inl refl
+
+  abbrev pub as_stores : {new : PairState} → OtherStores new → S new
+  as_stores (inl same) = Nothing_new same
+  as_stores (inr copy) = A_copy copy
+
+  -- a sweep drops an entry, or a mark
+  pub swept : (what : Dead) → is_in here.state here.me here.inc ≡ true → live here.state (cell_swept what) ≡ false
+      → Drops here own (record own { store = without_dead own.store what })
+  swept (dead.Key key) seat off = record {
+    cell = cell_of key;
+    seat = seat;
+    off = off;
+    others = λ q ne. drop_apart own.store key q ne;
+    none = λ q empty. drop_none own.store key q empty;
+  }
+  swept (dead.Mark kind cell) seat off = record { cell = cell; seat = seat; off = off; others = λ q ne. refl; none = λ q empty. empty }
+
+  abbrev pub did_stores : (done : JobResult) → IsSeated here own done → Did heard here own done → S done.own
+  did_stores _ seated Ignores = Nothing_new refl
+  did_stores _ seated (Refuses to said is why back) = Nothing_new refl
+  did_stores _ seated (By_read done d) = Nothing_new (ap (λ (o : PairState). o.store.chains) (of_read heard here own done d).same)
+  did_stores _ seated (By_lead done d) = lead_stores done d
+  did_stores _ seated (By_second done d) = second_stores done seated d
+  did_stores _ seated (By_holder done d) = Nothing_new (holder_chains done d)
+  did_stores _ seated (By_other done d) = as_stores (other_changes done seated d)
+  did_stores _ seated (By_filler done d) = Nothing_new (ap (λ (x : Store). x.chains) (of_filler heard here own done d).store)
+  did_stores _ seated (By_sweep _ (Sweeps what seat next off)) = Of_the_dead (swept what seat off)

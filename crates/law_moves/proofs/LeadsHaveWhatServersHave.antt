@@ -1,0 +1,373 @@
+-- What a lead of a cell, by its own state, has of it while nothing of its own is under way, or its second server has followed: each server that serves the
+-- link by what is chosen has it too. And of two such leads the one has just held the link alone, and is after its own Caught.
+use Rattle.std.proofs.Common.{◌≡◌, ◌≤◌, ◌<◌, ◌+◌, ◌==◌, ◌⊎◌, ℕ, Bool, true, false, List, Option, Some, None, is_some}
+use Rattle.std.proofs.Common.{refl, sym, ap, ◌∙◌, subst, inl, inr, arith}
+use Rattle.std.specs.Prelude.{option_and_then}
+use Rattle.std.specs.Ordering.{nat_cmp}
+use Rattle.global_tables.specs.Link.{has_server}
+use Rattle.global_tables.specs.declared.link.LinkRow.{LinkRow}
+use Rattle.global_tables.specs.declared.link.LinkState.TheVariants.{Both, Only}
+use Rattle.petal_base.specs.declared.cell.Cell.{Cell}
+use Rattle.petal_command.specs.declared.command.Command.{Command}
+use Rattle.petal_table.specs.Table.{at, put}
+use Rattle.petal_table.proofs.Rows.{at-empty, at_apart, at_same}
+use Rattle.petal_msg.specs.declared.operation.Pending.{Pending}
+use Rattle.spec_state.specs.CellState.{cell_link, row_lead}
+use Rattle.spec_rules.specs.Progress.{has_proposed}
+use Rattle.spec_rules.specs.Server.{PairState}
+use Rattle.spec_rules.specs.State.{in_both, is_alone_on}
+use Rattle.spec_rules.specs.Store.{Chain, Store, cell_cmp, chain_in}
+use Rattle.spec_rules.specs.World.{chosen_state, kept, server_state, blank_joins_in}
+use Rattle.spec_rules.specs.Writes.{is_clients, pending_on}
+use Rattle.spec_rules.proofs.Tests.{by_bool, is_the_one, none_some, same_numbers, same_or_apart, same_some, true_false}
+use Rattle.spec_history.specs.Claims.{IsPrefix, one_put_ahead}
+use Rattle.law_state.specs.LaterStates.{IsServing}
+use Rattle.law_state.specs.Homes.{stage_at}
+use Rattle.law_state.proofs.LoneHolders.{alone_not_both, alone_row, so_both}
+use Rattle.law_state.proofs.CellsByLinkRows.{IsHeldBy, IsInBoth, link_led_by}
+use Rattle.law_state.proofs.GrownStates.{one_before}
+use Rattle.law_state.proofs.Leaves.{either_true}
+use Rattle.law_state.proofs.Roles.{holder_is_one, primary_is_one}
+use Rattle.law_steps.specs.Operations.{progress}
+use Rattle.law_steps.specs.Ties.{HasOwnCaught}
+use Rattle.law_steps.proofs.Fronts.{front_itself}
+use Rattle.law_steps.proofs.WhoLeads.{stage_live}
+use Rattle.law_steps.proofs.Ties.{running_fronts, stays_alone}
+use Rattle.law_copies.specs.GoodCopies.{pair_at}
+use Rattle.law_copies.specs.Pair.{AreCopies, PairOk, Working, far, pair_of}
+use Rattle.law_copies.specs.Visits.{AliveIn, IsLinked, half, place_by}
+use Rattle.law_copies.proofs.ServedAtLaterFronts.{both_since, same_only, serves_alone, serves_its, unseen_beyond}
+use Rattle.law_copies.proofs.PlacesByFronts.{at_most_or_above, one_row, places_up, rows_later}
+use Rattle.law_moves.specs.Fills.{Has}
+use Rattle.law_moves.proofs.MoveWorlds.{chosen_twins, facts_at, firm, good, own_counts, rests, steady_at, up}
+use Rattle.law_epochs.proofs.EpochScenes.{Run, end_of}
+use Rattle.law_moves.proofs.MoveScenes.{LeadsAt, TwoLeads}
+
+-- ### Two copies
+
+-- what the second one has the first one has
+ahead_has : (chain : Chain) (op : Pending) (epoch : ℕ) → Has chain epoch → Has (one_put_ahead chain op) epoch
+ahead_has chain op epoch has = elim (same_or_apart epoch op.key.epoch) [
+  | inl e ↦ ap (λ k. is_some (at nat_cmp (one_put_ahead chain op) k)) e ∙ ap is_some (at_same chain op.key.epoch _)
+  | inr ne ↦ ap is_some (at_apart chain op.key.epoch _ epoch ne) ∙ has
+]
+
+copies_first : (first second : Chain) (far_is : ℕ) (o : Option Pending) (epoch : ℕ) → AreCopies first second far_is o → Has second epoch → Has first epoch
+copies_first first second far_is None epoch same has = subst (λ (c : Chain). Has c epoch) (sym same) has
+copies_first first second far_is (Some op) epoch copies has = by op.stage.put copies
+  where
+    by : (put : Bool) → Working first second far_is op put → Has first epoch
+    by false even = subst (λ (c : Chain). Has c epoch) (sym even.even) has
+    by true ahead = elim (at_most_or_above (op.op + op.op + 1) far_is) [
+      | inl past ↦ subst (λ (c : Chain). Has c epoch) (sym (ahead.even past)) has
+      | inr low ↦ (
+          let least = ahead.begun in
+          subst (λ (c : Chain). Has c epoch) (sym (ahead.ahead (omega arith))) (ahead_has second op epoch has))
+    ]
+
+-- nothing is pending, or the second server has followed
+abbrev pub IsSettledBy : Option Pending → Type 0
+IsSettledBy o = (o ≡ None) ⊎ ((op : Pending) × (o ≡ Some op) × (op.stage.put ≡ true) × (op.stage.paired ≡ true))
+
+copies_equal : (first second : Chain) (far_is : ℕ) (o : Option Pending) → AreCopies first second far_is o → IsSettledBy o → first ≡ second
+copies_equal first second far_is None same settled = same
+copies_equal first second far_is (Some op) copies (inl none) = none_some none refl
+copies_equal first second far_is (Some op) copies (inr done) =
+    let same : done.0 ≡ op = same_some (sym done.1) in
+    by op.stage.put (ap (λ (p : Pending). p.stage.put) (sym same) ∙ done.2) copies
+  where
+    by : (put : Bool) → put ≡ true → Working first second far_is op put → first ≡ second
+    by false e even = even.even
+    by true e ahead = ahead.even (ahead.paired (ap (λ (p : Pending). p.stage.paired) (sym (same_some (sym done.1))) ∙ done.3))
+
+pub half_store : (visit : Option PairState) (store : Store) → (half visit store).store ≡ store
+half_store None store = refl
+half_store (Some own) store = refl
+
+half_none : (visit : Option PairState) (store : Store) (cell : Cell) → visit ≡ None → at cell_cmp (half visit store).pairs.pending cell ≡ None
+half_none visit store cell none = ap (λ o. at cell_cmp (half o store).pairs.pending cell) none ∙ at-empty cell_cmp cell
+
+half_some : (visit : Option PairState) (store : Store) (own : PairState) (cell : Cell) → visit ≡ Some own
+    → at cell_cmp (half visit store).pairs.pending cell ≡ at cell_cmp own.pairs.pending cell
+half_some visit store own cell is = ap (λ o. at cell_cmp (half o store).pairs.pending cell) is
+
+module _ (one other : Option PairState) (a b : Store) (cell : Cell) (ok : PairOk (pair_of (half one a) (half other b) cell)) where
+  abbrev first_is : chain_in (half one a).store.chains cell ≡ chain_in a.chains cell
+  first_is = ap (λ (s : Store). chain_in s.chains cell) (half_store one a)
+
+  abbrev second_is : chain_in (half other b).store.chains cell ≡ chain_in b.chains cell
+  second_is = ap (λ (s : Store). chain_in s.chains cell) (half_store other b)
+
+  pub first_has : (epoch : ℕ) → Has (chain_in b.chains cell) epoch → Has (chain_in a.chains cell) epoch
+  first_has epoch has =
+      let pair = pair_of (half one a) (half other b) cell in
+      subst (λ (c : Chain). Has c epoch) first_is
+      (copies_first pair.first pair.second (far pair) pair.pending epoch ok.copies (subst (λ (c : Chain). Has c epoch) (sym second_is) has))
+
+  pub both_equal : IsSettledBy (at cell_cmp (half one a).pairs.pending cell) → chain_in a.chains cell ≡ chain_in b.chains cell
+  both_equal settled =
+      let pair = pair_of (half one a) (half other b) cell in
+      sym first_is ∙ copies_equal pair.first pair.second (far pair) pair.pending ok.copies settled ∙ second_is
+
+-- ### A lead
+
+module _ (it : Run) (cell : Cell) (k : ℕ) (lead : LeadsAt (end_of it).setting (end_of it).w cell k) where
+  open it use {records}
+  open end_of it use {setting, w, chosen}
+  open lead use {runs, seat, leads}
+
+  abbrev own : PairState
+  own = (w.servers k).own
+
+  abbrev mine : List Command
+  mine = (w.servers k).log.applied
+
+  mine_chosen : IsPrefix mine chosen
+  mine_chosen = (firm it).servers k
+
+  alive : AliveIn (chosen_state setting w) cell
+  alive = omega arith
+
+  mine_alive : AliveIn (server_state setting w k) cell
+  mine_alive = let le = up it mine chosen mine_chosen (front_itself chosen) cell in omega arith
+
+  abbrev stores : ℕ → Store
+  stores = kept setting w
+
+  mine_kept : kept setting w k ≡ own.store
+  mine_kept = own_counts it k runs mine mine_chosen seat
+
+  -- what it was at its own place it is now
+  pub visit_mine : (row : LinkRow) → IsLinked setting mine cell row → (good it).visits k (place_by setting mine row) cell ≡ Some own
+  visit_mine row is =
+      let here = (good it).here k cell row is seat mine_alive in
+      here.is ∙ ap Some (here.same ∙ (λ i. record own { store = mine_kept i }))
+
+  leading : ((b : IsInBoth (server_state setting w k) cell) × (b.row.primary ≡ k)) ⊎ IsHeldBy (server_state setting w k) cell k
+  leading = link_led_by (server_state setting w k) (steady_at it mine mine_chosen) cell k
+      (is_the_one (option_and_then (row_lead (server_state setting w k)) (cell_link (server_state setting w k) cell)) k leads)
+
+  -- where the link is by what is chosen: in Both at the place where this server is the first one; or the server holds it alone; or it is in Both by the
+  -- server's own Caught, and the server has not been there
+  pub record IsFirstAt (now : LinkRow) : Type 0 where
+    pub both : now.state ≡ Both
+    pub first : now.primary ≡ k
+    pub linked : IsLinked setting mine cell now
+    pub place : place_by setting chosen now ≡ place_by setting mine now
+
+  pub record IsAfter (now : LinkRow) : Type 0 where
+    pub both : now.state ≡ Both
+    pub unseen : (good it).visits k (place_by setting chosen now) cell ≡ None
+    pub one_of : has_server k now ≡ true
+    pub flagged : has_proposed (server_state setting w k) own cell ≡ true
+
+  pub data IsLedAs (now : LinkRow) : Type 0 where
+    As_first : IsFirstAt now → IsLedAs now
+    Alone : (whole : Bool) → now.state ≡ Only k whole → IsLedAs now
+    Following : IsAfter now → IsLedAs now
+
+  pub led_as : (now : LinkRow) → IsLinked setting chosen cell now → IsLedAs now
+  led_as now end = elim leading [
+    | inl b ↦
+        let has = primary_is_one b.0.row k b.1 in
+        elim (both_since setting records w stores (firm it) (good it) k runs seat cell b.0.row b.0.is
+        b.0.so has chosen now mine_chosen (front_itself chosen) end alive) [
+          | inl same ↦ (
+              let one = one_row setting chosen (firm it).plain mine chosen cell b.0.row now mine_chosen (front_itself chosen) b.0.is
+              end (sym same) in
+              As_first (record {
+                both = ap (λ (r : LinkRow). r.state) one ∙ b.0.so;
+                first = ap (λ (r : LinkRow). r.primary) one ∙ b.1;
+                linked = b.0.is ∙ ap Some (sym one);
+                place = same ∙ ap (place_by setting mine) (sym one);
+              }))
+          | inr alone ↦ Alone alone.0 alone.1
+        ]
+    | inr h ↦ held h
+  ]
+    where
+      held : IsHeldBy (server_state setting w k) cell k → IsLedAs now
+      held h =
+          let has = holder_is_one (server_state setting w k) cell k h in
+          elim (stays_alone (running_fronts (firm it) k runs (front_itself mine) mine_chosen (front_itself chosen) seat) cell
+          h.row h.is has (serves_its k h.row h.so) alive h.whole h.so) [
+            | inl on ↦ (
+                let a = alone_row (chosen_state setting w) k cell on in
+                Alone a.whole (ap (λ (r : LinkRow). r.state) (same_some (sym end ∙ a.is)) ∙ a.alone))
+            | inr caught ↦ following h caught
+          ]
+        where
+          following : IsHeldBy (server_state setting w k) cell k → HasOwnCaught setting w k mine chosen cell → IsLedAs now
+          following h caught =
+              let same : caught.now ≡ now = same_some (sym caught.since.same ∙ end) in
+              let both : now.state ≡ Both = ap (λ (r : LinkRow). r.state) (sym same) ∙ caught.both in
+              let le = places_up setting chosen (firm it).plain mine chosen cell h.row now mine_chosen (front_itself chosen) h.is end in
+              let lt : place_by setting mine h.row < place_by setting chosen now =
+              elim (at_most_or_above (place_by setting chosen now) (place_by setting mine h.row)) [
+                | inr above ↦ above
+                | inl most ↦ (
+                    let one = one_row setting chosen (firm it).plain mine chosen cell h.row now mine_chosen (front_itself chosen)
+                    h.is end (omega arith) in
+                    let f : Only k h.whole ≡ Both = sym h.so ∙ ap (λ (r : LinkRow). r.state) (sym one) ∙ both in absurd cc)
+              ] in
+              Following (record {
+                both = both;
+                unseen = unseen_beyond setting records w stores (firm it) (good it) k cell h.row h.is
+                    (place_by setting chosen now) lt;
+                one_of = one_before h.row now k (rows_later setting chosen (firm it).plain mine chosen cell h.row now mine_chosen
+                    (front_itself chosen) h.is end)
+                    ∙ holder_is_one (server_state setting w k) cell k h;
+                flagged = caught.proposed;
+              })
+
+  -- ### What it has, the others have
+
+  -- nothing is pending on the cell, or its second server has followed, or the server holds the link alone and may go on with it
+  pub data IsIdle : Type 0 where
+    Nothing : pending_on own cell ≡ None → IsIdle
+    Followed : (op : Pending) → pending_on own cell ≡ Some op → op.stage.put ≡ true → op.stage.paired ≡ true
+        → in_both (server_state setting w k) cell ≡ true → IsIdle
+    Holds : (op : Pending) → pending_on own cell ≡ Some op → is_alone_on (server_state setting w k) k cell ≡ true → IsIdle
+
+  module _ (born : 1 ≤ stage_at (server_state setting w k) cell) (idle : IsIdle) (epoch : ℕ) (has : Has (chain_in own.store.chains cell) epoch) where
+    -- where an operation is pending, the server has started no ballot for the link's Caught
+    not_flagged : (op : Pending) → pending_on own cell ≡ Some op → has_proposed (server_state setting w k) own cell ≡ true → ⊥
+    not_flagged op is flagged =
+        true_false flagged
+        ((((rests it).pending k).staged cell op is).unheld (stage_live (server_state setting w k) cell born mine_alive))
+
+    kept_mine : Has (chain_in (kept setting w k).chains cell) epoch
+    kept_mine = subst (λ (s : Store). Has (chain_in s.chains cell) epoch) (sym mine_kept) has
+
+    abbrev HasIt : ℕ → Type 0
+    HasIt n = Has (chain_in (kept setting w n).chains cell) epoch
+
+    -- two servers in Both
+    module _ (now : LinkRow) (end : IsLinked setting chosen cell now) (both : now.state ≡ Both) where
+      abbrev visit : ℕ → Option PairState
+      visit n = (good it).visits n (place_by setting chosen now) cell
+
+      ok : PairOk (pair_of (half (visit now.primary) (kept setting w now.primary)) (half (visit now.secondary) (kept setting w now.secondary)) cell)
+      ok =
+          let counts = (good it).now in
+          subst (λ (s : Store). PairOk (pair_of (half (visit now.primary) (kept setting w now.primary)) (half (visit now.secondary) s) cell))
+          (counts now.secondary)
+          (subst (λ (s : Store). PairOk (pair_of (half (visit now.primary) s)
+          (half (visit now.secondary) ((good it).stores now.secondary (blank_joins_in setting chosen now.secondary))) cell))
+          (counts now.primary) (chosen_twins it cell now end both alive).pair)
+
+      -- the first one has it, and nothing that the second one has not
+      to_second : HasIt now.primary → IsSettledBy (at cell_cmp (half (visit now.primary) (kept setting w now.primary)).pairs.pending cell) → HasIt now.secondary
+      to_second first settled =
+          subst (λ (c : Chain). Has c epoch)
+          (both_equal (visit now.primary) (visit now.secondary) (kept setting w now.primary) (kept setting w now.secondary) cell ok settled) first
+
+      to_first : HasIt now.secondary → HasIt now.primary
+      to_first second = first_has (visit now.primary) (visit now.secondary) (kept setting w now.primary) (kept setting w now.secondary) cell ok epoch second
+
+      either : (n : ℕ) → has_server n now ≡ true → HasIt now.primary → HasIt now.secondary → HasIt n
+      either n one first second = by_bool (now.primary == n)
+          (λ t. subst HasIt (same_numbers now.primary n t) first)
+          (λ f. subst HasIt (same_numbers now.secondary n (either_true (now.primary == n) (now.secondary == n) one f)) second)
+
+      by_first : IsFirstAt now → (n : ℕ) → has_server n now ≡ true → HasIt n
+      by_first f n one =
+          let first : HasIt now.primary = subst HasIt (sym f.first) kept_mine in
+          let there : visit now.primary ≡ Some own =
+          ap visit f.first ∙ ap (λ p. (good it).visits k p cell) f.place ∙ visit_mine now f.linked in
+          let pending = half_some (visit now.primary) (kept setting w now.primary) own cell there in
+          either n one first (to_second first (elim idle [
+            | Nothing none ↦ inl (pending ∙ none)
+            | Followed op is put paired on ↦ inr (op, pending ∙ is, put, paired)
+            | Holds op is alone_on ↦ true_false (so_both (server_state setting w k) cell now f.linked f.both)
+                (alone_not_both (server_state setting w k) k cell alone_on)
+          ]))
+
+      by_after : IsAfter now → pending_on own cell ≡ None → (n : ℕ) → has_server n now ≡ true → HasIt n
+      by_after b none n one = by_bool (now.primary == k)
+          (λ t.
+          let is = same_numbers now.primary k t in
+          let first : HasIt now.primary = subst HasIt (sym is) kept_mine in
+          either n one first (to_second first (inl (half_none (visit now.primary) (kept setting w now.primary) cell (ap visit is ∙ b.unseen)))))
+          (λ f.
+          let is = same_numbers now.secondary k (either_true (now.primary == k) (now.secondary == k) b.one_of f) in
+          let second : HasIt now.secondary = subst HasIt (sym is) kept_mine in
+          either n one (to_first second) second)
+
+    pub spread : (n : ℕ) → IsServing (chosen_state setting w) n cell → HasIt n
+    spread n serving = elim (led_as serving.row serving.is) [
+      | As_first f ↦ by_first serving.row serving.is f.both f n serving.one_of
+      | Alone whole so ↦ subst HasIt (sym (serves_alone k n serving.row so serving.so)) kept_mine
+      | Following b ↦ elim idle [
+        | Nothing none ↦ by_after serving.row serving.is b.both b none n serving.one_of
+        | Followed op is put paired on ↦ absurd (not_flagged op is b.flagged)
+        | Holds op is alone_on ↦ absurd (not_flagged op is b.flagged)
+      ]
+    ]
+
+-- ### Two leads
+
+-- a server has a fill pending, and another one leads the cell by its own state: that one has nothing pending, and nothing of the fill's epoch
+module _ (it : Run) (two : TwoLeads (end_of it).setting (end_of it).w) where
+  open end_of it use {setting as this, w as u, chosen as by_all}
+  open two use {m, k, apart, cell, one, one_born, op, is, other, other_born, one.{low}}
+
+  unheld : (n : ℕ) → 1 ≤ stage_at (server_state this u n) cell → (o : Pending) → pending_on (u.servers n).own cell ≡ Some o
+      → has_proposed (server_state this u n) (u.servers n).own cell ≡ true → ⊥
+  unheld n one o there flagged =
+      let le = up it (u.servers n).log.applied by_all ((firm it).servers n) (front_itself by_all) cell in
+      true_false flagged
+      ((((rests it).pending n).staged cell o there).unheld (stage_live (server_state this u n) cell one (omega arith)))
+
+  -- the link by what is chosen, with both in their places
+  pub record AreApart : Type 0 where
+    pub now : LinkRow
+    pub end : IsLinked this by_all cell now
+    pub first : IsFirstAt it cell m one now
+    pub second : IsAfter it cell k other now
+
+  pub are_apart : AreApart
+  are_apart =
+      let mine = (u.servers m).log.applied in
+      let mine_all = (firm it).servers m in
+      let le = up it mine by_all mine_all (front_itself by_all) cell in
+      let lives = (steady_at it by_all (front_itself by_all)).lives cell
+      ((facts_at it by_all (front_itself by_all) cell).alive (omega arith) low) in
+      elim (led_as it cell m one lives.row lives.is) [
+        | As_first f ↦ elim (led_as it cell k other lives.row lives.is) [
+          | As_first g ↦ absurd (apart (sym f.first ∙ g.first))
+          | Alone whole so ↦ (let e : Only k whole ≡ Both = sym so ∙ f.both in absurd cc)
+          | Following b ↦ record { now = lives.row; end = lives.is; first = f; second = b }
+        ]
+        | Alone whole so ↦ elim (led_as it cell k other lives.row lives.is) [
+          | As_first g ↦ (let e : Only m whole ≡ Both = sym so ∙ g.both in absurd cc)
+          | Alone other also ↦ absurd (apart (same_only (sym so ∙ also)))
+          | Following b ↦ (let e : Only m whole ≡ Both = sym so ∙ b.both in absurd cc)
+        ]
+        | Following b ↦ absurd (unheld m one_born op is b.flagged)
+      ]
+
+  pub other_idle : (o : Pending) → pending_on (u.servers k).own cell ≡ Some o → ⊥
+  other_idle o there = unheld k other_born o there are_apart.second.flagged
+
+  pub other_lacks : is_clients op.kind ≡ false → at nat_cmp (chain_in (u.servers k).own.store.chains cell) op.key.epoch ≡ None
+  other_lacks fills =
+      let a = are_apart in
+      let now = a.now in
+      let good_now = good it in
+      let visit : ℕ → Option PairState = λ n. good_now.visits n (place_by this by_all now) cell in
+      let there : visit now.primary ≡ Some (u.servers m).own =
+      ap visit a.first.first ∙ ap (λ p. good_now.visits m p cell) a.first.place
+      ∙ visit_mine it cell m one now a.first.linked in
+      let second_is : now.secondary ≡ k = same_numbers now.secondary k (either_true (now.primary == k) (now.secondary == k) a.second.one_of
+      (by_bool (now.primary == k) (λ t. absurd (apart (sym a.first.first ∙ same_numbers now.primary k t))) (λ f. f))) in
+      let far_is : far
+      (pair_at (λ n. good_now.stores n (blank_joins_in this by_all n)) good_now.visits (place_by this by_all now) cell now.primary now.secondary) ≡ 0 =
+      ap (λ o. progress (at cell_cmp (half o (good_now.stores now.secondary (blank_joins_in this by_all now.secondary))).pairs.last cell))
+      (ap visit second_is ∙ a.second.unseen) ∙ ap progress (at-empty cell_cmp cell) in
+      let mine_all = (firm it).servers k in
+      let lacks = (chosen_twins it cell now a.end a.first.both (omega arith)).lacks (u.servers m).own op there is fills (omega arith) in
+      ap (λ (s : Store). at nat_cmp (chain_in s.chains cell) op.key.epoch)
+      (sym (own_counts it k other.runs (u.servers k).log.applied mine_all other.seat) ∙ sym (good_now.now k)
+      ∙ ap (λ n. good_now.stores n (blank_joins_in this by_all n)) (sym second_is))
+      ∙ lacks

@@ -1,0 +1,206 @@
+-- What a step leaves of a cell at a server that serves its link: no entry goes, and of a cell that is leaving, or has left, none comes.
+use Rattle.std.proofs.Common.{◌≡◌, ◌≤◌, ◌+◌, ◌==◌, ℕ, true, false, List, [], Option, Some, None, is_some, sym, ap, ◌∙◌, subst, inl, inr, arith}
+use Rattle.std.specs.Prelude.{if◌then◌else◌}
+use Rattle.std.specs.Ordering.{nat_cmp}
+use Rattle.std.proofs.lemmas.List.{append-nil}
+use Rattle.petal_base.specs.Cells.{cell_of}
+use Rattle.petal_base.specs.declared.cell.Cell.{Cell}
+use Rattle.petal_base.specs.declared.cell.Key.{Key}
+use Rattle.petal_command.specs.declared.command.Command.{Command}
+use Rattle.petal_table.specs.Table.{at, put}
+use Rattle.petal_table.proofs.Rows.{at_apart, at_same}
+use Rattle.petal_msg.specs.declared.body.Body.TheVariants as body
+use Rattle.petal_msg.specs.declared.operation.Far.TheVariants as far
+use Rattle.petal_msg.specs.declared.operation.Pending.{Pending}
+use Rattle.spec_state.specs.Command.{state_after}
+use Rattle.spec_rules.specs.Blanked.{BeforeBlank, kept_store}
+use Rattle.spec_rules.specs.Crossing.{crossed}
+use Rattle.spec_rules.specs.Server.{PairState, Server}
+use Rattle.spec_rules.specs.State.{is_in, is_second, second}
+use Rattle.spec_rules.specs.Store.{Chain, Store, cell_cmp, chain_in}
+use Rattle.spec_rules.specs.World.{blank_joins_in, chosen_state, kept, kept_by, server_state}
+use Rattle.spec_rules.specs.Writes.{is_clients, last_on}
+use Rattle.spec_rules.proofs.Settled.{settling}
+use Rattle.spec_rules.proofs.Tests.{by_bool, is_the_one, number_itself, same_or_apart}
+use Rattle.spec_history.specs.Claims.{IsPrefix}
+use Rattle.law_state.specs.LaterStates.{IsServing}
+use Rattle.law_state.specs.Homes.{stage_at}
+use Rattle.law_state.proofs.CellsByLinkRows.{second_by}
+use Rattle.law_steps.specs.DidStep.{Handled, own_place}
+use Rattle.law_steps.specs.Operations.{progress}
+use Rattle.law_steps.proofs.Fronts.{front_itself}
+use Rattle.law_copies.proofs.StoreJobs.{ballot_store}
+use Rattle.law_epochs.proofs.EpochsInHistories.{running_timely}
+use Rattle.law_moves.specs.Fills.{Has}
+use Rattle.law_moves.proofs.ServedCellChanges.{Asked_put, IsPutOn, Own_put, Same, chain_so}
+use Rattle.law_moves.proofs.AllKeptOfMoves.{Known, WereKnown}
+use Rattle.law_moves.proofs.StepsTellEntries.{Awakes, Enters, Goes_on, HasGone, HasStore, Is_bare, Is_blanked, Raises, Rests}
+use Rattle.law_moves.proofs.StepsTellEntries.{Starts_ballot, Works, is_off, knows, stored}
+use Rattle.law_moves.proofs.MoveWorlds.{steady_at, up}
+use Rattle.law_epochs.proofs.EpochScenes.{OneMore, ends_of}
+use Rattle.law_moves.proofs.MoveScenes.{IsSecondAt}
+
+-- what an entry leaves of a chain
+pub has_put : (old new : Chain) (epoch e : ℕ) (bytes : List ℕ) → IsPutOn old new epoch bytes → Has old e → Has new e
+has_put old new epoch e bytes p has = ap (λ (c : Chain). is_some (at nat_cmp c e)) p.2 ∙ elim (same_or_apart e epoch) [
+  | inl same ↦ ap (λ k. is_some (at nat_cmp (put nat_cmp old epoch p.0) k)) same ∙ ap is_some (at_same old epoch p.0)
+  | inr ne ↦ ap is_some (at_apart old epoch p.0 e ne) ∙ has
+]
+
+pub has_new : (old new : Chain) (epoch : ℕ) (bytes : List ℕ) → IsPutOn old new epoch bytes → Has new epoch
+has_new old new epoch bytes p = ap (λ (c : Chain). is_some (at nat_cmp c epoch)) p.2 ∙ ap is_some (at_same old epoch p.0)
+
+-- what is so of the store that counts, and goes on to be so of the server's own
+kept_map : (P : Store → Type 0) (joins : ℕ) (o : Option BeforeBlank) (s t : Store) → P (kept_store joins o s) → (P s → P t) → P (kept_store joins o t)
+kept_map P joins None s t was step = step was
+kept_map P joins (Some b) s t was step = by_bool (b.joins == joins)
+    (λ yes. subst P (ap (λ x. if x then b.store else t) (sym yes)) (subst P (ap (λ x. if x then b.store else s) yes) was))
+    (λ no. subst P (ap (λ x. if x then b.store else t) (sym no)) (step (subst P (ap (λ x. if x then b.store else s) no) was)))
+
+module _ (it : OneMore) (all : WereKnown it) where
+  open it use {prior, prior.{script, sound, records as front}}
+  open ends_of it use {setting, w, v, top}
+
+  pub before : Known script front
+  before = all front [] (sym (append-nil front))
+
+  abbrev Gone : (n : ℕ) → Server → Type 0
+  Gone n to = HasGone it n to
+
+  abbrev chain_of : Server → Cell → Chain
+  chain_of server cell = chain_in server.own.store.chains cell
+
+  -- ### A server's own copy
+
+  module _ (n : ℕ) (f : List Command) (on : IsPrefix (w.servers n).log.applied f) (lies : IsPrefix f top) (cell : Cell)
+      (low : stage_at (state_after script.servers f) cell ≤ 3) (serving : IsServing (state_after script.servers f) n cell) where
+    -- it stays so, or an operation was put that is pending here, or one that the lead asked for
+    pub data HasChanged (new : Chain) : Type 0 where
+      Stays_so : new ≡ chain_of (w.servers n) cell → HasChanged new
+      Put_own : (op : Pending) → (w.servers n).life.running ≡ true → at cell_cmp (w.servers n).own.pairs.pending cell ≡ Some op → op.stage.put ≡ false
+          → IsPutOn (chain_of (w.servers n) cell) new op.key.epoch op.bytes → HasChanged new
+      Put_asked : (number : ℕ) (key : Key) (version : ℕ) (bytes : List ℕ) → (w.servers n).life.running ≡ true
+          → is_in (server_state setting w n) n (w.servers n).life.inc ≡ true → Handled w n (body.Replicate number key version bytes) → cell_of key ≡ cell
+          → is_second (server_state setting w n) n cell ≡ true
+          → last_on (w.servers n).own cell ≡ Some (record { op = number; far = far.Reserved })
+          → IsPutOn (chain_of (w.servers n) cell) new key.epoch bytes → HasChanged new
+
+    changed_by : (to : Server) (g : Gone n to) → is_off it g ≡ false → HasChanged (chain_of to cell)
+    changed_by to (Rests same) live = Stays_so (ap (λ (s : Server). chain_of s cell) same)
+    changed_by to (Works job) live = elim job.seat [
+      | inr apart ↦ Stays_so (ap (λ (o : PairState). chain_in o.store.chains cell) (job.own_is ∙ apart.same))
+      | inl seat ↦ elim (chain_so prior before.filled.opened n job.runs f on lies seat cell low serving job.done job.did job.seat) [
+        | Same e ↦ Stays_so (ap (λ (o : PairState). chain_in o.store.chains cell) job.own_is ∙ e)
+        | Own_put op is fresh p ↦ Put_own op job.runs is fresh (p.0, p.1, ap (λ (o : PairState). chain_in o.store.chains cell) job.own_is ∙ p.2)
+        | Asked_put number key version bytes hears of seconds last p ↦ Put_asked number key version bytes job.runs seat hears of seconds last
+            (p.0, p.1, ap (λ (o : PairState). chain_in o.store.chains cell) job.own_is ∙ p.2)
+      ]
+    ]
+    changed_by to (Starts_ballot ballot) live =
+        Stays_so (ap (λ (o : PairState). chain_in o.store.chains cell) ballot.own_is
+        ∙ ap (λ (s : Store). chain_in s.chains cell) (ballot_store (server_state setting w n) (w.servers n).own ballot.started))
+    changed_by to (Enters entry) live =
+        Stays_so (ap (λ (o : PairState). chain_in o.store.chains cell) entry.own_is
+        ∙ ap (λ c. chain_in c cell)
+        (settling (own_place setting w n) entry.entry (crossed (server_state setting w n) entry.entry (w.servers n).own)).chains)
+    changed_by to (Awakes asleep same) live = Stays_so (ap (λ (s : Server). chain_of s cell) same)
+    changed_by to (Raises asleep same) live = Stays_so (ap (λ (s : Server). chain_of s cell) same)
+    changed_by to (Is_blanked asleep same) live = let f : true ≡ false = live in absurd cc
+
+    -- no entry goes
+    pub has_on : (to : Server) (g : Gone n to) → is_off it g ≡ false → (epoch : ℕ) → Has (chain_of (w.servers n) cell) epoch
+        → Has (chain_of to cell) epoch
+    has_on to g live epoch has = elim (changed_by to g live) [
+      | Stays_so e ↦ subst (λ (c : Chain). Has c epoch) (sym e) has
+      | Put_own op runs is fresh p ↦ has_put (chain_of (w.servers n) cell) (chain_of to cell) op.key.epoch epoch op.bytes p has
+      | Put_asked number key version bytes runs seat hears of seconds last p ↦
+          has_put (chain_of (w.servers n) cell) (chain_of to cell) key.epoch epoch bytes p has
+    ]
+
+    -- and none comes where the cell leaves by what is chosen, or has left
+    module _ (three : 3 ≤ stage_at (chosen_state setting w) cell) where
+      not_own : (op : Pending) → (w.servers n).life.running ≡ true → at cell_cmp (w.servers n).own.pairs.pending cell ≡ Some op → ⊥
+      not_own op runs is = by_bool (is_clients op.kind)
+          (λ clients. let stays = (running_timely script front sound prior.legal n cell op runs is clients).stays in absurd (omega arith))
+          (λ fills. let one = before.filled.opened n cell op runs is fills in absurd (omega arith))
+
+      not_asked : (number : ℕ) (key : Key) (version : ℕ) (bytes : List ℕ) → (w.servers n).life.running ≡ true
+          → is_in (server_state setting w n) n (w.servers n).life.inc ≡ true → Handled w n (body.Replicate number key version bytes) → cell_of key ≡ cell
+          → is_second (server_state setting w n) n cell ≡ true
+          → last_on (w.servers n).own cell ≡ Some (record { op = number; far = far.Reserved }) → ⊥
+      not_asked number key version bytes runs seat hears of seconds last =
+          let mine = (w.servers n).log.applied in
+          let mine_top = (knows it).servers n in
+          let b = second_by (server_state setting w n) (steady_at prior mine mine_top) cell n
+          (is_the_one (second (server_state setting w n) cell) n seconds) in
+          let le = up prior mine f on lies cell in
+          let here : IsSecondAt setting w = record {
+            m = n;
+            f = mine;
+            cell = cell;
+            row = b.0.row;
+            runs = runs;
+            on = front_itself mine;
+            lies = mine_top;
+            seat = seat;
+            linked = b.0.is;
+            both = b.0.so;
+            second = b.1;
+            low = omega arith;
+          } in
+          let past = before.followed here (record {
+            letter = hears.letter;
+            number = number;
+            key = key;
+            version = version;
+            bytes = bytes;
+            is = hears.is;
+            of = of;
+            rev = hears.at;
+          }) three hears.sent in
+          let e : progress (last_on (w.servers n).own cell) ≡ number + number = ap progress last in
+          let lt = past.1 in
+          absurd (omega arith)
+
+      pub same_on : (to : Server) (g : Gone n to) → is_off it g ≡ false → chain_of to cell ≡ chain_of (w.servers n) cell
+      same_on to g live = elim (changed_by to g live) [
+        | Stays_so e ↦ e
+        | Put_own op runs is fresh p ↦ absurd (not_own op runs is)
+        | Put_asked number key version bytes runs seat hears of seconds last p ↦ absurd (not_asked number key version bytes runs seat hears of seconds last)
+      ]
+
+  -- ### The copy that counts
+
+  abbrev now_kept : ℕ → Store
+  now_kept n = kept_by setting top v n
+
+  -- what goes on to be so of the server's own store, goes on to be so of the one that counts
+  kept_from : (n : ℕ) (P : Store → Type 0) → P (kept setting w n)
+      → ((g : Gone n (v.servers n)) → is_off it g ≡ false → P (w.servers n).own.store → P (v.servers n).own.store)
+      → P (now_kept n)
+  kept_from n P was step = by (v.before_blank n) (stored it n)
+    where
+      joins : ℕ
+      joins = blank_joins_in setting top n
+
+      by : (b : Option BeforeBlank) → HasStore it n (v.servers n) b
+          → P (kept_store (blank_joins_in setting top n) b (v.servers n).own.store)
+      by b (Goes_on g live same) =
+          subst (λ o. P (kept_store (blank_joins_in setting top n) o (v.servers n).own.store)) (sym same)
+          (kept_map P (blank_joins_in setting top n) (w.before_blank n) (w.servers n).own.store (v.servers n).own.store was (step g live))
+      by b (Is_bare asleep bare same) =
+          subst (λ o. P (kept_store (blank_joins_in setting top n) o (v.servers n).own.store)) (sym same)
+          (subst P (ap (λ x. if x then kept setting w n else (v.servers n).own.store) (sym (number_itself (blank_joins_in setting top n)))) was)
+
+  module _ (n : ℕ) (cell : Cell) (low : stage_at (chosen_state setting w) cell ≤ 3) (serving : IsServing (chosen_state setting w) n cell) where
+    mine_on : IsPrefix (w.servers n).log.applied top
+    mine_on = (knows it).servers n
+
+    pub kept_has : (epoch : ℕ) → Has (chain_in (kept setting w n).chains cell) epoch → Has (chain_in (now_kept n).chains cell) epoch
+    kept_has epoch has = kept_from n (λ (s : Store). Has (chain_in s.chains cell) epoch) has
+        (λ g live was. has_on n top mine_on (front_itself top) cell low serving (v.servers n) g live epoch was)
+
+    pub kept_same : 3 ≤ stage_at (chosen_state setting w) cell → (chain : Chain) → chain_in (kept setting w n).chains cell ≡ chain
+        → chain_in (now_kept n).chains cell ≡ chain
+    kept_same three chain is = kept_from n (λ (s : Store). chain_in s.chains cell ≡ chain) is
+        (λ g live was. same_on n top mine_on (front_itself top) cell low serving three (v.servers n) g live ∙ was)

@@ -1,0 +1,152 @@
+-- A region that has moved has all that was frozen: after the Moved of a link each of its entries was told to be at the new map, and what was told
+-- so is there.
+use Rattle.std.proofs.Common.{◌≡◌, ◌≤◌, ◌++◌, ◌==◌, ℕ, List, [], ◌∷◌, length, Some, refl, sym, ap, ◌∙◌, subst, inl, inr, arith}
+use Rattle.std.specs.Prelude.{option_and_then, option_map}
+use Rattle.std.specs.Option.{option_map_or}
+use Rattle.global_tables.specs.Link.{is_link, link_at}
+use Rattle.global_tables.specs.Map.{tuple_of}
+use Rattle.global_tables.specs.Region.{link_of, region_of}
+use Rattle.global_tables.specs.declared.link.LinkRow.{LinkRow}
+use Rattle.global_tables.specs.declared.map.MapRow.{MapRow}
+use Rattle.petal_base.specs.Cells.{key_at}
+use Rattle.petal_base.specs.declared.cell.Cell.{Cell}
+use Rattle.petal_command.specs.declared.command.Command.{Command}
+use Rattle.petal_command.specs.declared.command.Command.TheVariants.{Moved}
+use Rattle.spec_state.specs.CellState.{cell_link, source}
+use Rattle.spec_state.specs.State.{links_of}
+use Rattle.spec_rules.specs.Store.{Chain}
+use Rattle.spec_rules.specs.World.{Setting, World, chosen_log}
+use Rattle.spec_rules.proofs.Tests.{both_true, none_some, same_numbers, some_or_none}
+use Rattle.spec_history.specs.Claims.{IsPrefix}
+use Rattle.law_state.specs.Homes.{HasStage, stage_at}
+use Rattle.law_state.specs.NotedLinks.{HasMovedIn}
+use Rattle.law_state.specs.Plain.{IsPlainLog}
+use Rattle.law_state.proofs.EntriesOnlyAdd.{log_plain}
+use Rattle.law_state.proofs.Homes.{row_or_none}
+use Rattle.law_state.proofs.NewMapLinks.{proper}
+use Rattle.law_state.proofs.LinksAreNoted.{log_dead}
+use Rattle.law_state.proofs.Owners.{no_home, stage_in, stage_is}
+use Rattle.law_state.proofs.ListLookups.{found_at}
+use Rattle.law_state.proofs.Steady.{below, front_plain, log_grown, log_steady, tuple_on}
+use Rattle.law_state.proofs.TwinsAreOfOneDisk.{IsMoved, goal_same, gone_twin, log_comes, log_goes}
+use Rattle.law_log.proofs.LogInHistories.{history_is_firm}
+use Rattle.law_steps.proofs.MovesAreOfComingCells.{stage_facts}
+use Rattle.law_steps.proofs.Fronts.{front_more, front_on}
+use Rattle.law_copies.proofs.PlacesByFronts.{fronts_meet}
+use Rattle.law_moves.specs.Fills.{AllFilled, AreFilled, Has, HaveComeOver, IsOnWay, WasFilled}
+use Rattle.law_epochs.proofs.EpochScenes.{Run, end_of}
+
+-- at each Moved of a link that is chosen, while a cell of the link was leaving, the new map was told to have each entry of the cell
+abbrev pub AllMoved : Setting → World → Type 0
+AllMoved setting w = (front : List Command) (region : ℕ) (old new : Cell) (row : LinkRow)
+    → IsPrefix (front ++ Moved old.map region row.link ∷ []) (chosen_log setting w) → IsOnWay setting.servers front old new row
+    → region_of old.block ≡ region → AllFilled w old new (λ epoch. Unit {0})
+
+module _ (it : Run) where
+  open it use {script, sound, records, legal}
+  open end_of it use {setting, w, chosen, By}
+
+  pub all_plain : IsPlainLog script.servers chosen
+  all_plain = (history_is_firm script records sound legal).plain
+
+  pub plain : (log : List Command) → IsPrefix log chosen → IsPlainLog script.servers log
+  plain log lies = front_plain script.servers log chosen all_plain lies
+
+  pub facts : (log : List Command) → IsPrefix log chosen → (cell : Cell) → HasStage (By log) cell
+  facts log lies cell = stage_facts script.servers log (plain log lies) cell
+
+  -- ### The link of a cell
+
+  -- the number of a cell's link
+  abbrev pub slot : Cell → ℕ
+  slot cell = link_of (links_of (By chosen) cell.map) cell.block
+
+  pub link_slot : (log : List Command) → IsPrefix log chosen → (cell : Cell) (row : LinkRow) → cell_link (By log) cell ≡ Some row → row.link ≡ slot cell
+  link_slot log lies cell row is = elim (some_or_none (tuple_of (By log).maps cell.map)) [
+    | inl h ↦ (
+        let at = found_at (is_link cell.map (link_of (length h.0) cell.block)) (By log).links row
+        (sym (ap (option_and_then (λ ids. link_at (By log).links cell.map (link_of (length ids) cell.block))) h.1) ∙ is) in
+        let later = tuple_on script.servers (By log) (By chosen) (log_plain script.servers log (plain log lies)) (log_plain script.servers chosen all_plain)
+        (log_grown script.servers log chosen all_plain lies) cell.map h.0 h.1 in
+        same_numbers row.link (link_of (length h.0) cell.block) (both_true (row.map == cell.map) (row.link == link_of (length h.0) cell.block) at.2).1
+        ∙ ap (λ o. link_of (option_map_or length o 0) cell.block) (sym later))
+    | inr none ↦ none_some (ap (option_and_then (λ ids. link_at (By log).links cell.map (link_of (length ids) cell.block))) none) is
+  ]
+
+  -- the Moved of the cell's own link, while the cell was leaving
+  pub record HasMovedOwn (old : Cell) : Type 0 where
+    pub until : List Command
+    pub row : LinkRow
+    pub stands : IsPrefix (until ++ Moved old.map (region_of old.block) row.link ∷ []) chosen
+    pub leaves : stage_at (By until) old ≡ 3
+    pub linked : cell_link (By until) old ≡ Some row
+
+  pub until_lies : (until : List Command) (entry : Command) → IsPrefix (until ++ entry ∷ []) chosen → IsPrefix until chosen
+  until_lies until entry stands = front_on until (until ++ entry ∷ []) chosen (front_more until entry) stands
+
+  pub on_own_link : (old : Cell) (link : ℕ) → HasMovedIn script.servers chosen old link → link ≡ slot old → HasMovedOwn old
+  on_own_link old link m is =
+      let lies = until_lies m.until (Moved old.map (region_of old.block) link) m.stands in
+      let three = m.leaves in
+      let h = (log_steady script.servers m.until (plain m.until lies)).lives old ((facts m.until lies old).alive (omega arith) (omega arith)) in
+      let same : link ≡ h.row.link = is ∙ sym (link_slot m.until lies old h.row h.is) in
+      record {
+        until = m.until;
+        row = h.row;
+        stands = subst (λ k. IsPrefix (m.until ++ Moved old.map (region_of old.block) k ∷ []) chosen) same m.stands;
+        leaves = m.leaves;
+        linked = h.is;
+      }
+
+  -- there was one of each cell that is dead
+  pub dead_moved : (old : Cell) → stage_at (By chosen) old ≡ 4 → HasMovedOwn old
+  dead_moved old four =
+      let p = log_plain script.servers chosen all_plain in
+      elim (row_or_none (By chosen) p.rows p.homes old) [
+        | inr none ↦
+            let zero_too : stage_at (By chosen) old ≡ 0 =
+            stage_is (By chosen) p.rows p.homes old ∙ ap (stage_in old) (no_home (By chosen) p.rows p.homes old.map none) in
+            absurd (omega arith)
+        | inl h ↦
+            let tuple : tuple_of (By chosen).maps old.map ≡ Some h.m.tuple = ap (option_map (λ (m : MapRow). m.tuple)) h.known in
+            let many : links_of (By chosen) old.map ≡ length h.m.tuple = ap (λ o. option_map_or length o 0) tuple in
+            let two = (proper script.servers h.m.tuple (p.tuples old.map h.m.tuple tuple)).two in
+            on_own_link old (slot old) (log_dead script.servers chosen old (slot old) all_plain four
+            (below old.block (links_of (By chosen) old.map) (omega arith))) refl
+      ]
+
+  -- ### The two cells of a move
+
+  -- by any two fronts an old cell goes to one new cell
+  pub one_goal : (a b : List Command) → IsPrefix a chosen → IsPrefix b chosen → (old new goal : Cell) → IsMoved (By a) old new → IsMoved (By b) old goal
+      → goal ≡ new
+  one_goal a b one two old new goal first second = elim (fronts_meet a b chosen one two) [
+    | inl on ↦ goal_same script.servers a b (plain b two) on old new goal first second
+    | inr back ↦ sym (goal_same script.servers b a (plain a one) back old goal new second first)
+  ]
+
+  -- ### What has come over
+
+  module _ (all_moved : AllMoved setting w) where
+    pub moved_filled : (old new : Cell) → HasMovedOwn old → (front : List Command) → IsPrefix front chosen → IsMoved (By front) old new
+        → (before : Chain) (epoch : ℕ) → w.frozen old ≡ Some before → Has before epoch → WasFilled w (key_at new epoch)
+    moved_filled old new m front lies is before epoch frozen has =
+        let until = until_lies m.until (Moved old.map (region_of old.block) m.row.link) m.stands in
+        let goes = (facts m.until until old).targets m.leaves in
+        let same = one_goal front m.until lies until old new goes.0 is (log_goes script.servers m.until (plain m.until until) old goes.0 goes.1) in
+        all_moved m.until (region_of old.block) old new m.row m.stands
+        (record { stage = m.leaves; to = goes.1 ∙ ap Some same; linked = m.linked }) refl before epoch frozen has tt
+
+    -- where the new cell is there, each frozen entry was told to be
+    pub over_told : (old new : Cell) (front : List Command) → IsPrefix front chosen → source (By front) new ≡ Some old → 2 ≤ stage_at (By chosen) new
+        → (before : Chain) (epoch : ℕ) → w.frozen old ≡ Some before → Has before epoch → WasFilled w (key_at new epoch)
+    over_told old new front lies comes two before epoch frozen has =
+        let m = log_comes script.servers front (plain front lies) old new comes in
+        moved_filled old new (dead_moved old (gone_twin script.servers front chosen all_plain lies old new m two)) front lies m before epoch frozen has
+
+  pub come_over : AreFilled setting w → HaveComeOver setting w
+  come_over filled cell two three = record {
+    all = λ n epoch before old front lies comes frozen serving has.
+        let told = over_told filled.moved old cell front lies comes two before epoch frozen has in
+        (filled.filled (key_at cell epoch) told).now n (omega arith) three serving;
+  }

@@ -1,0 +1,163 @@
+-- A Moved that is chosen was wanted by a server that had nothing left of its link: what the server had is what was frozen, and of all of it the
+-- server was told that the new map has it.
+use Rattle.std.proofs.Common.{◌≡◌, ◌++◌, ◌&&◌, ℕ, List, [], ◌∷◌, true, false, Option, Some, None, refl, sym, ap, ◌∙◌, subst}
+use Rattle.std.specs.Prelude.{is_some, option_and_then}
+use Rattle.std.specs.Option.{option_map_or}
+use Rattle.std.specs.Ordering.{nat_cmp}
+use Rattle.global_tables.specs.Link.{is_link}
+use Rattle.global_tables.specs.Region.{region_of}
+use Rattle.global_tables.specs.declared.link.LinkRow.{LinkRow}
+use Rattle.petal_base.specs.Cells.{key_at}
+use Rattle.petal_base.specs.declared.cell.Cell.{Cell}
+use Rattle.petal_base.specs.declared.cell.Key.{Key}
+use Rattle.petal_command.specs.declared.command.Command.{Command}
+use Rattle.petal_command.specs.declared.command.Command.TheVariants.{Moved}
+use Rattle.petal_msg.specs.declared.letter.Letter.{Letter}
+use Rattle.petal_table.specs.Table.{at}
+use Rattle.script_lines.specs.declared.script.Script.{Script}
+use Rattle.spec_state.specs.CellState.{region_leaving, row_lead}
+use Rattle.spec_state.specs.Role.{is_the}
+use Rattle.spec_rules.specs.Fills.{next_fill, not_noted, region_to_move}
+use Rattle.spec_rules.specs.Lists.{In}
+use Rattle.spec_rules.specs.Server.{PairState}
+use Rattle.spec_rules.specs.State.{State, is_in, link_named}
+use Rattle.spec_rules.specs.Store.{Chain, chain_in}
+use Rattle.spec_rules.specs.World.{Setting, World, chosen_log, chosen_state}
+use Rattle.spec_rules.proofs.ListLemmas.{in_later}
+use Rattle.spec_rules.proofs.Tests.{by_test, is_the_one, none_some, number_itself, same_some}
+use Rattle.spec_history.specs.Claims.{IsPrefix}
+use Rattle.spec_history.specs.Steps.{AreSteps}
+use Rattle.spec_history.specs.Sound.{IsSound}
+use Rattle.spec_history.specs.declared.record.Record.{Record}
+use Rattle.law_state.specs.LaterStates.{IsServing}
+use Rattle.law_state.specs.Firm.{Firm}
+use Rattle.law_state.proofs.EntriesOnlyAdd.{log_plain}
+use Rattle.law_state.proofs.Steady.{log_steady}
+use Rattle.law_state.proofs.EntriesTouchLinks.{map_of}
+use Rattle.law_log.specs.ProposedCommands.{WasMoving}
+use Rattle.law_log.proofs.LogInHistories.{history_is_firm, moved_was_wanted}
+use Rattle.law_steps.specs.DidStep.{Happens, Serves, Blanks, Turns}
+use Rattle.law_steps.proofs.Fronts.{below_itself, front_itself}
+use Rattle.law_steps.proofs.CopiesRest.{row_named}
+use Rattle.law_jobs.proofs.Runs.{At, before_part, after, happened_in, longer, run_of, setting_in, since}
+use Rattle.law_moves.specs.Fills.{AllFilled, IsOnWay, WasFilled}
+use Rattle.law_moves.specs.LeftToMove.{IsKept, IsKnown, IsOurs}
+use Rattle.law_moves.proofs.FrozenIsWhatCounted.{frozen_stays}
+use Rattle.law_moves.proofs.AllKeptOfMoves.{Known}
+use Rattle.law_moves.proofs.NextFill.{none_left, nothing_left}
+use Rattle.law_moves.proofs.MovedRegionsHaveAll.{AllMoved, plain, until_lies}
+use Rattle.law_moves.proofs.ServersOfLinks.{link_lead_serves}
+use Rattle.law_epochs.proofs.EpochScenes.{Run, end_of}
+
+-- ### Letters stay
+
+still_sent : (setting : Setting) (state : State) (w v : World) → Happens setting state w v → (letter : Letter) → In letter w.sent → In letter v.sent
+still_sent setting state w _ (Serves n stamp what acted lt within unblanked serving) letter i = in_later letter _ w.sent i
+still_sent setting state w _ (Blanks n stamp lt within asleep) letter i = i
+still_sent setting state w _ (Turns c stamp in_call reacted lt within turned onward) letter i = in_later letter _ w.sent i
+
+pub sent_stays : (script : Script) (front back : List Record) → IsSound script → AreSteps script (front ++ back) → (letter : Letter)
+    → In letter (At script front).sent → In letter (At script (front ++ back)).sent
+sent_stays script front back sound legal letter i =
+    since (λ run. In letter (after run).sent) (λ it old.
+    let state = chosen_state (setting_in it.prior) (after (longer it)) in
+    still_sent (setting_in it.prior) state (after it.prior) (after (longer it)) (happened_in it state (below_itself state)) letter old)
+    (run_of script sound (front ++ back) legal) front back refl (λ part. i)
+
+pub filled_stays : (script : Script) (front back : List Record) → IsSound script → AreSteps script (front ++ back) → (key : Key)
+    → WasFilled (At script front) key → WasFilled (At script (front ++ back)) key
+filled_stays script front back sound legal key was =
+    record { letter = was.letter; sent = sent_stays script front back sound legal was.letter was.sent; is = was.is }
+
+-- ### Who moves a link leads it
+
+pub mover_leads : (state : State) (me region : ℕ) (row : LinkRow) → region_to_move state me row ≡ Some region → is_the (row_lead state row) me ≡ true
+mover_leads state me region row =
+    by_test (λ (o : Option ℕ). o ≡ Some region → is_the (row_lead state row) me ≡ true) (is_the (row_lead state row) me)
+    (not_noted state row (region_leaving state row.map)) None (λ leads e. leads) (λ other e. none_some refl e)
+
+module _ (it : Run)
+    (known : (before : List Record) (own : Record) (later : List Record) → it.records ≡ before ++ own ∷ later → Known it.script before) where
+  open it use {script, sound, records, legal}
+  open end_of it use {setting, w, By}
+
+  module _ (front : List Command) (old new : Cell) (row : LinkRow)
+      (stands : IsPrefix (front ++ Moved old.map (region_of old.block) row.link ∷ []) (chosen_log setting w))
+      (way : IsOnWay script.servers front old new row) where
+    pub was : WasMoving setting records front old.map (region_of old.block) row.link
+    was = moved_was_wanted script records sound legal front old.map (region_of old.block) row.link stands
+
+    abbrev before : List Record
+    before = was.before
+
+    abbrev later : List Record
+    later = was.own ∷ was.later
+
+    whole : AreSteps script (before ++ later)
+    whole = subst (AreSteps script) was.is legal
+
+    then_legal : AreSteps script before
+    then_legal = before_part script before later whole
+
+    abbrev past : World
+    past = At script before
+
+    abbrev own : PairState
+    own = (past.servers was.server).own
+
+    then_firm : Firm setting past
+    then_firm = history_is_firm script before sound then_legal
+
+    front_chosen : IsPrefix front (chosen_log setting past)
+    front_chosen = subst (λ log. IsPrefix log (chosen_log setting past)) was.at (then_firm.servers was.server)
+
+    -- the row is the cell's
+    one_row : was.row ≡ row
+    one_row =
+        let map_is = map_of script.servers (By front)
+        (log_plain script.servers front (plain it front (until_lies it front _ stands))) old row way.linked in
+        same_some (sym was.linked ∙ ap (λ k. link_named (By front) (record { map = k; link = row.link })) (sym map_is)
+        ∙ row_named (By front) old row way.linked)
+
+    serving : IsServing (By front) was.server old
+    serving =
+        let leads = mover_leads (By front) was.server (region_of old.block) was.row was.moves in
+        link_lead_serves (By front)
+        (log_steady script.servers front (plain it front (until_lies it front _ stands))) old was.server
+        (ap (option_and_then (row_lead (By front))) (way.linked ∙ ap Some (sym one_row)) ∙ is_the_one (row_lead (By front) was.row) was.server leads)
+
+    -- what it had was frozen
+    had : past.frozen old ≡ Some (chain_in own.store.chains old)
+    had = (known before was.own was.later was.is).still.own was.server front old was.runs
+        (subst (λ log. IsPrefix log front) (sym was.at) (front_itself front)) front_chosen
+        (subst (λ i. is_in (By front) was.server i ≡ true) (sym was.lives) was.seated) way.stage serving
+
+    pub had_now : w.frozen old ≡ Some (chain_in own.store.chains old)
+    had_now = subst (λ rs. (At script rs).frozen old ≡ Some (chain_in own.store.chains old)) (sym was.is)
+        (frozen_stays script before later old (chain_in own.store.chains old) sound whole had)
+
+    ours : IsOurs (By front) row (region_of old.block) old
+    ours = record {
+      on = ap (λ o. option_map_or (is_link row.map row.link) o false) way.linked ∙ (λ i. number_itself row.map i && number_itself row.link i);
+      of = refl;
+    }
+
+    -- and of all of it it was told
+    told_of : (epoch : ℕ) → IsKept own old epoch → IsKnown row (region_of old.block) own (key_at old epoch)
+    told_of epoch kept =
+        none_left (By front) row (region_of old.block) own
+        (subst (λ (r : LinkRow). next_fill (By front) r (region_of old.block) own ≡ None) one_row
+        (nothing_left (By front) was.server (region_of old.block) was.row own was.moves was.left)) old epoch ours kept
+
+    all_told : AllFilled w old new (λ epoch. Unit {0})
+    all_told chain epoch frozen has so =
+        let same : chain_in own.store.chains old ≡ chain = same_some (sym had_now ∙ frozen) in
+        let kept : IsKept own old epoch = subst (λ (c : Chain). is_some (at nat_cmp c epoch) ≡ true) (sym same) has in
+        let k = told_of epoch kept in
+        let filled = (known before was.own was.later was.is).filled.told was.server front old new row k.until was.runs front_chosen way k.is
+        (chain_in own.store.chains old) epoch had kept (record { region = sym k.of; so = k.so }) in
+        subst (λ rs. WasFilled (At script rs) (key_at new epoch)) (sym was.is) (filled_stays script before later sound whole (key_at new epoch) filled)
+
+  pub moved_all : AllMoved setting w
+  moved_all front region old new row stands way same =
+      all_told front old new row (subst (λ r. IsPrefix (front ++ Moved old.map r row.link ∷ []) (chosen_log setting w)) (sym same) stands) way

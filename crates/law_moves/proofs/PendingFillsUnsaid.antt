@@ -1,0 +1,154 @@
+-- A fill that a server had pending when it was last at the place that the cell's link has by what is chosen: no letter says that its entry is there.
+use Rattle.std.proofs.Common.{◌≡◌, ◌++◌, ℕ, true, List, [], ◌∷◌, Some}
+use Rattle.std.proofs.Common.{refl, sym, ap, ◌∙◌, subst, inl, inr, append_assoc}
+use Rattle.std.proofs.lemmas.List.{append-nil}
+use Rattle.petal_base.specs.declared.cell.Cell.{Cell}
+use Rattle.petal_command.specs.declared.command.Command.{Command}
+use Rattle.petal_table.specs.Table.{at}
+use Rattle.petal_table.proofs.Rows.{at-empty}
+use Rattle.petal_msg.specs.declared.body.Body.TheVariants as body
+use Rattle.petal_msg.specs.declared.letter.Letter.{Letter}
+use Rattle.spec_rules.specs.Boots.{raised}
+use Rattle.spec_rules.specs.Crossing.{crossed}
+use Rattle.spec_rules.specs.Server.{PairState, Pairs, Server}
+use Rattle.spec_rules.specs.Store.{cell_cmp}
+use Rattle.spec_rules.specs.World.{server_state}
+use Rattle.spec_rules.specs.Writes.{is_clients}
+use Rattle.spec_rules.proofs.Settled.{settling}
+use Rattle.spec_rules.proofs.Tests.{none_some, same_or_apart, true_false}
+use Rattle.spec_history.specs.declared.record.Record.{Record}
+use Rattle.law_steps.specs.DidStep.{Handled, own_place}
+use Rattle.law_steps.proofs.FillsByJobs.{Fills, Stood, Writes, did_come}
+use Rattle.law_steps.proofs.KindsInHistories.{proposed_pairs}
+use Rattle.law_steps.proofs.Records.{split_last}
+use Rattle.law_jobs.proofs.Runs.{At}
+use Rattle.law_copies.specs.Visits.{WasThere, is_at}
+use Rattle.law_copies.proofs.VisitsAfterSteps.{at_by}
+use Rattle.law_moves.specs.Fills.{WasFilled}
+use Rattle.law_moves.proofs.LeavingCellsGainNothing.{before}
+use Rattle.law_moves.proofs.AllKeptOfMoves.{AreUnsaid, Known, WereKnown}
+use Rattle.law_moves.proofs.PendingFills.{by_itself, new_unsaid, posted_says}
+use Rattle.law_moves.proofs.PlacesAreVisits.{same_rest}
+use Rattle.law_moves.proofs.StepsTellEntries.{Awakes, Before, Enters, HasGone, IsPosted, Is_blanked, Other, Posted, Raises, Rests, Starts_ballot, Works}
+use Rattle.law_moves.proofs.StepsTellEntries.{gone, not_new, sent, mine_whole}
+use Rattle.law_moves.proofs.ToldEntriesAreThere.{no_other}
+use Rattle.law_moves.proofs.PendingFillsUnsaidByStep.{unsaid_new, unsaid_there}
+use Rattle.law_epochs.proofs.EpochScenes.{OneMore, ends_of}
+use Rattle.law_moves.proofs.MoveScenes.{FillAtPlace}
+
+module _ (it : OneMore) (all : WereKnown it) where
+  open it use {prior.{script, records as front}, own}
+  open ends_of it use {setting, w, records, v, whole}
+
+  known : Known script front
+  known = before it all
+
+  abbrev mine : ℕ → List Command
+  mine n = (w.servers n).log.applied
+
+  -- ### Where the server was before the step
+
+  earlier : (n place : ℕ) (cell : Cell) (pairs : Pairs) (was : WasThere setting records n place cell pairs) (rest : List Record) → front ≡ was.before ++ rest
+      → WasThere setting front n place cell pairs
+  earlier n place cell pairs was rest e =
+      let same : was.later ≡ rest ++ own ∷ [] =
+      same_rest was.before was.later (rest ++ own ∷ []) (sym was.is ∙ ap (λ rs. rs ++ own ∷ []) e ∙ append_assoc was.before rest (own ∷ [])) in
+      record {
+        before = was.before;
+        later = rest;
+        is = e;
+        there = was.there;
+        had = was.had;
+        since = λ a b s there. was.since a (b ++ own ∷ []) (same ∙ ap (λ rs. rs ++ own ∷ []) s ∙ append_assoc a b (own ∷ [])) there;
+      }
+
+  none_before : (a b : List Record) → [] ≡ a ++ b → a ≡ []
+  none_before [] b e = refl
+  none_before (x ∷ a) b e = cc
+
+  -- one that was as it is
+  as_now : (n place : ℕ) (cell : Cell) (pairs : Pairs) → is_at setting n (w.servers n) place cell ≡ true → (w.servers n).own.pairs ≡ pairs
+      → WasThere setting front n place cell pairs
+  as_now n place cell pairs there had = record {
+    before = front;
+    later = [];
+    is = sym (append-nil front);
+    there = there;
+    had = had;
+    since = λ a b s at. ap (λ rs. ((At script rs).servers n).own.pairs) (ap (λ rs. front ++ rs) (none_before a b s) ∙ append-nil front) ∙ had;
+  }
+
+  -- ### A server that was at the link's place, with a fill pending
+
+  module _ (a : FillAtPlace setting whole) where
+    open a use {n, place, cell, pairs, op, is, fills}
+
+    unsaid_was : WasThere setting front n place cell pairs → WasFilled w op.key → ⊥
+    unsaid_was = unsaid_there it all a
+
+    module _ (was : WasThere setting records n place cell pairs) where
+      -- it is so now
+      end_by : (to : Server) → HasGone it n to → is_at setting n to place cell ≡ true → to.own.pairs ≡ pairs → WasFilled w op.key → ⊥
+      end_by to (Rests same) there had told =
+          unsaid_was (as_now n place cell pairs (ap (λ (s : Server). is_at setting n s place cell) (sym same) ∙ there)
+          (ap (λ (s : Server). s.own.pairs) (sym same) ∙ had)) told
+      end_by to (Works job) there had told = elim (did_come (Handled w n) (own_place setting w n) (w.servers n).own job.done job.did cell op
+          (ap (λ (o : PairState). at cell_cmp o.pairs.pending cell) (sym job.own_is) ∙ ap (λ (q : Pairs). at cell_cmp q.pending cell) had ∙ is)) [
+            | Stood stood ↦ known.filled.unsaid n cell stood.was job.runs stood.is (ap is_clients stood.same.kind ∙ fills)
+                (subst (WasFilled w) (sym stood.same.key) told)
+            | Writes write ↦ true_false (ap is_clients write) fills
+            | Fills o ↦ new_unsaid it all n cell op job.runs o (subst (WasFilled w) o.key told)
+          ]
+      end_by to (Starts_ballot ballot) there had told =
+          known.filled.unsaid n cell op ballot.runs (ap (λ (q : Pairs). at cell_cmp q.pending cell)
+          (sym (proposed_pairs (server_state setting w n) (w.servers n).own ballot.started) ∙ ap (λ (o : PairState). o.pairs) (sym ballot.own_is) ∙ had)
+          ∙ is) fills told
+      end_by to (Enters entry) there had told =
+          known.filled.unsaid n cell op entry.runs (ap (λ (q : Pairs). at cell_cmp q.pending cell)
+          (sym (settling (own_place setting w n) entry.entry (crossed (server_state setting w n) entry.entry (w.servers n).own)).pairs
+          ∙ ap (λ (o : PairState). o.pairs) (sym entry.own_is) ∙ had) ∙ is) fills told
+      end_by to (Awakes asleep same) there had told =
+          none_some (at-empty cell_cmp cell) (ap (λ (s : Server). at cell_cmp s.own.pairs.pending cell) (sym same)
+          ∙ ap (λ (q : Pairs). at cell_cmp q.pending cell) had ∙ is)
+      end_by to (Raises asleep same) there had told =
+          not_new it n (mine n) (mine_whole it n)
+          (at_by setting n (raised (w.servers n)) place cell (ap (λ (s : Server). is_at setting n s place cell) (sym same) ∙ there)).seat
+      end_by to (Is_blanked asleep same) there had told =
+          unsaid_was (as_now n place cell pairs (ap (λ (s : Server). is_at setting n s place cell) (sym same) ∙ there)
+          (ap (λ (s : Server). s.own.pairs) (sym same) ∙ had)) told
+
+      pub unsaid_old : WasFilled w op.key → ⊥
+      unsaid_old told = elim (split_last front own was.before was.later was.is) [
+        | inl e ↦ end_by (v.servers n) (gone it n)
+            (subst (λ rs. is_at setting n ((At script rs).servers n) place cell ≡ true) e was.there)
+            (ap (λ rs. ((At script rs).servers n).own.pairs) (sym e) ∙ was.had) told
+        | inr more ↦ unsaid_was (earlier n place cell pairs was more.0 more.1) told
+      ]
+
+      pub unsaid_posted : (letter : Letter) → letter.body ≡ body.Filled op.key → IsPosted it letter → ⊥
+      unsaid_posted letter said p = elim (split_last front own was.before was.later was.is) [
+        | inl e ↦
+            let there : is_at setting n (v.servers n) place cell ≡ true =
+            subst (λ rs. is_at setting n ((At script rs).servers n) place cell ≡ true) e was.there in
+            let had : (v.servers n).own.pairs ≡ pairs = ap (λ rs. ((At script rs).servers n).own.pairs) (sym e) ∙ was.had in
+            let pending : at cell_cmp (v.servers n).own.pairs.pending cell ≡ Some op = ap (λ (q : Pairs). at cell_cmp q.pending cell) had ∙ is in
+            elim (same_or_apart n p.n) [
+              | inl itself ↦ by_itself it all n cell op pending fills letter said p itself
+                  (posted_says it all letter p)
+              | inr apart ↦ unsaid_new it all a
+                  (as_now n place cell pairs (ap (λ (s : Server). is_at setting n s place cell) (sym (p.others n apart)) ∙ there)
+                  (ap (λ (s : Server). s.own.pairs) (sym (p.others n apart)) ∙ had)) letter said p (λ so. pending)
+            ]
+        | inr more ↦ unsaid_new it all a
+            (earlier n place cell pairs was more.0 more.1) letter said p (λ there.
+            ap (λ (q : Pairs). at cell_cmp q.pending cell) (ap (λ rs. ((At script rs).servers n).own.pairs) was.is
+            ∙ was.since was.later [] (sym (append-nil was.later)) (subst (λ rs. is_at setting n ((At script rs).servers n) place cell ≡ true) was.is there))
+            ∙ is)
+      ]
+
+  pub unsaid_at : AreUnsaid setting records v
+  unsaid_at a was told = elim (sent it told.letter told.sent) [
+    | Before i ↦ unsaid_old a was (record { letter = told.letter; sent = i; is = told.is })
+    | Posted p ↦ unsaid_posted a was told.letter told.is p
+    | Other e ↦ no_other it all told.letter a.op.key told.is e
+  ]

@@ -1,0 +1,23 @@
+-- The copies of a cell that is leaving: whoever serves its link has what was frozen when its region's fence took effect.
+use Rattle.std.specs.Prelude.{◌≡◌, ◌≤◌, ℕ, true, List, Some, None}
+use Rattle.petal_base.specs.declared.cell.Cell.{Cell}
+use Rattle.petal_command.specs.declared.command.Command.{Command}
+use Rattle.spec_history.specs.Claims.{IsPrefix}
+use Rattle.spec_state.specs.Command.{state_after}
+use Rattle.spec_rules.specs.State.{is_in}
+use Rattle.spec_rules.specs.Store.{chain_in}
+use Rattle.spec_rules.specs.World.{Setting, World, chosen_log, chosen_state, kept}
+use Rattle.law_state.specs.LaterStates.{IsServing}
+use Rattle.law_state.specs.Homes.{stage_at}
+
+pub record AreStill (setting : Setting) (w : World) : Type 0 where
+  -- by what is chosen: each copy that counts
+  pub now : (n : ℕ) (cell : Cell) → stage_at (chosen_state setting w) cell ≡ 3 → IsServing (chosen_state setting w) n cell
+      → w.frozen cell ≡ Some (chain_in (kept setting w n).chains cell)
+  -- and of a server that runs, by each front from its own on by which it is In as itself and serves the link, also where the cell is dead since
+  pub own : (n : ℕ) (front : List Command) (cell : Cell) → (w.servers n).life.running ≡ true → IsPrefix (w.servers n).log.applied front
+      → IsPrefix front (chosen_log setting w) → is_in (state_after setting.servers front) n (w.servers n).life.inc ≡ true
+      → stage_at (state_after setting.servers front) cell ≡ 3 → IsServing (state_after setting.servers front) n cell
+      → w.frozen cell ≡ Some (chain_in (w.servers n).own.store.chains cell)
+  -- nothing is frozen before
+  pub early : (cell : Cell) → stage_at (chosen_state setting w) cell ≤ 2 → w.frozen cell ≡ None

@@ -1,0 +1,44 @@
+-- A client's write that is pending on a cell of which the active fence holds the writes keeps its server from a report.
+use Rattle.std.proofs.Common.{◌≡◌, ◌||◌, ◌&&◌, [], ◌∷◌, Bool, true, cond, Some, refl, sym, ap, ◌∙◌, subst}
+use Rattle.std.specs.List.{list_any}
+use Rattle.std.specs.BTreeMap.{is_at}
+use Rattle.std.specs.Map.{lookup}
+use Rattle.std.specs.Ordering.{is_eq}
+use Rattle.std.specs.declared.cmp.Ordering.{Ordering}
+use Rattle.std.specs.declared.cmp.Ordering.TheVariants.{Less, Equal, Greater}
+use Rattle.petal_base.specs.declared.cell.Cell.{Cell}
+use Rattle.petal_table.specs.Table.{Table, at}
+use Rattle.petal_msg.specs.declared.operation.Pending.{Pending}
+use Rattle.spec_rules.specs.Draining.{has_held_write}
+use Rattle.spec_rules.specs.Server.{PairState}
+use Rattle.spec_rules.specs.State.{State, held}
+use Rattle.spec_rules.specs.Store.{cell_cmp}
+use Rattle.spec_rules.specs.Writes.{is_clients, is_writes_held}
+use Rattle.spec_rules.proofs.CellTables.{cell_cmp_same}
+use Rattle.spec_rules.proofs.Tests.{by_bool, none_some, same_some}
+
+tied : (r : Ordering) → is_eq r ≡ true → r ≡ Equal
+tied Less e = cc
+tied Equal e = refl
+tied Greater e = cc
+
+-- a test that holds of what stands at the key holds of some row
+pub any_at : {K X : Type 0} (R : K → K → Ordering) (p : K × X → Bool) (t : Table K X) (k : K) (x : X) → at R t k ≡ Some x
+    → ((key : K) → R k key ≡ Equal → p (key, x) ≡ true) → list_any p t ≡ true
+unfolding at
+any_at R p [] k x is so = none_some refl is
+any_at {K} {X} R p (e ∷ es) k x is so = by_bool (is_eq (R k e.0))
+    (λ here.
+    let same : e.1 ≡ x = same_some (sym (ap (λ b. cond b (Some e.1) (lookup (is_at (R k)) es)) here) ∙ is) in
+    let holds : p (e.0, e.1) ≡ true = subst (λ (y : X). p (e.0, y) ≡ true) (sym same) (so e.0 (tied (R k e.0) here)) in
+    ap (λ b. b || list_any p es) holds)
+    (λ following.
+    let later = any_at R p es k x (sym (ap (λ b. cond b (Some e.1) (lookup (is_at (R k)) es)) following) ∙ is) so in
+    by_bool (p e) (λ on. ap (λ b. b || list_any p es) on) (λ off. ap (λ b. b || list_any p es) off ∙ later))
+
+pub held_write : (state : State) (own : PairState) (cell : Cell) (op : Pending) → at cell_cmp own.pairs.pending cell ≡ Some op → is_clients op.kind ≡ true
+    → is_writes_held (held state cell) ≡ true → has_held_write state own ≡ true
+held_write state own cell op is clients holds =
+    any_at cell_cmp (λ (row : Cell × Pending). is_clients row.1.kind && is_writes_held (held state row.0)) own.pairs.pending cell op is
+    (λ key tie. ap (λ b. b && is_writes_held (held state key)) clients
+    ∙ subst (λ (q : Cell). is_writes_held (held state q) ≡ true) (cell_cmp_same cell key tie) holds)

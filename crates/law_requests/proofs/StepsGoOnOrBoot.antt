@@ -1,0 +1,234 @@
+-- What a step leaves of the server that takes it, as requests need it: it goes on as it was, or boots, and what it has pending is known of.
+use Rattle.std.proofs.Common.{◌≡◌, ◌≤◌, ◌<◌, ◌+◌, ℕ, [], ◌∷◌, true, false, Some, refl, ap, sym, ◌∙◌, subst, inl, inr, arith}
+use Rattle.std.specs.Option.{option_map_or}
+use Rattle.std.specs.Ordering.{nat_cmp}
+use Rattle.petal_base.specs.declared.cell.Cell.{Cell}
+use Rattle.petal_table.specs.Table.{at}
+use Rattle.petal_table.proofs.Rows.{at-empty}
+use Rattle.petal_command.specs.declared.command.Command.{Command}
+use Rattle.petal_msg.specs.declared.copying.Progress.{Progress}
+use Rattle.petal_msg.specs.declared.operation.Pending.{Pending}
+use Rattle.spec_state.specs.Command.{state_after}
+use Rattle.spec_history.specs.Claims.{IsPrefix}
+use Rattle.spec_rules.specs.Boots.{awake, blanked, raised}
+use Rattle.spec_rules.specs.Crossing.{crossed, settled_by}
+use Rattle.spec_rules.specs.Jobs.{Acted}
+use Rattle.spec_rules.specs.Lists.{In}
+use Rattle.spec_rules.specs.Log.{Log, state_in}
+use Rattle.spec_rules.specs.Server.{PairState, Copies, Pairs, Server, JobResult, no_pairs}
+use Rattle.spec_rules.specs.State.{id_of, is_in, link_cmp}
+use Rattle.spec_rules.specs.Store.{cell_cmp}
+use Rattle.spec_rules.specs.Writes.{Wanted}
+use Rattle.spec_rules.specs.World.{chosen_log, server_state}
+use Rattle.spec_rules.specs.declared.step.Step.{Step}
+use Rattle.spec_rules.proofs.Settled.{settling}
+use Rattle.spec_rules.proofs.Tests.{none_some, true_false}
+use Rattle.law_state.specs.Plain.{IsPlainLog}
+use Rattle.law_state.specs.StartedBallots.{is_flagged}
+use Rattle.law_state.proofs.Steady.{front_plain}
+use Rattle.law_steps.specs.DidStep.{Serving, Goes, Ends, Stays, Wakes, Fails, Worked, By_job, By_ballot}
+use Rattle.law_steps.specs.DidStep.{By_entry, served_so, stopped_so, own_place}
+use Rattle.law_steps.specs.Operations.{done_to}
+use Rattle.law_steps.specs.Ready.{Ready}
+use Rattle.law_steps.specs.WakingServers.{AllMayWake}
+use Rattle.law_steps.proofs.Fronts.{front_itself, front_on, front_same}
+use Rattle.law_steps.proofs.KindsInHistories.{own_plain, runs_at}
+use Rattle.law_steps.proofs.KindsInHistories.{proposed_pairs}
+use Rattle.law_steps.proofs.Restages.{was_same}
+use Rattle.law_requests.specs.KnownRequests.{LedBy, done_by, IsLedAlong}
+use Rattle.law_requests.specs.KnownRequests.{asked_for, IsUsed, Has_pending, Has_finished}
+use Rattle.law_requests.proofs.EndedRequestsLeaveNothing.{bound_now, pending_new, rises}
+use Rattle.law_requests.proofs.ServerStepsKeepRequests.{Scene, IsSettled, IsStepped}
+use Rattle.law_requests.proofs.LeadJobsKeepRequests.{Shows, job_tells, kept_tells}
+use Rattle.law_requests.proofs.RequestsKnownLater.{one_log}
+use Rattle.law_requests.proofs.IncarnationsGoOn.{Goes_on, Begins}
+use Rattle.law_requests.proofs.BallotsStayInMind.{worked_flags}
+use Rattle.law_requests.proofs.OpenWhileRunning.{PendingHere, here_along, here_led, pending_here, remembers_running}
+
+module _ (scene : Scene) (ready : Ready scene.setting scene.state scene.w) (n stamp : ℕ) (what : Step) where
+  open scene use {setting, w, lives, asking}
+
+  -- what an entry leaves of the server's own part
+  abbrev entered : Command → PairState
+  entered entry = settled_by (own_place setting w n) entry (crossed (server_state setting w n) entry (w.servers n).own)
+
+  entry_pairs : (entry : Command) → (entered entry).pairs ≡ (crossed (server_state setting w n) entry (w.servers n).own).pairs
+  entry_pairs entry = (settling (own_place setting w n) entry (crossed (server_state setting w n) entry (w.servers n).own)).pairs
+
+  pub worked_shows : (w.servers n).life.running ≡ true → (log : Log) (done : JobResult) → Worked setting w n log done
+      → Shows setting w lives n done.own done.posts
+  unfolding In
+  worked_shows runs _ _ (By_job log done same did seat) = job_tells scene n runs done seat did
+  worked_shows runs _ _ (By_ballot log started posts same starts says) =
+      kept_tells scene n runs _ posts
+      (ap (λ (p : Pairs). p.pending) (proposed_pairs (server_state setting w n) (w.servers n).own started))
+      (ap (λ (p : Pairs). p.finished) (proposed_pairs (server_state setting w n) (w.servers n).own started)) says
+  worked_shows runs _ _ (By_entry log entry more front) =
+      let pairs = entry_pairs entry in
+      kept_tells scene n runs _ [] (ap (λ (p : Pairs). p.pending) pairs)
+      (ap (λ (p : Pairs). p.finished) pairs) (λ post i. absurd i)
+
+  own_grows : (log : Log) → log.applied ≡ (w.servers n).log.applied
+      → IsPrefix (w.servers n).log.applied log.applied × IsPrefix log.applied (chosen_log setting w)
+  own_grows log same = (
+    front_same (w.servers n).log.applied log.applied same,
+    subst (λ own. IsPrefix own (chosen_log setting w)) (sym same)
+        (scene.firm.servers n),
+  )
+
+  worked_grows : (log : Log) (done : JobResult) → Worked setting w n log done
+      → IsPrefix (w.servers n).log.applied log.applied × IsPrefix log.applied (chosen_log setting w)
+  worked_grows _ _ (By_job log done same did seat) = own_grows log same
+  worked_grows _ _ (By_ballot log started posts same starts says) = own_grows log same
+  worked_grows _ _ (By_entry log entry more front) = (record { later = entry ∷ []; is = more }, front)
+
+  worked_plain : (log : Log) → IsPrefix log.applied (chosen_log setting w) → IsPlainLog setting.servers log.applied
+  worked_plain log chosen = front_plain setting.servers log.applied _ scene.firm.plain chosen
+
+  -- what is used stands where the server is In as itself
+  used_by : (new old : PairState) → new.pairs.pending ≡ old.pairs.pending → new.pairs.finished ≡ old.pairs.finished → IsUsed new → IsUsed old
+  used_by new old pending finished (Has_pending cell op is) = Has_pending cell op (sym (ap (λ t. at cell_cmp t cell) pending) ∙ is)
+  used_by new old pending finished (Has_finished c le) =
+      let e : done_by new c ≡ done_by old c = ap (λ t. done_to (at nat_cmp t c)) finished in Has_finished c (omega arith)
+
+  used_same : (new old : PairState) → new.pairs ≡ old.pairs → IsUsed new → IsUsed old
+  used_same new old same = used_by new old (ap (λ (p : Pairs). p.pending) same) (ap (λ (p : Pairs). p.finished) same)
+
+  entered_used : (entry : Command) → IsUsed (entered entry) → IsUsed (w.servers n).own
+  entered_used entry =
+      let pairs = entry_pairs entry in
+      used_by (entered entry) (w.servers n).own (ap (λ (p : Pairs). p.pending) pairs) (ap (λ (p : Pairs). p.finished) pairs)
+
+  worked_used : (w.servers n).life.running ≡ true → (log : Log) (done : JobResult) → Worked setting w n log done → IsUsed done.own
+      → is_in (state_in setting.servers log) n (lives.ran n) ≡ true
+  worked_used runs _ _ (By_job log done same did seat) u =
+      let now : is_in (server_state setting w n) n (lives.ran n) ≡ true = elim seat [
+        | inl so ↦ subst (λ i. is_in (server_state setting w n) n i ≡ true) (sym (asking.lived.ran n runs)) so
+        | inr apart ↦ asking.used n (subst IsUsed apart.same u)
+      ] in
+      subst (λ applied. is_in (state_after setting.servers applied) n (lives.ran n) ≡ true) (sym same) now
+  worked_used runs _ _ (By_ballot log started posts same starts says) u =
+      let own = (w.servers n).own in
+      subst (λ applied. is_in (state_after setting.servers applied) n (lives.ran n) ≡ true) (sym same)
+      (asking.used n (used_same _ own (proposed_pairs (server_state setting w n) own started) u))
+  worked_used runs _ _ (By_entry log entry more front) u =
+      let ran = asking.lived.ran n runs in
+      let was : is_in (server_state setting w n) n (w.servers n).life.inc ≡ true =
+      subst (λ i. is_in (server_state setting w n) n i ≡ true) ran (asking.used n (entered_used entry u)) in
+      subst (λ i. is_in (state_in setting.servers log) n i ≡ true) (sym ran)
+      (runs_at setting w scene.firm (w.servers n).log.applied log.applied (record { later = entry ∷ []; is = more }) front n runs was)
+
+  -- while it runs it leads the cell of its operation
+  worked_along : (w.servers n).life.running ≡ true → (want : Wanted) (rev : ℕ) → PendingHere setting w lives n want rev
+      → IsLedAlong setting.servers (w.servers n).log.applied (chosen_log setting w) n (lives.ran n) want.cell
+  worked_along runs want rev p log more all =
+      let ran = asking.lived.ran n runs in
+      let led = here_led setting w scene.firm lives n want rev p in
+      here_along setting w scene.firm lives n want rev p (remembers_running setting w scene.firm lives n ran) log more all
+      (subst (λ i. is_in (state_after setting.servers log) n i ≡ true) (sym ran)
+      (runs_at setting w scene.firm (w.servers n).log.applied log more all n runs
+      (subst (λ i. is_in (server_state setting w n) n i ≡ true) ran led.seated)))
+
+  -- a server that does its work
+  pub worked_stepped : (runs : (w.servers n).life.running ≡ true) (log : Log) (done : JobResult) → Worked setting w n log done → (new : Server)
+      → new.log ≡ log → new.own ≡ done.own → new.life.inc ≡ (w.servers n).life.inc → IsStepped scene n new
+  worked_stepped runs log done worked new logs owns incs =
+      let shows = worked_shows runs log done worked in
+      let grows = worked_grows log done worked in
+      let ran = incs ∙ sym (asking.lived.ran n runs) in
+      record {
+        life = Goes_on (λ on. ran) (omega arith)
+            (λ c. subst (λ (o : PairState). done_by (w.servers n).own c ≤ done_by o c) (sym owns) (rises scene n done.own shows.tells c))
+            (λ same row flag.
+            subst (λ (o : PairState). is_flagged o (id_of row) ≡ true) (sym owns)
+            (worked_flags setting w n log done worked (same ∙ ap (λ (l : Log). l.applied) logs) row flag));
+        more = subst (λ (l : Log). IsPrefix (w.servers n).log.applied l.applied) (sym logs) grows.0;
+        plain = subst (λ (l : Log). IsPlainLog setting.servers l.applied) (sym logs) (worked_plain log grows.1);
+        bound = λ c. subst (λ (o : PairState). done_by o c ≤ (w.clients c).seq + 1) (sym owns) (bound_now scene n done.own shows.tells c);
+        used = λ u. record {
+          same = λ on. ran;
+          seated = subst (λ (l : Log). is_in (state_in setting.servers l) n (lives.ran n) ≡ true) (sym logs)
+              (worked_used runs log done worked (subst IsUsed owns u));
+        };
+        pending = λ cell op is clients.
+            let p = pending_new scene n done.own shows.tells cell op (sym (ap (λ (o : PairState). at cell_cmp o.pairs.pending cell) owns) ∙ is) clients in
+            record {
+              was = p.0;
+              since = p.1;
+              along = λ before more lies.
+                  worked_along runs (asked_for cell op) op.rev p.0 before more
+                  (front_on before log.applied _ (subst (λ (l : Log). IsPrefix before l.applied) logs lies) grows.1);
+              unfinished = subst (λ (o : PairState). done_by o op.client ≤ op.seq) (sym owns) p.2;
+            };
+      }
+
+  -- a server whose entries, and what it has in memory, stay as they are
+  still_stepped : (new : Server) → new.log.applied ≡ (w.servers n).log.applied → new.own.pairs ≡ (w.servers n).own.pairs
+      → new.own.copies ≡ (w.servers n).own.copies
+      → (new.life.running ≡ true → new.life.inc ≡ lives.ran n) → (w.servers n).life.inc ≤ new.life.inc → IsStepped scene n new
+  still_stepped new logs pairs copies same later =
+      let done : (c : ℕ) → done_by new.own c ≡ done_by (w.servers n).own c = λ c. ap (λ (p : Pairs). done_to (at nat_cmp p.finished c)) pairs in
+      record {
+        life = Goes_on same later (λ c. let e = done c in omega arith)
+            (λ all row flag. ap (λ (c : Copies). option_map_or (λ (p : Progress). p.caught) (at link_cmp c.progress (id_of row)) false) copies ∙ flag);
+        more = subst (IsPrefix (w.servers n).log.applied) (sym logs) (front_itself (w.servers n).log.applied);
+        plain = subst (IsPlainLog setting.servers) (sym logs) (own_plain setting w scene.firm n);
+        bound = λ c. let e = done c in let le = asking.finished n c in omega arith;
+        used = λ u. record {
+          same = same;
+          seated = subst (λ applied. is_in (state_after setting.servers applied) n (lives.ran n) ≡ true) (sym logs)
+              (asking.used n (used_same new.own (w.servers n).own pairs u));
+        };
+        pending = λ cell op is clients.
+            let stood = sym (ap (λ (p : Pairs). at cell_cmp p.pending cell) pairs) ∙ is in
+            let p = pending_here setting w scene.firm lives ready.rests asking scene.reports n cell op stood clients in
+            let tied = asking.lived.tied n op.client in
+            let un = p.known.unfinished in
+            let e = done op.client in
+            record {
+              was = p;
+              since = inl (was_same (w.servers n).own cell op stood);
+              along = λ log more lies.
+                  let same = one_log log (w.servers n).log.applied (subst (IsPrefix log) logs lies) more in
+                  subst (λ l. LedBy (state_after setting.servers l) n (lives.ran n) cell) (sym same)
+                  (here_led setting w scene.firm lives n (asked_for cell op) op.rev p);
+              unfinished = omega arith;
+            };
+      }
+
+  -- a server that boots has nothing pending, and has finished nothing
+  none_done : (new : Server) → new.own.pairs ≡ no_pairs → (c : ℕ) → done_by new.own c ≡ 0
+  none_done new empty c = ap (λ (p : Pairs). done_to (at nat_cmp p.finished c)) empty ∙ ap done_to (at-empty nat_cmp c)
+
+  none_pending : {A : Type 0} (new : Server) → new.own.pairs ≡ no_pairs → (cell : Cell) (op : Pending) → at cell_cmp new.own.pairs.pending cell ≡ Some op → A
+  none_pending new empty cell op is =
+      none_some (ap (λ (p : Pairs). at cell_cmp p.pending cell) empty ∙ at-empty cell_cmp cell) is
+
+  boot_stepped : (new : Server) → new.own.pairs ≡ no_pairs → new.life.running ≡ true → (w.servers n).life.inc < new.life.inc
+      → IsPrefix (w.servers n).log.applied new.log.applied → IsPlainLog setting.servers new.log.applied → IsStepped scene n new
+  boot_stepped new empty on later more plain = record {
+    life = Begins on later (none_done new empty);
+    more = more;
+    plain = plain;
+    bound = λ c. let e = none_done new empty c in omega arith;
+    used = unused;
+    pending = λ cell op is clients. none_pending new empty cell op is;
+  }
+    where
+      unused : IsUsed new.own → IsSettled scene n new
+      unused (Has_pending cell op is) = none_pending new empty cell op is
+      unused (Has_finished c le) = let e = none_done new empty c in absurd (omega arith)
+
+  pub serves_step : AllMayWake setting w → (acted : Acted) → Serving setting w n what acted → IsStepped scene n acted.server
+  serves_step wake _ (Goes log done queue runs worked queued works) =
+      worked_stepped runs log done worked (served_so setting w n log done queue).server refl refl refl
+  serves_step wake _ (Ends log done runs worked) = worked_stepped runs log done worked (stopped_so setting w n log done).server refl refl refl
+  serves_step wake _ (Stays who posts from shown) = still_stepped (w.servers n) refl refl refl (λ on. sym (asking.lived.ran n on)) (omega arith)
+  serves_step wake _ (Wakes booted asleep) =
+      boot_stepped (awake (raised (w.servers n))) refl refl (omega arith) (wake n).onward
+      (front_plain setting.servers _ _ scene.firm.plain (wake n).chosen)
+  serves_step wake _ (Fails booted asleep) = still_stepped (raised (w.servers n)) refl refl refl (λ on. true_false on asleep) (omega arith)
+
+  -- a stopped server keeps what it had in memory, whatever becomes of its data device
+  pub blanks_step : (w.servers n).life.running ≡ false → IsStepped scene n (blanked (w.servers n))
+  blanks_step asleep = still_stepped (blanked (w.servers n)) refl refl refl (λ on. true_false on asleep) (omega arith)

@@ -1,0 +1,191 @@
+-- What is known of requests is kept by each step.
+use Rattle.std.proofs.Common.{◌≡◌, ◌≢◌, ◌<◌, ◌==◌, ℕ, Bool, List, true, false, Some, length, refl, ap, sym, ◌∙◌, subst, inl, arith}
+use Rattle.std.specs.Prelude.{filter, not}
+use Rattle.std.specs.List.{range_with_len}
+use Rattle.petal_base.specs.declared.cell.Cell.{Cell}
+use Rattle.petal_table.specs.Table.{at}
+use Rattle.petal_msg.specs.Kinds.{subject_of}
+use Rattle.petal_msg.specs.declared.body.Body.{Body}
+use Rattle.petal_msg.specs.declared.body.Body.TheVariants as body
+use Rattle.petal_msg.specs.declared.letter.Actor.{Actor}
+use Rattle.petal_msg.specs.declared.letter.Actor.TheVariants as actor
+use Rattle.petal_msg.specs.declared.letter.Letter.{Letter}
+use Rattle.petal_msg.specs.declared.operation.Pending.{Pending}
+use Rattle.spec_history.specs.Claims.{IsPrefix}
+use Rattle.spec_rules.specs.Boots.{awake, blanked, raised, stays, wakes}
+use Rattle.spec_rules.specs.Jobs.{Acted, down_posts}
+use Rattle.spec_rules.specs.Lists.{In}
+use Rattle.spec_rules.specs.Log.{rev_of}
+use Rattle.spec_rules.specs.Server.{Post, Sender, sender, letters_of}
+use Rattle.spec_rules.specs.State.{State, servers_of}
+use Rattle.spec_rules.specs.Store.{cell_cmp}
+use Rattle.spec_rules.specs.Writes.{Wanted, is_clients}
+use Rattle.spec_rules.specs.World.{Setting, World, acts, reacts, server_state, stamped}
+use Rattle.spec_rules.specs.declared.step.Step.{Step}
+use Rattle.spec_rules.specs.declared.step.Step.TheVariants.{Blank}
+use Rattle.spec_rules.specs.Clients.{Reaction, client_sender}
+use Rattle.spec_rules.proofs.ListLemmas.{in_later}
+use Rattle.law_log.proofs.ProposersInSchedule.{said_to_all}
+use Rattle.law_state.specs.Firm.{Firm}
+use Rattle.law_state.specs.Plain.{IsPlainLog}
+use Rattle.law_state.proofs.Steady.{log_rev}
+use Rattle.law_steps.specs.DidStep.{Happens, Heard, Serves, Blanks, Turns, Serving, Goes, Ends, Stays, Wakes, Fails}
+use Rattle.law_steps.specs.DidStep.{served_so, stopped_so, shown_so, without_rev, own_place}
+use Rattle.law_steps.specs.Ready.{Ready}
+use Rattle.law_steps.specs.DidClient.{Turned}
+use Rattle.law_steps.specs.WakingServers.{AllMayWake}
+use Rattle.law_steps.proofs.Letters.{said}
+use Rattle.law_steps.proofs.Restages.{was_same}
+pub use Rattle.law_steps.proofs.KindsInHistories.{proposed_pairs}
+use Rattle.law_requests.specs.KnownRequests.{Seen, Lives, AreLives, lives_after, seen, Known, KnownLetter, PendingFor}
+use Rattle.law_requests.specs.KnownRequests.{AskingBy, KnowsReports}
+use Rattle.law_requests.proofs.ServerStepsKeepRequests.{Scene, WasOrNew, goes_on, opened_now, says_known, step_asking, steps}
+use Rattle.law_requests.proofs.RequestsKnownLater.{Later, pending_later, tells_request, untold}
+use Rattle.law_requests.proofs.IncarnationsGoOn.{Lived, done_beside, lives_still}
+use Rattle.law_requests.proofs.ClientKindsKeepRequests.{turn_ok}
+use Rattle.law_requests.proofs.ClientStepsKeepRequests.{TurnOk, seen_with, turn_asking, turn_later}
+use Rattle.law_requests.proofs.StepsGoOnOrBoot.{blanks_step, serves_step, worked_shows, worked_stepped}
+
+-- time goes on from this world to that one, and each server as the incarnation that it ran as last, or as a new one
+pub record GoesOn (setting : Setting) (w v : World) (lives : Lives) : Type 0 where
+  pub later : Later setting (seen lives w) (seen (lives_after lives v) v)
+  pub steps : (n : ℕ) → Lived lives n (w.servers n) (v.servers n)
+  pub opened : (n : ℕ) (cell : Cell) (op : Pending) → at cell_cmp (v.servers n).own.pairs.pending cell ≡ Some op → is_clients op.kind ≡ true
+      → WasOrNew w n cell op
+
+-- a write that was known of at an incarnation that has ended is known of later
+pub ended_later : (setting : Setting) (w v : World) (lives : Lives) → AreLives w lives → GoesOn setting w v lives → (n inc : ℕ)
+    (want : Wanted) (rev : ℕ) → inc < (lives_after lives v).ran n → PendingFor setting (seen lives w) n inc want rev
+    → PendingFor setting (seen (lives_after lives v) v) n inc want rev
+ended_later setting w v lives known on n inc want rev lt p =
+    let apart : inc ≢ (lives_after lives v).ran n = λ e. omega arith in
+    let same = done_beside lives w v known on.steps n inc want.client apart in
+    let un = p.unfinished in
+    pending_later setting (seen lives w) (seen (lives_after lives v) v) on.later n inc want rev p (omega arith)
+
+-- letters that tell of no request
+all_untold : (setting : Setting) (v : Seen) (who : Sender) (stamp : ℕ) (posts : List Post)
+    → ((post : Post) → In post posts → tells_request (subject_of post.body) ≡ false) → (letter : Letter)
+    → In letter (stamped stamp (letters_of who 0 posts)) → KnownLetter setting v letter
+all_untold setting v who stamp posts none letter i =
+    let s = said who stamp 0 posts letter i in
+    untold setting v letter.from letter.to letter.rev letter.body (ap (λ (b : Body). tells_request (subject_of b)) s.body ∙ none s.post s.there)
+
+-- a server that stops, and one that boots, tell the others
+downs_untold : (n inc servers : ℕ) (post : Post) → In post (down_posts n inc servers) → tells_request (subject_of post.body) ≡ false
+downs_untold n inc servers post i = ap (λ (b : Body). tells_request (subject_of b))
+    (said_to_all (body.Down n inc) (filter (λ k. not (k == n)) (range_with_len 0 servers)) post i)
+
+module _ (scene : Scene) (ready : Ready scene.setting scene.state scene.w) (n stamp : ℕ) (what : Step) where
+  open scene use {setting, w, lives}
+
+  abbrev after : Acted → World
+  after acted = (acts setting w n what stamp acted).world
+
+  -- what an entry leaves of the server's own part
+  pub serves_asking : AllMayWake setting w → (acted : Acted) → Serving setting w n what acted
+      → AskingBy setting (after acted) (lives_after lives (after acted))
+  unfolding In
+  serves_asking wake _ (Goes log done queue runs worked queued works) =
+      let acted = served_so setting w n log done queue in
+      let shows = worked_shows scene ready n stamp what runs log done worked in
+      let step = worked_stepped scene ready n stamp what runs log done worked acted.server refl refl refl in
+      let later = seen (lives_after lives (after acted)) (after acted) in
+      let rev : length (w.servers n).log.applied ≡ (server_state setting w n).rev = sym (log_rev setting.servers (w.servers n).log.applied) in
+      step_asking scene n stamp what acted step (λ letter i.
+      let s = said (sender (own_place setting w n)) stamp 0 done.posts letter i in
+      let k = says_known scene n stamp what acted step runs refl (server_state setting w n).rev rev s.post.to s.post.body (shows.says s.post s.there) in
+      subst (λ (b : Body). Known setting later letter.from letter.to letter.rev b) (sym s.body)
+      (subst (λ (r : ℕ). Known setting later letter.from letter.to r s.post.body) (sym s.rev)
+      (subst (λ (a : Actor). Known setting later letter.from a (server_state setting w n).rev s.post.body) (sym s.to)
+      (subst (λ (a : Actor). Known setting later a s.post.to (server_state setting w n).rev s.post.body) (sym s.from) k))))
+  serves_asking wake _ (Ends log done runs worked) =
+      let acted = stopped_so setting w n log done in
+      step_asking scene n stamp what acted (serves_step scene ready n stamp what wake _ (Ends log done runs worked))
+      (all_untold setting (seen (lives_after lives (after acted)) (after acted)) (without_rev (own_place setting w n)) stamp
+      (down_posts n (w.servers n).life.inc (servers_of (server_state setting w n)))
+      (downs_untold n (w.servers n).life.inc (servers_of (server_state setting w n))))
+  serves_asking wake _ (Stays who posts from shown) =
+      let acted = shown_so w n who posts in
+      step_asking scene n stamp what acted (serves_step scene ready n stamp what wake _ (Stays who posts from shown))
+      (all_untold setting (seen (lives_after lives (after acted)) (after acted)) who stamp posts (λ post i. ap tells_request (shown post i)))
+  serves_asking wake _ (Wakes booted asleep) =
+      let server = awake (raised (w.servers n)) in
+      let acted = wakes (own_place setting w n) server in
+      step_asking scene n stamp what acted (serves_step scene ready n stamp what wake _ (Wakes booted asleep))
+      (all_untold setting (seen (lives_after lives (after acted)) (after acted))
+      (record { from = actor.Server n; inc = server.life.inc; rev = rev_of server.log }) stamp
+      (down_posts n (w.servers n).life.inc (servers_of (server_state setting w n)))
+      (downs_untold n (w.servers n).life.inc (servers_of (server_state setting w n))))
+  serves_asking wake _ (Fails booted asleep) =
+      step_asking scene n stamp what (stays (raised (w.servers n))) (serves_step scene ready n stamp what wake _ (Fails booted asleep)) (λ letter i. absurd i)
+
+  -- what was known of incarnations is known later
+  pub serves_later : AllMayWake setting w → (acted : Acted) → Serving setting w n what acted
+      → GoesOn setting w (after acted) lives
+  serves_later wake acted serving =
+      let step = serves_step scene ready n stamp what wake acted serving in
+      record {
+        later = goes_on scene n stamp what acted step;
+        steps = steps scene n stamp what acted step;
+        opened = opened_now scene n stamp what acted step;
+      }
+
+  pub blanks_asking : (w.servers n).life.running ≡ false
+      → AskingBy setting (after (stays (blanked (w.servers n)))) (lives_after lives (after (stays (blanked (w.servers n)))))
+  unfolding In
+  blanks_asking asleep = step_asking scene n stamp what (stays (blanked (w.servers n))) (blanks_step scene ready n stamp what asleep) (λ letter i. absurd i)
+
+  pub blanks_later : (w.servers n).life.running ≡ false → GoesOn setting w (after (stays (blanked (w.servers n)))) lives
+  blanks_later asleep =
+      let acted = stays (blanked (w.servers n)) in
+      record {
+        later = goes_on scene n stamp what acted (blanks_step scene ready n stamp what asleep);
+        steps = steps scene n stamp what acted (blanks_step scene ready n stamp what asleep);
+        opened = opened_now scene n stamp what acted (blanks_step scene ready n stamp what asleep);
+      }
+
+abbrev scene_at : (setting : Setting) (state : State) (w : World) (lives : Lives) → Ready setting state w → AskingBy setting w lives
+    → KnowsReports setting w lives → Scene
+scene_at setting state w lives ready asking reports = record {
+  setting = setting;
+  state = state;
+  w = w;
+  lives = lives;
+  firm = ready.firm;
+  rests = ready.rests;
+  asking = asking;
+  reports = reports;
+}
+
+turned_ok : (setting : Setting) (w : World) (lives : Lives) (firm : Firm setting w) → AskingBy setting w lives → (c : ℕ) → c < 9 → (stamp : ℕ) (in_call : Bool)
+    (reacted : Reaction) → IsPrefix (w.clients c).applied reacted.client.applied → IsPlainLog setting.servers reacted.client.applied
+    → Turned (Heard w (actor.Client c)) setting.servers setting.lines c (w.clients c) in_call reacted
+    → TurnOk setting w lives (seen_with lives w (reacts w c stamp reacted).world.sent c reacted.client) c reacted.client reacted.posts
+turned_ok setting w lives firm asking c within stamp in_call reacted grows plain turned =
+    turn_ok setting w lives firm asking c within (reacts w c stamp reacted).world.sent
+    (λ letter h. in_later letter (stamped stamp (letters_of (client_sender c reacted.client) 0 reacted.posts)) w.sent h)
+    in_call reacted (grows, plain) turned
+
+pub happens_asking : (setting : Setting) (state : State) → (w v : World) (lives : Lives) → Ready setting state w → AllMayWake setting w
+    → AskingBy setting w lives → KnowsReports setting w lives → Happens setting state w v → AskingBy setting v (lives_after lives v)
+happens_asking setting state w _ lives ready wake asking reports (Serves n stamp what acted lt member unblanked serving) =
+    serves_asking (scene_at setting state w lives ready asking reports) ready n stamp what wake acted serving
+happens_asking setting state w _ lives ready wake asking reports (Blanks n stamp lt member asleep) =
+    blanks_asking (scene_at setting state w lives ready asking reports) ready n stamp Blank asleep
+happens_asking setting state w _ lives ready wake asking reports (Turns c stamp in_call reacted lt within turned onward) =
+    turn_asking (scene_at setting state w lives ready asking reports) c stamp reacted
+    (turned_ok setting w lives ready.firm asking c within stamp in_call reacted onward.grows onward.plain turned) onward
+
+pub happens_later : (setting : Setting) (state : State) → (w v : World) (lives : Lives) → Ready setting state w → AllMayWake setting w
+    → AskingBy setting w lives → KnowsReports setting w lives → Happens setting state w v → GoesOn setting w v lives
+happens_later setting state w _ lives ready wake asking reports (Serves n stamp what acted lt member unblanked serving) =
+    serves_later (scene_at setting state w lives ready asking reports) ready n stamp what wake acted serving
+happens_later setting state w _ lives ready wake asking reports (Blanks n stamp lt member asleep) =
+    blanks_later (scene_at setting state w lives ready asking reports) ready n stamp Blank asleep
+happens_later setting state w _ lives ready wake asking reports (Turns c stamp in_call reacted lt within turned onward) = record {
+  later = turn_later (scene_at setting state w lives ready asking reports) c stamp reacted
+      (turned_ok setting w lives ready.firm asking c within stamp in_call reacted onward.grows onward.plain turned) onward;
+  steps = lives_still lives w asking.lived;
+  opened = λ n cell op is clients. inl (was_same (w.servers n).own cell op is);
+}

@@ -1,0 +1,67 @@
+-- A write of a front is the same at a later one by which its cell takes writes still; and a read of a cell that is coming asks the new map.
+use Rattle.std.proofs.Common.{◌≡◌, ◌≤◌, ℕ, Bool, List, true, false, Some, refl, sym, ap, ◌∙◌, subst, arith}
+use Rattle.petal_base.specs.declared.cell.Cell.{Cell}
+use Rattle.petal_command.specs.declared.command.Command.{Command}
+use Rattle.script_lines.specs.declared.request.Line.{Line}
+use Rattle.spec_history.specs.Claims.{IsPrefix}
+use Rattle.spec_state.specs.CellState.{cell_asked, coming}
+use Rattle.spec_state.specs.Command.{state_after}
+use Rattle.spec_state.specs.declared.answer.DiskView.{DiskView}
+use Rattle.spec_rules.specs.State.{State, find}
+use Rattle.law_state.specs.Homes.{stage_at}
+use Rattle.law_state.specs.Plain.{IsPlainLog}
+use Rattle.law_state.proofs.EntriesOnlyAdd.{log_plain}
+use Rattle.law_state.proofs.Homes.{has_stage}
+use Rattle.law_state.proofs.NamedCells.{asked_only, made_for, told_settled_at}
+use Rattle.law_state.proofs.Owners.{disk_on}
+use Rattle.law_state.proofs.Steady.{front_plain, log_below, log_grown}
+use Rattle.law_requests.specs.AskedRequests.{IsRead, IsWrite}
+
+-- ### By a log
+
+-- a read of a cell that is coming was not told that the new map has nothing
+pub coming_untold : (servers : ℕ) (log : List Command) → IsPlainLog servers log → (lines : List Line) (client seq : ℕ) (told : Bool) (cell : Cell) (epoch : ℕ)
+    → IsRead (state_after servers log) lines client seq told cell epoch → coming (state_after servers log) cell ≡ true → told ≡ false
+coming_untold servers log plain lines client seq false cell epoch read comes = refl
+coming_untold servers log plain lines client seq true cell epoch read comes =
+    let p = log_plain servers log plain in
+    let one = (has_stage (state_after servers log) p.rows p.homes cell).comes comes in
+    let two = subst (λ (q : Cell). 2 ≤ stage_at (state_after servers log) q) (sym read.cell_is)
+    (told_settled_at servers (state_after servers log) p read.name read.disk read.found read.block) in
+    absurd (omega arith)
+
+-- ### By a longer log
+
+module _ (servers : ℕ) (front whole : List Command) (plain : IsPlainLog servers whole) (prefix : IsPrefix front whole) where
+  abbrev earlier : State
+  earlier = state_after servers front
+
+  abbrev later : State
+  later = state_after servers whole
+
+  -- a cell under which a block was named is so still, while it takes writes
+  pub asked_stays : (name : List ℕ) (disk now : DiskView) (block : ℕ) → find earlier name ≡ Some disk → find later name ≡ Some now → now.disk ≡ disk.disk
+      → 1 ≤ stage_at later (cell_asked earlier disk block false) → stage_at later (cell_asked earlier disk block false) ≤ 2
+      → cell_asked earlier disk block false ≡ cell_asked later now block false
+  asked_stays name disk now block was is same low most =
+      let p = log_plain servers front (front_plain servers front whole plain prefix) in
+      let q = log_plain servers whole plain in
+      let cell = cell_asked earlier disk block false in
+      asked_only servers later q name now is block cell refl
+      (disk_on earlier.maps later.maps cell.map disk.disk (log_grown servers front whole plain prefix).maps
+      (made_for servers earlier p name disk was block) ∙ ap Some (sym same))
+      low most
+
+  -- so is a write of it
+  pub write_stays : (lines : List Line) (client seq : ℕ) (cell : Cell) (bytes : List ℕ) → IsWrite earlier lines client seq cell bytes
+      → 1 ≤ stage_at later cell → stage_at later cell ≤ 2 → IsWrite later lines client seq cell bytes
+  write_stays lines client seq cell bytes one low most =
+      let h = (log_below servers front whole plain prefix).finds one.name one.disk one.found in
+      record {
+        by_line = one.by_line;
+        disk = h.now;
+        found = h.is;
+        cell_is = one.cell_is ∙ asked_stays one.name one.disk h.now one.block one.found h.is h.disk_is
+            (subst (λ (q : Cell). 1 ≤ stage_at later q) one.cell_is low) (subst (λ (q : Cell). stage_at later q ≤ 2) one.cell_is most);
+        bytes_is = one.bytes_is;
+      }

@@ -1,0 +1,219 @@
+-- What a server's step sends: which letters have data, and that one ends a write as written only where that has had its bytes.
+use Rattle.std.proofs.Common.{◌≡◌, ℕ, List, [], ◌∷◌, Bool, true, false, refl, sym, ap, ◌∙◌, subst, inl, inr}
+use Rattle.std.specs.Prelude.{map, filter, not, ◌==◌}
+use Rattle.std.specs.List.{range_with_len}
+use Rattle.spec_machine.specs.Machine.{Plain}
+use Rattle.petal_msg.specs.Kinds.{Subject, Answered, Glanced, Refused, about, is_logged, is_refused, subject_of}
+use Rattle.petal_msg.specs.declared.body.Body.{Body}
+use Rattle.petal_msg.specs.declared.body.Body.TheVariants as body
+use Rattle.petal_msg.specs.declared.letter.Actor.TheVariants as actor
+use Rattle.petal_msg.specs.declared.letter.Letter.{Letter}
+use Rattle.petal_msg.specs.declared.operation.Ending.{Ending}
+use Rattle.petal_msg.specs.declared.operation.Ending.TheVariants as ending
+use Rattle.petal_msg.specs.declared.operation.Finished.{Finished}
+use Rattle.petal_msg.specs.declared.operation.OpKind.{OpKind}
+use Rattle.petal_msg.specs.declared.operation.OpKind.TheVariants as kind
+use Rattle.petal_msg.specs.declared.operation.Pending.{Pending}
+use Rattle.spec_rules.specs.Ballots.{post_of}
+use Rattle.spec_rules.specs.Jobs.{down_posts}
+use Rattle.spec_rules.specs.Lists.{In}
+use Rattle.spec_rules.specs.Server.{PairState, JobContext, Post, Sender, JobResult, letters_of}
+use Rattle.spec_rules.specs.Writes.{ended, ends, gives_back, old_lead, without_pending}
+use Rattle.spec_rules.specs.World.{stamped}
+use Rattle.spec_rules.proofs.Tests.{same_some, true_false}
+use Rattle.law_steps.specs.DidLead.{DidLead, Asks, An_entry_to_move, Of_the_log, Asks_for, Repeats, Is_full}
+use Rattle.law_steps.specs.DidLead.{Gives_up, Opens, Closes, Closes_alone}
+use Rattle.law_steps.specs.DidLead.{Opens_fill, Has_fill, Has_no_room, Goes_on_dead}
+use Rattle.law_steps.specs.DidSecond.{DidSecond}
+use Rattle.law_steps.specs.Did.{Did, IsRefusal, Ignores, Refuses, By_read, By_lead, By_second, By_holder, By_other, By_filler, By_sweep}
+use Rattle.law_steps.proofs.CopyFrames.{of_holder, of_other}
+use Rattle.law_steps.specs.DidStep.{own_place}
+use Rattle.law_steps.proofs.Letters.{said, one_post, posted}
+use Rattle.law_steps.proofs.Subjects.{of_filler, of_second, of_sweep}
+use Rattle.law_jobs.specs.Sayings as says
+use Rattle.law_jobs.specs.Sayings.{Ends_fill, Moves, Moves_on, Says, to_client}
+use Rattle.law_jobs.proofs.JobsSay.{letters_of_job}
+use Rattle.law_copies.specs.Pair.{owns_of}
+use Rattle.law_requests.specs.AskedRequests.{IsOpen}
+use Rattle.law_run.specs.WritesGoOn.{is_held, Onward}
+use Rattle.law_moves.proofs.JobsChangeOneChain.{NeverDead}
+use Rattle.law_run.proofs.ReadsLookWhereSent.{is_looked}
+use Rattle.law_run.proofs.Machine.{held_onward}
+use Rattle.law_run.proofs.LeadPutsThatCount.{finish_held}
+use Rattle.law_run.proofs.EventsOfServerSteps.{ServerStep, ends_of}
+
+-- a letter ends a write as written
+abbrev pub is_written : Body → Bool
+is_written (body.Written seq) = true
+is_written _ = false
+
+-- ### What a letter is about
+
+-- it is no reply to a client
+abbrev pub is_reply : Subject → Bool
+is_reply Answered = true
+is_reply Refused = true
+is_reply _ = false
+
+-- what is no reply tells of no look, and ends no write
+pub unended_data : (said : Body) → is_reply (subject_of said) ≡ false → is_looked said ≡ false
+unended_data (body.Data seq bytes) e = true_false refl e
+unended_data (body.NotHere seq) e = true_false refl e
+unended_data _ e = refl
+
+pub unended_written : (said : Body) → is_reply (subject_of said) ≡ false → is_written said ≡ false
+unended_written (body.Written seq) e = true_false refl e
+unended_written _ e = refl
+
+-- a refusal tells of no look but where it says that the new map has nothing, and ends no write
+refused_looks : (said : Body) → IsRefusal said → is_looked said ≡ false
+refused_looks (body.Data seq bytes) r = let f : false ≡ true = ap is_refused r.refused in absurd cc
+refused_looks (body.NotHere seq) r = true_false refl r.other
+refused_looks _ r = refl
+
+refused_written : (said : Body) → IsRefusal said → is_written said ≡ false
+refused_written (body.Written seq) r = let f : false ≡ true = ap is_refused r.refused in absurd cc
+refused_written _ r = refl
+
+-- a letter is no reply
+abbrev pub IsUnended : Post → Type 0
+IsUnended post = is_reply (subject_of post.body) ≡ false
+
+pub logged_unended : (said : Body) → is_logged (subject_of said) ≡ true → is_reply (subject_of said) ≡ false
+logged_unended said e = by (subject_of said) e
+  where
+    by : (of : Subject) → is_logged of ≡ true → is_reply of ≡ false
+    by Answered e = true_false e refl
+    by Refused e = true_false e refl
+    by _ e = refl
+
+pub unended_no_data : (who : Sender) (stamp : ℕ) (posts : List Post) → ((post : Post) → In post posts → IsUnended post) → (letter : Letter)
+    → In letter (stamped stamp (letters_of who 0 posts)) → is_looked letter.body ≡ false
+unended_no_data who stamp posts all letter h =
+    let s = said who stamp 0 posts letter h in ap is_looked s.body ∙ unended_data s.post.body (all s.post s.there)
+
+pub unended_no_end : (who : Sender) (stamp : ℕ) (posts : List Post) → ((post : Post) → In post posts → IsUnended post) → (letter : Letter)
+    → In letter (stamped stamp (letters_of who 0 posts)) → is_written letter.body ≡ false
+unended_no_end who stamp posts all letter h =
+    let s = said who stamp 0 posts letter h in ap is_written s.body ∙ unended_written s.post.body (all s.post s.there)
+
+-- a server that stops tells the others
+downs : (me inc : ℕ) (others : List ℕ) (post : Post) → In post (map (post_of (body.Down me inc)) others) → IsUnended post
+unfolding In
+downs me inc [] post h = absurd h
+downs me inc (n ∷ others) post (inl e) = ap (λ (p : Post). is_reply (subject_of p.body)) e
+downs me inc (n ∷ others) post (inr h) = downs me inc others post h
+
+pub downs_unended : (me inc servers : ℕ) (post : Post) → In post (down_posts me inc servers) → IsUnended post
+downs_unended me inc servers post h = downs me inc (filter (λ n. not (n == me)) (range_with_len 0 servers)) post h
+
+pub glances_unended : (post : Post) → subject_of post.body ≡ Glanced → IsUnended post
+glances_unended post e = ap is_reply e
+
+-- ### A job
+
+abbrev pub IsQuiet : {heard : Body → Type 0} {here : JobContext} {own : PairState} {done : JobResult} → Did heard here own done → Type 0
+IsQuiet (By_read done d) = ⊥
+IsQuiet _ = Unit {0}
+
+asks_unended : (here : JobContext) (own : PairState) (post : Post) → Asks here own post → IsUnended post
+asks_unended here own _ (Of_the_log post e) = logged_unended post.body e
+asks_unended here own _ (An_entry_to_move post fill) = ap (λ (p : Post). is_reply (subject_of p.body)) fill.is
+asks_unended here own _ _ = refl
+
+ended_data : (seq : ℕ) (how : Ending) → is_looked (ended seq how) ≡ false
+ended_data seq ending.Written = refl
+ended_data seq ending.Full = refl
+
+-- how an operation ends
+ends_data : (here : JobContext) (own : PairState) (op : Pending) (of : OpKind) (how : Ending) (post : Post) → In post (ends here own op of how).posts
+    → is_looked post.body ≡ false
+unfolding In
+ends_data here own op kind.Write how post i = ap is_looked (one_post _ _ post i).1 ∙ ended_data op.seq how
+ends_data here own op kind.Fill ending.Written post i = ap is_looked (posted (old_lead here.state op.cell) (body.Filled op.key) post i)
+ends_data here own op kind.Fill ending.Full post i = ap is_looked (posted (old_lead here.state op.cell) (body.FillFull op.key) post i)
+ends_data here own op kind.Copy how post i = absurd i
+
+module _ (heard : Body → Type 0) (here : JobContext) (own : PairState) (never : NeverDead here own) where
+  lead_data : (done : JobResult) → DidLead heard here own done → (post : Post) → In post done.posts → is_looked post.body ≡ false
+  unfolding In
+  lead_data _ (Asks_for posts h) post i = unended_data post.body (asks_unended here own post (h post i))
+  lead_data _ (Repeats want last h lead is e) post i = ap is_looked (one_post _ _ post i).1 ∙ ended_data want.seq last.ending
+  lead_data _ (Is_full want new no_room) post i = ap is_looked (one_post _ _ post i).1
+  lead_data _ (Gives_up op h is reserved put) post i = ends_data here (gives_back (without_pending own op.cell)) op op.kind ending.Full post i
+  lead_data _ (Opens want new both) post i = ap is_looked (posted _ _ post i)
+  lead_data _ (Closes op is both stage) post i = ends_data here (without_pending own op.cell) op op.kind ending.Written post i
+  lead_data _ (Closes_alone now op taken alone stale put free) post i = ends_data here (without_pending now op.cell) op op.kind ending.Written post i
+  lead_data _ (Opens_fill moving new room both) post i = ap is_looked (posted _ _ post i)
+  lead_data _ (Has_fill moving filled) post i = ap is_looked (posted _ _ post i)
+  lead_data _ (Has_no_room moving new no_room) post i = ap is_looked (posted _ _ post i)
+  lead_data _ (Goes_on_dead now op taken off) post i = absurd (never now op taken off)
+  lead_data _ _ post i = absurd i
+
+  second_unended : (done : JobResult) → DidSecond heard here own done → (post : Post) → In post done.posts → IsUnended post
+  second_unended done d post i = ap is_reply ((of_second heard here own done d).says post i)
+
+  -- only a read's job sends data
+  pub quiet_data : (done : JobResult) (d : Did heard here own done) → IsQuiet d → (post : Post) → In post done.posts → is_looked post.body ≡ false
+  unfolding In
+  quiet_data _ Ignores quiet post i = absurd i
+  quiet_data _ (Refuses to what is why back) quiet post i = ap is_looked (one_post to what post i).1 ∙ refused_looks what is
+  quiet_data _ (By_read done d) quiet post i = absurd quiet
+  quiet_data _ (By_lead done d) quiet post i = lead_data done d post i
+  quiet_data _ (By_second done d) quiet post i = unended_data post.body (second_unended done d post i)
+  quiet_data _ (By_holder done d) quiet post i = unended_data post.body (ap is_reply ((of_holder heard here own done d).says post i))
+  quiet_data _ (By_other done d) quiet post i = unended_data post.body (ap is_reply ((of_other heard here own done d).says post i))
+  quiet_data _ (By_filler done d) quiet post i = unended_data post.body (ap is_reply ((of_filler heard here own done d).says post i))
+  quiet_data _ (By_sweep done d) quiet post i = absurd ((of_sweep heard here own done d).silent post i)
+
+-- ### Writes that end as written
+
+one_client : {c d : ℕ} → actor.Client c ≡ actor.Client d → c ≡ d
+one_client e = cc
+
+ended_written : (seq : ℕ) (how : Ending) (other : ℕ) → ended seq how ≡ body.Written other → how ≡ ending.Written
+ended_written seq ending.Written other e = refl
+ended_written seq ending.Full other e = true_false {b = is_written (body.Written other)} refl (ap is_written (sym e))
+
+ended_seq : (seq : ℕ) (how : Ending) (other : ℕ) → ended seq how ≡ body.Written other → seq ≡ other
+ended_seq seq ending.Written other e = same_some (ap (λ b. (about b).seq) e)
+ended_seq seq ending.Full other e = true_false {b = is_written (body.Written other)} refl (ap is_written (sym e))
+
+module _ (this : ServerStep) (k : Plain) (runs : (this.w.servers this.n).life.running ≡ true) (onward : Onward this.m k)
+    (never : NeverDead (own_place this.setting this.w this.n) (owns_of this.w this.n)) where
+  open ends_of this use {own, here, hears}
+
+  abbrev IsOk : Post → Type 0
+  IsOk post = (c seq : ℕ) → post.to ≡ actor.Client c → post.body ≡ body.Written seq → IsOpen (this.w.clients c) seq → is_held k c ≡ true
+
+  abbrev PostsOk : List Post → Type 0
+  PostsOk posts = (post : Post) → In post posts → IsOk post
+
+  unwritten : (post : Post) → is_written post.body ≡ false → IsOk post
+  unwritten post other c seq to says still = true_false (ap is_written says) other
+
+  -- a client is told how a request was finished
+  ended_ok : (client : ℕ) (last : Finished) → (last.ending ≡ ending.Written → IsOpen (this.w.clients client) last.seq → is_held k client ≡ true) → (number : ℕ)
+      → number ≡ last.seq → IsOk (to_client client (ended number last.ending))
+  ended_ok client last held number e c seq to what still =
+      let same : client ≡ c = one_client to in
+      let of : seq ≡ last.seq = sym (ended_seq number last.ending seq what) ∙ e in
+      subst (λ i. is_held k i ≡ true) same (held (ended_written number last.ending seq what)
+      (subst (IsOpen (this.w.clients client)) of (subst (λ i. IsOpen (this.w.clients i) seq) (sym same) still)))
+
+  says_held : (new : PairState) (post : Post) → Says hears here own new post → IsOk post
+  says_held new _ (says.Refuses to said is busy held) = unwritten _ (refused_written said is)
+  says_held new _ (says.Repeats want last same h lead is e) =
+      ended_ok want.client last (λ how still. held_onward this.m k want.client onward (this.follow.finished this.n want.client last runs is how still))
+      want.seq e
+  says_held new _ (says.Ends client last why is) =
+      ended_ok client last (finish_held this k runs onward never new.pairs.pending client last why) last.seq refl
+  says_held new _ (Ends_fill op ending.Full to ended is none so) = unwritten _ refl
+  says_held new _ (Ends_fill op ending.Written to ended is none so) = unwritten _ refl
+  says_held new post (Moves _ same next) = unwritten post (ap (λ (p : Post). is_written p.body) next.is)
+  says_held new post (Moves_on key row _ same h is next) = unwritten post (ap (λ (p : Post). is_written p.body) next.is)
+  says_held new post (says.Of_the_log _ logged) = unwritten post (unended_written post.body (logged_unended post.body logged))
+  says_held new _ _ = unwritten _ refl
+
+  pub did_says : (done : JobResult) → Did hears here own done → PostsOk done.posts
+  did_says done d post i = says_held done.own post (letters_of_job hears here own done d post i)

@@ -1,0 +1,339 @@
+-- Every legal history is a run of the plain machine.
+use Rattle.std.proofs.Common.{◌≡◌, ℕ, List, [], ◌∷◌, ◌++◌, Option, Some, refl, sym, ap, ◌∙◌, subst, append_assoc}
+use Rattle.std.proofs.lemmas.List.{append-nil}
+use Rattle.std.specs.List.{flat_map}
+use Rattle.std.specs.Ordering.{nat_cmp}
+use Rattle.petal_table.proofs.Rows.{at-empty}
+use Rattle.global_tables.specs.declared.disk.DiskRow.{DiskRow}
+use Rattle.petal_command.specs.declared.command.Command.{Command}
+use Rattle.spec_machine.specs.declared.event.Event.{Event}
+use Rattle.spec_machine.specs.Machine.{Plain, blank}
+use Rattle.spec_machine.specs.Run.{Obeys, replay}
+use Rattle.petal_msg.specs.declared.letter.Actor.{Actor}
+use Rattle.petal_msg.specs.declared.letter.Actor.TheVariants as actor
+use Rattle.spec_state.specs.Command.{state_after}
+use Rattle.script_lines.specs.declared.script.Script.{Script}
+use Rattle.spec_rules.specs.Lists.{In}
+use Rattle.spec_rules.specs.State.{State}
+use Rattle.spec_rules.specs.Store.{cell_cmp}
+use Rattle.spec_rules.specs.World.{Setting, World, acts, reacts, step, start, setting_of, server_step, client_step, next_line}
+use Rattle.spec_rules.specs.World.{server_state, client_state, chosen_log, MayActor}
+use Rattle.spec_rules.specs.declared.step.Step.{Step}
+use Rattle.spec_rules.specs.declared.step.Step.TheVariants.{Blank, Call}
+use Rattle.spec_rules.proofs.Tests.{none_some}
+use Rattle.spec_history.specs.Claims.{AreHeld, IsPrefix, Law, SnapshotsStay, machine_after}
+use Rattle.spec_history.specs.Events.{begins, ended, ends, open_write, change_by, freezes, takes, makes, told, told_from}
+use Rattle.spec_history.specs.Events.{told_with, joined, events_of, IsRunOf, look_of}
+use Rattle.spec_history.specs.Steps.{Follows, AreSteps, AreStepsFrom, stepped}
+use Rattle.spec_history.specs.Sound.{IsSound}
+use Rattle.spec_history.specs.declared.record.Record.{Record}
+use Rattle.law_state.specs.Moments.{IsMoment}
+use Rattle.law_state.specs.Plain.{IsPlainLog}
+use Rattle.law_steps.proofs.KindsInHistories.{own_steady, front_legal}
+use Rattle.law_steps.proofs.ServerStepKinds.{server_serves}
+use Rattle.law_steps.proofs.ClientStepKinds.{is_call, client_turns}
+use Rattle.law_jobs.proofs.Runs.{At, Run, after, at_moment, before_part, firm_in, firm_then, follows_in, grown_then, longer, run_of, setting_in, stepped_in}
+use Rattle.law_copies.proofs.StoreHistories.{always_empty}
+use Rattle.law_copies.proofs.MarksPrecedePuts.{marks_first}
+use Rattle.law_copies.proofs.TwoCopyRules.{copies_after, covered_after}
+use Rattle.law_requests.proofs.RequestsInHistories.{requests_after}
+use Rattle.law_requests.proofs.OpenedAfterReport.{reports_hold}
+use Rattle.law_log.proofs.LogInHistories.{history_agrees, history_grows, out_has_stopped}
+use Rattle.law_run.specs.MachineTies.{Follow, Ground}
+use Rattle.law_moves.proofs.KnownOfMoves.{rule_after}
+use Rattle.petal_msg.specs.declared.letter.Letter.{Letter}
+use Rattle.law_run.proofs.ChosenDisks.{Along, rows_in}
+use Rattle.law_run.proofs.ClientFrames.{ClientStep}
+use Rattle.law_run.proofs.ClientSteps.{begins_by, turn_told}
+use Rattle.law_run.proofs.LogSteps.{step_kind}
+use Rattle.law_run.proofs.ReadsLookWhereSent.{AreGrounded}
+use Rattle.law_run.proofs.NothingUnderWayAtBallots.{caught_up_after, equal_after, waiting_after}
+use Rattle.law_run.proofs.Machine.{Obeys-append, replay-append}
+use Rattle.law_run.proofs.ServerStepsAllowed.{step_told}
+use Rattle.law_run.proofs.BlanksTellNothing.{blank_follow, blank_told}
+use Rattle.law_run.proofs.EventsOfServerSteps.{IsMiddle, ServesAt}
+use Rattle.law_run.proofs.SnapshotsNeverChange.{contents_still}
+use Rattle.law_run.proofs.GroundInHistories.{along_at, footed_on, footing_after, grown_at, none_chosen}
+use Rattle.law_run.proofs.RunScenes.{Followed}
+
+-- ### Steps, where the chosen logs are fronts of one
+
+module _ (script : Script) (sound : IsSound script) (whole : List Command) (all : IsPlainLog (setting_of script).servers whole) where
+  abbrev setting : Setting
+  setting = setting_of script
+
+  abbrev state : State
+  state = state_after setting.servers whole
+
+  -- what is told is allowed, and keeps the machine tied to the world
+  pub record Tells (m : Plain) (next : World) (told_now : Option (List Event)) : Type 0 where
+    pub es : List Event
+    pub is : told_now ≡ Some es
+    pub may : Obeys m es
+    pub follows : Follow setting (rows_in setting next) next (replay m es)
+
+  server_begins : (what : Step) (n : ℕ) (next : World) → begins what (actor.Server n) next ≡ []
+  server_begins (Call line) n next = refl
+  server_begins _ n next = refl
+
+  client_begins : (c : ℕ) (what : Step) (next : World) → begins what (actor.Client c) next ≡ begins_by c (is_call what) next
+  client_begins c (Call line) next = refl
+  client_begins c _ next = refl
+
+  module _ (w : World) (m : Plain) (along : Along setting state w) (ground : Ground setting state w)
+      (follow : Follow setting (rows_in setting w) w m)
+      (stamp : ℕ) (later : List Record) where
+    -- of the world after the step: what is chosen there, and that the ground holds from there on
+    record Onwards (v : World) : Type 0 where
+      after : Along setting state v
+      grows : IsPrefix (chosen_log setting w) (chosen_log setting v)
+      now : Ground setting state v
+      middle : IsMiddle setting w v now.records now.good.visits
+      grounds : AreGrounded setting state v later
+      legal : AreStepsFrom setting v later
+
+    abbrev so_far : Followed
+    so_far = record { setting = setting; state = state; w = w; m = m; along = along; ground = ground; follow = follow }
+
+    -- what is told of a letter that was sent
+    abbrev look_told : Actor → World → Letter → List Event
+    look_told who v letter = look_of setting w v who later letter letter.body
+
+    -- a step of an actor, with the letters that it sent and the answer that it gave
+    step_tells : (who : Actor) (what : Step) → MayActor who what setting w → Onwards (step who what setting w stamp).world
+        → Tells m (step who what setting w stamp).world
+        (told_with (begins what who (step who what setting w stamp).world) (takes (change_by setting w (step who what setting w stamp).world))
+        (makes (change_by setting w (step who what setting w stamp).world) ++ freezes (change_by setting w (step who what setting w stamp).world)
+        ++ flat_map (look_told who (step who what setting w stamp).world) (step who what setting w stamp).letters)
+        (ends who w (step who what setting w stamp).answer))
+    unfolding step
+    step_tells (actor.Server n) Blank may next = record {
+      es = [];
+      is = blank_told setting w n stamp along.firm;
+      may = tt;
+      follows = blank_follow setting w n stamp m may.1.rests follow;
+    }
+    step_tells (actor.Server n) what may next =
+        let acted = server_step what (server_state setting w n) n (w.servers n) in
+        let v = (acts setting w n what stamp acted).world in
+        let at : ServesAt =
+        record {
+          told = so_far;
+          n = n;
+          within = may.0;
+          stamp = stamp;
+          what = what;
+          unblanked = refl;
+          later = later;
+        } in
+        let serving = server_serves setting w ground.ready.rests along.firm n
+        (own_steady setting w along.firm n) stamp what refl may.1 next.after.firm in
+        let t = step_told at sound.numbered acted serving (record {
+          next = next.after;
+          onward = next.now;
+          grows = next.grows;
+          grown = grown_at script sound whole all w v next.after.firm next.grows;
+          middle = next.middle;
+        }) (step_kind (server_state setting w n) n (w.servers n) what)
+        (record { grounds = next.grounds; legal = next.legal }) in
+        record {
+          es = t.es;
+          is = ap (λ b. told_with b (takes (change_by setting w v))
+              (makes (change_by setting w v) ++ freezes (change_by setting w v)
+              ++ flat_map (look_told (actor.Server n) v) (acts setting w n what stamp acted).letters) (Some []))
+              (server_begins what n v) ∙ t.is;
+          may = t.may;
+          follows = t.follows;
+        }
+    step_tells (actor.Client c) what may next =
+        let reacted = client_step what (client_state setting w c) c (w.clients c) (next_line setting.lines c (w.clients c)) in
+        let this : ClientStep = record { told = so_far; c = c; stamp = stamp; later = later } in
+        let t = turn_told this (is_call what) reacted (client_turns setting w c what may.1).turned in
+        record {
+          es = t.es;
+          is = ap (λ b. told_with b (takes (change_by setting w (reacts w c stamp reacted).world))
+              (makes (change_by setting w (reacts w c stamp reacted).world) ++ freezes (change_by setting w (reacts w c stamp reacted).world)
+              ++ flat_map (look_told (actor.Client c) (reacts w c stamp reacted).world) (reacts w c stamp reacted).letters)
+              (ended (open_write w c) reacted.answer))
+              (client_begins c what (reacts w c stamp reacted).world) ∙ t.is;
+          may = t.may;
+          follows = t.follows;
+        }
+
+  record_tells : (w : World) (m : Plain) → Along setting state w → Ground setting state w → Follow setting (rows_in setting w) w m
+      → (own : Record)
+      (later : List Record) → Follows setting w own → Along setting state (stepped setting w own).world
+      → IsPrefix (chosen_log setting w) (chosen_log setting (stepped setting w own).world)
+      → (now : Ground setting state (stepped setting w own).world)
+      → IsMiddle setting w (stepped setting w own).world now.records now.good.visits
+      → AreGrounded setting state (stepped setting w own).world later → AreStepsFrom setting (stepped setting w own).world later
+      → Tells m (stepped setting w own).world (told setting w own later)
+  record_tells w m along ground follow own later follows then grows now middle grounds legal =
+      let v = (stepped setting w own).world in
+      let t = step_tells w m along ground follow own.stamp later own.actor own.step follows.may.may
+      (record { after = then; grows = grows; now = now; middle = middle; grounds = grounds; legal = legal }) in
+      record {
+        es = t.es;
+        is = (λ i. told_with (begins own.step own.actor v) (takes (change_by setting w v))
+            (makes (change_by setting w v) ++ freezes (change_by setting w v)
+            ++ flat_map (λ (letter : Letter). look_of setting w v own.actor later letter letter.body) (follows.sent i))
+            (ends own.actor w (follows.answer i))) ∙ t.is;
+        may = t.may;
+        follows = t.follows;
+      }
+
+start_follow : (script : Script) → Follow (setting_of script) (rows_in (setting_of script) (start (setting_of script)))
+    (start (setting_of script)) blank
+unfolding In
+start_follow script =
+    let w = start (setting_of script) in
+    subst (λ (rows : List DiskRow). Follow (setting_of script) rows w blank)
+    (sym (ap (λ log. (state_after script.servers log).disks.rows) (none_chosen (setting_of script)))) (record {
+      stores = record { known = λ row h. absurd h; unknown = λ name none. refl; mindful = λ c o is. none_some refl is };
+      seats = λ c. refl;
+      letters = λ letter c seq h to says still. absurd h;
+      pending = λ n cell op on is clients counted still. none_some (at-empty cell_cmp cell) is;
+      finished = λ n c last on is how still. none_some (at-empty nat_cmp c) is;
+    })
+
+-- ### Of a run
+
+-- the machine on the way, and that it goes on from there by events alone
+pub record IsOnTheWay (setting : Setting) (middle last : World) : Type 0 where
+  pub m : Plain
+  pub then : Follow setting (rows_in setting middle) middle m
+  pub es : List Event
+  pub now : Follow setting (rows_in setting last) last (replay m es)
+
+module _ (run : Run) where
+  open run use {script, sound, records}
+
+  abbrev of_run : Setting
+  of_run = setting_in run
+
+  abbrev whole_log : List Command
+  whole_log = chosen_log of_run (after run)
+
+  pub plain : IsPlainLog script.servers whole_log
+  plain = (firm_in run).plain
+
+  -- what is chosen on the way is at the front of what is chosen at the end
+  reaches : (front later : List Record) → records ≡ front ++ later → IsPrefix (chosen_log of_run (At script front)) whole_log
+  reaches = history_grows script records sound run.legal
+
+  -- the ground holds on the way
+  grounds : (front later : List Record) → records ≡ front ++ later → AreGrounded of_run (state_after script.servers whole_log) (At script front) later
+  grounds front [] is =
+      (footing_after (run_of script sound front (before_part script front [] (subst (AreSteps script) is run.legal))) whole_log plain
+      (reaches front [] is)).footing.ground
+  grounds front (own ∷ later) is =
+      let it = at_moment run (record { front = front; own = own; following = later; is = is }) in (
+        (footing_after it.prior whole_log plain (reaches front (own ∷ later) is)).footing.ground,
+        grown_then it,
+        subst (λ v. AreGrounded of_run (state_after script.servers whole_log) v later) (stepped_in it)
+            (grounds (front ++ own ∷ []) later (is ∙ sym (append_assoc front (own ∷ []) later))),
+      )
+
+  abbrev T : Plain → World → Option (List Event) → Type 0
+  T = Tells script sound whole_log plain
+
+  abbrev F : World → Plain → Type 0
+  F w m = Follow of_run (rows_in of_run w) w m
+
+  -- what one of the records tells
+  tells_at : (at : IsMoment records) (m : Plain) → F (At script at.front) m
+      → T m (stepped of_run (At script at.front) at.own).world (told of_run (At script at.front) at.own at.following)
+  tells_at at m follow =
+      let it = at_moment run at in
+      let w = after it.prior in
+      let v = (stepped of_run w at.own).world in
+      let before = reaches at.front (at.own ∷ at.following) at.is in
+      let is = at.is ∙ sym (append_assoc at.front (at.own ∷ []) at.following) in
+      let then = reaches (longer it).records at.following is in
+      let on = footed_on it whole_log plain then (footing_after it.prior) in
+      record_tells script sound whole_log plain w m (along_at script sound whole_log plain w (firm_in it.prior) before)
+      (footing_after it.prior whole_log plain before).footing.ground follow at.own at.following (follows_in it)
+      (along_at script sound whole_log plain v (firm_then it) (subst (λ u. IsPrefix (chosen_log of_run u) whole_log) (stepped_in it) then)) (grown_then it)
+      on.footing.ground on.middle
+      (subst (λ u. AreGrounded of_run (state_after script.servers whole_log) u at.following) (stepped_in it) (grounds (longer it).records at.following is))
+      (front_legal of_run (start of_run) at.front (at.own ∷ at.following) (subst (AreSteps script) at.is run.legal)).1.1
+
+  -- and all that follow these
+  tells_from : (front later : List Record) → records ≡ front ++ later → (m : Plain) → F (At script front) m
+      → T m (after run) (told_from of_run (At script front) later)
+  tells_from front [] is m follow =
+      record { es = []; is = refl; may = tt; follows = subst (λ rs. F (At script rs) m) (sym (is ∙ append-nil front)) follow }
+  tells_from front (own ∷ later) is m follow =
+      let at : IsMoment records = record { front = front; own = own; following = later; is = is } in
+      let e = stepped_in (at_moment run at) in
+      let now = tells_at at m follow in
+      let rest = tells_from (front ++ own ∷ []) later (is ∙ sym (append_assoc front (own ∷ []) later)) (replay m now.es)
+      (subst (λ v. F v (replay m now.es)) (sym e) now.follows) in
+      let rest_is = subst (λ v. told_from of_run v later ≡ Some rest.es) e rest.is in
+      record {
+        es = now.es ++ rest.es;
+        is = (λ i. joined (now.is i) (rest_is i));
+        may = Obeys-append m now.es rest.es now.may rest.may;
+        follows = subst (F (after run)) (sym (replay-append m now.es rest.es)) rest.follows;
+      }
+
+pub history_tells : (run : Run)
+    → Tells run.script run.sound (whole_log run) (plain run) blank (after run) (events_of run.script run.records)
+history_tells run = tells_from run [] run.records refl blank (start_follow run.script)
+
+on_the_way : (run : Run) (front later : List Record) → run.records ≡ front ++ later → IsOnTheWay (setting_in run) (At run.script front) (after run)
+on_the_way run front later is =
+    let first = history_tells (run_of run.script run.sound front (before_part run.script front later (subst (AreSteps run.script) is run.legal))) in
+    let rest = tells_from run front later is (replay blank first.es) first.follows in
+    record { m = replay blank first.es; then = first.follows; es = rest.es; now = rest.follows }
+
+-- ### The law
+
+pub run_after : (run : Run) → IsRunOf (events_of run.script run.records)
+run_after run = let tells = history_tells run in subst IsRunOf (sym tells.is) tells.may
+
+pub held_after : (run : Run) → AreHeld (setting_in run) (after run) (machine_after (events_of run.script run.records)).disks
+held_after run =
+    let tells = history_tells run in
+    let stores = tells.follows.stores in
+    subst (λ o. AreHeld (setting_in run) (after run) (machine_after o).disks) (sym tells.is) (record { known = stores.known; unknown = stores.unknown })
+
+-- snapshots never change on the way
+snapshots_after : (script : Script) (records : List Record) → IsSound script → AreSteps script records → SnapshotsStay script records
+snapshots_after script records sound legal front back is =
+    let run = run_of script sound records legal in
+    let way = on_the_way run front back is in
+    contents_still (record {
+      setting = setting_of script;
+      w = At script front;
+      v = after run;
+      one = firm_in (run_of script sound front (before_part script front back (subst (AreSteps script) is legal)));
+      two = firm_in run;
+      grows = history_grows script records sound legal front back is;
+      m = way.m;
+      es = way.es;
+      was = way.then.stores;
+      now = way.now.stores;
+    })
+
+pub law : Law
+law script records sound legal = record {
+  world = record {
+    agrees = history_agrees script records sound legal;
+    copies = copies_after script records sound legal;
+    covered = covered_after script records sound legal;
+    empty = λ n fresh. let e = always_empty script records sound legal n fresh in (e.chains, e.marks);
+    requests = requests_after script records sound legal;
+    moves = rule_after script records sound legal;
+    stopped = out_has_stopped script records sound legal;
+    caught = caught_up_after script records sound legal;
+  };
+  grows = history_grows script records sound legal;
+  marks = marks_first script records sound legal;
+  run = run_after (run_of script sound records legal);
+  holds = held_after (run_of script sound records legal);
+  snapshots = snapshots_after script records sound legal;
+  equal = equal_after script records sound legal;
+  waiting = waiting_after script records sound legal;
+  reports = reports_hold script records sound legal;
+}

@@ -1,0 +1,328 @@
+-- A server at work that has started a ballot for a Caught has nothing under way on the link: an operation would be held, and a copy was closed.
+-- And the two copies are equal while nothing touches the link.
+use Rattle.std.proofs.Common.{◌≡◌, ◌≢◌, ◌==◌, ◌⊎◌, ◌++◌, ℕ, Bool, List, true, false, Option, Some, None, refl, sym, ap, ◌∙◌, subst, inl, inr, arith}
+use Rattle.std.specs.Option.{option_map_or}
+use Rattle.global_tables.specs.declared.link.LinkState.{LinkState}
+use Rattle.global_tables.specs.declared.link.LinkState.TheVariants.{Both, Lost, Only}
+use Rattle.petal_base.specs.declared.cell.Cell.{Cell}
+use Rattle.petal_table.specs.Table.{at}
+use Rattle.global_tables.specs.Link.{other_of}
+use Rattle.global_tables.specs.declared.link.LinkRow.{LinkRow}
+use Rattle.petal_command.specs.declared.command.Command.{Command}
+use Rattle.spec_state.specs.CellState.{cell_link}
+use Rattle.spec_state.specs.Command.{is_alone, state_after}
+use Rattle.script_lines.specs.declared.script.Script.{Script}
+use Rattle.spec_rules.specs.Progress.{copying_on, has_proposed}
+use Rattle.spec_state.specs.State.{inc_of}
+use Rattle.spec_rules.specs.Server.{PairState, Server}
+use Rattle.spec_rules.specs.State.{State, id_of, is_in, live}
+use Rattle.spec_rules.specs.Store.{Store, cell_cmp, chain_in}
+use Rattle.spec_rules.specs.World.{Setting, World, chosen_log, chosen_state, counted, server_state, setting_of, start}
+use Rattle.spec_rules.proofs.Tests.{both_true, none_some, same_numbers, same_or_apart, some_or_none, true_false}
+use Rattle.spec_history.specs.Claims.{AreCaughtUp, AreInAsThen, CopiesStayEqual, CopiesWaitEqual, HasAppliedNone, HasEqualCopies, IsCatching}
+use Rattle.spec_history.specs.Claims.{IsPrefix, is_at_work, place_in}
+use Rattle.spec_history.specs.Steps.{AreSteps, world_after}
+use Rattle.spec_history.specs.Sound.{IsSound}
+use Rattle.spec_history.specs.declared.record.Record.{Record}
+use Rattle.law_log.proofs.LogInHistories.{history_agrees, history_grows, history_is_firm}
+use Rattle.law_requests.proofs.RequestsInHistories.{asking_along}
+use Rattle.law_state.specs.Homes.{HasDied}
+use Rattle.law_state.specs.LinkChanges.{StaysSo}
+use Rattle.law_state.specs.Plain.{IsPlainLog}
+use Rattle.law_state.specs.LinkRows.{IsBetween}
+use Rattle.law_state.proofs.CaughtsMadeBoth.{log_held_or_both}
+use Rattle.law_state.proofs.Ages.{in_once}
+use Rattle.law_state.proofs.Leaves.{other_between}
+use Rattle.law_state.proofs.Steady.{front_plain, log_steady}
+use Rattle.law_state.proofs.EntriesTouchLinks.{places_grow, same_place}
+use Rattle.law_steps.proofs.Fronts.{front_itself, front_on}
+use Rattle.law_copies.specs.GoodCopies.{pair_at}
+use Rattle.law_copies.specs.Pair.{PairOk}
+use Rattle.law_copies.specs.Visits.{AliveIn, IsLast, WasThere, place_by, store_by}
+use Rattle.law_copies.proofs.ServedAtLaterFronts.{holder_is_one}
+use Rattle.law_copies.proofs.PlacesByFronts.{alive_on, one_place, one_row, place_of_later, places_up}
+use Rattle.law_copies.proofs.VisitsAfterSteps.{IsAt, at_by}
+use Rattle.law_state.specs.StartedBallots.{is_flagged}
+use Rattle.law_steps.specs.Ready.{Rests}
+use Rattle.law_steps.proofs.WorldsAreFirm.{always_firm}
+use Rattle.law_steps.proofs.KindsInHistories.{front_legal, rests_after, start_rests}
+use Rattle.law_steps.proofs.WhoLeads.{live_stage}
+use Rattle.law_steps.proofs.HeldBackForCaughts.{held_as_flag}
+use Rattle.law_steps.proofs.Records.{split_fronts}
+use Rattle.law_copies.proofs.CopiesInHistories.{KeptAfter, good_after}
+use Rattle.law_copies.proofs.RolesOfWorkers.{other_alone}
+use Rattle.law_run.proofs.OwnPlacesAreLatest.{equal_pair, unfollowed_halves}
+
+alone_so : (n : ℕ) (s : LinkState) → is_alone n s ≡ true → (whole : Bool) × (s ≡ Only n whole)
+alone_so n Both e = absurd (cc)
+alone_so n (Only k whole) e = (whole, ap (λ i. Only i whole) (same_numbers k n e))
+alone_so n Lost e = absurd (cc)
+
+module _ (script : Script) (records : List Record) (sound : IsSound script) (legal : AreSteps script records) where
+  abbrev setting : Setting
+  setting = setting_of script
+
+  abbrev w : World
+  w = world_after setting (start setting) records
+
+  rests : Rests setting w
+  rests = rests_after setting (start setting) records (always_firm script records sound legal) (start_rests script) legal
+
+  good : KeptAfter script records
+  good = good_after script records sound legal
+
+  module _ (n : ℕ) (cell : Cell) (works : is_at_work (server_state setting w n) w n ≡ true) (lives : live (server_state setting w n) cell ≡ true)
+      (started : has_proposed (server_state setting w n) (w.servers n).own cell ≡ true) where
+    abbrev state : State
+    state = server_state setting w n
+
+    seated : is_in state n (w.servers n).life.inc ≡ true
+    seated = (both_true (w.servers n).life.running (is_in state n (w.servers n).life.inc) works).1
+
+    none_pending : at cell_cmp (w.servers n).own.pairs.pending cell ≡ None
+    none_pending = elim (some_or_none (at cell_cmp (w.servers n).own.pairs.pending cell)) [
+      | inl some ↦ true_false started (((rests.pending n).staged cell some.0 some.1).unheld lives)
+      | inr none ↦ none
+    ]
+
+    none_copied : copying_on (w.servers n).own cell ≡ None
+    none_copied = elim (some_or_none (copying_on (w.servers n).own cell)) [
+      | inl some ↦ (
+          let may = ((rests.resting n).copying cell some.0 some.1).may in
+          let alone = alone_so n may.row.state (other_alone state n may.other may.row may.other_is) in
+          let here = good.here n cell may.row may.is seated (live_stage state cell lives).1 in
+          let flag : is_flagged here.own (id_of may.row) ≡ true = subst (λ (o : PairState). is_flagged o (id_of may.row) ≡ true) (sym here.same)
+          (sym (held_as_flag state (w.servers n).own cell may.row may.is) ∙ started) in
+          let caught = (good.alone (w.servers n).log.applied cell may.row n alone.0 ((history_agrees script records sound legal).servers n) may.is
+          alone.1).copying.caught here.own here.is flag in
+          none_some (subst (λ (o : PairState). copying_on o cell ≡ None) here.same caught.idle) some.1)
+      | inr none ↦ none
+    ]
+
+  pub caught_up_after : AreCaughtUp setting w
+  caught_up_after n cell works lives started = (none_pending n cell works lives started, none_copied n cell works lives started)
+
+  -- ### Equal chains
+
+  abbrev chosen : List Command
+  chosen = chosen_log setting w
+
+  plain : IsPlainLog script.servers chosen
+  plain = (history_is_firm script records sound legal).plain
+
+  legal_front : (front back : List Record) → records ≡ front ++ back → AreSteps script front
+  legal_front front back is = (front_legal setting (start setting) front back (subst (AreSteps script) is legal)).0
+
+  -- what a server has applied on the way is chosen
+  applied_within : (front back : List Record) → records ≡ front ++ back → (n : ℕ)
+      → IsPrefix ((world_after setting (start setting) front).servers n).log.applied chosen
+  applied_within front back is n =
+      front_on _ (chosen_log setting (world_after setting (start setting) front)) chosen
+      ((history_agrees script front sound (legal_front front back is)).servers n) (history_grows script records sound legal front back is)
+
+  module _ (front back : List Record) (is : records ≡ front ++ back) (n : ℕ) (cell : Cell) (row : LinkRow)
+      (catching : IsCatching setting (world_after setting (start setting) front) n cell row) (lives : live (chosen_state setting w) cell ≡ true) where
+    abbrev then : World
+    then = world_after setting (start setting) front
+
+    abbrev entries : List Command
+    entries = (then.servers n).log.applied
+
+    prefix : IsPrefix entries chosen
+    prefix = applied_within front back is n
+
+    whole : (b : Bool) × (row.state ≡ Only n b)
+    whole = alone_so n row.state catching.alone
+
+    alive : AliveIn (chosen_state setting w) cell
+    alive = (live_stage (chosen_state setting w) cell lives).1
+
+    alive_then : AliveIn (state_after script.servers entries) cell
+    alive_then = alive_on setting chosen plain entries chosen cell prefix (front_itself chosen) alive
+
+    seat_then : is_in (server_state setting then n) n (then.servers n).life.inc ≡ true
+    seat_then = (both_true (then.servers n).life.running (is_in (server_state setting then n) n (then.servers n).life.inc) catching.works).1
+
+    -- no server has served the link at a later place than the last one
+    last : (now : LinkRow) → cell_link (chosen_state setting w) cell ≡ Some now → IsLast good.reached setting chosen cell now
+    last now linked = elim (good.reaching.by cell) [
+      | inl none ↦ omega arith
+      | inr far ↦ (
+          let up = places_up setting chosen plain far.front chosen cell far.row now far.prefix (front_itself chosen) far.linked linked in
+          let at = far.at in
+          omega arith)
+    ]
+
+    -- the two copies by the last stores are those that count
+    by_stores : (one other : ℕ) → chain_in (store_by setting good.stores chosen one).chains cell ≡ chain_in (store_by setting good.stores chosen other).chains cell
+        → chain_in ((counted setting w).servers one).own.store.chains cell ≡ chain_in ((counted setting w).servers other).own.store.chains cell
+    by_stores one other same =
+        ap (λ (s : Store). chain_in s.chains cell) (sym (good.now one)) ∙ same ∙ ap (λ (s : Store). chain_in s.chains cell) (good.now other)
+
+    -- ### While nothing touches the link
+
+    module _ (same : place_in script.servers chosen row ≡ place_in script.servers entries row) where
+      linked : cell_link (chosen_state setting w) cell ≡ Some row
+      linked = elim (same_place script.servers entries chosen cell row plain prefix catching.linked same) [
+        | inl stays ↦ stays.same
+        | inr died ↦ (let dead = died.1 in let on = alive in absurd (omega arith))
+      ]
+
+      -- at its place the server had the ballot in mind
+      minded : (own : PairState) × (good.visits n (place_by setting entries row) cell ≡ Some own) × (is_flagged own (id_of row) ≡ true)
+      minded = good.started n (then.servers n).life.inc whole.0 entries cell row prefix catching.linked alive_then whole.1 seat_then (record {
+        before = front;
+        later = back;
+        is = is;
+        lives = refl;
+        at = refl;
+        minded = sym (held_as_flag (server_state setting then n) (then.servers n).own cell row catching.linked) ∙ catching.started;
+      })
+
+      equal : HasEqualCopies setting w n row cell
+      equal =
+          let found = minded in
+          let visit : good.visits n (place_by setting chosen row) cell ≡ Some found.0 = ap (λ place. good.visits n place cell) same ∙ found.1 in
+          by_stores n (other_of n row)
+          (((good.alone chosen cell row n whole.0 (front_itself chosen) linked whole.1).beside alive (last row linked)).alike.caught found.0 visit found.2)
+
+    -- ### While the server has not applied the entry that touched it
+
+    module _ (apart : place_in script.servers chosen row ≢ place_in script.servers entries row) (ins : AreInAsThen setting then w n row)
+        (unapplied : HasAppliedNone script front back n row) where
+      abbrev now : LinkRow
+      now = record row { state = Both }
+
+      between : IsBetween row (other_of n row) n
+      between = other_between row n
+          (holder_is_one (state_after script.servers entries)
+          (log_steady script.servers entries (front_plain script.servers entries chosen plain prefix)) n cell row catching.linked whole.1)
+
+      -- that entry was the Caught
+      touched_by : (cell_link (chosen_state setting w) cell ≡ Some now) ⊎ HasDied (chosen_state setting w) cell
+      touched_by = elim between [
+        | inl pair ↦ put_in ins.other_inc (then.servers n).life.inc (was_at pair.0 ins.other_inc ins.was) (was_at pair.1 _ seat_then)
+            (is_at_end pair.0 ins.other_inc ins.is) (is_at_end pair.1 _ ins.inc)
+        | inr pair ↦ put_in (then.servers n).life.inc ins.other_inc (was_at pair.0 _ seat_then) (was_at pair.1 ins.other_inc ins.was)
+            (is_at_end pair.0 _ ins.inc) (is_at_end pair.1 ins.other_inc ins.is)
+      ]
+        where
+          was_at : {one k : ℕ} → one ≡ k → (inc : ℕ) → is_in (state_after script.servers entries) k inc ≡ true
+              → is_in (state_after script.servers entries) one inc ≡ true
+          was_at e inc on = ap (λ i. is_in (state_after script.servers entries) i inc) e ∙ on
+
+          is_at_end : {one k : ℕ} → one ≡ k → (inc : ℕ) → is_in (chosen_state setting w) k inc ≡ true → is_in (chosen_state setting w) one inc ≡ true
+          is_at_end e inc on = ap (λ i. is_in (chosen_state setting w) i inc) e ∙ on
+
+          put_in : (one other : ℕ) → is_in (state_after script.servers entries) row.primary one ≡ true
+              → is_in (state_after script.servers entries) row.secondary other ≡ true → is_in (chosen_state setting w) row.primary one ≡ true
+              → is_in (chosen_state setting w) row.secondary other ≡ true
+              → (cell_link (chosen_state setting w) cell ≡ Some now) ⊎ HasDied (chosen_state setting w) cell
+          put_in one other first second first_on second_on =
+              elim (log_held_or_both script.servers entries chosen plain prefix cell row one other catching.linked first second first_on second_on) [
+                | inl same ↦ absurd (apart same)
+                | inr later ↦ later
+              ]
+
+      both : cell_link (chosen_state setting w) cell ≡ Some now
+      both = elim touched_by [
+        | inl so ↦ so
+        | inr died ↦ (let dead = died.1 in let on = alive in absurd (omega arith))
+      ]
+
+      -- the later row counts the same places
+      counts : (log : List Command) → place_by setting log now ≡ place_by setting log row
+      counts log = place_of_later setting chosen plain entries chosen log cell row now prefix (front_itself chosen) catching.linked both
+
+      -- who was at the last place was so as this incarnation, after its ballot
+      module _ (own : PairState) (visited : good.visits n (place_by setting chosen now) cell ≡ Some own) where
+        abbrev was : WasThere setting records n (place_by setting chosen now) cell own.pairs
+        was = good.came n (place_by setting chosen now) cell own visited
+
+        abbrev server_at : List Record → Server
+        server_at done = (world_after setting (start setting) done).servers n
+
+        abbrev log : List Command
+        log = (server_at was.before).log.applied
+
+        there : IsAt setting n (server_at was.before) (place_by setting chosen now) cell
+        there = at_by setting n (server_at was.before) (place_by setting chosen now) cell was.there
+
+        within : IsPrefix log chosen
+        within = applied_within was.before was.later was.is n
+
+        row_is : now ≡ there.row
+        row_is = one_row setting chosen plain log chosen cell there.row now within (front_itself chosen) there.linked both (sym there.at)
+
+        here : place_by setting chosen now ≡ place_by setting log now
+        here = there.at ∙ ap (λ (r : LinkRow). place_by setting log r) (sym row_is)
+
+        stays : StaysSo cell there.row (state_after script.servers log) (chosen_state setting w)
+        stays = one_place setting chosen plain log chosen cell there.row now within (front_itself chosen) there.linked both (sym there.at)
+
+        same_seat : inc_of (chosen_state setting w) n ≡ inc_of (state_after script.servers log) n
+        same_seat = elim between [
+          | inl pair ↦ subst (λ k. inc_of (chosen_state setting w) k ≡ inc_of (state_after script.servers log) k)
+              (ap (λ (r : LinkRow). r.secondary) (sym row_is) ∙ pair.1) stays.secondary
+          | inr pair ↦ subst (λ k. inc_of (chosen_state setting w) k ≡ inc_of (state_after script.servers log) k)
+              (ap (λ (r : LinkRow). r.primary) (sym row_is) ∙ pair.0) stays.primary
+        ]
+
+        same_inc : (server_at was.before).life.inc ≡ (then.servers n).life.inc
+        same_inc = in_once (chosen_state setting w) n (server_at was.before).life.inc (then.servers n).life.inc
+            (ap (λ o. option_map_or (λ present. present == (server_at was.before).life.inc) o false) same_seat ∙ there.seat) ins.inc
+
+        unseen : ⊥
+        unseen = elim (split_fronts front back was.before was.later (sym is ∙ was.is)) [
+          | inl past ↦ (
+              let none = unapplied past.0 was.later past.2 (ap (λ done. (server_at done).life.inc) (sym past.1) ∙ same_inc) in
+              let same_log = ap (λ done. place_in script.servers (server_at done).log.applied row) past.1 in
+              apart (omega (arith, here, counts chosen, counts log, none, same_log)))
+          | inr earlier ↦ (
+              let grows = ((asking_along script sound front (legal_front front back is)).since was.before earlier.0 earlier.1 n).grows in
+              let up = places_grow script.servers log entries now grows in
+              let on = places_grow script.servers entries chosen row prefix in
+              apart (omega (arith, here, counts chosen, counts entries, up, on)))
+        ]
+
+      unvisited : good.visits n (place_by setting chosen now) cell ≡ None
+      unvisited = elim (some_or_none (good.visits n (place_by setting chosen now) cell)) [
+        | inl visit ↦ absurd (unseen visit.0 visit.1)
+        | inr none ↦ none
+      ]
+
+      -- so nothing was written since
+      pair : PairOk (pair_at (store_by setting good.stores chosen) good.visits (place_by setting chosen now) cell row.primary row.secondary)
+      pair = ((good.both chosen cell now (front_itself chosen) both refl).twins alive (last now both)).pair
+
+      abbrev visit_of : ℕ → Option PairState
+      visit_of k = good.visits k (place_by setting chosen now) cell
+
+      abbrev store_at : ℕ → Store
+      store_at = store_by setting good.stores chosen
+
+      wait : HasEqualCopies setting w n row cell
+      wait = elim between [
+        | inl at ↦ by_servers n (other_of n row) (λ i. sym at.1 i) (λ i. sym at.0 i)
+            (sym (unfollowed_halves (visit_of row.primary) (visit_of row.secondary) (store_at row.primary) (store_at row.secondary) cell pair
+            (ap visit_of at.1 ∙ unvisited)))
+        | inr at ↦ by_servers n (other_of n row) (λ i. sym at.0 i) (λ i. sym at.1 i)
+            (equal_pair (visit_of row.primary) (visit_of row.secondary) (store_at row.primary) (store_at row.secondary) cell pair
+            (λ own some. none_some (ap visit_of at.0 ∙ unvisited) some))
+      ]
+        where
+          by_servers : {one two : ℕ} (k m : ℕ) → k ≡ one → m ≡ two → chain_in (store_at one).chains cell ≡ chain_in (store_at two).chains cell
+              → chain_in ((counted setting w).servers k).own.store.chains cell ≡ chain_in ((counted setting w).servers m).own.store.chains cell
+          by_servers {one} {two} k m e f same = by_stores k m
+              (ap (λ i. chain_in (store_at i).chains cell) e ∙ same ∙ ap (λ i. chain_in (store_at i).chains cell) (sym f))
+
+  pub equal_after : CopiesStayEqual script records
+  equal_after front back n cell row is catching lives same = equal front back is n cell row catching lives same
+
+  pub waiting_after : CopiesWaitEqual script records
+  waiting_after front back n cell row is catching lives ins unapplied =
+      elim (same_or_apart (place_in script.servers chosen row)
+      (place_in script.servers ((world_after setting (start setting) front).servers n).log.applied row)) [
+        | inl same ↦ equal front back is n cell row catching lives same
+        | inr apart ↦ wait front back is n cell row catching lives apart ins unapplied
+      ]

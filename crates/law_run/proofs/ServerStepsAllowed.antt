@@ -1,0 +1,272 @@
+-- What the machine is told of a server's step is allowed, and keeps it tied to the world.
+use Rattle.law_run.proofs.GroundGives.{never_dead, proposed_store}
+use Rattle.law_run.proofs.NotHere.{not_here_told}
+use Rattle.law_steps.specs.DidRead.{Not_here, Shows}
+use Rattle.law_run.proofs.ReadsShowContents.{AreCalm, data_of, show_told}
+use Rattle.law_run.proofs.EventsOfServerSteps.{LooksTold, Next, ServerStep, ServerTold, ServesAt, after_step, kept_here, later_world, letters, new, quiet_looks}
+use Rattle.spec_history.specs.Steps.{AreStepsFrom}
+use Rattle.spec_state.specs.CellState.{named_cell}
+use Rattle.std.proofs.Common.{◌≡◌, ◌+◌, ℕ, List, [], true, Some, refl, sym, ap, ◌∙◌, subst, inl, ◌||◌, false, Option, None}
+use Rattle.std.specs.Prelude.{is_some}
+use Rattle.petal_base.specs.declared.cell.Cell.{Cell}
+use Rattle.petal_table.specs.Table.{at}
+use Rattle.spec_machine.specs.Machine.{Plain}
+use Rattle.petal_msg.specs.declared.body.Body.{Body}
+use Rattle.petal_msg.specs.declared.body.Body.TheVariants as body
+use Rattle.petal_msg.specs.declared.letter.Actor.TheVariants as actor
+use Rattle.petal_msg.specs.declared.letter.Letter.{Letter}
+use Rattle.petal_msg.specs.declared.operation.Pending.{Pending}
+use Rattle.script_lines.specs.declared.request.Line.{Line}
+use Rattle.spec_rules.specs.Boots.{awake, raised}
+use Rattle.petal_command.specs.declared.command.Command.{Command}
+use Rattle.spec_rules.specs.Crossing.{crossed, settled_by}
+use Rattle.spec_rules.specs.Jobs.{Acted, down_posts}
+use Rattle.spec_rules.specs.Lists.{In}
+use Rattle.spec_rules.specs.Log.{Log, rev_of}
+use Rattle.spec_rules.specs.Server.{PairState, Pairs, JobContext, Post, Sender, JobResult, sender, letters_of}
+use Rattle.spec_rules.specs.State.{servers_of}
+use Rattle.spec_rules.specs.Progress.{copying_on}
+use Rattle.spec_rules.specs.Store.{Store, cell_cmp, chain_in}
+use Rattle.spec_rules.specs.Writes.{is_under_way}
+use Rattle.spec_rules.specs.World.{World, stamped, chosen_log, server_state}
+use Rattle.spec_rules.specs.declared.job.Job.{Job}
+use Rattle.spec_rules.proofs.Settled.{IsSettling, settling}
+use Rattle.spec_rules.proofs.Tests.{true_false}
+use Rattle.law_steps.specs.Did.{Did, By_read}
+use Rattle.law_steps.specs.DidStep.{Handled, Worked, By_job, By_ballot, By_entry, IsSeated, Serving, Goes, Ends, Stays, Wakes, Fails}
+use Rattle.law_steps.specs.DidStep.{own_place, without_rev, served_so, stopped_so}
+use Rattle.law_steps.proofs.Letters.{said}
+use Rattle.law_steps.proofs.ServerStepKinds.{chosen_same}
+use Rattle.law_copies.specs.Pair.{owns_of}
+use Rattle.law_run.specs.WritesGoOn.{Onward}
+use Rattle.law_moves.proofs.JobsChangeOneChain.{did_stores, NeverDead}
+use Rattle.law_run.proofs.ServerFrames.{AreKept, As_before, Anew, OwnFollow, Runs, SaysOk, kept_own}
+use Rattle.law_run.proofs.LogSteps.{IsOfKind, Of_the_log, Of_a_boot, Of_the_rest}
+use Rattle.law_run.proofs.ReadsLookWhereSent.{is_looked, AreGrounded, who_accepts}
+use Rattle.law_run.proofs.PutContents.{calm_told, joined_same, unchanged}
+use Rattle.law_run.proofs.CountedPutsGiveBytes.{stored_told}
+use Rattle.law_requests.proofs.StepsKeepRequests.{proposed_pairs}
+use Rattle.law_run.proofs.DataLetters.{IsUnended, is_written, did_says, downs_unended, glances_unended, logged_unended, quiet_data, unended_no_data, unended_no_end}
+use Rattle.law_run.proofs.ServerJobs.{did_job}
+use Rattle.law_run.proofs.EventsPutTogether.{assembled}
+use Rattle.law_run.proofs.LeavesTakeWrites.{votes_told}
+
+-- letters that end no request
+module _ (this : ServerStep) (who : Sender) (posts : List Post) (is : letters this ≡ stamped this.stamp (letters_of who 0 posts))
+    (unended : (post : Post) → In post posts → IsUnended post) where
+  unended_says : (k : Plain) → SaysOk this k
+  unended_says k letter h c seq to says still =
+      true_false (ap is_written says)
+      (unended_no_end who this.stamp posts unended letter (subst (In letter) is h))
+
+  unended_looks : LooksTold this
+  unended_looks = quiet_looks this (λ letter h. unended_no_data who this.stamp posts unended letter (subst (In letter) is h))
+
+-- where nothing is under way on the block, nothing is pending
+none_pending : (own : PairState) (cell : Cell) → is_under_way own cell ≡ false → at cell_cmp own.pairs.pending cell ≡ None
+none_pending own cell free = by (at cell_cmp own.pairs.pending cell) free
+  where
+    by : (o : Option Pending) → is_some o || is_some (copying_on own cell) ≡ false → o ≡ None
+    by None e = refl
+    by (Some op) e = true_false refl e
+
+module _ (at : ServesAt) where
+  abbrev pub step_of : (acted : Acted) → Serving at.setting at.w at.n at.what acted → Next at acted → ServerStep
+  step_of acted serving next = record { at = at; acted = acted; serving = serving; goes_on = next }
+
+  abbrev here : JobContext
+  here = own_place at.setting at.w at.n
+
+  abbrev own : PairState
+  own = owns_of at.w at.n
+
+  abbrev hears : Body → Type 0
+  hears = Handled at.w at.n
+
+  abbrev downs : List Post
+  downs = down_posts at.n (at.w.servers at.n).life.inc (servers_of (server_state at.setting at.w at.n))
+
+  downs_end : (post : Post) → In post downs → IsUnended post
+  downs_end = downs_unended at.n (at.w.servers at.n).life.inc (servers_of (server_state at.setting at.w at.n))
+
+  module _ (numbered : (one other : Line) → In one at.setting.lines → In other at.setting.lines → one.number ≡ other.number → one ≡ other) where
+    -- of the records that follow: the ground holds on the way, and they are legal
+    pub record HasLater (v : World) : Type 0 where
+      pub grounds : AreGrounded at.setting at.state v at.later
+      pub legal : AreStepsFrom at.setting v at.later
+
+    never : (at.w.servers at.n).life.running ≡ true → NeverDead here own
+    never =
+        never_dead (record { setting = at.setting; state = at.state; w = at.w; firm = at.along.firm; ground = at.ground }) at.along.steady at.n
+
+    abbrev IsSame : Acted → Type 0
+    IsSame acted = chosen_log at.setting (after_step at acted) ≡ chosen_log at.setting at.w
+
+    -- a job of the pairs
+    -- where nothing is chosen and no chain changes, the contents are as before
+    calm : (this : ServerStep) → chosen_log this.setting (later_world this) ≡ chosen_log this.setting this.w
+        → (new this).store.chains ≡ (owns_of this.w this.n).store.chains → AreCalm this
+    calm this same chains row there b epoch =
+        let is = unchanged this same row there b
+        (λ mine. ap (λ c. chain_in c (named_cell row b)) (kept_here this chains (joined_same this same this.n))) epoch in
+        (is.has, is.bytes)
+
+    -- the one letter of a job that answers a client
+    abbrev letter_to : ℕ → Body → Letter
+    letter_to client said = record {
+      from = actor.Server at.n;
+      inc = (at.w.servers at.n).life.inc;
+      to = actor.Client client;
+      rev = (server_state at.setting at.w at.n).rev;
+      stamp = at.stamp;
+      nth = 0;
+      body = said;
+    }
+
+    module _ (log : Log) (runs : (at.w.servers at.n).life.running ≡ true) where
+      job_looks : (done : JobResult) (did : Did hears here own done) (queue : List Job)
+          (serving : Serving at.setting at.w at.n at.what (served_so at.setting at.w at.n log done queue))
+          (next : Next at (served_so at.setting at.w at.n log done queue)) → IsSame (served_so at.setting at.w at.n log done queue)
+          → HasLater (after_step at (served_so at.setting at.w at.n log done queue))
+          → LooksTold (step_of (served_so at.setting at.w at.n log done queue) serving next)
+      unfolding In
+      job_looks _ (By_read _ (Shows client seq cell epoch readable there)) queue serving next same later =
+          let this = step_of _ serving next in
+          let letter = letter_to client (body.Data seq (data_of this cell epoch)) in
+          show_told this numbered runs client seq cell epoch readable there
+          (λ lead. none_pending own cell (readable.idle lead)) letter refl refl refl same (calm this same refl)
+          (λ number e. who_accepts at.setting at.state (later_world this) at.later later.grounds later.legal letter seq _ number (inl refl) refl e)
+      job_looks _ (By_read _ (Not_here client seq cell epoch readable comes none)) queue serving next same later =
+          let this = step_of _ serving next in
+          let letter = letter_to client (body.NotHere seq) in
+          not_here_told this numbered runs client seq cell epoch readable comes none
+          (λ lead. none_pending own cell (readable.idle lead)) letter refl refl refl refl same (calm this same refl) later.grounds later.legal
+      job_looks done d queue serving next same later =
+          let this = step_of _ serving next in
+          quiet_looks this (λ letter i.
+          let s = said (sender here) at.stamp 0 done.posts letter i in
+          ap is_looked s.body ∙ quiet_data hears here own (never runs) done d tt s.post s.there)
+
+      job_told : (done : JobResult) (seated : IsSeated here own done) (did : Did hears here own done) (queue : List Job)
+          (serving : Serving at.setting at.w at.n at.what (served_so at.setting at.w at.n log done queue))
+          (next : Next at (served_so at.setting at.w at.n log done queue)) → IsSame (served_so at.setting at.w at.n log done queue)
+          → HasLater (after_step at (served_so at.setting at.w at.n log done queue))
+          → ServerTold (step_of (served_so at.setting at.w at.n log done queue) serving next)
+      job_told done seated did queue serving next same later =
+          let this = step_of _ serving next in
+          let says : (k : Plain) → Onward at.m k → SaysOk this k = λ k onward letter i c seq to says still.
+          let s = said (sender here) at.stamp 0 done.posts letter i in
+          did_says this k runs onward (never runs) done did s.post s.there c seq (sym s.to ∙ to) (sym s.body ∙ says) still in
+          assembled this (stored_told this same runs says (did_stores hears here own (never runs) done seated did)
+          (λ k onward held. did_job this k runs onward (never runs) done seated did held refl))
+          (job_looks done did queue serving next same later)
+
+      -- the server stops once its commit is made
+      job_stopped : (done : JobResult) (seated : IsSeated here own done) (did : Did hears here own done)
+          (serving : Serving at.setting at.w at.n at.what (stopped_so at.setting at.w at.n log done))
+          (next : Next at (stopped_so at.setting at.w at.n log done)) → IsSame (stopped_so at.setting at.w at.n log done)
+          → ServerTold (step_of (stopped_so at.setting at.w at.n log done) serving next)
+      job_stopped done seated did serving next same =
+          let this = step_of _ serving next in
+          let says : (k : Plain) → Onward at.m k → SaysOk this k = λ k onward. unended_says this (without_rev here) downs refl downs_end k in
+          assembled this (stored_told this same runs says (did_stores hears here own (never runs) done seated did)
+          (λ k onward held. did_job this k runs onward (never runs) done seated did held refl))
+          (unended_looks this (without_rev here) downs refl downs_end)
+
+    no_posts : (post : Post) → In post [] → IsUnended post
+    unfolding In
+    no_posts post i = absurd i
+
+    -- a step that changes no chain, and ends no request
+    calm_step : (acted : Acted) (serving : Serving at.setting at.w at.n at.what acted) (next : Next at acted) → IsSame acted
+        → acted.server.own.store.chains ≡ own.store.chains
+        → ((k : Plain) → Onward at.m k → OwnFollow (step_of acted serving next) k acted.server.own)
+        → (who : Sender) (posts : List Post) → acted.letters ≡ letters_of who 0 posts → ((post : Post) → In post posts → IsUnended post)
+        → ServerTold (step_of acted serving next)
+    calm_step acted serving next same chains job who posts letters_are unended =
+        let this = step_of acted serving next in
+        let is : letters this ≡ stamped at.stamp (letters_of who 0 posts) = ap (stamped at.stamp) letters_are in
+        assembled this (calm_told this same chains job (λ k onward. unended_says this who posts is unended k)) (unended_looks this who posts is unended)
+
+    -- by an entry that is applied the server's operations and blocks stay
+    entry_settled : (entry : Command) → IsSettling (crossed here.state entry own) (settled_by here entry (crossed here.state entry own))
+    entry_settled entry = settling here entry (crossed here.state entry own)
+
+    goes_told : (log : Log) (done : JobResult) (queue : List Job) (runs : (at.w.servers at.n).life.running ≡ true)
+        → Worked at.setting at.w at.n log done → (serving : Serving at.setting at.w at.n at.what (served_so at.setting at.w at.n log done queue))
+        (next : Next at (served_so at.setting at.w at.n log done queue)) → IsSame (served_so at.setting at.w at.n log done queue)
+        → HasLater (after_step at (served_so at.setting at.w at.n log done queue))
+        → ServerTold (step_of (served_so at.setting at.w at.n log done queue) serving next)
+    goes_told _ _ queue runs (By_job log done applied did seat) serving next same later = job_told log runs done seat did queue
+        serving next same later
+    goes_told _ _ queue runs (By_ballot log started posts applied starts says) serving next same later =
+        let pairs = proposed_pairs (server_state at.setting at.w at.n) own started in
+        calm_step _ serving next same (ap (λ (s : Store). s.chains) (proposed_store (server_state at.setting at.w at.n) own started))
+        (λ k onward. kept_own (step_of _ serving next) k onward
+        (ap (λ (s : Store). s.chains) (proposed_store (server_state at.setting at.w at.n) own started))
+        (λ on. As_before runs (ap (λ (p : Pairs). p.finished) pairs) (ap (λ (p : Pairs). p.pending) pairs)))
+        (sender here) posts refl (λ post i. logged_unended post.body (says post i))
+    goes_told _ _ queue runs (By_entry log entry more front) serving next same later =
+        let settled = entry_settled entry in
+        calm_step _ serving next same settled.chains
+        (λ k onward. kept_own (step_of _ serving next) k onward settled.chains
+        (λ on. As_before runs (ap (λ (p : Pairs). p.finished) settled.pairs) (ap (λ (p : Pairs). p.pending) settled.pairs)))
+        (sender here) [] refl no_posts
+
+    ends_told : (log : Log) (done : JobResult) (runs : (at.w.servers at.n).life.running ≡ true) → Worked at.setting at.w at.n log done
+        → (serving : Serving at.setting at.w at.n at.what (stopped_so at.setting at.w at.n log done))
+        (next : Next at (stopped_so at.setting at.w at.n log done)) → IsSame (stopped_so at.setting at.w at.n log done)
+        → ServerTold (step_of (stopped_so at.setting at.w at.n log done) serving next)
+    ends_told _ _ runs (By_job log done applied did seat) serving next same = job_stopped log runs done seat did serving next same
+    ends_told _ _ runs (By_ballot log started posts applied starts says) serving next same =
+        let pairs = proposed_pairs (server_state at.setting at.w at.n) own started in
+        calm_step _ serving next same (ap (λ (s : Store). s.chains) (proposed_store (server_state at.setting at.w at.n) own started))
+        (λ k onward. kept_own (step_of _ serving next) k onward
+        (ap (λ (s : Store). s.chains) (proposed_store (server_state at.setting at.w at.n) own started))
+        (λ on. As_before runs (ap (λ (p : Pairs). p.finished) pairs) (ap (λ (p : Pairs). p.pending) pairs)))
+        (without_rev here) downs refl downs_end
+    ends_told _ _ runs (By_entry log entry more front) serving next same =
+        let settled = entry_settled entry in
+        calm_step _ serving next same settled.chains
+        (λ k onward. kept_own (step_of _ serving next) k onward settled.chains
+        (λ on. As_before runs (ap (λ (p : Pairs). p.finished) settled.pairs) (ap (λ (p : Pairs). p.pending) settled.pairs)))
+        (without_rev here) downs refl downs_end
+
+    rest_told : (acted : Acted) (serving of_it : Serving at.setting at.w at.n at.what acted) (next : Next at acted) → IsSame acted
+        → HasLater (after_step at acted)
+        → ServerTold (step_of acted of_it next)
+    rest_told _ (Goes log done queue runs worked queued works) of_it next same later = goes_told log done queue runs worked of_it next same later
+    rest_told _ (Ends log done runs worked) of_it next same later = ends_told log done runs worked of_it next same
+    rest_told _ (Stays who posts from shown) of_it next same later =
+        calm_step _ of_it next same refl (λ k onward. kept_own (step_of _ of_it next) k onward refl (λ on. As_before on refl refl))
+        who posts refl (λ post i. glances_unended post (shown post i))
+    rest_told _ (Wakes booted asleep) of_it next same later =
+        calm_step _ of_it next same refl (λ k onward. kept_own (step_of _ of_it next) k onward refl (λ on. Anew refl))
+        (record { from = actor.Server at.n; inc = (at.w.servers at.n).life.inc + 1; rev = rev_of (awake (raised (at.w.servers at.n))).log })
+        downs refl downs_end
+    rest_told _ (Fails booted asleep) of_it next same later =
+        calm_step _ of_it next same refl (λ k onward. kept_own (step_of _ of_it next) k onward refl (λ on. true_false on asleep))
+        (without_rev here) [] refl no_posts
+
+    -- a server that runs after the step ran before, or has nothing in memory
+    serves_kept : (acted : Acted) (serving of_it : Serving at.setting at.w at.n at.what acted) (next : Next at acted)
+        → acted.server.own.pairs ≡ own.pairs
+        → Runs (step_of acted of_it next) → AreKept (step_of acted of_it next)
+    serves_kept _ (Goes log done queue runs worked queued works) of_it next same on =
+        As_before runs (ap (λ (p : Pairs). p.finished) same) (ap (λ (p : Pairs). p.pending) same)
+    serves_kept _ (Ends log done runs worked) of_it next same on =
+        As_before runs (ap (λ (p : Pairs). p.finished) same) (ap (λ (p : Pairs). p.pending) same)
+    serves_kept _ (Stays who posts from shown) of_it next same on = As_before on refl refl
+    serves_kept _ (Wakes booted asleep) of_it next same on = Anew refl
+    serves_kept _ (Fails booted asleep) of_it next same on = true_false on asleep
+
+    -- each kind of step
+    pub step_told : (acted : Acted) (serving : Serving at.setting at.w at.n at.what acted) (next : Next at acted) → IsOfKind (at.w.servers at.n) acted
+        → HasLater (after_step at acted) → ServerTold (step_of acted serving next)
+    step_told acted serving next (Of_the_log store pairs quiet) later =
+        votes_told (step_of acted serving next) (ap (λ (s : Store). s.chains) store) (serves_kept acted serving serving next pairs)
+        (quiet at.stamp)
+    step_told acted serving next (Of_a_boot chains none quiet) later =
+        votes_told (step_of acted serving next) chains (λ on. Anew none) (quiet at.stamp)
+    step_told acted serving next (Of_the_rest records) later =
+        rest_told acted serving serving next (chosen_same at.setting at.w at.n at.stamp at.what acted records) later

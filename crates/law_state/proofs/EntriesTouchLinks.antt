@@ -1,0 +1,351 @@
+-- What an entry does to a link: one that does not touch it leaves its row and its two servers as they are. A longer log has no fewer
+-- places.
+use Rattle.std.proofs.Common.{◌≡◌, ◌≢◌, ◌≤◌, ◌+◌, ◌++◌, ◌==◌, ◌&&◌, ℕ, List, [], ◌∷◌, length, Bool, true, false, not, if◌then◌else◌, Option}
+use Rattle.std.proofs.Common.{Some, None, is_some, refl, sym, ap, ◌∙◌, subst, ◌⊎◌, inl, inr, arith}
+use Rattle.std.specs.Prelude.{fold, slice_get, option_map, option_and_then}
+use Rattle.std.proofs.lemmas.Grind.{fold-append}
+use Rattle.petal_base.specs.declared.cell.Cell.{Cell}
+use Rattle.global_tables.specs.declared.link.LinkRow.{LinkRow}
+use Rattle.global_tables.specs.declared.link.LinkState.TheVariants.{Both}
+use Rattle.global_tables.specs.declared.disk.Verdict.TheVariants as Verdict
+use Rattle.global_tables.specs.declared.fence.FenceKind.TheVariants.{Region}
+use Rattle.global_tables.specs.declared.fence.Member.{Member}
+use Rattle.global_tables.specs.Disk.{named}
+use Rattle.global_tables.specs.View.{inc_in}
+use Rattle.global_tables.specs.Link.{has_server, is_link, link_at, row_caught, row_left, new_rows}
+use Rattle.global_tables.specs.Map.{tuple_of}
+use Rattle.global_tables.specs.Region.{link_of}
+use Rattle.petal_command.specs.declared.command.Command.{Command}
+use Rattle.petal_command.specs.declared.command.Command.TheVariants.{Join, Leave, Caught, MakeDisk, Snap, StartMove, Drained, Moved, Witness}
+use Rattle.spec_state.specs.CellState.{cell_link, owner}
+use Rattle.spec_state.specs.Command.{act, after, is_new, may_join, with_disk, with_fence, with_move, state_after}
+use Rattle.spec_state.specs.Place.{touches, places_from}
+use Rattle.spec_state.specs.State.{inc_of, is_up, is_up_as, latest, start, told, ups}
+use Rattle.spec_rules.specs.Lists.{In}
+use Rattle.spec_rules.specs.State.{State}
+use Rattle.spec_rules.proofs.ListLemmas.{in_later}
+use Rattle.spec_rules.proofs.Tests.{both_true, by_bool, by_test, none_some, number_itself, same_numbers, same_or_apart, some_or_none, true_false}
+use Rattle.spec_history.specs.Claims.{IsPrefix}
+use Rattle.law_state.specs.LinkChanges.{IsReseated, IsTouchedBy, By_caught, By_join, By_leave, StaysSo, row_joined}
+use Rattle.law_state.specs.Plain.{IsPlain, IsPlainLog}
+use Rattle.law_state.specs.Homes.{HasDied}
+use Rattle.law_state.specs.Tables.{IsPlainState}
+use Rattle.law_state.proofs.EntriesOnlyAdd.{entering, folding, log_plain}
+use Rattle.law_state.specs.LinkRows.{IsServed, ByBoth, ByNone, ByOne}
+use Rattle.law_state.proofs.Caughts.{act_caught, acting_caught, alone_by, catch_so, caught_by, link_caught}
+use Rattle.law_state.proofs.Caughts.{row_in_both, row_uncaught, the_row, touch_by, touch_so}
+use Rattle.law_state.proofs.MembershipChanges.{found_itself}
+use Rattle.law_state.proofs.GrownStates.{alone_not_both, gone_on, lost_not_both}
+use Rattle.law_state.proofs.Joins.{joined_by, link_joined, row_beside, some_now, was_out}
+use Rattle.law_state.proofs.Joins.{inc_beside as joined_beside}
+use Rattle.law_state.proofs.Leaves.{both_up, inc_beside, left_by, link_left, none_now, row_stays}
+use Rattle.law_state.proofs.NewMapLinks.{either_false}
+use Rattle.law_state.proofs.MapsAreAdded.{map_front}
+use Rattle.law_state.proofs.MovesOfDisks.{act_moved, act_note, act_start, gone_link, kept_link, moved_state, noted_state}
+use Rattle.law_state.proofs.FencesPass.{cell_settled, inc_settled}
+use Rattle.law_state.proofs.ListLookups.{find_front, found_at}
+use Rattle.law_state.proofs.SnapsQueueFences.{act_drained, act_snap}
+use Rattle.law_state.proofs.Steady.{died, front_plain, grown_below, linked_owner, log_steady, owned_or_none, plain_steady, all_died}
+
+differ : (a b : ℕ) → (a == b) ≡ false → a ≢ b
+differ a b away e = true_false (ap (λ k. k == b) e ∙ number_itself b) away
+
+module _ (servers : ℕ) (s : State) (p : IsPlainState servers s) (cell : Cell) (row : LinkRow) (is : cell_link s cell ≡ Some row) where
+  itself : StaysSo cell row s s
+  itself = record { same = is; primary = refl; secondary = refl }
+
+  -- the cell's row later, where each of its map's links that was found as this row is found so
+  moved_link : (t : State) (now : LinkRow) → ((ids : List ℕ) → tuple_of s.maps cell.map ≡ Some ids → tuple_of t.maps cell.map ≡ Some ids)
+      → ((link : ℕ) → link_at s.links cell.map link ≡ Some row → link_at t.links cell.map link ≡ Some now) → cell_link t cell ≡ Some now
+  moved_link t now maps links = elim (some_or_none (tuple_of s.maps cell.map)) [
+    | inl h ↦ ap (option_and_then (λ ids. link_at t.links cell.map (link_of (length ids) cell.block))) (maps h.0 h.1)
+        ∙ links (link_of (length h.0) cell.block)
+        (sym (ap (option_and_then (λ ids. link_at s.links cell.map (link_of (length ids) cell.block))) h.1) ∙ is)
+    | inr none ↦ none_some (ap (option_and_then (λ ids. link_at s.links cell.map (link_of (length ids) cell.block))) none) is
+  ]
+
+  -- it is found by its own map and number
+  found_row : link_at s.links row.map row.link ≡ Some row
+  found_row = elim (some_or_none (tuple_of s.maps cell.map)) [
+    | inl h ↦ found_itself s cell.map (link_of (length h.0) cell.block) row
+        (sym (ap (option_and_then (λ ids. link_at s.links cell.map (link_of (length ids) cell.block))) h.1) ∙ is)
+    | inr none ↦ none_some (ap (option_and_then (λ ids. link_at s.links cell.map (link_of (length ids) cell.block))) none) is
+  ]
+
+  -- the row is the same, or it is gone
+  abbrev Stays : State → Type 0
+  Stays t = StaysSo cell row s t ⊎ (cell_link t cell ≡ None)
+
+  same_still : (t : State) → cell_link t cell ≡ Some row → t.view.members ≡ s.view.members → Stays t
+  same_still t e members = inl (record {
+    same = e;
+    primary = ap (λ (m : List Member). option_and_then inc_in (slice_get m row.primary)) members;
+    secondary = ap (λ (m : List Member). option_and_then inc_in (slice_get m row.secondary)) members;
+  })
+
+  act_stays : (entry : Command) → IsPlain servers entry → touches s entry row ≡ false → Stays (act entry s)
+  act_stays (Join server inc blank) plain off =
+      by_test Stays (may_join (slice_get s.view.members server) inc) (joined_by s server inc blank) s
+      (λ may.
+      let away : has_server server row ≡ false = sym (ap (λ b. b && has_server server row) may) ∙ off in
+      let apart = either_false (row.primary == server) (row.secondary == server) away in
+      let served = ((plain_steady servers s p).linked cell row is).served in
+      inl (record {
+        same = moved_link (joined_by s server inc blank) row (λ ids e. e) (λ link e.
+            link_joined servers s p server inc blank may cell.map link ∙ ap (option_map (row_joined server blank)) e
+            ∙ ap Some (row_beside server blank (is_up s) (λ n. is_up_as s n 1) row served away));
+        primary = joined_beside servers s p server inc blank may row.primary (differ row.primary server apart.0);
+        secondary = joined_beside servers s p server inc blank may row.secondary (differ row.secondary server apart.1);
+      }))
+      (λ no. inl itself)
+  act_stays (Leave server inc) plain off = by_test Stays (is_up_as s server inc) (left_by s server) s
+      (λ now.
+      let away : has_server server row ≡ false = sym (ap (λ b. b && has_server server row) now) ∙ off in
+      let apart = either_false (row.primary == server) (row.secondary == server) away in
+      inl (record {
+        same = moved_link (left_by s server) row (λ ids e. e) (λ link e.
+            link_left servers s p server inc now cell.map link ∙ ap (option_map (row_left server)) e
+            ∙ ap Some (row_stays row server away));
+        primary = inc_beside servers s p server inc now row.primary (differ row.primary server apart.0);
+        secondary = inc_beside servers s p server inc now row.secondary (differ row.secondary server apart.1);
+      }))
+      (λ no. inl itself)
+  act_stays (Caught of link holder holder_inc other other_inc) plain off =
+      act_caught Stays s of link holder holder_inc other other_inc
+      (λ acts.
+      let away : is_link of link row ≡ false = by_bool (is_link of link row)
+      (λ on. true_false (touch_so s row of link holder holder_inc other other_inc on acts) off) (λ no. no) in
+      inl (record {
+        same = moved_link (caught_by s of link) row (λ ids e. e)
+            (λ at e. link_caught (acting_caught p acts) cell.map at
+            ∙ ap (option_map (row_caught of link)) e ∙ ap Some (row_uncaught of link row away));
+        primary = refl;
+        secondary = refl;
+      }))
+      (inl itself)
+  act_stays (MakeDisk client seq name tuple) plain off =
+      by_test Stays (not (is_new seq (latest s client))) s _ (λ old. inl itself)
+      (λ new. by_test Stays (is_some (named s.disks.rows name)) _ _ (λ there. inl (record { same = is; primary = refl; secondary = refl }))
+      (λ none. inl (record {
+        same = moved_link (with_disk s name tuple) row (λ ids e. map_front s.maps ids tuple s.disks.made cell.map e)
+            (λ link e. find_front (is_link cell.map link) s.links (new_rows (length s.maps) tuple (ups s)) row e);
+        primary = refl;
+        secondary = refl;
+      })))
+  act_stays (Snap client seq disk name) plain off =
+      act_snap Stays s client seq disk name (λ old. inl itself)
+      (λ new none. inl (record { same = is; primary = refl; secondary = refl }))
+      (λ new at found taken. inl (record { same = is; primary = refl; secondary = refl }))
+      (λ new at found free. inl (record { same = is; primary = refl; secondary = refl }))
+  act_stays (StartMove client seq disk tuple) plain off =
+      act_start Stays s client seq disk tuple (λ old. inl itself) (λ new none. same_still (told s client seq Verdict.NoDisk) is refl)
+      (λ new at found busy. same_still (told s client seq Verdict.Moving) is refl)
+      (λ new at found still. same_still (told (with_move s tuple at.id) client seq Verdict.Ok)
+      (moved_link (with_move s tuple at.id) row (λ ids e. map_front s.maps ids tuple at.id cell.map e)
+      (λ link e. find_front (is_link cell.map link) s.links (new_rows (length s.maps) tuple (ups s)) row e)) refl)
+  act_stays (Moved of region link) plain off =
+      act_moved Stays servers s p of region link (inl itself)
+      (λ h. act_note servers s p of region link h Stays
+      (λ some. same_still (noted_state servers s p of region link h) is refl)
+      (λ every more. same_still (with_fence (noted_state servers s p of region link h) (Region h.row.id (region + 1))) is refl)
+      (λ every last.
+      let t = moved_state servers s p of region link h every last in
+      elim (same_or_apart cell.map of) [
+        | inr ne ↦ same_still t (moved_link t row (λ ids e. e) (λ at e. kept_link servers s p of region link h every last cell.map at ne ∙ e)) refl
+        | inl same ↦ inr (elim (some_or_none (tuple_of s.maps cell.map)) [
+          | inl ids ↦ ap (option_and_then (λ ids. link_at t.links cell.map (link_of (length ids) cell.block))) ids.1
+              ∙ ap (λ k. link_at t.links k (link_of (length ids.0) cell.block)) same
+              ∙ gone_link servers s p of region link h every last (link_of (length ids.0) cell.block)
+          | inr none ↦ ap (option_and_then (λ ids. link_at t.links cell.map (link_of (length ids) cell.block))) none
+        ])
+      ]))
+  act_stays (Drained server inc fence) plain off =
+      act_drained Stays s server inc fence (inl itself) (λ head up. inl (record { same = is; primary = refl; secondary = refl }))
+  act_stays (Witness client seq turn) plain off = inl itself
+
+  pub entry_stays : (entry : Command) → IsPlain servers entry → touches s entry row ≡ false
+      → StaysSo cell row s (after s entry) ⊎ HasDied (after s entry) cell
+  entry_stays entry plain off =
+      let t = act entry s in
+      elim (act_stays entry plain off) [
+        | inl h ↦ inl (record {
+          same = cell_settled t cell ∙ h.same;
+          primary = inc_settled t row.primary ∙ h.primary;
+          secondary = inc_settled t row.secondary ∙ h.secondary;
+        })
+        | inr none ↦ (
+            let step = entering servers s entry p plain in
+            elim ((grown_below servers s (after s entry) p step.plain step.grown).rows cell row is) [
+              | inl later ↦ none_some (cell_settled t cell ∙ none) later.is
+              | inr gone ↦ inr gone
+            ])
+      ]
+
+-- ### An entry that touches the link
+
+module _ (servers : ℕ) (s : State) (p : IsPlainState servers s) (cell : Cell) (row : LinkRow) (is : cell_link s cell ≡ Some row) (served : IsServed s row) where
+  -- who is In after the entry, by what its command does
+  seats_after : (entry : Command) → IsPlain servers entry → (server : ℕ) (now : Option ℕ) → IsReseated s (act entry s) server now
+      → IsReseated s (after s entry) server now
+  seats_after entry plain server now h =
+      record { here = inc_settled (act entry s) server ∙ h.here; beside = λ n ne. inc_settled (act entry s) n ∙ h.beside n ne }
+
+  row_after : (entry : Command) → IsPlain servers entry → (now : LinkRow) → cell_link (act entry s) cell ≡ Some now → cell_link (after s entry) cell ≡ Some now
+  row_after entry plain now e = cell_settled (act entry s) cell ∙ e
+
+  pub touched : (entry : Command) → IsPlain servers entry → touches s entry row ≡ true → IsTouchedBy cell row s entry
+  touched (Join server inc blank) plain on =
+      let h = both_true (may_join (slice_get s.view.members server) inc) (has_server server row) on in
+      By_join (record { server = server; inc = inc; blank = blank; is = refl; may = h.0; one_of = h.1 })
+      (row_after (Join server inc blank) plain (row_joined server blank row)
+      (ap (λ b. cell_link (if b then joined_by s server inc blank else s) cell) h.0
+      ∙ moved_link servers s p cell row is (joined_by s server inc blank) (row_joined server blank row) (λ ids e. e)
+      (λ at e. link_joined servers s p server inc blank h.0 cell.map at ∙ ap (option_map (row_joined server blank)) e)))
+      (λ both. elim served [
+        | ByBoth so one two ↦ true_false (both_up (is_up s) row server one two h.1) (was_out servers s p server inc blank h.0)
+        | ByOne holder other whole so pair out ↦ alone_not_both row holder so both
+        | ByNone one other so pair out ↦ lost_not_both row so both
+      ])
+      (seats_after (Join server inc blank) plain server (Some inc)
+      (subst (λ b. IsReseated s (if b then joined_by s server inc blank else s) server (Some inc)) (sym h.0)
+      (record { here = some_now servers s p server inc blank h.0; beside = joined_beside servers s p server inc blank h.0 })))
+  touched (Leave server inc) plain on =
+      let h = both_true (is_up_as s server inc) (has_server server row) on in
+      By_leave (record { server = server; inc = inc; is = refl; up = h.0; one_of = h.1 })
+      (row_after (Leave server inc) plain (row_left server row)
+      (ap (λ b. cell_link (if b then left_by s server else s) cell) h.0
+      ∙ moved_link servers s p cell row is (left_by s server) (row_left server row) (λ ids e. e)
+      (λ at e. link_left servers s p server inc h.0 cell.map at ∙ ap (option_map (row_left server)) e)))
+      (seats_after (Leave server inc) plain server None
+      (subst (λ b. IsReseated s (if b then left_by s server else s) server None) (sym h.0)
+      (record { here = none_now servers s p server inc h.0; beside = inc_beside servers s p server inc h.0 })))
+  touched (Caught of link holder inc other other_inc) plain on =
+      let h = touch_by s row of link holder inc other other_inc on in
+      let k = both_true (row.map == of) (row.link == link) h.0 in
+      let found = the_row (acting_caught p h.1) row (found_row servers s p cell row is) h.0 in
+      let held = alone_by holder row.state found.alone in
+      By_caught
+      (record {
+        holder = holder;
+        inc = inc;
+        other_inc = other_inc;
+        whole = held.0;
+        is = λ i. Caught (sym (same_numbers row.map of k.0) i) (sym (same_numbers row.link link k.1) i) holder inc (sym found.other_is i) other_inc;
+        alone = held.1;
+        holds = h.1.holds;
+        joins = ap (λ n. is_up_as s n other_inc) found.other_is ∙ h.1.joins;
+      })
+      (record {
+        same = row_after (Caught of link holder inc other other_inc) plain (record row { state = Both })
+            (ap (λ b. cell_link (if b then caught_by s of link else s) cell) (catch_so s of link holder inc other other_inc h.1)
+            ∙ moved_link servers s p cell row is (caught_by s of link) (record row { state = Both }) (λ ids e. e)
+            (λ at e. link_caught (acting_caught p h.1) cell.map at
+            ∙ ap (option_map (row_caught of link)) e ∙ ap Some (row_in_both of link row h.0)));
+        primary = same_seat of link holder inc other other_inc plain row.primary;
+        secondary = same_seat of link holder inc other other_inc plain row.secondary;
+      })
+    where
+      same_seat : (of link holder inc other other_inc : ℕ) (plain : IsPlain servers (Caught of link holder inc other other_inc)) (n : ℕ)
+          → inc_of (after s (Caught of link holder inc other other_inc)) n ≡ inc_of s n
+      same_seat of link holder inc other other_inc plain n =
+          inc_settled (act (Caught of link holder inc other other_inc) s) n
+          ∙ act_caught (λ (t : State). inc_of t n ≡ inc_of s n) s of link holder inc other other_inc (λ acts. refl) refl
+  touched (MakeDisk client seq name tuple) plain on = let f : false ≡ true = on in absurd cc
+  touched (Snap client seq disk name) plain on = let f : false ≡ true = on in absurd cc
+  touched (StartMove client seq disk tuple) plain on = let f : false ≡ true = on in absurd cc
+  touched (Drained server inc fence) plain on = let f : false ≡ true = on in absurd cc
+  touched (Moved of region link) plain on = let f : false ≡ true = on in absurd cc
+  touched (Witness client seq turn) plain on = let f : false ≡ true = on in absurd cc
+
+pub log_entry_stays : (servers : ℕ) (log : List Command) (entry : Command) (cell : Cell) (row : LinkRow) → IsPlainLog servers log → IsPlain servers entry
+    → cell_link (state_after servers log) cell ≡ Some row → touches (state_after servers log) entry row ≡ false
+    → StaysSo cell row (state_after servers log) (after (state_after servers log) entry) ⊎ HasDied (after (state_after servers log) entry) cell
+log_entry_stays servers log entry cell row all plain is off =
+    entry_stays servers (state_after servers log) (log_plain servers log all) cell row is entry plain off
+
+pub log_touched : (servers : ℕ) (log : List Command) (entry : Command) (cell : Cell) (row : LinkRow) → IsPlainLog servers log → IsPlain servers entry
+    → cell_link (state_after servers log) cell ≡ Some row → touches (state_after servers log) entry row ≡ true
+    → IsTouchedBy cell row (state_after servers log) entry
+log_touched servers log entry cell row all plain is on =
+    touched servers (state_after servers log) (log_plain servers log all) cell row is ((log_steady servers log all).linked cell row is).served entry plain on
+
+-- ### Places
+
+pub counted : (b : Bool) (a x y : ℕ) → a ≡ x + y → (if b then a + 1 else a) ≡ (if b then x + 1 else x) + y
+counted true a x y e = omega arith
+counted false a x y e = e
+
+pub places_on : (row : LinkRow) (s : State) (front more : List Command)
+    → places_from s (front ++ more) row ≡ places_from s front row + places_from (fold after s front) more row
+places_on row s [] more = omega arith
+places_on row s (entry ∷ front) more = counted (touches s entry row) _ _ _ (places_on row (after s entry) front more)
+
+pub places_of_both : (servers : ℕ) (front whole : List Command) (row : LinkRow) → (prefix : IsPrefix front whole)
+    → places_from (start servers) whole row ≡ places_from (start servers) front row + places_from (state_after servers front) prefix.later row
+places_of_both servers front whole row prefix = ap (λ log. places_from (start servers) log row) prefix.is ∙ places_on row (start servers) front prefix.later
+
+pub places_grow : (servers : ℕ) (front whole : List Command) (row : LinkRow) → IsPrefix front whole
+    → places_from (start servers) front row ≤ places_from (start servers) whole row
+places_grow servers front whole row prefix = let e = places_of_both servers front whole row prefix in omega arith
+
+pub stays_on : (cell : Cell) (row : LinkRow) (s t u : State) → StaysSo cell row s t → StaysSo cell row t u → StaysSo cell row s u
+stays_on cell row s t u a b = record { same = b.same; primary = b.primary ∙ a.primary; secondary = b.secondary ∙ a.secondary }
+
+-- a cell that has died stays so: all cells of its map have
+pub gone_owner : (servers : ℕ) (s : State) → IsPlainState servers s → (cell : Cell) → HasDied s cell → owner s cell.map ≡ None
+gone_owner servers s p cell died = elim (owned_or_none servers s p cell) [
+  | inl h ↦ none_some died.0 (linked_owner servers s p cell h.0 h.1).1
+  | inr none ↦ none
+]
+
+-- a cell's link is of its map
+pub map_of : (servers : ℕ) (s : State) → IsPlainState servers s → (cell : Cell) (row : LinkRow) → cell_link s cell ≡ Some row → row.map ≡ cell.map
+map_of servers s p cell row is = elim (some_or_none (tuple_of s.maps cell.map)) [
+  | inl h ↦ (
+      let at = found_at (is_link cell.map (link_of (length h.0) cell.block)) s.links row
+      (sym (ap (option_and_then (λ ids. link_at s.links cell.map (link_of (length ids) cell.block))) h.1) ∙ is) in
+      same_numbers row.map cell.map (both_true (row.map == cell.map) (row.link == link_of (length h.0) cell.block) at.2).0)
+  | inr none ↦ none_some (ap (option_and_then (λ ids. link_at s.links cell.map (link_of (length ids) cell.block))) none) is
+]
+
+pub still_dead : (servers : ℕ) (s : State) → IsPlainState servers s → (entries : List Command) → IsPlainLog servers entries → (cell : Cell) → HasDied s cell
+    → HasDied (fold after s entries) cell
+still_dead servers s p entries all cell gone =
+    let step = folding servers entries s p all in
+    died servers (fold after s entries) step.plain cell
+    (gone_on s (fold after s entries) cell.map step.grown.stages (all_died servers s p cell gone))
+
+pub untouched : (servers : ℕ) (entries : List Command) (s : State) → IsPlainState servers s → IsPlainLog servers entries → (cell : Cell) (row : LinkRow)
+    → cell_link s cell ≡ Some row → places_from s entries row ≡ 0 → StaysSo cell row s (fold after s entries) ⊎ HasDied (fold after s entries) cell
+unfolding In
+untouched servers [] s p all cell row is none = inl (record { same = is; primary = refl; secondary = refl })
+untouched servers (entry ∷ entries) s p all cell row is none =
+    by_bool (touches s entry row)
+    (λ on. let f : places_from (after s entry) entries row + 1 ≡ 0 =
+    sym (ap (λ b. if b then places_from (after s entry) entries row + 1 else places_from (after s entry) entries row) on) ∙ none in absurd (omega arith))
+    (λ off.
+    let plain = all entry (inl refl) in
+    let next = (entering servers s entry p plain).plain in
+    let more = λ (other : Command) (h : In other entries). all other (inr h) in
+    let rest : places_from (after s entry) entries row ≡ 0 =
+    sym (ap (λ b. if b then places_from (after s entry) entries row + 1 else places_from (after s entry) entries row) off) ∙ none in
+    elim (entry_stays servers s p cell row is entry plain off) [
+      | inl one ↦ elim (untouched servers entries (after s entry) next more cell row one.same rest) [
+        | inl later ↦ inl (stays_on cell row s (after s entry) _ one later)
+        | inr gone ↦ inr gone
+      ]
+      | inr gone ↦ inr (still_dead servers (after s entry) next entries more cell gone)
+    ])
+
+-- two logs at one place of a link say the same of it
+pub same_place : (servers : ℕ) (front whole : List Command) (cell : Cell) (row : LinkRow) → IsPlainLog servers whole → IsPrefix front whole
+    → cell_link (state_after servers front) cell ≡ Some row
+    → places_from (start servers) whole row ≡ places_from (start servers) front row
+    → StaysSo cell row (state_after servers front) (state_after servers whole) ⊎ HasDied (state_after servers whole) cell
+same_place servers front whole cell row all prefix is same =
+    let e = places_of_both servers front whole row prefix in
+    let none : places_from (state_after servers front) prefix.later row ≡ 0 = omega arith in
+    subst (λ t. StaysSo cell row (state_after servers front) t ⊎ HasDied t cell)
+    (sym (ap (state_after servers) prefix.is ∙ fold-append after (start servers) front prefix.later))
+    (untouched servers prefix.later (state_after servers front) (log_plain servers front (front_plain servers front whole all prefix))
+    (λ command h. all command (subst (In command) (sym prefix.is) (in_later command front prefix.later h))) cell row is none)

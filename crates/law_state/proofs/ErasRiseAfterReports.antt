@@ -1,0 +1,609 @@
+-- An era rises after reports: while a server stays In as one incarnation, the active fence that holds a cell's writes awaits its report.
+use Rattle.std.proofs.Common.{◌≡◌, ◌≢◌, ◌≤◌, ◌<◌, ◌+◌, ◌==◌, ◌&&◌, ◌++◌, ℕ, Bool, List, [], ◌∷◌, length, true, false, not, Some, None}
+use Rattle.std.proofs.Common.{is_some, refl, sym, ap, ◌∙◌, subst, ◌⊎◌, inl, inr, append_assoc, arith}
+use Rattle.std.specs.Prelude.{◌||◌, fold, nat_eq, replicate, slice_get, unwrap_or, if◌then◌else◌}
+use Rattle.std.specs.List.{list_any}
+use Rattle.std.specs.Option.{option_map_or}
+use Rattle.std.proofs.lemmas.Grind.{fold-append}
+use Rattle.petal_base.specs.Tuple.{is_tuple}
+use Rattle.petal_base.specs.declared.cell.Cell.{Cell}
+use Rattle.global_tables.specs.declared.disk.DiskRow.{DiskRow}
+use Rattle.global_tables.specs.declared.disk.RegionState.TheVariants.{Old, New}
+use Rattle.global_tables.specs.declared.disk.Verdict.{Verdict}
+use Rattle.global_tables.specs.declared.fence.Fence.{Fence}
+use Rattle.global_tables.specs.declared.fence.FenceKind.{FenceKind}
+use Rattle.global_tables.specs.declared.fence.FenceKind.TheVariants.{Region, Whole}
+use Rattle.global_tables.specs.Disk.{all_noted, named, row_fenced, row_frozen, row_moving, row_noted, with_link}
+use Rattle.global_tables.specs.Region.{region_of}
+use Rattle.global_tables.specs.View.{View, head, passed, queued, ready, servers_in}
+use Rattle.global_tables.specs.View as view
+use Rattle.petal_command.specs.declared.command.Command.{Command}
+use Rattle.petal_command.specs.declared.command.Command.TheVariants.{Join, Leave, Caught, MakeDisk, Snap, StartMove, Drained, Moved, Witness}
+use Rattle.spec_history.specs.Claims.{IsPrefix}
+use Rattle.spec_state.specs.declared.answer.Hold.{Hold}
+use Rattle.spec_state.specs.declared.answer.Hold.TheVariants.{All, No, Writes}
+use Rattle.spec_state.specs.CellState.{holds, is_of}
+use Rattle.spec_state.specs.Command.{act, after, is_head, is_new, may_join, state_after, with_disk, with_fence, with_move}
+use Rattle.spec_state.specs.Fence.{settled}
+use Rattle.spec_state.specs.State.{is_up, is_up_as, latest, links_of, start, told}
+use Rattle.spec_state.proofs.Passing.{settled_none, settled_one, view-effect}
+use Rattle.spec_rules.specs.Draining.{awaits}
+use Rattle.spec_rules.specs.Lists.{In}
+use Rattle.spec_rules.specs.Reads.{is_all_held}
+use Rattle.spec_rules.specs.State.{State, held, is_in}
+use Rattle.spec_rules.specs.Writes.{is_writes_held}
+use Rattle.spec_rules.proofs.ListLemmas.{in_later}
+use Rattle.spec_rules.proofs.Tests.{by_bool, by_test, number_itself, same_numbers, same_or_apart, same_some, some_or_none, true_false}
+use Rattle.law_state.specs.Epochs.{HasReported, HasReportedBy}
+use Rattle.law_state.specs.Homes.{epoch_at, era_at, new_stage, old_stage, stage_at, stage_of}
+use Rattle.law_state.specs.Plain.{IsPlain, IsPlainLog}
+use Rattle.law_state.specs.Tables.{IsForSnapshot, IsPlainState, Of_disk, Of_region}
+use Rattle.law_state.proofs.Ages.{between, in_once, in_up}
+use Rattle.law_state.proofs.Caughts.{act_caught}
+use Rattle.law_state.proofs.EntriesOnlyAdd.{acting, entering, folding, log_plain}
+use Rattle.law_state.proofs.Eras.{HasRows, IsKept, era_low, fenced_apart, holds_before, kept_by_place, kept_by_stage, lives}
+use Rattle.law_state.proofs.Eras.{low_now, rows_of, stage_now, stage_was}
+use Rattle.law_state.proofs.Fences.{Acted, IsReady, IsUnsettled, head_awaiting, head_after, head_get, head_queued, head_reported}
+use Rattle.law_state.proofs.Fences.{none_ready, present_waits, ready_by, waits_still}
+use Rattle.law_state.proofs.Joins.{joined_by}
+use Rattle.law_state.proofs.Leaves.{left_by}
+use Rattle.law_state.proofs.MapsAreAdded.{making}
+use Rattle.law_state.proofs.MovesOfDisks.{IsNoting, act_moved, act_note, act_start, at_row, begins, known, low_map, moved_state}
+use Rattle.law_state.proofs.MovesOfDisks.{noted_state, noting, onward, over, row_now}
+use Rattle.law_state.proofs.LinksAreNoted.{keeps_old}
+use Rattle.law_state.proofs.FencesPass.{in_settled, one_passed, passed_beside, passed_here, passing, region_beside, region_here, region_row}
+use Rattle.law_state.proofs.ListLookups.{get_front, get_replicate}
+use Rattle.law_state.proofs.DiskRowChanges.{beside, here, here_now}
+use Rattle.law_state.proofs.SnapsQueueFences.{act_drained, act_snap, none_of}
+use Rattle.law_state.proofs.Steady.{front_plain, log_below}
+
+-- which holds of fences count: those of writes, by which eras rise, or those of reads too, which fences for regions have alone
+module _ (which : Hold → Bool) (every : which All ≡ true) (nothing : which No ≡ false) where
+  -- the server's report is awaited, where the active fence holds the cell's writes
+  abbrev IsAwaited : State → ℕ → Cell → Type 0
+  IsAwaited s n cell = (fence : Fence) → head s.view.queue ≡ Some fence → which (holds s cell fence.kind) ≡ true → awaits fence n ≡ true
+
+  -- who waits for this server waits for somebody
+  waits_somebody : (fence : Fence) (n : ℕ) → awaits fence n ≡ true → fence.waiting ≢ []
+  waits_somebody fence n waits none = true_false waits (ap (list_any (nat_eq n)) none)
+
+  -- what the active fence holds
+  held_by : (s : State) (cell : Cell) (fence : Fence) → head s.view.queue ≡ Some fence → which (holds s cell fence.kind) ≡ true
+      → which (held s cell) ≡ true
+  held_by s cell fence is on = ap (λ o. which (option_map_or (λ (f : Fence). holds s cell f.kind) o No)) is ∙ on
+
+  unheld_awaited : (s : State) (n : ℕ) (cell : Cell) → which (held s cell) ≡ false → IsAwaited s n cell
+  unheld_awaited s n cell free fence is on = true_false (held_by s cell fence is on) free
+
+  -- the fence is awaited, and the cell is live as before, and of the same epoch
+  record IsStill (s : State) (n : ℕ) (cell : Cell) (t : State) : Type 0 where
+    awaited : IsAwaited t n cell
+    epoch : which Writes ≡ true → epoch_at t cell ≡ epoch_at s cell
+    low : 1 ≤ stage_at t cell
+    high : stage_at t cell ≤ 2
+
+  still_itself : (s : State) (n : ℕ) (cell : Cell) → IsAwaited s n cell → 1 ≤ stage_at s cell → stage_at s cell ≤ 2 → IsStill s n cell s
+  still_itself s n cell awaited low high = record { awaited = awaited; epoch = λ on. refl; low = low; high = high }
+
+  -- ### Fences that pass
+
+  module _ (servers : ℕ) (s : State) (p : IsUnsettled servers s) (n : ℕ) (cell : Cell) (awaited : IsAwaited s n cell) (up : is_up s n ≡ true)
+      (low : 1 ≤ stage_at s cell) (high : stage_at s cell ≤ 2) where
+    -- one that does not hold the cell's writes leaves it as it is
+    module _ (fence : Fence) (is : ready s.view.queue ≡ Some fence) where
+      abbrev r : IsReady s.view.queue fence
+      r = ready_by s.view.queue fence is
+
+      first : slice_get s.view.queue 0 ≡ Some fence
+      first = head_get s.view.queue fence r.first
+
+      abbrev t : State
+      t = one_passed s fence
+
+      q : Acted servers s t
+      q = passing servers s p fence first
+
+      unheld : which (holds s cell fence.kind) ≡ false
+      unheld = by_bool (which (holds s cell fence.kind)) (λ on. absurd (waits_somebody fence n (awaited fence r.first on) r.nobody)) (λ f. f)
+
+      abbrev rows : HasRows servers s t p q cell low high
+      rows = rows_of servers s t p q cell low high
+
+      of_disk : (disk : ℕ) → rows.place ≡ disk → is_of s disk cell.map ≡ true
+      of_disk disk same =
+          ap (λ o. option_map_or (λ (row : DiskRow). row.id == disk) o false) rows.owned
+          ∙ ap (λ k. k == disk) ((p.rows rows.place rows.row rows.stands).id ∙ same) ∙ number_itself disk
+
+      -- the cell stays live, and does not leave; and its epoch is the same, where the fences of snapshots count
+      record IsKeptSo : Type 0 where
+        epoch : which Writes ≡ true → epoch_at t cell ≡ epoch_at s cell
+        settled : stage_at t cell ≤ 2
+
+      kept_so : IsKept servers s t p q cell low high → IsKeptSo
+      kept_so k = record { epoch = λ on. k.epoch; settled = k.settled }
+
+      -- a fence for a snapshot leaves the regions as they are
+      snapshot_kept : (h : IsForSnapshot s fence) → rows.place ≡ h.disk → IsKeptSo
+      snapshot_kept h same = record {
+        epoch = λ on. true_false
+            (ap (λ k. which (holds s cell k)) h.kind ∙ ap (λ b. which (if b then Writes else No)) (of_disk h.disk same) ∙ on) unheld;
+        settled =
+            (let was = stage_was servers s t p q cell low high in
+            let now = stage_now servers s t p q cell low high in
+            let there : h.row ≡ rows.row =
+            same_some (sym (here servers s p h.disk h.row h.known (row_frozen h.name)) ∙ ap (slice_get s.disks.rows) (sym same) ∙ rows.stands) in
+            let later : row_frozen h.name h.row ≡ rows.now =
+            same_some (sym (passed_here servers s p fence first h) ∙ ap (slice_get t.disks.rows) (sym same) ∙ rows.there) in
+            let e : stage_of cell rows.now ≡ stage_of cell rows.row = ap (stage_of cell) (sym later) ∙ ap (stage_of cell) there in
+            omega arith);
+      }
+
+      kept : IsKeptSo
+      kept = elim (p.fences.each 0 fence first) [
+        | Of_disk h ↦ elim (same_or_apart rows.place h.disk) [
+          | inr ne ↦ kept_so (kept_by_place servers s t p q cell low high (passed_beside servers s p fence first h rows.place ne))
+          | inl same ↦ snapshot_kept h same
+        ]
+        | Of_region h ↦ elim (same_or_apart rows.place h.disk) [
+          | inr ne ↦ kept_so (kept_by_place servers s t p q cell low high (region_beside servers s p fence first h rows.place ne))
+          | inl same ↦
+              let there : h.row ≡ rows.row = same_some (sym (region_row servers s p fence first h) ∙ ap (slice_get s.disks.rows) (sym same) ∙ rows.stands) in
+              let now : row_fenced h.region h.row ≡ rows.now =
+              same_some (sym (region_here servers s p fence first h) ∙ ap (slice_get t.disks.rows) (sym same) ∙ rows.there) in
+              elim (same_or_apart (region_of cell.block) h.region) [
+                | inl at ↦ true_false
+                    (ap (λ k. which (holds s cell k)) h.kind
+                    ∙ (λ i. which (if of_disk h.disk same i && (h.region == at i) && lives servers s t p q cell low high i then All else No))
+                    ∙ ap (λ b. which (if true && b && true then All else No)) (number_itself h.region) ∙ every) unheld
+                | inr ne ↦ kept_so (kept_by_stage servers s t p q cell low high
+                    (ap (λ (x : DiskRow). x.epoch) (sym now) ∙ ap (λ (x : DiskRow). x.epoch) there)
+                    (λ le.
+                    let e : stage_of cell rows.now ≡ stage_of cell rows.row =
+                    ap (stage_of cell) (sym now) ∙ fenced_apart cell h.row h.region h.move h.moves ne ∙ ap (stage_of cell) there in
+                    omega arith))
+              ]
+        ]
+      ]
+
+      passes : IsStill s n cell (settled s)
+      passes =
+          let viewed : t.view ≡ passed s.view = view-effect fence.kind (record s { view = passed s.view }) in
+          let next = λ (f : Fence) (e : head t.view.queue ≡ Some f).
+          present_waits s.view.members f n
+          (head_after (servers_in s.view.members) s.view.queue f (sym (ap (λ (v : View). head v.queue) viewed) ∙ e)) up in
+          let quiet : settled t ≡ t = settled_none t (none_ready t.view.queue (λ f e. waits_somebody f n (next f e))) in
+          subst (IsStill s n cell) (sym (settled_one s fence is ∙ quiet)) (record {
+            awaited = λ f e on. next f e;
+            epoch = kept.epoch;
+            low = low_now servers s t p q cell low high;
+            high = kept.settled;
+          })
+
+    settles_still : IsStill s n cell (settled s)
+    settles_still = elim (some_or_none (ready s.view.queue)) [
+      | inl h ↦ passes h.0 h.1
+      | inr none ↦ subst (IsStill s n cell) (sym (settled_none s none)) (still_itself s n cell awaited low high)
+    ]
+
+  -- ### An entry
+
+  -- a Leave has the active fence wait for all that are In
+  left_awaited : (s : State) (server n inc : ℕ) (cell : Cell) → is_up_as (left_by s server) n inc ≡ true → 1 ≤ stage_at s cell → stage_at s cell ≤ 2
+      → IsStill s n cell (left_by s server)
+  left_awaited s server n inc cell seated low high =
+      let t = left_by s server in record {
+        awaited = λ fence e on. present_waits t.view.members fence n (head_awaiting (servers_in t.view.members) s.view.queue fence e) (in_up t n inc seated);
+        epoch = λ on. refl;
+        low = low;
+        high = high;
+      }
+
+  -- the entry is the server's report to the fence that holds the cell's writes
+  record IsReport (s : State) (entry : Command) (n inc : ℕ) (cell : Cell) : Type 0 where
+    fence : ℕ
+    is : entry ≡ Drained n inc fence
+    holds : which (held s cell) ≡ true
+
+  -- a server that is In, and that the active fence awaits where it holds the cell
+  record AwaitedServer : Type 0 where
+    servers : ℕ
+    s : State
+    p : IsPlainState servers s
+    n : ℕ
+    inc : ℕ
+    cell : Cell
+    seated : is_up_as s n inc ≡ true
+    awaited : IsAwaited s n cell
+    low : 1 ≤ stage_at s cell
+    high : stage_at s cell ≤ 2
+
+  module _ (it : AwaitedServer) where
+    open it use {servers, s, p, n, inc, cell, seated, awaited, low, high}
+
+    -- what an entry comes to
+    abbrev Comes : Command → State → Type 0
+    Comes entry t = is_up_as t n inc ≡ true → IsStill s n cell t ⊎ IsReport s entry n inc cell
+
+    abbrev u : IsUnsettled servers s
+    u = p.unsettled
+
+    same_state : IsStill s n cell s
+    same_state = still_itself s n cell awaited low high
+
+    -- where the active fence is the one before, or awaits all, and the cell is kept
+    goes_on : (t : State) (acted : Acted servers s t) → IsKept servers s t u acted cell low high
+        → ((fence : Fence) → head t.view.queue ≡ Some fence → (head s.view.queue ≡ Some fence) ⊎ (awaits fence n ≡ true)) → IsStill s n cell t
+    goes_on t acted kept heads = record {
+      awaited = λ fence e on. elim (heads fence e) [
+        | inl old ↦ awaited fence old (holds_before servers s t u acted cell low high which nothing fence.kind on)
+        | inr waits ↦ waits
+      ];
+      epoch = λ on. kept.epoch;
+      low = low_now servers s t u acted cell low high;
+      high = kept.settled;
+    }
+
+    -- what clients are told is of no table
+    told_still : (t : State) (client seq : ℕ) (verdict : Verdict) → IsStill s n cell t → IsStill s n cell (told t client seq verdict)
+    told_still t client seq verdict h = record { awaited = h.awaited; epoch = h.epoch; low = h.low; high = h.high }
+
+    made_still : (name tuple : List ℕ) → named s.disks.rows name ≡ None → is_tuple servers tuple ≡ true → IsStill s n cell (with_disk s name tuple)
+    made_still name tuple fresh proper =
+        let t = with_disk s name tuple in
+        let q = making servers s p name tuple fresh proper in
+        let rows = rows_of servers s t u q cell low high in
+        goes_on t q
+        (kept_by_place servers s t u q cell low high (get_front s.disks.rows _ rows.place rows.row rows.stands ∙ sym rows.stands))
+        (λ fence e. inl e)
+
+    -- a queue with one fence more
+    heads_queued : (v : View) (kind : FenceKind) → v.queue ≡ s.view.queue → v.members ≡ s.view.members → (fence : Fence)
+        → head (queued v kind).queue ≡ Some fence
+        → (head s.view.queue ≡ Some fence) ⊎ (awaits fence n ≡ true)
+    heads_queued v kind same members fence e = elim (head_queued v kind fence e) [
+      | inl old ↦ inl (sym (ap head same) ∙ old)
+      | inr all ↦ inr (present_waits s.view.members fence n (all ∙ ap servers_in members) (in_up s n inc seated))
+    ]
+
+    -- the row whose disk begins a move: its cells stay where they are
+    begun_high : (row : DiskRow) → row.moving ≡ None → cell.map < length s.maps → stage_of cell row ≤ 2 → stage_of cell (row_moving (length s.maps) row) ≤ 2
+    begun_high row still known le = by_bool (row.map == cell.map)
+        (λ own.
+        let is : stage_of cell (row_moving (length s.maps) row) ≡ old_stage (unwrap_or (slice_get (replicate 16 Old) (region_of cell.block)) New) =
+        (λ i. if fresh i || own i then (if fresh i then new_stage (unwrap_or (slice_get (replicate 16 Old) (region_of cell.block)) New)
+        else old_stage (unwrap_or (slice_get (replicate 16 Old) (region_of cell.block)) New)) else 4) in
+        let old : old_stage (unwrap_or (slice_get (replicate 16 Old) (region_of cell.block)) New) ≡ 2 =
+        ap (λ o. old_stage (unwrap_or o New)) (get_replicate 16 (region_of cell.block) Old (low_region cell.block)) in
+        omega arith)
+        (λ other.
+        let is : stage_of cell row ≡ 4 = ap (λ m. stage_of cell (record row { moving = m })) still
+        ∙ ap (λ b. if b || false then (if b then 2 else 4) else 4) other in
+        absurd (omega arith))
+      where
+        fresh : (length s.maps == cell.map) ≡ false
+        fresh = by_bool (length s.maps == cell.map) (λ t. let e = same_numbers (length s.maps) cell.map t in absurd (omega arith)) (λ f. f)
+
+        low_region : (block : ℕ) → region_of block < 16
+        low_region block = omega arith
+
+    begun_still : (disk tuple : List ℕ) (row : DiskRow) → named s.disks.rows disk ≡ Some row → row.moving ≡ None → is_tuple servers tuple ≡ true
+        → IsStill s n cell (with_move s tuple row.id)
+    begun_still disk tuple row found still proper =
+        let t = with_move s tuple row.id in
+        let q = begins servers s p disk tuple row found still proper in
+        let rows = rows_of servers s t u q cell low high in
+        let kept : IsKept servers s t u q cell low high = elim (same_or_apart rows.place row.id) [
+          | inr ne ↦ kept_by_place servers s t u q cell low high
+              (beside servers s u row.id row (known servers s p disk tuple row found still proper) (row_moving (length s.maps)) rows.place ne)
+          | inl same ↦
+              let there : row ≡ rows.row =
+              same_some (sym (at_row servers s p disk tuple row found still proper) ∙ ap (slice_get s.disks.rows) (sym same) ∙ rows.stands) in
+              let now : row_moving (length s.maps) row ≡ rows.now =
+              same_some (sym (row_now servers s p disk tuple row found still proper) ∙ ap (slice_get t.disks.rows) (sym same) ∙ rows.there) in
+              kept_by_stage servers s t u q cell low high
+              (ap (λ (x : DiskRow). x.epoch) (sym now) ∙ ap (λ (x : DiskRow). x.epoch) there)
+              (λ le. subst (λ x. stage_of cell x ≤ 2) now
+              (begun_high row still (low_map servers s p disk tuple row found still proper cell.map rows.place rows.of)
+              (subst (λ x. stage_of cell x ≤ 2) (sym there) le)))
+        ] in
+        goes_on t q kept (heads_queued s.view (Region row.id 0) refl refl)
+
+    -- ### A link is noted
+
+    module _ (of region link : ℕ) (h : IsNoting s of region link) where
+      abbrev then_row : DiskRow
+      then_row = row_noted region link (links_of s of) h.row
+
+      noted_kept : (t : State) (q : Acted servers s t) → t.disks.rows ≡ (noted_state servers s p of region link h).disks.rows
+          → IsKept servers s t u q cell low high
+      noted_kept t q same =
+          let rows = rows_of servers s t u q cell low high in
+          elim (same_or_apart rows.place h.row.id) [
+            | inr ne ↦ kept_by_place servers s t u q cell low high
+                (ap (λ r. slice_get r rows.place) same ∙ beside servers s u h.row.id h.row h.known (row_noted region link (links_of s of)) rows.place ne)
+            | inl at ↦
+                let there : h.row ≡ rows.row =
+                same_some (sym (here servers s u h.row.id h.row h.known (row_noted region link (links_of s of)))
+                ∙ ap (slice_get s.disks.rows) (sym at) ∙ rows.stands) in
+                let now : then_row ≡ rows.now =
+                same_some (sym (here_now servers s u h.row.id h.row h.known (row_noted region link (links_of s of)))
+                ∙ ap (slice_get (noted_state servers s p of region link h).disks.rows) (sym at) ∙ sym (ap (λ r. slice_get r rows.place) same) ∙ rows.there) in
+                kept_by_stage servers s t u q cell low high
+                (ap (λ (x : DiskRow). x.epoch) (sym now) ∙ ap (λ (x : DiskRow). x.epoch) there)
+                (λ le. subst (λ x. stage_of cell x ≤ 2) now
+                (keeps_old servers s p of region link h cell (subst (λ x. stage_of cell x ≤ 2) (sym there) le)))
+          ]
+
+      abbrev all : Bool
+      all = all_noted (links_of s of) (with_link link h.move.noted)
+
+      noted_alone : all ≡ false → IsStill s n cell (noted_state servers s p of region link h)
+      noted_alone none =
+          let q = noting servers s p of region link h none in
+          goes_on (noted_state servers s p of region link h) q (noted_kept (noted_state servers s p of region link h) q refl) (λ fence e. inl e)
+
+      next_waits : all ≡ true → (region == 15) ≡ false → IsStill s n cell (with_fence (noted_state servers s p of region link h) (Region h.row.id (region + 1)))
+      next_waits every more =
+          let t = with_fence (noted_state servers s p of region link h) (Region h.row.id (region + 1)) in
+          let q = onward servers s p of region link h every more in
+          goes_on t q (noted_kept t q refl) (heads_queued (noted_state servers s p of region link h).view (Region h.row.id (region + 1)) refl refl)
+
+      move_over : (every : all ≡ true) (last : (region == 15) ≡ true) → IsStill s n cell (moved_state servers s p of region link h every last)
+      move_over every last =
+          let t = moved_state servers s p of region link h every last in
+          let q = over servers s p of region link h every last in
+          goes_on t q (noted_kept t q refl) (λ fence e. inl e)
+
+    -- the server's own report, where the fence holds the cell's writes, or another one's
+    reports : (server last fence : ℕ) → is_head s fence ≡ true → is_up_as s server last ≡ true
+        → Comes (Drained server last fence) (record s { view = view.drained s.view server })
+    reports server last fence active up still = elim (some_or_none (head s.view.queue)) [
+      | inr none ↦ true_false active (ap (λ o. option_map_or (λ (f : Fence). f.number == fence) o false) none)
+      | inl h ↦ by_bool (n == server)
+          (λ own.
+          let me = same_numbers n server own in
+          by_bool (which (holds s cell h.0.kind))
+          (λ on. inr (record {
+            fence = fence;
+            is = (λ i. Drained (sym me i) (in_once s n last inc (ap (λ k. is_up_as s k last) me ∙ up) seated i) fence);
+            holds = held_by s cell h.0 h.1 on;
+          }))
+          (λ off. inl (record {
+            awaited = λ now e on.
+                let b = head_reported server s.view.queue now e in
+                let was : b.0 ≡ h.0 = same_some (sym b.1 ∙ h.1) in
+                true_false (sym (ap (λ k. which (holds s cell k)) (b.2.kind ∙ ap (λ (x : Fence). x.kind) was)) ∙ on) off;
+            epoch = λ on. refl;
+            low = low;
+            high = high;
+          })))
+          (λ away. inl (record {
+            awaited = λ now e on.
+                let b = head_reported server s.view.queue now e in
+                waits_still server b.0 now n b.2 away (awaited b.0 b.1 (sym (ap (λ k. which (holds s cell k)) b.2.kind) ∙ on));
+            epoch = λ on. refl;
+            low = low;
+            high = high;
+          }))
+    ]
+
+    comes : (entry : Command) → IsPlain servers entry → Comes entry (act entry s)
+    comes (Join server later blank) plain =
+        by_test (Comes (Join server later blank)) (may_join (slice_get s.view.members server) later) (joined_by s server later blank) s
+        (λ may still. inl (record { awaited = awaited; epoch = λ on. refl; low = low; high = high })) (λ no still. inl same_state)
+    comes (Leave server last) plain =
+        by_test (Comes (Leave server last)) (is_up_as s server last) (left_by s server) s
+        (λ now still. inl (left_awaited s server n inc cell still low high)) (λ no still. inl same_state)
+    comes (Caught of link holder holder_inc other other_inc) plain =
+        act_caught (Comes (Caught of link holder holder_inc other other_inc)) s of link holder holder_inc other other_inc
+        (λ acts still. inl (record { awaited = awaited; epoch = λ on. refl; low = low; high = high })) (λ still. inl same_state)
+    comes (MakeDisk client seq name tuple) plain =
+        by_test (Comes (MakeDisk client seq name tuple)) (not (is_new seq (latest s client))) s _
+        (λ old still. inl same_state)
+        (λ new. by_test (Comes (MakeDisk client seq name tuple)) (is_some (named s.disks.rows name))
+        (told s client seq Verdict.Exists) (told (with_disk s name tuple) client seq Verdict.Ok)
+        (λ there still. inl (told_still s client seq Verdict.Exists same_state))
+        (λ none still. inl (told_still (with_disk s name tuple) client seq Verdict.Ok (made_still name tuple (none_of _ none) plain))))
+    comes (Snap client seq disk name) plain =
+        act_snap (Comes (Snap client seq disk name)) s client seq disk name
+        (λ old still. inl same_state)
+        (λ new none still. inl (told_still s client seq Verdict.NoDisk same_state))
+        (λ new row found taken still. inl (told_still s client seq Verdict.Exists same_state))
+        (λ new row found free still. inl (record {
+          awaited = λ fence e on. elim (heads_queued s.view (Whole row.id name client seq) refl refl fence e) [
+            | inl old ↦ awaited fence old on
+            | inr waits ↦ waits
+          ];
+          epoch = λ on. refl;
+          low = low;
+          high = high;
+        }))
+    comes (StartMove client seq disk tuple) plain =
+        act_start (Comes (StartMove client seq disk tuple)) s client seq disk tuple
+        (λ old still. inl same_state)
+        (λ new none still. inl (told_still s client seq Verdict.NoDisk same_state))
+        (λ new row found busy still. inl (told_still s client seq Verdict.Moving same_state))
+        (λ new row found quiet still. inl (told_still (with_move s tuple row.id) client seq Verdict.Ok (begun_still disk tuple row found quiet plain)))
+    comes (Drained server last fence) plain =
+        act_drained (Comes (Drained server last fence)) s server last fence (λ still. inl same_state) (reports server last fence)
+    comes (Moved of region link) plain =
+        act_moved (Comes (Moved of region link)) servers s p of region link (λ still. inl same_state)
+        (λ h. act_note servers s p of region link h (Comes (Moved of region link))
+        (λ some still. inl (noted_alone of region link h some))
+        (λ every more still. inl (next_waits of region link h every more))
+        (λ every last still. inl (move_over of region link h every last)))
+    comes (Witness client seq turn) plain = λ still. inl same_state
+
+    enters : (entry : Command) → IsPlain servers entry → Comes entry (after s entry)
+    enters entry plain still =
+        let t = act entry s in
+        let on : is_up_as t n inc ≡ true = sym (in_settled t n inc) ∙ still in
+        elim (comes entry plain on) [
+          | inr report ↦ inr report
+          | inl h ↦ (
+              let k = settles_still servers t (acting servers s entry p plain).plain n cell h.awaited (in_up t n inc on) h.low h.high in
+              inl (record { awaited = k.awaited; epoch = λ on. k.epoch on ∙ h.epoch on; low = k.low; high = k.high }))
+        ]
+
+  -- ### A log
+
+  -- of these entries one is such a report
+  record IsReportAmong (s : State) (entries : List Command) (n inc : ℕ) (cell : Cell) : Type 0 where
+    before : List Command
+    fence : ℕ
+    rest : List Command
+    lies : entries ≡ before ++ Drained n inc fence ∷ rest
+    seated : is_up_as (fold after s before) n inc ≡ true
+    holds : which (held (fold after s before) cell) ≡ true
+
+  -- after one entry more
+  later_report : (s : State) (entry : Command) (entries : List Command) (n inc : ℕ) (cell : Cell) → IsReportAmong (after s entry) entries n inc cell
+      → IsReportAmong s (entry ∷ entries) n inc cell
+  later_report s entry entries n inc cell c =
+      record { before = entry ∷ c.before; fence = c.fence; rest = c.rest; lies = ap (λ es. entry ∷ es) c.lies; seated = c.seated; holds = c.holds }
+
+  -- the cell is as it was after these entries, or one of them is such a report
+  abbrev StillOrReport : State → List Command → (n inc : ℕ) → Cell → Type 0
+  StillOrReport s entries n inc cell = IsStill s n cell (fold after s entries) ⊎ IsReportAmong s entries n inc cell
+
+  still_or_report : (servers : ℕ) (entries : List Command) (s : State) → IsPlainState servers s → IsPlainLog servers entries → (n inc : ℕ) (cell : Cell)
+      → is_up_as s n inc ≡ true → is_up_as (fold after s entries) n inc ≡ true → IsAwaited s n cell → 1 ≤ stage_at s cell → stage_at s cell ≤ 2
+      → StillOrReport s entries n inc cell
+  unfolding In
+  still_or_report servers [] s p plainly n inc cell is end awaited low high = inl (still_itself s n cell awaited low high)
+  still_or_report servers (entry ∷ rest) s p plainly n inc cell is end awaited low high =
+      let plain = plainly entry (inl refl) in
+      let more = λ (other : Command) (h : In other rest). plainly other (inr h) in
+      let t = after s entry in
+      let step = entering servers s entry p plain in
+      let later = folding servers rest t step.plain more in
+      let still = between s t (fold after t rest) n inc (step.grown.ages n) (later.grown.ages n) is end in
+      elim (enters (record {
+        servers = servers;
+        s = s;
+        p = p;
+        n = n;
+        inc = inc;
+        cell = cell;
+        seated = is;
+        awaited = awaited;
+        low = low;
+        high = high;
+      }) entry plain still) [
+        | inr report ↦ inr (record {
+          before = [];
+          fence = report.fence;
+          rest = rest;
+          lies = ap (λ e. e ∷ rest) report.is;
+          seated = is;
+          holds = report.holds;
+        })
+        | inl h ↦ elim (still_or_report servers rest t step.plain more n inc cell still end h.awaited h.low h.high) [
+          | inl k ↦ inl (record { awaited = k.awaited; epoch = λ on. k.epoch on ∙ h.epoch on; low = k.low; high = k.high })
+          | inr report ↦ inr (later_report s entry rest n inc cell report)
+        ]
+      ]
+
+  module _ (servers : ℕ) (front whole : List Command) (n inc : ℕ) (cell : Cell) (all : IsPlainLog servers whole) (prefix : IsPrefix front whole) where
+    whole_is : state_after servers whole ≡ fold after (state_after servers front) prefix.later
+    whole_is = ap (state_after servers) prefix.is ∙ fold-append after (start servers) front prefix.later
+
+    reported_by : IsReportAmong (state_after servers front) prefix.later n inc cell → HasReportedBy which servers front whole n inc cell
+    reported_by c =
+        let until_is : state_after servers (front ++ c.before) ≡ fold after (state_after servers front) c.before =
+        fold-append after (start servers) front c.before in
+        record {
+          until = front ++ c.before;
+          fence = c.fence;
+          following = record { later = c.before; is = refl };
+          stands = record {
+            later = c.rest;
+            is = prefix.is ∙ ap (λ xs. front ++ xs) c.lies ∙ sym (append_assoc front c.before (Drained n inc c.fence ∷ c.rest))
+                ∙ sym (append_assoc (front ++ c.before) (Drained n inc c.fence ∷ []) c.rest);
+          };
+          seated = ap (λ (t : State). is_up_as t n inc) until_is ∙ c.seated;
+          holds = ap (λ (t : State). which (held t cell)) until_is ∙ c.holds;
+        }
+
+    still_by : is_up_as (state_after servers front) n inc ≡ true → is_up_as (state_after servers whole) n inc ≡ true
+        → IsAwaited (state_after servers front) n cell → 1 ≤ stage_at (state_after servers front) cell → stage_at (state_after servers front) cell ≤ 2
+        → IsStill (state_after servers front) n cell (state_after servers whole) ⊎ HasReportedBy which servers front whole n inc cell
+    still_by is end awaited low high =
+        elim (still_or_report servers prefix.later (state_after servers front) (log_plain servers front (front_plain servers front whole all prefix))
+        (λ c h. all c (subst (In c) (sym prefix.is) (in_later c front prefix.later h))) n inc cell is
+        (sym (ap (λ (t : State). is_up_as t n inc) whole_is) ∙ end) awaited low high) [
+          | inl still ↦ inl (subst (IsStill (state_after servers front) n cell) (sym whole_is) still)
+          | inr report ↦ inr (reported_by report)
+        ]
+
+  -- what is so after a Leave that acts
+  left_still : (servers : ℕ) (s : State) → IsPlainState servers s → (other other_inc n inc : ℕ) (cell : Cell) → is_up_as s other other_inc ≡ true
+      → is_up_as (after s (Leave other other_inc)) n inc ≡ true → 1 ≤ stage_at s cell → stage_at s cell ≤ 2
+      → IsStill s n cell (after s (Leave other other_inc))
+  left_still servers s p other other_inc n inc cell acts still low high =
+      let t = act (Leave other other_inc) s in
+      let is : t ≡ left_by s other = ap (λ b. if b then left_by s other else s) acts in
+      let on : is_up_as t n inc ≡ true = sym (in_settled t n inc) ∙ still in
+      let h = subst (IsStill s n cell) (sym is) (left_awaited s other n inc cell (sym (ap (λ (u : State). is_up_as u n inc) is) ∙ on) low high) in
+      let k = settles_still servers t (acting servers s (Leave other other_inc) p tt).plain n cell h.awaited (in_up t n inc on) h.low h.high in
+      record { awaited = k.awaited; epoch = λ on. k.epoch on ∙ h.epoch on; low = k.low; high = k.high }
+
+pub log_epochs : (servers : ℕ) (front whole : List Command) (cell : Cell) → IsPlainLog servers whole → IsPrefix front whole
+    → era_at (state_after servers front) cell ≤ era_at (state_after servers whole) cell
+log_epochs servers front whole cell all prefix = (log_below servers front whole all prefix).eras cell
+
+-- where the era rises, the cell is not as it was
+risen : (servers : ℕ) (front whole : List Command) (n inc : ℕ) (cell : Cell) → 1 ≤ stage_at (state_after servers front) cell
+    → stage_at (state_after servers front) cell ≤ 2 → era_at (state_after servers front) cell < era_at (state_after servers whole) cell
+    → IsStill is_writes_held refl refl (state_after servers front) n cell (state_after servers whole)
+    ⊎ HasReported servers front whole n inc cell
+    → HasReported servers front whole n inc cell
+risen servers front whole n inc cell low high rises (inr h) = h
+risen servers front whole n inc cell low high rises (inl k) =
+    let was = era_low (epoch_at (state_after servers front) cell) (stage_at (state_after servers front) cell) high in
+    let now = era_low (epoch_at (state_after servers whole) cell) (stage_at (state_after servers whole) cell) k.high in
+    let same = k.epoch refl in
+    absurd (omega arith)
+
+pub log_unheld : (servers : ℕ) (front whole : List Command) (n inc : ℕ) (cell : Cell) → IsPlainLog servers whole → IsPrefix front whole
+    → is_in (state_after servers front) n inc ≡ true → is_in (state_after servers whole) n inc ≡ true
+    → is_writes_held (held (state_after servers front) cell) ≡ false → 1 ≤ stage_at (state_after servers front) cell
+    → stage_at (state_after servers front) cell ≤ 2
+    → era_at (state_after servers front) cell < era_at (state_after servers whole) cell → HasReported servers front whole n inc cell
+log_unheld servers front whole n inc cell all prefix is end free low high rises =
+    risen servers front whole n inc cell low high rises
+    (still_by is_writes_held refl refl servers front whole n inc cell all prefix is end
+    (unheld_awaited is_writes_held refl refl (state_after servers front) n cell free) low high)
+
+-- while the server stays In, the cell begins to leave only after the server's report to a fence that holds reads of the cell
+pub log_unread : (servers : ℕ) (front whole : List Command) (n inc : ℕ) (cell : Cell) → IsPlainLog servers whole → IsPrefix front whole
+    → is_in (state_after servers front) n inc ≡ true → is_in (state_after servers whole) n inc ≡ true
+    → is_all_held (held (state_after servers front) cell) ≡ false → 1 ≤ stage_at (state_after servers front) cell
+    → stage_at (state_after servers front) cell ≤ 2
+    → (stage_at (state_after servers whole) cell ≤ 2) ⊎ HasReportedBy is_all_held servers front whole n inc cell
+log_unread servers front whole n inc cell all prefix is end free low high =
+    elim (still_by is_all_held refl refl servers front whole n inc cell all prefix is end
+    (unheld_awaited is_all_held refl refl (state_after servers front) n cell free) low high) [
+      | inl still ↦ inl still.high
+      | inr report ↦ inr report
+    ]
+
+pub log_left : (servers : ℕ) (front whole : List Command) (n inc other other_inc : ℕ) (cell : Cell) → IsPlainLog servers whole
+    → IsPrefix (front ++ Leave other other_inc ∷ []) whole → is_in (state_after servers front) other other_inc ≡ true
+    → is_in (state_after servers (front ++ Leave other other_inc ∷ [])) n inc ≡ true → is_in (state_after servers whole) n inc ≡ true
+    → 1 ≤ stage_at (state_after servers front) cell → stage_at (state_after servers front) cell ≤ 2
+    → era_at (state_after servers front) cell < era_at (state_after servers whole) cell
+    → HasReported servers (front ++ Leave other other_inc ∷ []) whole n inc cell
+log_left servers front whole n inc other other_inc cell all prefix acts is end low high rises =
+    let next = front ++ Leave other other_inc ∷ [] in
+    let s = state_after servers front in
+    let plain = front_plain servers front next (front_plain servers next whole all prefix) (record { later = Leave other other_inc ∷ []; is = refl }) in
+    let e : state_after servers next ≡ after s (Leave other other_inc) = fold-append after (start servers) front (Leave other other_inc ∷ []) in
+    let h = left_still is_writes_held refl refl servers s (log_plain servers front plain) other other_inc n inc cell acts
+    (sym (ap (λ (t : State). is_up_as t n inc) e) ∙ is) low high in
+    let k = subst (IsStill is_writes_held refl refl s n cell) (sym e) h in
+    let was = era_low (epoch_at s cell) (stage_at s cell) high in
+    let now = era_low (epoch_at (state_after servers next) cell) (stage_at (state_after servers next) cell) k.high in
+    let same = k.epoch refl in
+    risen servers next whole n inc cell k.low k.high (omega arith)
+    (still_by is_writes_held refl refl servers next whole n inc cell all prefix is end k.awaited k.low k.high)

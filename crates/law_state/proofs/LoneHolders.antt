@@ -1,0 +1,193 @@
+-- What a state says of a cell's two servers and of a holder that is alone, and what a later one says of them.
+use Rattle.std.proofs.Common.{◌≡◌, ◌≢◌, ℕ, Bool, true, false, Option, Some, None, refl, sym, ap, ◌∙◌, ◌⊎◌, inl, inr}
+use Rattle.std.specs.Prelude.{is_some, option_map, option_and_then}
+use Rattle.std.specs.Option.{option_map_or}
+use Rattle.petal_base.specs.declared.cell.Cell.{Cell}
+use Rattle.global_tables.specs.declared.link.LinkRow.{LinkRow}
+use Rattle.global_tables.specs.Link.{has_server}
+use Rattle.global_tables.specs.declared.link.LinkState.{LinkState}
+use Rattle.global_tables.specs.declared.link.LinkState.TheVariants.{Both, Only, Lost}
+use Rattle.spec_state.specs.CellState.{cell_link}
+use Rattle.spec_state.specs.Command.{is_alone}
+use Rattle.spec_state.specs.State.{is_up, is_up_as}
+use Rattle.spec_rules.specs.State.{State, live, lead, is_lead, row_in_both, in_both, first, second, primary, secondary, is_alone_on}
+use Rattle.spec_rules.proofs.Tests.{by_bool, true_false, none_some, same_some, number_itself, some_or_none, is_the_one}
+use Rattle.law_state.specs.LinkRows.{IsServedBy, ByBoth, ByNone, ByOne, IsLater}
+use Rattle.law_state.specs.Homes.{HasDied}
+use Rattle.law_state.specs.Steady.{IsSteady}
+use Rattle.law_state.specs.LaterStates.{IsBelow}
+use Rattle.law_state.proofs.Caughts.{alone_by}
+use Rattle.law_state.proofs.CellsByLinkRows.{led_by, led_so, first_by, second_by, both_first, both_second}
+
+-- ### One state, by its definitions alone
+
+-- the link of a cell in Both
+pub record IsBothRow (state : State) (cell : Cell) : Type 0 where
+  pub row : LinkRow
+  pub is : cell_link state cell ≡ Some row
+  pub both : row.state ≡ Both
+
+-- the link of a cell that this server holds alone
+pub record IsAloneRow (state : State) (n : ℕ) (cell : Cell) : Type 0 where
+  pub row : LinkRow
+  pub whole : Bool
+  pub is : cell_link state cell ≡ Some row
+  pub alone : row.state ≡ Only n whole
+
+state_both : (row : LinkRow) (state : LinkState) → is_some (row_in_both row state) ≡ true → state ≡ Both
+state_both row Both e = refl
+state_both row (Only holder whole) e = true_false e refl
+state_both row Lost e = true_false e refl
+
+pub both_row : (state : State) (cell : Cell) → in_both state cell ≡ true → IsBothRow state cell
+both_row state cell e = by (cell_link state cell) refl e
+  where
+    by : (o : Option LinkRow) → cell_link state cell ≡ o → is_some (option_and_then (λ row. row_in_both row row.state) o) ≡ true → IsBothRow state cell
+    by None is f = true_false f refl
+    by (Some row) is f = record { row = row; is = is; both = state_both row row.state f }
+
+pub alone_row : (state : State) (n : ℕ) (cell : Cell) → is_alone_on state n cell ≡ true → IsAloneRow state n cell
+alone_row state n cell e = by (cell_link state cell) refl e
+  where
+    by : (o : Option LinkRow) → cell_link state cell ≡ o → option_map_or (λ row. is_alone n row.state) o false ≡ true → IsAloneRow state n cell
+    by None is f = true_false f refl
+    by (Some row) is f = let so = alone_by n row.state f in record { row = row; whole = so.0; is = is; alone = so.1 }
+
+pub so_both : (state : State) (cell : Cell) (row : LinkRow) → cell_link state cell ≡ Some row → row.state ≡ Both → in_both state cell ≡ true
+so_both state cell row is both =
+    ap (λ o. is_some (option_and_then (λ (r : LinkRow). row_in_both r r.state) o)) is ∙ ap (λ s. is_some (row_in_both row s)) both
+
+pub so_alone : (state : State) (n : ℕ) (cell : Cell) (row : LinkRow) (whole : Bool) → cell_link state cell ≡ Some row → row.state ≡ Only n whole
+    → is_alone_on state n cell ≡ true
+so_alone state n cell row whole is alone =
+    ap (λ o. option_map_or (λ (r : LinkRow). is_alone n r.state) o false) is ∙ ap (is_alone n) alone ∙ number_itself n
+
+pub alone_not_both : (state : State) (n : ℕ) (cell : Cell) → is_alone_on state n cell ≡ true → in_both state cell ≡ false
+alone_not_both state n cell e =
+    let a = alone_row state n cell e in
+    ap (λ o. is_some (option_and_then (λ (r : LinkRow). row_in_both r r.state) o)) a.is ∙ ap (λ s. is_some (row_in_both a.row s)) a.alone
+
+pub both_not_alone : (state : State) (n : ℕ) (cell : Cell) → in_both state cell ≡ true → is_alone_on state n cell ≡ false
+both_not_alone state n cell e = by_bool (is_alone_on state n cell) (λ alone. true_false e (alone_not_both state n cell alone)) (λ no. no)
+
+-- ### A steady state
+
+module _ (state : State) (steady : IsSteady state) where
+  -- who leads a cell holds it alone, or it is in Both and the server is its first
+  pub lead_alone : (n : ℕ) (cell : Cell) → is_lead state n cell ≡ true → in_both state cell ≡ false → is_alone_on state n cell ≡ true
+  lead_alone n cell e apart = elim (led_by state steady cell n (is_the_one (lead state cell) n e)) [
+    | inl b ↦ true_false (so_both state cell b.0.row b.0.is b.0.so) apart
+    | inr held ↦ so_alone state n cell held.row held.whole held.is held.so
+  ]
+
+  pub lead_first : (n : ℕ) (cell : Cell) → is_lead state n cell ≡ true → in_both state cell ≡ true → first state cell ≡ Some n
+  lead_first n cell e both = elim (led_by state steady cell n (is_the_one (lead state cell) n e)) [
+    | inl b ↦ both_first state cell b.0.row b.0.is (led_so state cell n (is_the_one (lead state cell) n e)).lives b.0.so ∙ ap Some b.1
+    | inr held ↦ true_false both (alone_not_both state n cell (so_alone state n cell held.row held.whole held.is held.so))
+  ]
+
+  -- the link of a cell that is led
+  pub led_row : (n : ℕ) (cell : Cell) → is_lead state n cell ≡ true → (row : LinkRow) × (cell_link state cell ≡ Some row)
+  led_row n cell e = elim (led_by state steady cell n (is_the_one (lead state cell) n e)) [ inl b ↦ (b.0.row, b.0.is) | inr held ↦ (held.row, held.is) ]
+
+  -- a cell with a first server, or a second one, is in Both
+  pub first_both : (cell : Cell) (n : ℕ) → first state cell ≡ Some n → in_both state cell ≡ true
+  first_both cell n e = let b = first_by state steady cell n e in so_both state cell b.0.row b.0.is b.0.so
+
+  pub second_both : (cell : Cell) (n : ℕ) → second state cell ≡ Some n → in_both state cell ≡ true
+  second_both cell n e = let b = second_by state steady cell n e in so_both state cell b.0.row b.0.is b.0.so
+
+  pub first_primary : (cell : Cell) (n : ℕ) → first state cell ≡ Some n → primary state cell ≡ Some n
+  first_primary cell n e =
+      let b = first_by state steady cell n e in ap (option_map (λ (r : LinkRow). r.primary)) b.0.is ∙ ap Some b.1
+
+  pub second_secondary : (cell : Cell) (n : ℕ) → second state cell ≡ Some n → secondary state cell ≡ Some n
+  second_secondary cell n e =
+      let b = second_by state steady cell n e in ap (option_map (λ (r : LinkRow). r.secondary)) b.0.is ∙ ap Some b.1
+
+  pub primary_first : (cell : Cell) (n : ℕ) → live state cell ≡ true → primary state cell ≡ Some n → in_both state cell ≡ true → first state cell ≡ Some n
+  primary_first cell n lives e both =
+      let b = both_row state cell both in
+      both_first state cell b.row b.is lives b.both ∙ sym (ap (option_map (λ (r : LinkRow). r.primary)) b.is) ∙ e
+
+  pub secondary_second : (cell : Cell) (n : ℕ) → live state cell ≡ true → secondary state cell ≡ Some n → in_both state cell ≡ true
+      → second state cell ≡ Some n
+  secondary_second cell n lives e both =
+      let b = both_row state cell both in
+      both_second state cell b.row b.is lives b.both ∙ sym (ap (option_map (λ (r : LinkRow). r.secondary)) b.is) ∙ e
+
+  -- the two servers of a cell are two
+  pub has_secondary : (cell : Cell) (n : ℕ) → primary state cell ≡ Some n → (m : ℕ) × (secondary state cell ≡ Some m) × (n ≢ m)
+  has_secondary cell n e = elim (some_or_none (cell_link state cell)) [
+    | inl there ↦
+        let l = steady.linked cell there.0 there.1 in
+        let one : there.0.primary ≡ n = same_some (sym (ap (option_map (λ (r : LinkRow). r.primary)) there.1) ∙ e) in
+        (there.0.secondary, ap (option_map (λ (r : LinkRow). r.secondary)) there.1, λ same. l.apart (one ∙ same))
+    | inr none ↦ none_some (ap (option_map (λ (r : LinkRow). r.primary)) none) e
+  ]
+
+  pub has_primary : (cell : Cell) (m : ℕ) → secondary state cell ≡ Some m → (n : ℕ) × (primary state cell ≡ Some n)
+  has_primary cell m e = elim (some_or_none (cell_link state cell)) [
+    | inl there ↦ (there.0.primary, ap (option_map (λ (r : LinkRow). r.primary)) there.1)
+    | inr none ↦ none_some (ap (option_map (λ (r : LinkRow). r.secondary)) none) e
+  ]
+
+  -- a holder that is alone is one of the cell's two servers, and the other one is not In with its first
+  -- incarnation
+  pub record IsLeft (n : ℕ) (cell : Cell) (i j : ℕ) : Type 0 where
+    pub one_of : (n ≡ i) ⊎ (n ≡ j)
+    pub first_out : n ≢ i → is_up_as state i 1 ≡ false
+    pub second_out : n ≢ j → is_up_as state j 1 ≡ false
+
+  pub alone_left : (n : ℕ) (cell : Cell) (i j : ℕ) → is_alone_on state n cell ≡ true → primary state cell ≡ Some i → secondary state cell ≡ Some j
+      → IsLeft n cell i j
+  alone_left n cell i j e one two =
+      let a = alone_row state n cell e in
+      let first : a.row.primary ≡ i = same_some (sym (ap (option_map (λ (r : LinkRow). r.primary)) a.is) ∙ one) in
+      let second : a.row.secondary ≡ j = same_some (sym (ap (option_map (λ (r : LinkRow). r.secondary)) a.is) ∙ two) in
+      by a.row.state a.alone first second (steady.linked cell a.row a.is).served
+    where
+      holder_is : (h : ℕ) {a b : Bool} → Only n a ≡ Only h b → n ≡ h
+      holder_is h f = cc
+
+      by : (s : LinkState) {row : LinkRow} {whole : Bool} → row.state ≡ Only n whole → row.primary ≡ i → row.secondary ≡ j
+          → IsServedBy (is_up state) (λ k. is_up_as state k 1) row
+          → IsLeft n cell i j
+      by s alone first second (ByBoth both up up') = let f : Both ≡ Only n _ = sym both ∙ alone in absurd cc
+      by s alone first second (ByNone one other lost pair out) = let f : Lost ≡ Only n _ = sym lost ∙ alone in absurd cc
+      by s alone first second (ByOne holder other whole only (inl pair) out) =
+          let same : n ≡ holder = holder_is holder (sym alone ∙ only) in
+          let one : n ≡ i = same ∙ sym pair.0 ∙ first in
+          record { one_of = inl one; first_out = λ ne. absurd (ne one); second_out = λ ne. sym (ap (λ k. is_up_as state k 1) (sym pair.1 ∙ second)) ∙ out }
+      by s alone first second (ByOne holder other whole only (inr pair) out) =
+          let same : n ≡ holder = holder_is holder (sym alone ∙ only) in
+          let one : n ≡ j = same ∙ sym pair.1 ∙ second in
+          record { one_of = inr one; first_out = λ ne. sym (ap (λ k. is_up_as state k 1) (sym pair.0 ∙ first)) ∙ out; second_out = λ ne. absurd (ne one) }
+
+-- ### A later state
+
+module _ (earlier later : State) (below : IsBelow earlier later) where
+  -- a side of a cell's link
+  side_on : (side : LinkRow → ℕ) → ((row now : LinkRow) → IsLater row now → side now ≡ side row) → (cell : Cell) (n : ℕ)
+      → option_map side (cell_link earlier cell) ≡ Some n → (option_map side (cell_link later cell) ≡ Some n) ⊎ HasDied later cell
+  side_on side same cell n e = elim (some_or_none (cell_link earlier cell)) [
+    | inl there ↦ elim (below.rows cell there.0 there.1) [
+      | inl now ↦ inl (ap (option_map side) now.is ∙ ap Some (same there.0 now.now now.so) ∙ sym (ap (option_map side) there.1) ∙ e)
+      | inr gone ↦ inr gone
+    ]
+    | inr none ↦ none_some (ap (option_map side) none) e
+  ]
+
+  pub primary_on : (cell : Cell) (n : ℕ) → primary earlier cell ≡ Some n → (primary later cell ≡ Some n) ⊎ HasDied later cell
+  primary_on = side_on (λ row. row.primary) (λ row now so. so.primary)
+
+  pub secondary_on : (cell : Cell) (n : ℕ) → secondary earlier cell ≡ Some n → (secondary later cell ≡ Some n) ⊎ HasDied later cell
+  secondary_on = side_on (λ row. row.secondary) (λ row now so. so.secondary)
+
+-- ### An entry that touches a link
+
+-- of a link in Both one server is Out after an entry that touches it
+pub record IsLeftOut (after_it : State) (row : LinkRow) : Type 0 where
+  pub server : ℕ
+  pub one_of : has_server server row ≡ true
+  pub out : is_up after_it server ≡ false

@@ -1,0 +1,139 @@
+-- What a server holds back, since it has started a ballot for the Caught of the cell's link: a ballot starts for a link without pending
+-- operations alone, and an entry starts none.
+use Rattle.std.proofs.Common.{◌≡◌, ◌==◌, ◌&&◌, not, ℕ, Bool, true, false, cond, [], ◌∷◌, Option, Some, None, refl, sym, ap, ◌∙◌}
+use Rattle.std.specs.Prelude.{◌||◌}
+use Rattle.std.specs.List.{list_any}
+use Rattle.std.specs.Option.{option_map_or}
+use Rattle.std.specs.declared.cmp.Ordering.{Ordering}
+use Rattle.std.specs.declared.cmp.Ordering.TheVariants.{Less, Equal, Greater}
+use Rattle.std.specs.Ordering.{is_eq, eq_by_cmp}
+use Rattle.std.specs.BTreeMap.{is_at}
+use Rattle.std.specs.Map.{lookup}
+use Rattle.global_tables.specs.Link.{is_link}
+use Rattle.global_tables.specs.declared.link.LinkRow.{LinkRow}
+use Rattle.petal_base.specs.declared.cell.Cell.{Cell}
+use Rattle.petal_command.specs.declared.command.Command.{Command}
+use Rattle.petal_command.specs.declared.command.Command.TheVariants.{Caught}
+use Rattle.petal_msg.specs.declared.copying.LinkId.{LinkId}
+use Rattle.petal_msg.specs.declared.copying.NextCopy.{NextCopy}
+use Rattle.petal_msg.specs.declared.copying.NextCopy.TheVariants.{Ask, Block, Wait, Nothing}
+use Rattle.petal_msg.specs.declared.copying.Progress.{Progress}
+use Rattle.petal_msg.specs.declared.operation.Pending.{Pending}
+use Rattle.spec_state.specs.CellState.{cell_link}
+use Rattle.petal_table.specs.Table.{Table, at}
+use Rattle.petal_table.proofs.Rows.{at-where}
+use Rattle.spec_rules.specs.Copies.{blocks_left, cell_at, is_link_under_way, least, next_block, next_copy}
+use Rattle.spec_rules.specs.Crossing.{crossed, ends_link}
+use Rattle.spec_rules.specs.Progress.{has_proposed, progress_on, with_progress}
+use Rattle.spec_rules.specs.Returns.{holds_link, proposed}
+use Rattle.spec_rules.specs.Server.{PairState, JobContext}
+use Rattle.spec_rules.specs.State.{State, id_of, is_on, link_cmp}
+use Rattle.spec_rules.specs.Store.{cell_cmp}
+use Rattle.spec_rules.specs.Writes.{is_under_way}
+use Rattle.spec_rules.proofs.CellTables.{cell_cmp_same}
+use Rattle.spec_rules.proofs.Tests.{by_bool, by_test, none_some, number_itself, true_false}
+use Rattle.law_state.specs.LaterStates.{HasLater}
+use Rattle.law_state.specs.StartedBallots.{is_flagged}
+use Rattle.law_log.proofs.BallotFlags.{progress_beside, same_caught, same_id}
+use Rattle.law_steps.specs.DidStep.{IsBallotFor, Starts}
+
+pub held_as_flag : (state : State) (own : PairState) (cell : Cell) (row : LinkRow) → cell_link state cell ≡ Some row
+    → has_proposed state own cell ≡ is_flagged own (id_of row)
+held_as_flag state own cell row is =
+    ap (λ o. option_map_or (λ (r : LinkRow). (progress_on own r).caught) o false) is ∙ sym (same_caught own row)
+
+-- ### An entry
+
+-- what is in mind after an entry was so before
+flag_before : (state : State) (entry : Command) (own : PairState) (id : LinkId) → is_flagged (crossed state entry own) id ≡ true → is_flagged own id ≡ true
+flag_before state entry own id e =
+    by (not (ends_link state entry id))
+    (sym (ap (λ o. option_map_or (λ (p : Progress). p.caught) o false)
+    (at-where link_cmp own.copies.progress (λ k. not (ends_link state entry k)) id
+    (λ k tie. ap (λ q. not (ends_link state entry q)) (sym (same_id id k (ap is_eq tie)))))) ∙ e)
+  where
+    by : (stays : Bool) → option_map_or (λ (p : Progress). p.caught) (cond stays (at link_cmp own.copies.progress id) None) false ≡ true
+        → is_flagged own id ≡ true
+    by true f = f
+    by false f = true_false f refl
+
+pub crossed_unheld : (state later : State) (entry : Command) (own : PairState) (cell : Cell) (row : LinkRow) → cell_link state cell ≡ Some row
+    → HasLater state later cell row → has_proposed state own cell ≡ false → has_proposed later (crossed state entry own) cell ≡ false
+crossed_unheld state later entry own cell row is h unheld = by_bool (has_proposed later (crossed state entry own) cell)
+    (λ t.
+    let same : id_of h.now ≡ id_of row = (λ i. record { map = h.so.map i; link = h.so.link i }) in
+    let was = flag_before state entry own (id_of h.now) (sym (held_as_flag later (crossed state entry own) cell h.now h.is) ∙ t) in
+    true_false (held_as_flag state own cell row is ∙ ap (is_flagged own) (sym same) ∙ was) unheld)
+    (λ no. no)
+
+-- ### A ballot
+
+same_order : (r : Ordering) → is_eq r ≡ true → r ≡ Equal
+same_order Less e = true_false e refl
+same_order Equal e = refl
+same_order Greater e = true_false e refl
+
+first_so : (a b : Bool) → a ≡ true → (a || b) ≡ true
+first_so true b e = refl
+first_so false b e = true_false e refl
+
+later_so : (a b : Bool) → b ≡ true → (a || b) ≡ true
+later_so true b e = refl
+later_so false b e = e
+
+-- an operation that stands in a table is one of its rows
+any_at : (p : Cell → Bool) (t : Table Cell Pending) (cell : Cell) (op : Pending) → at cell_cmp t cell ≡ Some op → p cell ≡ true
+    → list_any (λ (row : Cell × Pending). p row.0) t ≡ true
+unfolding at
+any_at p [] cell op e is = none_some refl e
+any_at p (row ∷ rows) cell op e is = by_bool (is_eq (cell_cmp cell row.0))
+    (λ t. first_so (p row.0) _ (ap p (sym (cell_cmp_same cell row.0 (same_order (cell_cmp cell row.0) t))) ∙ is))
+    (λ no. later_so (p row.0) _ (any_at p rows cell op
+    (sym (ap (λ b. cond b (Some row.1) (lookup (is_at (cell_cmp cell)) rows)) no) ∙ e) is))
+
+idle_block : (state : State) (row : LinkRow) (own : PairState) (o : Option ℕ) → next_block state row own o ≡ Nothing → is_link_under_way state row own ≡ false
+idle_block state row own None e =
+    by_test (λ (n : NextCopy). n ≡ Nothing → is_link_under_way state row own ≡ false) (is_link_under_way state row own) Wait Nothing
+    (λ t f. let g : Wait ≡ Nothing = f in absurd cc) (λ no f. no) e
+idle_block state row own (Some block) e =
+    by_test (λ (n : NextCopy). n ≡ Nothing → is_link_under_way state row own ≡ false) (is_under_way own (cell_at row block)) Wait (Block (cell_at row block))
+    (λ t f. let g : Wait ≡ Nothing = f in absurd cc) (λ no f. let g : Block (cell_at row block) ≡ Nothing = f in absurd cc) e
+
+idle : (state : State) (row : LinkRow) (own : PairState) → next_copy state row own ≡ Nothing → is_link_under_way state row own ≡ false
+unfolding next_copy
+idle state row own =
+    by_test (λ (n : NextCopy). n ≡ Nothing → is_link_under_way state row own ≡ false) (progress_on own row).paged
+    (next_block state row own (least (blocks_left state row own))) Ask
+    (λ t e. idle_block state row own (least (blocks_left state row own)) e) (λ f e. let g : Ask ≡ Nothing = e in absurd cc)
+
+either_so : (a b : Bool) → (a || b) ≡ false → a ≡ false
+either_so true b e = true_false refl e
+either_so false b e = refl
+
+-- of the link for which it starts no operation is pending
+beside : (here : JobContext) (own : PairState) (id : LinkId) (s : IsBallotFor here own id) (cell : Cell) (op : Pending) → at cell_cmp own.pairs.pending cell ≡ Some op
+    → (row : LinkRow) → cell_link here.state cell ≡ Some row → eq_by_cmp link_cmp (id_of row) (id_of s.row) ≡ false
+beside here own id s cell op there row is = by_bool (eq_by_cmp link_cmp (id_of row) (id_of s.row))
+    (λ t.
+    let same = same_id (id_of row) (id_of s.row) t in
+    let on : is_on here.state s.row cell ≡ true =
+    ap (λ o. option_map_or (is_link s.row.map s.row.link) o false) is
+    ∙ (λ i. ((same i).map == s.row.map) && ((same i).link == s.row.link)) ∙ (λ i. number_itself s.row.map i && number_itself s.row.link i) in
+    true_false (any_at (is_on here.state s.row) own.pairs.pending cell op there on) (either_so _ _ (idle here.state s.row own s.nothing)))
+    (λ no. no)
+
+pub ballot_unheld : (here : JobContext) (own : PairState) (o : Option Command) → Starts here own o → (cell : Cell) (op : Pending)
+    → at cell_cmp own.pairs.pending cell ≡ Some op → has_proposed here.state own cell ≡ false → has_proposed here.state (proposed here.state own o) cell ≡ false
+ballot_unheld here own (Some (Caught of link holder inc other other_inc)) s cell op there unheld =
+    ap (λ o. has_proposed here.state (holds_link own o) cell) s.held.is ∙ by (cell_link here.state cell) refl
+  where
+    by : (o : Option LinkRow) → cell_link here.state cell ≡ o
+        → option_map_or (λ (r : LinkRow). (progress_on (with_progress own s.row (record (progress_on own s.row) { caught = true })) r).caught) o false ≡ false
+    by None is = refl
+    by (Some row) is =
+        ap (λ (p : Progress). p.caught)
+        (progress_beside own s.row (record (progress_on own s.row) { caught = true }) row
+        (beside here own (record { map = of; link = link }) s cell op there row is))
+        ∙ sym (ap (λ o. option_map_or (λ (r : LinkRow). (progress_on own r).caught) o false) is) ∙ unheld
+ballot_unheld here own (Some _) s cell op there unheld = unheld
+ballot_unheld here own None s cell op there unheld = unheld

@@ -1,0 +1,151 @@
+-- What a server remembers of copies rests after an entry, which drops what it touches; and at the start it remembers nothing of them.
+use Rattle.std.proofs.Common.{◌≡◌, ◌≤◌, ◌==◌, ◌&&◌, not, ℕ, Bool, true, false, cond, if◌then◌else◌, List, [], ◌∷◌, ◌++◌, Option}
+use Rattle.std.proofs.Common.{Some, None, refl, sym, ap, ◌∙◌, subst, inl, inr, arith}
+use Rattle.std.specs.Prelude.{◌||◌, filter, is_none, unwrap_or}
+use Rattle.std.specs.Option.{option_map_or}
+use Rattle.std.proofs.lemmas.Grind.{fold-append}
+use Rattle.std.specs.Ordering.{is_eq}
+use Rattle.global_tables.specs.Link.{other_of}
+use Rattle.global_tables.specs.declared.link.LinkRow.{LinkRow}
+use Rattle.petal_base.specs.declared.cell.Cell.{Cell}
+use Rattle.petal_command.specs.declared.command.Command.{Command}
+use Rattle.spec_state.specs.CellState.{cell_link}
+use Rattle.spec_state.specs.Command.{after, is_alone, state_after}
+use Rattle.spec_state.specs.Place.{touches, touches_cell}
+use Rattle.spec_state.specs.State.{inc_of, is_up, start}
+use Rattle.petal_table.specs.Table.{Table, at}
+use Rattle.petal_table.proofs.Rows.{at-empty, at-where}
+use Rattle.spec_rules.specs.Crossing.{crossed, dies, ends_cell, ends_link}
+use Rattle.spec_rules.specs.Lists.{In}
+use Rattle.spec_rules.specs.Progress.{no_progress}
+use Rattle.spec_rules.specs.Server.{PairState, Copies, no_copies}
+use Rattle.spec_rules.specs.State.{State, id_of, link_cmp, live, other_in}
+use Rattle.spec_rules.specs.Store.{cell_cmp}
+use Rattle.spec_rules.proofs.CellTables.{cell_cmp_same}
+use Rattle.spec_rules.proofs.ListLemmas.{in_former, in_later}
+use Rattle.spec_rules.proofs.Tests.{both_true, by_bool, by_test, none_some, same_some, true_false}
+use Rattle.law_state.specs.Homes.{stage_at}
+use Rattle.law_state.specs.Plain.{IsPlain, IsPlainLog}
+use Rattle.law_state.specs.LinkChanges.{StaysSo}
+use Rattle.law_state.specs.Tables.{IsPlainState}
+use Rattle.law_state.proofs.Ages.{in_up, up_some}
+use Rattle.law_state.proofs.EntriesOnlyAdd.{log_plain}
+use Rattle.law_state.proofs.NewMapLinks.{either_false}
+use Rattle.law_state.proofs.Stages.{stage_most}
+use Rattle.law_state.proofs.Steady.{log_below}
+use Rattle.law_state.proofs.EntriesTouchLinks.{entry_stays}
+use Rattle.law_log.proofs.BallotFlags.{same_id}
+use Rattle.law_steps.specs.RestingCopies.{AreResting}
+use Rattle.law_steps.proofs.Fronts.{front_more}
+use Rattle.law_steps.proofs.WhoLeads.{live_stage}
+use Rattle.law_steps.proofs.CopiesRest.{row_named}
+
+-- ### An entry
+
+-- what an entry leaves of a table by cells is of a cell that it doesn't touch, and that doesn't die by it
+left_there : {X : Type 0} (state : State) (entry : Command) (t : Table Cell X) (cell : Cell) (x : X)
+    → at cell_cmp (filter (λ row. not (ends_cell state entry row.0)) t) cell ≡ Some x
+    → (at cell_cmp t cell ≡ Some x) × (touches_cell state entry cell ≡ false) × (dies state entry cell ≡ false)
+left_there state entry t cell x is =
+    let lies = at-where cell_cmp t (λ k. not (ends_cell state entry k)) cell
+    (λ k tie. ap (λ q. not (ends_cell state entry q)) (sym (cell_cmp_same cell k tie))) in
+    by_bool (ends_cell state entry cell)
+    (λ on. none_some (lies ∙ ap (λ b. cond (not b) (at cell_cmp t cell) None) on) is)
+    (λ off.
+    let neither = either_false (touches_cell state entry cell) (dies state entry cell) off in
+    (sym (lies ∙ ap (λ b. cond (not b) (at cell_cmp t cell) None) off) ∙ is, neither.0, neither.1))
+
+-- a live cell that doesn't die by the entry is live after it
+still_live : (before following : Bool) → (before && not following) ≡ false → before ≡ true → following ≡ true
+still_live before true e on = refl
+still_live true false e on = true_false refl e
+still_live false false e on = on
+
+other_so : (state : State) (me : ℕ) (row : LinkRow) (other : ℕ) → other_in state me row ≡ Some other
+    → (is_alone me row.state ≡ true) × (is_up state (other_of me row) ≡ true) × (other_of me row ≡ other)
+other_so state me row other =
+    by_test (λ (o : Option ℕ). o ≡ Some other → (is_alone me row.state ≡ true) × (is_up state (other_of me row) ≡ true) × (other_of me row ≡ other))
+    (is_alone me row.state && is_up state (other_of me row)) (Some (other_of me row)) None
+    (λ t e. let both = both_true _ _ t in (both.0, both.1, same_some e)) (λ no e. none_some refl e)
+
+up_same : (s t : State) (n : ℕ) → inc_of t n ≡ inc_of s n → is_up s n ≡ true → is_up t n ≡ true
+up_same s t n same up = let is = up_some s n up in in_up t n is.0 (ap (λ o. option_map_or (λ present. present == is.0) o false) same ∙ is.1)
+
+pub crossed_rests : (servers : ℕ) (state : State) → IsPlainState servers state → (entry : Command) → IsPlain servers entry
+    → ((cell : Cell) → stage_at state cell ≤ stage_at (after state entry) cell) → (me : ℕ) (own : PairState)
+    → AreResting state me own → AreResting (after state entry) me (crossed state entry own)
+crossed_rests servers state plain entry plain_entry grows me own r = record {
+  copying = λ cell copy is.
+      let was = left_there state entry own.copies.pending cell copy is in
+      let o = r.copying cell copy was.0 in
+      let off : touches state entry o.row ≡ false = sym (ap (λ l. option_map_or (touches state entry) l false) o.is) ∙ was.1 in
+      let alive : live (after state entry) cell ≡ true = still_live (live state cell) (live (after state entry) cell) was.2 o.live in
+      let so : StaysSo cell o.row state (after state entry) = elim (entry_stays servers state plain cell o.row o.is entry plain_entry off) [
+        | inl stays ↦ stays
+        | inr died ↦ (
+            let dead = died.1 in
+            let most = (live_stage (after state entry) cell alive).1 in
+            absurd (omega arith))
+      ] in
+      let other = other_so state me o.row o.other o.other_is in
+      let up = up_same state (after state entry) (other_of me o.row)
+      (by_test (λ n. inc_of (after state entry) n ≡ inc_of state n) (o.row.primary == me) o.row.secondary o.row.primary (λ t. so.secondary) (λ t. so.primary))
+      other.1 in
+      record {
+        may = record {
+          row = o.row;
+          is = so.same;
+          live = alive;
+          other = o.other;
+          other_is = ap (λ b. if b then Some (other_of me o.row) else None) (λ i. other.0 i && up i) ∙ ap Some other.2;
+        };
+        paged = ap (λ p. (unwrap_or p no_progress).paged) (kept cell o.row o.is off so.same) ∙ o.paged;
+        begun = o.begun;
+      };
+  lasts = λ cell last is.
+      let was = left_there state entry own.copies.last cell last is in
+      elim (r.lasts cell last was.0) [
+        | inr dead ↦ inr (stays_dead cell dead)
+        | inl o ↦ (
+            let off : touches state entry o.row ≡ false = sym (ap (λ l. option_map_or (touches state entry) l false) o.is) ∙ was.1 in
+            elim (entry_stays servers state plain cell o.row o.is entry plain_entry off) [
+              | inl so ↦ inl (record { row = o.row; is = so.same; holder = o.holder; held = o.held })
+              | inr died ↦ inr died.1
+            ])
+      ];
+}
+  where
+    stays_dead : (cell : Cell) → stage_at state cell ≡ 4 → stage_at (after state entry) cell ≡ 4
+    stays_dead cell dead =
+        let more = grows cell in
+        let most = stage_most (after state entry) cell in
+        omega arith
+
+    kept : (cell : Cell) (row : LinkRow) → cell_link state cell ≡ Some row → touches state entry row ≡ false → cell_link (after state entry) cell ≡ Some row
+        → at link_cmp (crossed state entry own).copies.progress (id_of row) ≡ at link_cmp own.copies.progress (id_of row)
+    kept cell row is off there =
+        let away : ends_link state entry (id_of row) ≡ false =
+        (λ i. option_map_or (touches state entry) (row_named state cell row is i) false || is_none (row_named (after state entry) cell row there i))
+        ∙ ap (λ b. b || false) off in
+        at-where link_cmp own.copies.progress (λ k. not (ends_link state entry k)) (id_of row)
+        (λ k tie. ap (λ q. not (ends_link state entry q)) (sym (same_id (id_of row) k (ap is_eq tie))))
+        ∙ ap (λ b. cond (not b) (at link_cmp own.copies.progress (id_of row)) None) away
+
+pub log_rests : (servers : ℕ) (log : List Command) (entry : Command) → IsPlainLog servers (log ++ entry ∷ []) → (me : ℕ) (own : PairState)
+    → AreResting (state_after servers log) me own → AreResting (state_after servers (log ++ entry ∷ [])) me (crossed (state_after servers log) entry own)
+unfolding In
+log_rests servers log entry plain me own r =
+    let below = log_below servers log (log ++ entry ∷ []) plain (front_more log entry) in
+    let following : state_after servers (log ++ entry ∷ []) ≡ after (state_after servers log) entry = fold-append after (start servers) log (entry ∷ []) in
+    subst (λ (t : State). AreResting t me (crossed (state_after servers log) entry own)) (sym following)
+    (crossed_rests servers (state_after servers log) (log_plain servers log (λ command i. plain command (in_former command log (entry ∷ []) i))) entry
+    (plain entry (in_later entry log (entry ∷ []) (inl refl)))
+    (λ cell. subst (λ (t : State). stage_at (state_after servers log) cell ≤ stage_at t cell) following (below.stages cell)) me own r)
+
+-- ### The start
+
+pub none_rest : (state : State) (me : ℕ) (own : PairState) → own.copies ≡ no_copies → AreResting state me own
+none_rest state me own e = record {
+  copying = λ cell copy is. none_some (ap (λ (c : Copies). at cell_cmp c.pending cell) e ∙ at-empty cell_cmp cell) is;
+  lasts = λ cell last is. none_some (ap (λ (c : Copies). at cell_cmp c.last cell) e ∙ at-empty cell_cmp cell) is;
+}

@@ -1,0 +1,78 @@
+-- What a job leaves, and what every job keeps.
+use Rattle.std.specs.Prelude.{◌≡◌, ◌≤◌, ◌<◌, ℕ, ◌+◌, ◌-◌, ◌^◌, length, List, [], ◌∷◌, Option, None, Some, Result, Err, IfOk, IfErr, OnOk, OnErr}
+use Rattle.petal_disk.specs.Disk.{LeavesOnly}
+use Rattle.petal_disk.specs.declared.disk.Disk.{Ghosts}
+use Rattle.petal_msg.specs.declared.letter.Letter.{Letter}
+use Rattle.physical_map.specs.Entries.{top_of}
+use Rattle.spec_rules.specs.Server.{PairState, JobContext, sender, letters_of}
+use Rattle.spec_rules.specs.Server.{JobResult as Rule}
+use Rattle.spec_rules.specs.declared.job.Job.{Job}
+use Rattle.spec_rules.specs.declared.job.Job.TheVariants as job
+use Rattle.kept_chains.specs.Holdings.{Holdings, listed}
+pub use Rattle.kept_chains.specs.Shown.{HoldsAt}
+use Rattle.kept_chains.specs.Kept.{store_of}
+use Rattle.kept_chains.specs.Standing.{StandsAsEither}
+use Rattle.pair_memory.specs.declared.error.WorkError.{WorkError}
+use Rattle.pair_memory.specs.declared.error.WorkError.TheVariants.{Failed, JournalFull, NoMemory}
+use Rattle.pair_memory.specs.declared.job_result.JobResult.{JobResult}
+use Rattle.pair_memory.specs.declared.job_result.FollowUp.{FollowUp}
+use Rattle.pair_memory.specs.declared.job_result.FollowUp.TheVariants as follow
+use Rattle.pair_memory.specs.PairMemory.{PairMemory, own_of, HasTicketsAt}
+use Rattle.petal_base.specs.Limits.{journal_records}
+
+-- letters and nothing else
+abbrev pub only : List Letter → JobResult
+only letters = record { letters = letters; follow = None }
+
+abbrev pub follow_up : Option FollowUp → List Job
+follow_up None = []
+follow_up (Some (follow.Stage cell)) = job.Stage cell ∷ []
+follow_up (Some (follow.Repair link)) = job.Repair link ∷ []
+follow_up (Some follow.Sweep) = job.Sweep ∷ []
+
+-- what a job left of the server's own part, its letters and the jobs that follow it up are what the rule says
+pub record IsBy (here : JobContext) (left : PairState) (done : JobResult) (rule : Rule) : Type 0 where
+  pub own : left ≡ rule.own
+  pub letters : done.letters ≡ letters_of (sender here) 0 rule.posts
+  pub jobs : follow_up done.follow ≡ rule.jobs
+
+-- the greatest version of the store can still be counted up
+abbrev pub HasVersions : {D : Type 0} → Holdings D → Type 0
+HasVersions store = top_of (listed store.entries) < 2 ^ 64 - 1
+
+-- the count of faults does not fall, and `Failed` comes only where it has risen
+pub record HasFault {T : Type 0} (before now : ℕ) (result : Result T WorkError) : Type 0 where
+  pub later : before ≤ now
+  pub failed : result ≡ Err Failed → before < now
+
+module _ {D : Type 0} where
+  -- a job without a call of the device is the rule's, and the tickets still stand where they are needed; one that was refused,
+  -- for memory alone, left all as it was
+  pub record IsSaid (here : JobContext) (old new : PairMemory) (before after : Holdings D) (result : Result JobResult WorkError) (rule : Rule) : Type 0 where
+    pub done : IfOk result (λ done. IsBy here (own_of new after) done rule)
+    pub keeps : OnOk result (HasTicketsAt new after)
+    pub err : IfErr result (λ e. (e ≡ NoMemory) × (new ≡ old) × (after ≡ before))
+    pub store : after ≡ record before { tickets = after.tickets }
+
+  -- the rule has one record more than the journal has room for, and nothing changed
+  pub record IsFull (old new : PairMemory) (before after : Holdings D) (rule : Rule) : Type 0 where
+    pub count : before.log.region.count ≡ journal_records
+    pub over : rule.own.store.records ≡ length before.log.records + 1
+    pub same : (new ≡ old) × (after ≡ before)
+
+  -- a job is the rule's where the device tells its bytes, and the tickets still stand where they are needed; a device that showed
+  -- the store shows it after the job too, and after one that was refused for memory, which left all but the device's state as it
+  -- was. A crash at any moment leaves the store before the job, or the rule's after it. Any other refusal left the entries.
+  -- `JournalFull` comes only where the journal has no room for the record of the job
+  pub record IsDone (device : Ghosts D) (here : JobContext) (old new : PairMemory) (before after : Holdings D) (result : Result JobResult WorkError) (rule : Rule) : Type 0 where
+    pub done : IfOk result (λ done. device.told → IsBy here (own_of new after) done rule)
+    pub keeps : OnOk result (HasTicketsAt new after)
+    pub holds : device.told → HoldsAt device before → OnOk result (HoldsAt device after)
+    pub moments : device.told → HoldsAt device before
+        → LeavesOnly device.moment device.left_since before.disk after.disk (StandsAsEither (store_of before) rule.own.store)
+    pub still : result ≡ Err NoMemory → device.told → HoldsAt device before → HoldsAt device after
+    pub same : result ≡ Err NoMemory → (new ≡ old) × (after ≡ record before { disk = after.disk })
+    pub kept : OnErr result (device.told → after.entries ≡ before.entries)
+    pub full : result ≡ Err JournalFull → IsFull old new before after rule
+    pub cause : HasFault (device.faults before.disk) (device.faults after.disk) result
+    pub run : device.came_to before.disk after.disk

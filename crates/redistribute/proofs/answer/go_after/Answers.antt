@@ -1,0 +1,29 @@
+use Rattle.std.proofs.Common.{Option, List, ap, ◌∙◌}
+use Rattle.petal_base.specs.declared.cell.Key.{Key}
+use Rattle.spec_rules.specs.Fills.{sends_key}
+use Rattle.spec_rules.specs.Server.{Post}
+use Rattle.server_store.specs.Holdings.{Holdings}
+use Rattle.pair_memory.specs.Letters.{posts_of}
+use Rattle.pair_memory.specs.PairMemory.{own_of}
+use Rattle.pair_memory.proofs.Reading.{after_read}
+use Rattle.redistribute.specs.Following.{filled_with}
+use Rattle.redistribute.proofs.Fillings.{after_is}
+use Rattle.redistribute.proofs.answer.go_after.Goals as goal
+
+pub returns-in-Ok : goal.returns-in-Ok
+returns-in-Ok g c =
+    let here = c.args.here.now in
+    let side = c.args.side.now in
+    let row = c.args.row.now in
+    let old = c.args.store.now in
+    let new = c.fill_letter.new.store in
+    let look = c.fill_letter.ensures.look in
+    let own = own_of side old in
+    let only_now = (g.met.D.Disk g.world.𝓛 g.world.𝓜 g.world.𝓡 ((λ s x. x), (λ x. x), (λ x. x), λ x. x)).only_now in
+    after_read g.D.Disk only_now here side c.note_filled.new.side old new look.same look.kept look.holds look.run c.note_filled.result _ _ look.cause.later
+    (λ told.
+    ap (λ (s : Holdings _). filled_with (own_of side s) row c.args.key (posts_of c.in-Ok.found)) look.same
+    ∙ ap (λ (ps : List Post). filled_with own row c.args.key ps)
+    (c.in-Ok.ensures.letter told side ∙ ap (λ (k : Option Key). sends_key here.state own k) c.left_after-next.ensures)
+    ∙ after_is here own row c.args.key)
+    c.note_filled.ensures

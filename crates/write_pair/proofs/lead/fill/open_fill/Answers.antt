@@ -1,0 +1,13 @@
+use Rattle.std.proofs.Common.{ap, ◌∙◌}
+use Rattle.spec_rules.specs.Fills.{fill_operation}
+use Rattle.pair_memory.specs.PairMemory.{PairMemory, own_of}
+use Rattle.write_pair.specs.Wanted.{moving}
+use Rattle.write_pair.proofs.Begun.{fill_is}
+use Rattle.write_pair.proofs.lead.fill.open_fill.Goals as goal
+
+pub returns-clause-job : goal.returns-clause-job
+returns-clause-job g c =
+    let here = c.args.here.now in
+    rw (← (fill_is here (own_of c.args.side.now c.args.store.now) c.in_ok-op.op (moving c.args.entry.now)
+    (c.in_ok-op.ensures ∙ ap (λ (s : PairMemory). fill_operation here s.next (moving c.args.entry.now)) c.side.view_is)))
+    c.open.ensures.job
