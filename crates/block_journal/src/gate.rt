@@ -18,8 +18,8 @@ pub const OPEN: u8 = 0xa5;
 /// The device failed.
 pub fn read_front<D: Disk>(disk: &mut D, into: &mut [u8]) -> Result<(), Failed>
     requires { length into.old ≤ D.size disk.old }
-    ensures bytes { OnOk result (D.told → into.new ≡ take (length into.old) (D.seen disk.old)) }
-    ensures durable { OnOk result (D.told → Only (D.seen disk.new) (D.may_leave disk.new)) }
+    ensures bytes { OnOk result (D.observable → into.new ≡ take (length into.old) (D.seen disk.old)) }
+    ensures durable { OnOk result (D.observable → Only (D.seen disk.new) (D.may_leave disk.new)) }
     ensures device { KeepsDevice D.size D.seen D.may_leave D.moment D.left_since disk.old disk.new }
     ensures any_moment { LeavesOnly D.moment D.left_since disk.old disk.new (D.may_leave disk.old) }
     ensures cause { HasCause (D.faults disk.old) (D.faults disk.new) result }
@@ -32,9 +32,9 @@ pub fn read_front<D: Disk>(disk: &mut D, into: &mut [u8]) -> Result<(), Failed>
 // Whether the gate is open; then a crash leaves what a read gives.
 fn is_open<D: Disk>(disk: &mut D) -> Result<bool, Failed>
     requires { 0 < D.size disk.old }
-    ensures open { IfOk result (λ found. OnTrue found (D.told → BeginsOpen (D.seen disk.new))) }
-    ensures shut { IfOk result (λ found. OnFalse found (D.told → IsShut (D.seen disk.new))) }
-    ensures durable { OnOk result (D.told → Only (D.seen disk.new) (D.may_leave disk.new)) }
+    ensures open { IfOk result (λ found. OnTrue found (D.observable → BeginsOpen (D.seen disk.new))) }
+    ensures shut { IfOk result (λ found. OnFalse found (D.observable → IsShut (D.seen disk.new))) }
+    ensures durable { OnOk result (D.observable → Only (D.seen disk.new) (D.may_leave disk.new)) }
     ensures device { KeepsDevice D.size D.seen D.may_leave D.moment D.left_since disk.old disk.new }
     ensures any_moment { LeavesOnly D.moment D.left_since disk.old disk.new (D.may_leave disk.old) }
     ensures cause { HasCause (D.faults disk.old) (D.faults disk.new) result }
@@ -52,10 +52,10 @@ fn is_open<D: Disk>(disk: &mut D) -> Result<bool, Failed>
 /// The device failed.
 pub fn close_gate<D: Disk>(disk: &mut D) -> Result<(), Failed>
     requires { 0 < D.size disk.old }
-    ensures shut { OnOk result (D.told → IsShut (D.seen disk.new)) }
-    ensures durable { OnOk result (D.told → Only (D.seen disk.new) (D.may_leave disk.new)) }
-    ensures any_moment { D.told → LeavesOnly D.moment D.left_since disk.old disk.new (λ c. D.may_leave disk.old c ⊎ IsShut c) }
-    ensures either { D.told → (D.seen disk.new ≡ D.seen disk.old) ⊎ IsShut (D.seen disk.new) }
+    ensures shut { OnOk result (D.observable → IsShut (D.seen disk.new)) }
+    ensures durable { OnOk result (D.observable → Only (D.seen disk.new) (D.may_leave disk.new)) }
+    ensures any_moment { D.observable → LeavesOnly D.moment D.left_since disk.old disk.new (λ c. D.may_leave disk.old c ⊎ IsShut c) }
+    ensures either { D.observable → (D.seen disk.new ≡ D.seen disk.old) ⊎ IsShut (D.seen disk.new) }
     ensures size { D.size disk.new ≡ D.size disk.old }
     ensures cause { HasCause (D.faults disk.old) (D.faults disk.new) result }
     ensures run { D.came_to disk.old disk.new }
@@ -74,11 +74,11 @@ pub fn close_gate<D: Disk>(disk: &mut D) -> Result<(), Failed>
 pub fn write_header<D: Disk>(disk: &mut D, header: &[u8]) -> Result<(), Failed>
     requires open { BeginsOpen header.now }
     requires room { length header.now ≤ D.size disk.old }
-    ensures written { OnOk result (D.told → D.seen disk.new ≡ written (D.seen disk.old) 0 header.now) }
-    ensures durable { OnOk result (D.told → Only (D.seen disk.new) (D.may_leave disk.new)) }
-    ensures any_moment { D.told → Only (D.seen disk.old) (D.may_leave disk.old) → IsShut (D.seen disk.old)
+    ensures written { OnOk result (D.observable → D.seen disk.new ≡ written (D.seen disk.old) 0 header.now) }
+    ensures durable { OnOk result (D.observable → Only (D.seen disk.new) (D.may_leave disk.new)) }
+    ensures any_moment { D.observable → Only (D.seen disk.old) (D.may_leave disk.old) → IsShut (D.seen disk.old)
         → LeavesOnly D.moment D.left_since disk.old disk.new (λ c. IsShut c ⊎ (c ≡ written (D.seen disk.old) 0 header.now)) }
-    ensures either { D.told → IsShut (D.seen disk.old) → IsShut (D.seen disk.new) ⊎ (D.seen disk.new ≡ written (D.seen disk.old) 0 header.now) }
+    ensures either { D.observable → IsShut (D.seen disk.old) → IsShut (D.seen disk.new) ⊎ (D.seen disk.new ≡ written (D.seen disk.old) 0 header.now) }
     ensures size { D.size disk.new ≡ D.size disk.old }
     ensures cause { HasCause (D.faults disk.old) (D.faults disk.new) result }
     ensures run { D.came_to disk.old disk.new }

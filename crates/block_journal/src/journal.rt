@@ -42,11 +42,11 @@ impl<const R: usize> Journal<R> {
         requires wide { 0 < R }
         requires region { base + R * limit ≤ D.size disk.old }
         ensures region { IfOk result (λ journal. journal ≡ record { base = base; limit = limit; count = 0 }) }
-        ensures stored { IfOk result (λ journal. D.told → Stored R journal (D.seen disk.new) (D.may_leave disk.new) []) }
-        ensures durable { OnOk result (D.told → Only (D.seen disk.new) (D.may_leave disk.new)) }
+        ensures stored { IfOk result (λ journal. D.observable → Stored R journal (D.seen disk.new) (D.may_leave disk.new) []) }
+        ensures durable { OnOk result (D.observable → Only (D.seen disk.new) (D.may_leave disk.new)) }
         ensures any_moment { LeavesOnly D.moment D.left_since disk.old disk.new
             (LeftByWrite base (R * limit) (D.may_leave disk.old)) }
-        ensures outside { D.told → Torn base (R * limit) (D.seen disk.old) (D.seen disk.new) }
+        ensures outside { D.observable → Torn base (R * limit) (D.seen disk.old) (D.seen disk.new) }
         ensures size { D.size disk.new ≡ D.size disk.old }
         ensures cause { HasCause (D.faults disk.old) (D.faults disk.new) result }
         ensures run { D.came_to disk.old disk.new }
@@ -74,11 +74,11 @@ impl<const R: usize> Journal<R> {
         requires following { 1 ≤ base }
         requires region { base + R * limit ≤ D.size disk.old }
         ensures region { IfOk result (λ journal. journal ≡ record { base = base; limit = limit; count = 0 }) }
-        ensures stored { IfOk result (λ journal. D.told → Stored R journal (D.seen disk.new) (D.may_leave disk.new) []) }
-        ensures durable { OnOk result (D.told → Only (D.seen disk.new) (D.may_leave disk.new)) }
-        ensures shut { OnOk result (D.told → IsShut (D.seen disk.new)) }
-        ensures any_moment { D.told → LeavesOnly D.moment D.left_since disk.old disk.new (λ c. D.may_leave disk.old c ⊎ IsShut c) }
-        ensures either { D.told → (D.seen disk.new ≡ D.seen disk.old) ⊎ IsShut (D.seen disk.new) }
+        ensures stored { IfOk result (λ journal. D.observable → Stored R journal (D.seen disk.new) (D.may_leave disk.new) []) }
+        ensures durable { OnOk result (D.observable → Only (D.seen disk.new) (D.may_leave disk.new)) }
+        ensures shut { OnOk result (D.observable → IsShut (D.seen disk.new)) }
+        ensures any_moment { D.observable → LeavesOnly D.moment D.left_since disk.old disk.new (λ c. D.may_leave disk.old c ⊎ IsShut c) }
+        ensures either { D.observable → (D.seen disk.new ≡ D.seen disk.old) ⊎ IsShut (D.seen disk.new) }
         ensures size { D.size disk.new ≡ D.size disk.old }
         ensures cause { HasCause (D.faults disk.old) (D.faults disk.new) result }
         ensures run { D.came_to disk.old disk.new }
@@ -102,8 +102,8 @@ impl<const R: usize> Journal<R> {
         requires wide { 0 < R }
         requires region { base + R * limit ≤ D.size disk.old }
         ensures region { IfOk result (λ out. out.0 ≡ record { base = base; limit = limit; count = length out.1.items }) }
-        ensures counts { IfOk result (λ out. D.told → Counts R base limit (D.seen disk.old) (contents out.1.items)) }
-        ensures stored { IfOk result (λ out. D.told → (bodies : List (List ℕ)) → Stands R base limit (D.seen disk.old) bodies
+        ensures counts { IfOk result (λ out. D.observable → Counts R base limit (D.seen disk.old) (contents out.1.items)) }
+        ensures stored { IfOk result (λ out. D.observable → (bodies : List (List ℕ)) → Stands R base limit (D.seen disk.old) bodies
             → (contents out.1.items ≡ bodies) × Stored R out.0 (D.seen disk.new) (D.may_leave disk.new) bodies) }
         ensures seen { D.seen disk.new ≡ D.seen disk.old }
         ensures crash { Within (D.may_leave disk.old) (D.may_leave disk.new) }
@@ -142,18 +142,18 @@ impl<const R: usize> Journal<R> {
         requires body { length body.now ≡ R - 1 }
         requires region { self.old.base + R * self.old.limit ≤ D.size disk.old }
         ensures counted { OnOk result (self.new ≡ record self.old { count = self.old.count + 1 }) }
-        ensures appended { OnOk result (D.told → (bodies : List (List ℕ))
+        ensures appended { OnOk result (D.observable → (bodies : List (List ℕ))
             → Stored R self.old (D.seen disk.old) (D.may_leave disk.old) bodies
             → Stored R self.new (D.seen disk.new) (D.may_leave disk.new) (bodies ++ body.now ∷ [])) }
-        ensures either { D.told → (bodies : List (List ℕ))
+        ensures either { D.observable → (bodies : List (List ℕ))
             → Stored R self.old (D.seen disk.old) (D.may_leave disk.old) bodies
             → WithOrWithout R self.old bodies body.now (D.seen disk.new) }
-        ensures any_moment { D.told → (bodies : List (List ℕ))
+        ensures any_moment { D.observable → (bodies : List (List ℕ))
             → Stored R self.old (D.seen disk.old) (D.may_leave disk.old) bodies
             → LeavesOnly D.moment D.left_since disk.old disk.new
             (LeftByAppend R self.old (D.may_leave disk.old) bodies body.now) }
-        ensures durable { OnOk result (D.told → Only (D.seen disk.new) (D.may_leave disk.new)) }
-        ensures outside { D.told → Torn self.old.base (R * self.old.limit) (D.seen disk.old) (D.seen disk.new) }
+        ensures durable { OnOk result (D.observable → Only (D.seen disk.new) (D.may_leave disk.new)) }
+        ensures outside { D.observable → Torn self.old.base (R * self.old.limit) (D.seen disk.old) (D.seen disk.new) }
         ensures full { IsErrOf result error.Full ↔ (self.old.count ≡ self.old.limit) }
         ensures unchanged { IsErrOf result error.Full → (self.new ≡ self.old) × (disk.new ≡ disk.old) }
         ensures memory { ¬ IsErrOf result error.NoMemory }

@@ -68,7 +68,7 @@ fn take_piece<D: Disk>(
     requires wide { 0 < r }
     requires size { length piece.old ≡ r * records }
     requires room { at + r * records ≤ D.size disk.old }
-    ensures took { IfOk result (λ more. D.told →
+    ensures took { IfOk result (λ more. D.observable →
         Took r records (part (D.seen disk.old) at (r * records)) (contents all.old.items) (contents all.new.items) more) }
     ensures length { IfOk result (λ more. (vec_len all.new ≤ vec_len all.old + records)) }
     ensures device { KeepsDevice D.size D.seen D.may_leave D.moment D.left_since disk.old disk.new }
@@ -91,7 +91,7 @@ fn read_piece<D: Disk, const R: usize>(
     requires wide { 0 < R }
     requires room { base + R * (first + records) ≤ D.size disk.old }
     requires fits { base + R * (first + records) < 2 ^ 64 }
-    ensures took { IfOk result (λ more. D.told →
+    ensures took { IfOk result (λ more. D.observable →
         Took R records (part (D.seen disk.old) (base + R * first) (R * records)) (contents all.old.items) (contents all.new.items) more) }
     ensures length { IfOk result (λ more. (vec_len all.new ≤ vec_len all.old + records)) }
     ensures device { KeepsDevice D.size D.seen D.may_leave D.moment D.left_since disk.old disk.new }
@@ -116,7 +116,7 @@ fn read_into<D: Disk, const R: usize>(
     requires region { base + R * limit ≤ D.size disk.old }
     requires fits { base + R * limit < 2 ^ 64 }
     requires empty { all.old.items ≡ [] }
-    ensures counts { OnOk result (D.told → Counts R base limit (D.seen disk.old) (contents all.new.items)) }
+    ensures counts { OnOk result (D.observable → Counts R base limit (D.seen disk.old) (contents all.new.items)) }
     ensures length { OnOk result (vec_len all.new ≤ limit) }
     ensures device { KeepsDevice D.size D.seen D.may_leave D.moment D.left_since disk.old disk.new }
     ensures cause { HasReadCause (D.faults disk.old) (D.faults disk.new) result }
@@ -143,7 +143,7 @@ pub(crate) fn read_bodies<D: Disk, const R: usize>(
     requires wide { 0 < R }
     requires region { base + R * limit ≤ D.size disk.old }
     requires fits { base + R * limit < 2 ^ 64 }
-    ensures counts { IfOk result (λ all. D.told → Counts R base limit (D.seen disk.old) (contents all.items)) }
+    ensures counts { IfOk result (λ all. D.observable → Counts R base limit (D.seen disk.old) (contents all.items)) }
     ensures length { IfOk result (λ all. vec_len all ≤ limit) }
     ensures seen { D.seen disk.new ≡ D.seen disk.old }
     ensures size { D.size disk.new ≡ D.size disk.old }

@@ -61,7 +61,7 @@ impl MemSource {
 }
 
 impl Source for MemSource {
-    ghost told = { Unit {0} };
+    ghost observable = { Unit {0} };
 
     ghost left = { λ source. drop source.at source.bytes.items };
 
@@ -116,7 +116,7 @@ impl MemSink {
 }
 
 impl Sink for MemSink {
-    ghost told = { Unit {0} };
+    ghost observable = { Unit {0} };
 
     ghost taken = { λ sink. sink.bytes.items };
 

@@ -44,7 +44,7 @@ impl<R: Read + Drop> StdSource<R> {
 }
 
 impl<R: Read + Drop> Source for StdSource<R> {
-    ghost told = { AreKnown R.remaining };
+    ghost observable = { AreKnown R.remaining };
 
     ghost left = { λ source. known (R.remaining source.reader) };
 
@@ -102,7 +102,7 @@ impl<W: Write + Drop> StdSink<W> {
 }
 
 impl<W: Write + Drop> Sink for StdSink<W> {
-    ghost told = { AreKnown W.contents };
+    ghost observable = { AreKnown W.contents };
 
     ghost taken = { λ sink. known (W.contents sink.writer) };
 
@@ -143,6 +143,6 @@ impl<W: Write + Drop> Sink for StdSink<W> {
 
 /// The adapters over the library's slices and vectors tell their bytes.
 pub fn slices_and_vectors_tell<'a>()
-    ensures source { ⟦<StdSource<&'a [u8]> as Source>⟧.told }
-    ensures sink { ⟦<StdSink<Vec<u8>> as Sink>⟧.told }
+    ensures source { ⟦<StdSource<&'a [u8]> as Source>⟧.observable }
+    ensures sink { ⟦<StdSink<Vec<u8>> as Sink>⟧.observable }
 {}

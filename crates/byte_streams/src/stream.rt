@@ -9,7 +9,7 @@ use device_faults::Failed;
 /// Bytes that come in, in order.
 pub trait Source {
     /// That contracts know the bytes, as they do not of a terminal.
-    ghost told: { Type 0 };
+    ghost observable: { Type 0 };
 
     /// The bytes that are still to come.
     ghost left: { Self → List ℕ };
@@ -21,15 +21,15 @@ pub trait Source {
     /// empty only at the end of input. A call that fails takes nothing.
     fn read(&mut self, into: &mut [u8]) -> Result<usize, Failed>
         ensures fits { IfOk result (λ n. n ≤ length into.old) }
-        ensures takes { IfOk result (λ n. told → Takes (left self.old) (left self.new) into.old into.new n) }
-        ensures keeps { OnErr result (told → left self.new ≡ left self.old) }
+        ensures takes { IfOk result (λ n. observable → Takes (left self.old) (left self.new) into.old into.new n) }
+        ensures keeps { OnErr result (observable → left self.new ≡ left self.old) }
         ensures cause { HasCause (faults self.old) (faults self.new) result };
 }
 
 /// Bytes that go out, in order.
 pub trait Sink {
     /// That contracts know the bytes.
-    ghost told: { Type 0 };
+    ghost observable: { Type 0 };
 
     /// The bytes that it has taken.
     ghost taken: { Self → List ℕ };
@@ -45,13 +45,13 @@ pub trait Sink {
     fn write(&mut self, bytes: &[u8]) -> Result<usize, Failed>
         ensures fits { IfOk result (λ n. n ≤ length bytes.now) }
         ensures moves { IfOk result (λ n. 0 < length bytes.now → 0 < n) }
-        ensures takes { IfOk result (λ n. told → taken self.new ≡ taken self.old ++ take n bytes.now) }
-        ensures keeps { OnErr result (told → taken self.new ≡ taken self.old) }
+        ensures takes { IfOk result (λ n. observable → taken self.new ≡ taken self.old ++ take n bytes.now) }
+        ensures keeps { OnErr result (observable → taken self.new ≡ taken self.old) }
         ensures cause { HasCause (faults self.old) (faults self.new) result };
 
     /// Sends on the bytes that it has taken. These stay the same, also where the call fails.
     fn flush(&mut self) -> Result<(), Failed>
-        ensures keeps { told → taken self.new ≡ taken self.old }
+        ensures keeps { observable → taken self.new ≡ taken self.old }
         ensures flushed { OnOk result (unflushed self.new ≡ 0) }
         ensures cause { HasCause (faults self.old) (faults self.new) result };
 }
@@ -60,9 +60,9 @@ pub trait Sink {
 /// came before it are lost.
 pub fn read_full<S: Source>(source: &mut S, into: &mut [u8]) -> Result<usize, Failed>
     ensures fits { IfOk result (λ n. n ≤ length into.old) }
-    ensures count { IfOk result (λ n. S.told → n ≡ min (length into.old) (length (S.left source.old))) }
-    ensures takes { IfOk result (λ n. S.told → Takes (S.left source.old) (S.left source.new) into.old into.new n) }
-    ensures loses { OnErr result (S.told → Loses (S.left source.old) (S.left source.new)) }
+    ensures count { IfOk result (λ n. S.observable → n ≡ min (length into.old) (length (S.left source.old))) }
+    ensures takes { IfOk result (λ n. S.observable → Takes (S.left source.old) (S.left source.new) into.old into.new n) }
+    ensures loses { OnErr result (S.observable → Loses (S.left source.old) (S.left source.new)) }
     ensures cause { HasCause (S.faults source.old) (S.faults source.new) result }
 {
     let mut done = 0;
@@ -78,9 +78,9 @@ pub fn read_full<S: Source>(source: &mut S, into: &mut [u8]) -> Result<usize, Fa
 
 /// Writes all the bytes and flushes. Where a call fails, a front of them has been written: all of them where the flush fails.
 pub fn write_all<S: Sink>(sink: &mut S, bytes: &[u8]) -> Result<(), Failed>
-    ensures all { OnOk result (S.told → S.taken sink.new ≡ S.taken sink.old ++ bytes.now) }
+    ensures all { OnOk result (S.observable → S.taken sink.new ≡ S.taken sink.old ++ bytes.now) }
     ensures flushed { OnOk result (S.unflushed sink.new ≡ 0) }
-    ensures front { S.told → Adds (S.taken sink.old) bytes.now (S.taken sink.new) }
+    ensures front { S.observable → Adds (S.taken sink.old) bytes.now (S.taken sink.new) }
     ensures cause { HasCause (S.faults sink.old) (S.faults sink.new) result }
 {
     let mut done = 0;

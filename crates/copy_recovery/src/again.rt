@@ -31,7 +31,7 @@ fn entry_awaited<D: Disk>(
     cell: Cell,
     copy: Copying,
 ) -> Result<Option<(ServerId, Body)>, DeviceError>
-    ensures letter { IfOk result (λ found. D.told → (side : Sides) → other_of_cell here.now cell ≡ Some to
+    ensures letter { IfOk result (λ found. D.observable → (side : Sides) → other_of_cell here.now cell ≡ Some to
         → posts_of found ≡ (copies.copy_acts here.now (own_of side store.old) cell copy copy_action.Sync).posts) }
     ensures look { IsLook D.Disk store.old store.new result }
 {
@@ -48,7 +48,7 @@ fn awaited<D: Disk>(
     cell: Cell,
     copy: Copying,
 ) -> Result<Option<(ServerId, Body)>, DeviceError>
-    ensures letter { IfOk result (λ found. D.told → (side : Sides)
+    ensures letter { IfOk result (λ found. D.observable → (side : Sides)
         → posts_of found ≡ copies.copy_awaited here.now (own_of side store.old) cell copy (copies.copy_stage (store_of store.old) cell copy)) }
     ensures look { IsLook D.Disk store.old store.new result }
 {
@@ -110,7 +110,7 @@ fn with_awaited<D: Disk>(
     letters: Sequence<Letter>,
     nth: u32,
 ) -> Result<(Sequence<Letter>, u32), DeviceError>
-    ensures letters { IfOk result (λ more. D.told → (side : Sides) → (posts : List Post)
+    ensures letters { IfOk result (λ more. D.observable → (side : Sides) → (posts : List Post)
         → posts ≡ copies.copy_awaited here.now (own_of side store.old) cell copy (copies.copy_stage (store_of store.old) cell copy)
         → (more.0 ≡ letters ++ letters_of (sender here.now) nth posts) × (more.1 ≡ nth + length posts)) }
     ensures look { IsLook D.Disk store.old store.new result }
@@ -126,7 +126,7 @@ fn copies_after<D: Disk>(
     store: &mut Store<D>,
     before: Sequence<Letter>,
 ) -> Result<Sequence<Letter>, DeviceError>
-    ensures letters { IfOk result (λ letters. D.told → letters
+    ensures letters { IfOk result (λ letters. D.observable → letters
         ≡ before ++ letters_of (sender here.now) (length before) (copies.copy_posts here.now (own_of side.now store.old))) }
     ensures look { IsLook D.Disk store.old store.new result }
 {
@@ -153,12 +153,12 @@ pub fn letters_after<D: Disk>(
     store: &mut Store<D>,
     before: Sequence<Letter>,
 ) -> Result<Sequence<Letter>, DeviceError>
-    ensures letters { IfOk result (λ letters. D.told → letters
+    ensures letters { IfOk result (λ letters. D.observable → letters
         ≡ before ++ letters_of (sender here.now) (length before)
         (copies.copy_posts here.now (own_of side.now store.old) ++ copies.page_posts here.now (own_of side.now store.old))) }
     ensures same { store.new ≡ record store.old { disk = store.new.disk } }
     ensures device { KeepsDevice D.size D.seen D.may_leave D.moment D.left_since store.old.disk store.new.disk }
-    ensures holds { D.told → HoldsAt D.Disk store.old → HoldsAt D.Disk store.new }
+    ensures holds { D.observable → HoldsAt D.Disk store.old → HoldsAt D.Disk store.new }
     ensures cause { IsReadFault (D.faults store.old.disk) (D.faults store.new.disk) result }
     ensures run { D.came_to store.old.disk store.new.disk }
 {

@@ -23,11 +23,11 @@ pub fn write_format<D: Disk>(
     requires { data_start ≤ D.size disk.old }
     ensures ledger { IfOk result (λ out. out.0 ≡ record { entries = []; tickets = []; slots = said.slots }) }
     ensures log { IfOk result (λ out. (out.1.fresh ≡ said.fresh) × (out.1.records ≡ [])) }
-    ensures logs { IfOk result (λ out. D.told → Logs said.slots out.1 (D.seen disk.new) (D.may_leave disk.new)) }
+    ensures logs { IfOk result (λ out. D.observable → Logs said.slots out.1 (D.seen disk.new) (D.may_leave disk.new)) }
     ensures errors { IfErr result IsFormatError }
-    ensures any_moment { D.told
+    ensures any_moment { D.observable
         → LeavesOnly D.moment D.left_since disk.old disk.new (LeftByFormat (D.may_leave disk.old) (D.size disk.old) said.slots said.fresh) }
-    ensures either { D.told → LeftByFormat (λ file. file ≡ D.seen disk.old) (D.size disk.old) said.slots said.fresh (D.seen disk.new) }
+    ensures either { D.observable → LeftByFormat (λ file. file ≡ D.seen disk.old) (D.size disk.old) said.slots said.fresh (D.seen disk.new) }
     ensures memory { IsErrOf result StoreError.NoMemory → disk.new ≡ disk.old }
     ensures cause { HasFault (D.faults disk.old) (D.faults disk.new) result }
     ensures size { D.size disk.new ≡ D.size disk.old }

@@ -38,14 +38,14 @@ pub struct Found {
 fn read_journal<D: Disk>(alloc: Global, disk: &mut D, said: Header) -> Result<Found, StoreError>
     requires { data_start ≤ D.size disk.old }
     ensures found { IfOk result (λ f. IsFound said.slots said.fresh f) }
-    ensures counts { IfOk result (λ f. D.told → JournalCounts (D.seen disk.old) (bodies_of f.log.records)) }
+    ensures counts { IfOk result (λ f. D.observable → JournalCounts (D.seen disk.old) (bodies_of f.log.records)) }
     ensures same { (records : List StoreRecord) → AreSpelled records
-        → IfOk result (λ f. D.told → JournalStands (D.seen disk.old) (bodies_of records) → f.log.records ≡ records) }
+        → IfOk result (λ f. D.observable → JournalStands (D.seen disk.old) (bodies_of records) → f.log.records ≡ records) }
     ensures logs { (records : List StoreRecord)
-        → IfOk result (λ f. D.told → Only (D.seen disk.old) (D.may_leave disk.old) → StandsFor (D.seen disk.old) said.slots said.fresh records
+        → IfOk result (λ f. D.observable → Only (D.seen disk.old) (D.may_leave disk.old) → StandsFor (D.seen disk.old) said.slots said.fresh records
         → Logs said.slots f.log (D.seen disk.new) (D.may_leave disk.new)) }
-    ensures bad { (index : ℕ) → IfErr result (λ e. e ≡ error.BadRecord index → D.told → IsBadOn (D.seen disk.old) said.slots said.fresh index) }
-    ensures good { (records : List StoreRecord) → IfErr result (λ e. D.told → StandsFor (D.seen disk.old) said.slots said.fresh records → IsGoodError e) }
+    ensures bad { (index : ℕ) → IfErr result (λ e. e ≡ error.BadRecord index → D.observable → IsBadOn (D.seen disk.old) said.slots said.fresh index) }
+    ensures good { (records : List StoreRecord) → IfErr result (λ e. D.observable → StandsFor (D.seen disk.old) said.slots said.fresh records → IsGoodError e) }
     ensures errors { IfErr result IsOpenError }
     ensures device { KeepsDevice D.size D.seen D.may_leave D.moment D.left_since disk.old disk.new }
     ensures cause { HasFault (D.faults disk.old) (D.faults disk.new) result }
@@ -108,14 +108,14 @@ fn fitting(head: &[u8], size: u64) -> Option<Header>
 
 /// What the header of a device says, whose journal and slots fit it; None where there is no such header.
 fn read_header<D: Disk>(disk: &mut D) -> Result<Option<Header>, Failed>
-    ensures found { IfOk result (λ o. IfSome o (λ said. D.told → take header_bytes (D.seen disk.old) ≡ header said.slots said.fresh)) }
+    ensures found { IfOk result (λ o. IfSome o (λ said. D.observable → take header_bytes (D.seen disk.old) ≡ header said.slots said.fresh)) }
     ensures only { (slots : ℕ) (fresh : Bool) → IfOk result
-        (λ o. IfSome o (λ said. D.told → slots < 2 ^ 32 → take header_bytes (D.seen disk.old) ≡ header slots fresh
+        (λ o. IfSome o (λ said. D.observable → slots < 2 ^ 32 → take header_bytes (D.seen disk.old) ≡ header slots fresh
         → (said.slots ≡ slots) × (said.fresh ≡ fresh))) }
     ensures room { IfOk result (λ o. IfSome o (λ said. slot_start said.slots ≤ D.size disk.old)) }
     ensures small { IfOk result (λ o. IfSome o (λ said. said.slots < 2 ^ 32)) }
-    ensures blank { IfOk result (λ o. IfNone o (D.told → IsBlank (D.seen disk.old) (D.size disk.old))) }
-    ensures durable { IfOk result (λ o. IfSome o (λ _. D.told → Only (D.seen disk.new) (D.may_leave disk.new))) }
+    ensures blank { IfOk result (λ o. IfNone o (D.observable → IsBlank (D.seen disk.old) (D.size disk.old))) }
+    ensures durable { IfOk result (λ o. IfSome o (λ _. D.observable → Only (D.seen disk.new) (D.may_leave disk.new))) }
     ensures device { KeepsDevice D.size D.seen D.may_leave D.moment D.left_since disk.old disk.new }
     ensures cause { HasCause (D.faults disk.old) (D.faults disk.new) result }
     ensures run { D.came_to disk.old disk.new }
@@ -132,19 +132,19 @@ fn read_header<D: Disk>(disk: &mut D) -> Result<Option<Header>, Failed>
 /// What stands on a device; None where it is blank.
 pub fn read_device<D: Disk>(alloc: Global, disk: &mut D) -> Result<Option<Found>, StoreError>
     ensures found { IfOk result (λ o. IfSome o (λ f. IsFound f.ledger.slots f.log.fresh f)) }
-    ensures headed { IfOk result (λ o. IfSome o (λ f. D.told → take header_bytes (D.seen disk.old) ≡ header f.ledger.slots f.log.fresh)) }
-    ensures counts { IfOk result (λ o. IfSome o (λ f. D.told → JournalCounts (D.seen disk.old) (bodies_of f.log.records))) }
+    ensures headed { IfOk result (λ o. IfSome o (λ f. D.observable → take header_bytes (D.seen disk.old) ≡ header f.ledger.slots f.log.fresh)) }
+    ensures counts { IfOk result (λ o. IfSome o (λ f. D.observable → JournalCounts (D.seen disk.old) (bodies_of f.log.records))) }
     ensures room { IfOk result (λ o. IfSome o (λ f. slot_start f.ledger.slots ≤ D.size disk.new)) }
-    ensures blank { IfOk result (λ o. IfNone o (D.told → IsBlank (D.seen disk.old) (D.size disk.old))) }
+    ensures blank { IfOk result (λ o. IfNone o (D.observable → IsBlank (D.seen disk.old) (D.size disk.old))) }
     ensures same { (slots : ℕ) (fresh : Bool) (records : List StoreRecord)
-        → IfOk result (λ o. IfSome o (λ f. D.told → slots < 2 ^ 32 → StandsFor (D.seen disk.old) slots fresh records
+        → IfOk result (λ o. IfSome o (λ f. D.observable → slots < 2 ^ 32 → StandsFor (D.seen disk.old) slots fresh records
         → (f.ledger.slots ≡ slots) × (f.log.fresh ≡ fresh) × (f.log.records ≡ records) × Logs slots f.log (D.seen disk.new) (D.may_leave disk.new))) }
-    ensures durable { IfOk result (λ o. IfSome o (λ _. D.told → Only (D.seen disk.new) (D.may_leave disk.new))) }
-    ensures bad { (index slots : ℕ) (fresh : Bool) → IfErr result (λ e. e ≡ error.BadRecord index → D.told → slots < 2 ^ 32
+    ensures durable { IfOk result (λ o. IfSome o (λ _. D.observable → Only (D.seen disk.new) (D.may_leave disk.new))) }
+    ensures bad { (index slots : ℕ) (fresh : Bool) → IfErr result (λ e. e ≡ error.BadRecord index → D.observable → slots < 2 ^ 32
         → take header_bytes (D.seen disk.old) ≡ header slots fresh → IsBadOn (D.seen disk.old) slots fresh index) }
-    ensures bad_headed { (index : ℕ) → IfErr result (λ e. e ≡ error.BadRecord index → D.told → ¬ IsBlank (D.seen disk.old) (D.size disk.old)) }
+    ensures bad_headed { (index : ℕ) → IfErr result (λ e. e ≡ error.BadRecord index → D.observable → ¬ IsBlank (D.seen disk.old) (D.size disk.old)) }
     ensures good { (slots : ℕ) (fresh : Bool) (records : List StoreRecord)
-        → IfErr result (λ e. D.told → slots < 2 ^ 32 → StandsFor (D.seen disk.old) slots fresh records → IsGoodError e) }
+        → IfErr result (λ e. D.observable → slots < 2 ^ 32 → StandsFor (D.seen disk.old) slots fresh records → IsGoodError e) }
     ensures errors { IfErr result IsOpenError }
     ensures device { KeepsDevice D.size D.seen D.may_leave D.moment D.left_since disk.old disk.new }
     ensures cause { HasFault (D.faults disk.old) (D.faults disk.new) result }

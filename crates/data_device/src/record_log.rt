@@ -46,11 +46,11 @@ impl RecordLog {
     pub fn format<D: Disk>(disk: &mut D, said: Header) -> Result<RecordLog, StoreError>
         requires { data_start ≤ D.size disk.old }
         ensures ok { IfOk result (λ log. (log.fresh ≡ said.fresh) × (log.records ≡ [])) }
-        ensures logs { IfOk result (λ log. D.told → Logs said.slots log (D.seen disk.new) (D.may_leave disk.new)) }
+        ensures logs { IfOk result (λ log. D.observable → Logs said.slots log (D.seen disk.new) (D.may_leave disk.new)) }
         ensures errors { IfErr result (λ e. e ≡ StoreError.Failed) }
-        ensures any_moment { D.told
+        ensures any_moment { D.observable
             → LeavesOnly D.moment D.left_since disk.old disk.new (LeftByFormat (D.may_leave disk.old) (D.size disk.old) said.slots said.fresh) }
-        ensures either { D.told → LeftByFormat (λ file. file ≡ D.seen disk.old) (D.size disk.old) said.slots said.fresh (D.seen disk.new) }
+        ensures either { D.observable → LeftByFormat (λ file. file ≡ D.seen disk.old) (D.size disk.old) said.slots said.fresh (D.seen disk.new) }
         ensures cause { HasFault (D.faults disk.old) (D.faults disk.new) result }
         ensures size { D.size disk.new ≡ D.size disk.old }
         ensures run { D.came_to disk.old disk.new }
@@ -99,18 +99,18 @@ impl RecordLog {
         ensures full { IsErrOf result StoreError.JournalFull ↔ (self.old.region.count ≡ journal_records) }
         ensures unchanged { IsErrOf result StoreError.JournalFull → (self.new ≡ self.old) × (disk.new ≡ disk.old) }
         ensures errors { IfErr result IsCommitError }
-        ensures outside { D.told → Torn journal_base journal_bytes (D.seen disk.old) (D.seen disk.new) }
-        ensures logs { D.told → (slots : ℕ) → Logs slots self.old (D.seen disk.old) (D.may_leave disk.old)
+        ensures outside { D.observable → Torn journal_base journal_bytes (D.seen disk.old) (D.seen disk.new) }
+        ensures logs { D.observable → (slots : ℕ) → Logs slots self.old (D.seen disk.old) (D.may_leave disk.old)
             → Fits slots (kept_of self.old.fresh self.old.records) entry.now
             → OnOk result (Logs slots self.new (D.seen disk.new) (D.may_leave disk.new)) }
-        ensures crash { D.told → (slots : ℕ) → Logs slots self.old (D.seen disk.old) (D.may_leave disk.old)
+        ensures crash { D.observable → (slots : ℕ) → Logs slots self.old (D.seen disk.old) (D.may_leave disk.old)
             → Fits slots (kept_of self.old.fresh self.old.records) entry.now
             → Follows (Torn journal_base journal_bytes) (D.may_leave disk.old) (D.may_leave disk.new) }
-        ensures any_moment { D.told → (slots : ℕ) → Logs slots self.old (D.seen disk.old) (D.may_leave disk.old)
+        ensures any_moment { D.observable → (slots : ℕ) → Logs slots self.old (D.seen disk.old) (D.may_leave disk.old)
             → Fits slots (kept_of self.old.fresh self.old.records) entry.now
             → LeavesOnly D.moment D.left_since disk.old disk.new
             (λ c. (d : List ℕ) × D.may_leave disk.old d × Torn journal_base journal_bytes d c × WithOrWithout c slots self.old entry.now) }
-        ensures either { D.told → (slots : ℕ) → Logs slots self.old (D.seen disk.old) (D.may_leave disk.old)
+        ensures either { D.observable → (slots : ℕ) → Logs slots self.old (D.seen disk.old) (D.may_leave disk.old)
             → Fits slots (kept_of self.old.fresh self.old.records) entry.now
             → WithOrWithout (D.seen disk.new) slots self.old entry.now }
         ensures cause { HasFault (D.faults disk.old) (D.faults disk.new) result }

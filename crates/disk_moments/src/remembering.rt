@@ -52,7 +52,7 @@ impl Disk for Remembering {
 
     ghost size = { λ r. ⟦<MemDisk as Disk>⟧.size r.disk };
 
-    ghost told = { Unit {0} };
+    ghost observable = { Unit {0} };
 
     ghost seen = { λ r. ⟦<MemDisk as Disk>⟧.seen r.disk };
 

@@ -22,12 +22,12 @@ pub record IsFull {D : Type 0} (before after : Holdings D) (rule : Store) : Type
 -- any moment leaves the store before, or that of the rule. Its entries and tickets stay, whatever comes; one that was refused
 -- for memory changed nothing
 pub record IsCommit {D T : Type 0} (device : Ghosts D) (before after : Holdings D) (result : Result T StoreError) (rule : Store) : Type 0 where
-  pub done : OnOk result (device.told → store_of after ≡ rule)
-  pub holds : device.told → HoldsAt device before → OnOk result (HoldsAt device after)
-  pub moments : device.told → HoldsAt device before
+  pub done : OnOk result (device.observable → store_of after ≡ rule)
+  pub holds : device.observable → HoldsAt device before → OnOk result (HoldsAt device after)
+  pub moments : device.observable → HoldsAt device before
       → LeavesOnly device.moment device.left_since before.disk after.disk (StandsAsEither (store_of before) rule)
   pub tickets : after.tickets ≡ before.tickets
-  pub kept : device.told → after.entries ≡ before.entries
+  pub kept : device.observable → after.entries ≡ before.entries
   pub errors : IfErr result IsMarkError
   pub memory : IsErrOf result NoMemory → after ≡ before
   pub full : IsErrOf result JournalFull → IsFull before after rule
@@ -36,12 +36,12 @@ pub record IsCommit {D T : Type 0} (device : Ghosts D) (before after : Holdings 
 
 -- so of a commit that changes the entries: they stay where it was refused. A slot that it needed was set apart and used at once
 pub record IsChange {D T : Type 0} (device : Ghosts D) (before after : Holdings D) (result : Result T StoreError) (rule : Store) : Type 0 where
-  pub done : OnOk result (device.told → store_of after ≡ rule)
-  pub holds : device.told → HoldsAt device before → OnOk result (HoldsAt device after)
-  pub moments : device.told → HoldsAt device before
+  pub done : OnOk result (device.observable → store_of after ≡ rule)
+  pub holds : device.observable → HoldsAt device before → OnOk result (HoldsAt device after)
+  pub moments : device.observable → HoldsAt device before
       → LeavesOnly device.moment device.left_since before.disk after.disk (StandsAsEither (store_of before) rule)
   pub tickets : after.tickets ≡ before.tickets
-  pub kept : OnErr result (device.told → after.entries ≡ before.entries)
+  pub kept : OnErr result (device.observable → after.entries ≡ before.entries)
   pub errors : IfErr result IsMarkError
   pub memory : IsErrOf result NoMemory → after ≡ before
   pub full : IsErrOf result JournalFull → IsFull before after rule

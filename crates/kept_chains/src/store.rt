@@ -71,10 +71,10 @@ pub fn read_at<D: Disk>(
     cell: Cell,
     epoch: Epoch,
 ) -> Result<SharedBlock, DeviceError>
-    ensures bytes { IfOk result (λ bytes. D.told → bytes ≡ bytes_of (entry_at (chain_in (chains_of store.old.entries) cell) epoch)) }
+    ensures bytes { IfOk result (λ bytes. D.observable → bytes ≡ bytes_of (entry_at (chain_in (chains_of store.old.entries) cell) epoch)) }
     ensures same { store.new ≡ record store.old { disk = store.new.disk } }
     ensures device { KeepsDevice D.size D.seen D.may_leave D.moment D.left_since store.old.disk store.new.disk }
-    ensures holds { D.told → Holds store.old (D.seen store.old.disk) (D.may_leave store.old.disk)
+    ensures holds { D.observable → Holds store.old (D.seen store.old.disk) (D.may_leave store.old.disk)
         → Holds store.new (D.seen store.new.disk) (D.may_leave store.new.disk) }
     ensures cause { IsReadFault (D.faults store.old.disk) (D.faults store.new.disk) result }
     ensures run { D.came_to store.old.disk store.new.disk }

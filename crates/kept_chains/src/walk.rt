@@ -68,11 +68,11 @@ pub fn read_key<D: Disk>(
     store: &mut Store<D>,
     key: Key,
 ) -> Result<Option<SharedBlock>, DeviceError>
-    ensures entry { IfOk result (λ found. D.told → found
+    ensures entry { IfOk result (λ found. D.observable → found
         ≡ option_map (λ entry. entry.bytes) (at nat_cmp (chain_in (chains_of store.old.entries) (cell_of key)) key.epoch)) }
     ensures same { store.new ≡ record store.old { disk = store.new.disk } }
     ensures device { KeepsDevice D.size D.seen D.may_leave D.moment D.left_since store.old.disk store.new.disk }
-    ensures holds { D.told → Holds store.old (D.seen store.old.disk) (D.may_leave store.old.disk)
+    ensures holds { D.observable → Holds store.old (D.seen store.old.disk) (D.may_leave store.old.disk)
         → Holds store.new (D.seen store.new.disk) (D.may_leave store.new.disk) }
     ensures cause { IsReadFault (D.faults store.old.disk) (D.faults store.new.disk) result }
     ensures run { D.came_to store.old.disk store.new.disk }
@@ -149,10 +149,10 @@ pub fn read_nth<D: Disk>(
     cell: Cell,
     place: usize,
 ) -> Result<Option<Found>, DeviceError>
-    ensures entry { IfOk result (λ found. D.told → option_map row_of found ≡ slice_get (chain_in (chains_of store.old.entries) cell) place) }
+    ensures entry { IfOk result (λ found. D.observable → option_map row_of found ≡ slice_get (chain_in (chains_of store.old.entries) cell) place) }
     ensures same { store.new ≡ record store.old { disk = store.new.disk } }
     ensures device { KeepsDevice D.size D.seen D.may_leave D.moment D.left_since store.old.disk store.new.disk }
-    ensures holds { D.told → Holds store.old (D.seen store.old.disk) (D.may_leave store.old.disk)
+    ensures holds { D.observable → Holds store.old (D.seen store.old.disk) (D.may_leave store.old.disk)
         → Holds store.new (D.seen store.new.disk) (D.may_leave store.new.disk) }
     ensures cause { IsReadFault (D.faults store.old.disk) (D.faults store.new.disk) result }
     ensures run { D.came_to store.old.disk store.new.disk }

@@ -127,7 +127,7 @@ failed_letters old After = refl
 
 -- ### Over the devices
 
-module _ {D : Type 0} (device : Ghosts D) (told : device.told) (old : Mounted D) (off : old.core.running ≡ false)
+module _ {D : Type 0} (device : Ghosts D) (told : device.observable) (old : Mounted D) (off : old.core.running ≡ false)
     (holds : HoldsAt device old.store) (kept : logs.HoldsAt device old.state) (opened : old.store.tickets ≡ []) where
   -- no slot is set apart
   closed : store_of old.store ≡ shut (store_of old.store)

@@ -18,7 +18,7 @@ use Rattle.state_store.specs.Device.{Keeping}
 use Rattle.memory_server.specs.Booted.{Worked}
 use Rattle.memory_server.specs.Server.{Mounted, Ran, Stands, left_at, whole_after, whole_of}
 
-module _ {D : Type 0} (device : Ghosts D) (told : device.told) (old : Mounted D) (stands : Stands device old) where
+module _ {D : Type 0} (device : Ghosts D) (told : device.observable) (old : Mounted D) (stands : Stands device old) where
   -- what the rule leaves is what is there
   whole_is : (new : Mounted D) (letters : List Letter) → new.core.log.voter ≡ old.core.log.voter
       → acted new.core (store_of new.store) new.state.records letters

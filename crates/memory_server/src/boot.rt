@@ -45,7 +45,7 @@ fn boot_opened<D: Disk>(
     requires stopped { core.old.running ≡ false }
     requires raises { core.old.log.voter.inc < greatest_u32 }
     requires known { core.old.log.voter.inc ≡ inc_of state.old.records }
-    ensures { IfOk result (λ attempt. D.told → HoldsAt D.Disk store.old → logs.HoldsAt D.Disk state.old → store.old.tickets ≡ []
+    ensures { IfOk result (λ attempt. D.observable → HoldsAt D.Disk store.old → logs.HoldsAt D.Disk state.old → store.old.tickets ≡ []
         → Booted D.Disk (record { core = core.old; store = store.old; state = state.old })
         (record { core = core.new; store = store.new; state = state.new }) attempt.end attempt.letters) }
 {
@@ -77,7 +77,7 @@ fn boot_again<D: Disk>(
 ) -> Result<Attempt, NoMemory>
     requires stopped { core.old.running ≡ false }
     requires raises { core.old.log.voter.inc < greatest_u32 }
-    ensures { IfOk result (λ attempt. D.told → HoldsAt D.Disk store.old → logs.HoldsAt D.Disk state.old
+    ensures { IfOk result (λ attempt. D.observable → HoldsAt D.Disk store.old → logs.HoldsAt D.Disk state.old
         → Booted D.Disk (record { core = core.old; store = store.old; state = state.old })
         (record { core = core.new; store = store.new; state = state.new }) attempt.end attempt.letters) }
 {
@@ -106,7 +106,7 @@ fn boot_blank<D: Disk>(
     requires stopped { core.old.running ≡ false }
     requires raises { core.old.log.voter.inc < greatest_u32 }
     requires room { slot_start store.old.slots ≤ D.size disk }
-    ensures { IfOk result (λ out. D.told → logs.HoldsAt D.Disk state.old
+    ensures { IfOk result (λ out. D.observable → logs.HoldsAt D.Disk state.old
         → BootedBlank D.Disk (record { core = core.old; store = store_on disk store.old; state = state.old })
         (record { core = core.new; store = store.new; state = state.new }) out.1 out.0.end out.0.letters) }
 {
@@ -141,7 +141,7 @@ pub fn boot_stopped<D: Disk>(
     requires raises { core.old.log.voter.inc < greatest_u32 }
     requires room { IfSome blank.old (λ disk. slot_start store.old.slots ≤ D.size disk) }
     ensures gone { OnErr result (blank.new ≡ None) }
-    ensures booted { IfOk result (λ attempt. D.told → (is_some blank.old ≡ false → HoldsAt D.Disk store.old) → logs.HoldsAt D.Disk state.old
+    ensures booted { IfOk result (λ attempt. D.observable → (is_some blank.old ≡ false → HoldsAt D.Disk store.old) → logs.HoldsAt D.Disk state.old
         → BootedBlank D.Disk (record { core = core.old; store = store_at blank.old store.old; state = state.old })
         (record { core = core.new; store = store.new; state = state.new }) blank.new attempt.end attempt.letters) }
 {

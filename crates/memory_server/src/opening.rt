@@ -22,9 +22,9 @@ use std::alloc::Global;
 /// # Errors
 /// `Failed` where the device failed both times; else as of [`Store::reopen`].
 pub fn reopen_store<D: Disk>(alloc: Global, store: &mut Store<D>) -> Result<bool, StoreError>
-    ensures left { D.told → D.may_leave store.old.disk (D.seen store.new.disk) }
+    ensures left { D.observable → D.may_leave store.old.disk (D.seen store.new.disk) }
     ensures same { (slots : ℕ) (fresh : Bool) (recorded : List StoreRecord) (picture : Picture)
-        → IfOk result (λ found. found ≡ true → D.told → slots < 2 ^ 32 → ShowsPicture (D.seen store.new.disk) slots fresh recorded picture
+        → IfOk result (λ found. found ≡ true → D.observable → slots < 2 ^ 32 → ShowsPicture (D.seen store.new.disk) slots fresh recorded picture
         → Reopened slots fresh recorded picture store.new (D.seen store.new.disk) (D.may_leave store.new.disk)) }
     ensures no_tickets { IfOk result (λ found. found ≡ true → store.new.tickets ≡ []) }
     ensures failed { IfErr result (λ e. e ≡ StoreError.Failed → D.faults store.old.disk + 2 ≤ D.faults store.new.disk) }
@@ -42,9 +42,9 @@ pub fn reopen_store<D: Disk>(alloc: Global, store: &mut Store<D>) -> Result<bool
 /// # Errors
 /// `Failed` where the device failed both times; else as of [`StateStore::reopen`].
 pub fn reopen_state<D: Disk>(alloc: Global, state: &mut StateStore<D>) -> Result<(), StateError>
-    ensures left { D.told → D.may_leave state.old.disk (D.seen state.new.disk) }
-    ensures same { (records : List StateRecord) → OnOk result (D.told → StandsFor (D.seen state.new.disk) records → state.new.records ≡ records) }
-    ensures holds { (records : List StateRecord) → OnOk result (D.told → StandsFor (D.seen state.new.disk) records → logs.HoldsAt D.Disk state.new) }
+    ensures left { D.observable → D.may_leave state.old.disk (D.seen state.new.disk) }
+    ensures same { (records : List StateRecord) → OnOk result (D.observable → StandsFor (D.seen state.new.disk) records → state.new.records ≡ records) }
+    ensures holds { (records : List StateRecord) → OnOk result (D.observable → StandsFor (D.seen state.new.disk) records → logs.HoldsAt D.Disk state.new) }
     ensures failed { IsErrOf result StateError.Failed → D.faults state.old.disk + 2 ≤ D.faults state.new.disk }
     ensures later { D.faults state.old.disk ≤ D.faults state.new.disk }
     ensures run { D.came_to state.old.disk state.new.disk }

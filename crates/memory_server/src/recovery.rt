@@ -46,7 +46,7 @@ pub fn reread<D: Disk>(
     store: &mut Store<D>,
     state: &mut StateStore<D>,
 ) -> Result<(), NoMemory>
-    ensures again { OnOk result (D.told → store.old.slots < 2 ^ 32 → HoldsAt D.Disk store.old → logs.HoldsAt D.Disk state.old
+    ensures again { OnOk result (D.observable → store.old.slots < 2 ^ 32 → HoldsAt D.Disk store.old → logs.HoldsAt D.Disk state.old
         → IsReread D.Disk store.old store.new state.old state.new) }
     ensures later { (D.faults store.old.disk ≤ D.faults store.new.disk) × (D.faults state.old.disk ≤ D.faults state.new.disk) }
     ensures run { D.came_to store.old.disk store.new.disk × D.came_to state.old.disk state.new.disk }
@@ -67,16 +67,16 @@ pub fn reopen<D: Disk>(
     state: &mut StateStore<D>,
     before: Counts,
 ) -> Result<CommitEnd, NoMemory>
-    ensures ends { (was will : Shown) → IfOk result (λ end. D.told → was.store.slots < 2 ^ 32
+    ensures ends { (was will : Shown) → IfOk result (λ end. D.observable → was.store.slots < 2 ^ 32
         → ((c : List ℕ) → D.may_leave store.old.disk c → StandsAsEither was.store will.store c)
         → ((c : List ℕ) → D.may_leave state.old.disk c → StandsForEither was.records will.records c)
         → before.stored ≡ was.store.records → before.kept ≡ length was.records → CommitsOnce was will
         → Shows end was will (store_of store.new) state.new.records) }
-    ensures holds { (was will : Shown) → OnOk result (D.told → was.store.slots < 2 ^ 32
+    ensures holds { (was will : Shown) → OnOk result (D.observable → was.store.slots < 2 ^ 32
         → ((c : List ℕ) → D.may_leave store.old.disk c → StandsAsEither was.store will.store c)
         → HoldsAt D.Disk store.new) }
     ensures tickets { OnOk result (store.new.tickets ≡ []) }
-    ensures state_holds { (was will : Shown) → OnOk result (D.told
+    ensures state_holds { (was will : Shown) → OnOk result (D.observable
         → ((c : List ℕ) → D.may_leave state.old.disk c → StandsForEither was.records will.records c)
         → logs.HoldsAt D.Disk state.new) }
     ensures later { (D.faults store.old.disk ≤ D.faults store.new.disk) × (D.faults state.old.disk ≤ D.faults state.new.disk) }

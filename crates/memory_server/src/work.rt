@@ -29,7 +29,7 @@ pub fn work_first<D: Disk>(
     requires runs { core.old.running ≡ true }
     requires goes_on { is_spent core.old (store_of store.old) ≡ false }
     requires stands { Stands D.Disk (record { core = core.old; store = store.old; state = state.old }) }
-    ensures { IfOk result (λ attempt. D.told → Worked D.Disk (record { core = core.old; store = store.old; state = state.old })
+    ensures { IfOk result (λ attempt. D.observable → Worked D.Disk (record { core = core.old; store = store.old; state = state.old })
         (record { core = core.new; store = store.new; state = state.new }) attempt.end attempt.letters) }
 {
     // as many slots as a number of 32 bits can tell

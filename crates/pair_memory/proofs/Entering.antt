@@ -85,7 +85,7 @@ module _ {D : Type 0} (device : Ghosts D) (stays : (d : D) → device.came_to d 
     keeps_of : {R : Type 0} {result : Result R StoreError} → IsCommit device mid after result (settled (store_of mid)) → HasTicketsAt new after
     keeps_of commit = rw commit.tickets cross.keeps
 
-    kept_of : {R : Type 0} {result : Result R StoreError} → IsCommit device mid after result (settled (store_of mid)) → device.told
+    kept_of : {R : Type 0} {result : Result R StoreError} → IsCommit device mid after result (settled (store_of mid)) → device.observable
         → after.entries ≡ before.entries
     kept_of commit told = commit.kept told ∙ ap (λ (s : Holdings D). s.entries) cross.store
 

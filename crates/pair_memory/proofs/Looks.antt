@@ -21,7 +21,7 @@ use Rattle.pair_memory.specs.Letters.{IsLook}
 pub record IsSeen {D : Type 0} (device : Ghosts D) (before after : Holdings D) : Type 0 where
   pub same : after ≡ record before { disk = after.disk }
   pub kept : KeepsDevice device.size device.seen device.may_leave device.moment device.left_since before.disk after.disk
-  pub holds : device.told → HoldsAt device before → HoldsAt device after
+  pub holds : device.observable → HoldsAt device before → HoldsAt device after
   pub later : device.faults before.disk ≤ device.faults after.disk
   pub run : device.came_to before.disk after.disk
 

@@ -24,17 +24,17 @@ use Rattle.petal_base.specs.Limits.{journal_records}
 pub record IsPut {D T : Type 0} (device : Ghosts D) (mid after : Holdings D) (result : Result T StoreError) (slot : ℕ) (key : Key) (version : ℕ)
     (bytes : List ℕ) : Type 0 where
   pub out : Contains mid.tickets slot
-  pub content : OnOk result (device.told
+  pub content : OnOk result (device.observable
       → after.entries ≡ placed key_held mid.entries (record { entry = record { key = key; slot = slot; version = version }; content = bytes }))
   pub counted : OnOk result (length after.log.records ≡ length mid.log.records + 1)
   pub rest : after ≡ record mid { entries = after.entries; tickets = lists.without mid.tickets slot; log = after.log; disk = after.disk }
-  pub kept : OnErr result (device.told → after.entries ≡ mid.entries)
+  pub kept : OnErr result (device.observable → after.entries ≡ mid.entries)
   pub errors : IfErr result IsCommitError
   pub full : IsErrOf result JournalFull → mid.log.region.count ≡ journal_records
   pub full_rest : IsErrOf result JournalFull → after ≡ record mid { tickets = lists.without mid.tickets slot }
-  pub holds : device.told → Holds mid (device.seen mid.disk) (device.may_leave mid.disk)
+  pub holds : device.observable → Holds mid (device.seen mid.disk) (device.may_leave mid.disk)
       → OnOk result (Holds after (device.seen after.disk) (device.may_leave after.disk))
-  pub moments : device.told → Holds mid (device.seen mid.disk) (device.may_leave mid.disk)
+  pub moments : device.observable → Holds mid (device.seen mid.disk) (device.may_leave mid.disk)
       → LeavesOnly device.moment device.left_since mid.disk after.disk
       (StandsAsEither (store_of mid) (with_entry (store_of mid) key (record { version = version; bytes = bytes })))
   pub cause : HasFault (device.faults mid.disk) (device.faults after.disk) result

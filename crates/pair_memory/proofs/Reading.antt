@@ -38,10 +38,10 @@ module _ {D : Type 0} (device : Ghosts D) (only_now : (d : D) (c : List ℕ) →
 
   module _ (here : JobContext) (side after : PairMemory) (old new : Holdings D) (same : new ≡ record old { disk = new.disk })
       (keeps : KeepsDevice device.size device.seen device.may_leave device.moment device.left_since old.disk new.disk)
-      (shown : device.told → HoldsAt device old → HoldsAt device new) (run : device.came_to old.disk new.disk) where
+      (shown : device.observable → HoldsAt device old → HoldsAt device new) (run : device.came_to old.disk new.disk) where
     -- what is said after a read is a job from before it
     pub after_read : (result : Result JobResult WorkError) (rule rule' : rules.JobResult) → device.faults old.disk ≤ device.faults new.disk
-        → (device.told → rule ≡ rule') → IsSaid here side after new new result rule → IsDone device here side after old new result rule'
+        → (device.observable → rule ≡ rule') → IsSaid here side after new new result rule → IsDone device here side after old new result rule'
     after_read (Ok out) rule rule' later is said = record {
       done = λ t. subst (λ (r : rules.JobResult). IsBy here (own_of after new) out r) (is t) said.done;
       keeps = said.keeps;

@@ -42,13 +42,13 @@ module _ {D T : Type 0} where
   -- stand where they are needed. A crash at any moment leaves the store before, or the rule's after it
   pub record IsEntered (device : Ghosts D) (here : JobContext) (entry : Option Command) (old new : PairMemory) (before after : Holdings D)
       (result : Result T WorkError) : Type 0 where
-    pub own : OnOk result (device.told → own_of new after ≡ crossed_by here entry (own_of old before))
+    pub own : OnOk result (device.observable → own_of new after ≡ crossed_by here entry (own_of old before))
     pub keeps : HasTicketsAt new after
-    pub holds : device.told → HoldsAt device before → OnOk result (HoldsAt device after)
-    pub moments : device.told → HoldsAt device before
+    pub holds : device.observable → HoldsAt device before → OnOk result (HoldsAt device after)
+    pub moments : device.observable → HoldsAt device before
         → LeavesOnly device.moment device.left_since before.disk after.disk
         (StandsAsEither (store_of before) (crossed_by here entry (own_of old before)).store)
-    pub kept : device.told → after.entries ≡ before.entries
+    pub kept : device.observable → after.entries ≡ before.entries
     pub errors : IfErr result (λ e. e ≡ Failed)
     pub cause : HasFault (device.faults before.disk) (device.faults after.disk) result
     pub run : device.came_to before.disk after.disk

@@ -65,14 +65,14 @@ module _ {D : Type 0} where
   -- was. A crash at any moment leaves the store before the job, or the rule's after it. Any other refusal left the entries.
   -- `JournalFull` comes only where the journal has no room for the record of the job
   pub record IsDone (device : Ghosts D) (here : JobContext) (old new : PairMemory) (before after : Holdings D) (result : Result JobResult WorkError) (rule : Rule) : Type 0 where
-    pub done : IfOk result (λ done. device.told → IsBy here (own_of new after) done rule)
+    pub done : IfOk result (λ done. device.observable → IsBy here (own_of new after) done rule)
     pub keeps : OnOk result (HasTicketsAt new after)
-    pub holds : device.told → HoldsAt device before → OnOk result (HoldsAt device after)
-    pub moments : device.told → HoldsAt device before
+    pub holds : device.observable → HoldsAt device before → OnOk result (HoldsAt device after)
+    pub moments : device.observable → HoldsAt device before
         → LeavesOnly device.moment device.left_since before.disk after.disk (StandsAsEither (store_of before) rule.own.store)
-    pub still : result ≡ Err NoMemory → device.told → HoldsAt device before → HoldsAt device after
+    pub still : result ≡ Err NoMemory → device.observable → HoldsAt device before → HoldsAt device after
     pub same : result ≡ Err NoMemory → (new ≡ old) × (after ≡ record before { disk = after.disk })
-    pub kept : OnErr result (device.told → after.entries ≡ before.entries)
+    pub kept : OnErr result (device.observable → after.entries ≡ before.entries)
     pub full : result ≡ Err JournalFull → IsFull old new before after rule
     pub cause : HasFault (device.faults before.disk) (device.faults after.disk) result
     pub run : device.came_to before.disk after.disk

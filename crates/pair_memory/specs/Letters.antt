@@ -18,6 +18,6 @@ posts_of (Some one) = post_to (Some one.0) one.1
 pub record IsLook {D T : Type 0} (device : Ghosts D) (before after : Holdings D) (result : Result T DeviceError) : Type 0 where
   pub same : after ≡ record before { disk = after.disk }
   pub kept : KeepsDevice device.size device.seen device.may_leave device.moment device.left_since before.disk after.disk
-  pub holds : device.told → HoldsAt device before → HoldsAt device after
+  pub holds : device.observable → HoldsAt device before → HoldsAt device after
   pub cause : IsReadFault (device.faults before.disk) (device.faults after.disk) result
   pub run : device.came_to before.disk after.disk

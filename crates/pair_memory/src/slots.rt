@@ -55,13 +55,13 @@ pub fn spend<D: Disk>(
 ) -> Result<(), WorkError>
     requires some { IsSome (at cell_cmp table.old cell) }
     requires out { IsOutAt table.old cell store.old.tickets }
-    ensures ok { OnOk result (D.told → store_of store.new ≡ with_entry (store_of store.old) key (record { version = version; bytes = block.now })) }
+    ensures ok { OnOk result (D.observable → store_of store.new ≡ with_entry (store_of store.old) key (record { version = version; bytes = block.now })) }
     ensures table { OnOk result (table.new ≡ without cell_cmp table.old cell) }
     ensures tickets { OnOk result ((slot : ℕ) → at cell_cmp table.old cell ≡ Some slot → store.new.tickets ≡ lists.without store.old.tickets slot) }
     ensures sorted { IsStrictlySortedBy cell_cmp (keys_of table.old) }
-    ensures kept { OnErr result (D.told → store.new.entries ≡ store.old.entries) }
-    ensures holds { D.told → HoldsAt D.Disk store.old → OnOk result (HoldsAt D.Disk store.new) }
-    ensures moments { D.told → HoldsAt D.Disk store.old → LeavesOnly D.moment D.left_since store.old.disk store.new.disk
+    ensures kept { OnErr result (D.observable → store.new.entries ≡ store.old.entries) }
+    ensures holds { D.observable → HoldsAt D.Disk store.old → OnOk result (HoldsAt D.Disk store.new) }
+    ensures moments { D.observable → HoldsAt D.Disk store.old → LeavesOnly D.moment D.left_since store.old.disk store.new.disk
         (StandsAsEither (store_of store.old) (with_entry (store_of store.old) key (record { version = version; bytes = block.now }))) }
     ensures errors { IfErr result IsStop }
     ensures full { IsErrOf result error.JournalFull → (store.old.log.region.count ≡ journal_records) × (table.new ≡ table.old) × (store.new ≡ store.old) }

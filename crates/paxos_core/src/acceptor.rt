@@ -33,12 +33,12 @@ pub fn on_prepare<D: Disk>(
     ensures records { OnOk result (store.new.records
         ≡ (if is_open (acceptor_of store.old.records place) ballot then committed store.old.records (kind.Promise place ballot) else store.old.records)) }
     ensures err { OnErr result (store.new.records ≡ store.old.records) }
-    ensures holds { D.told → Holds store.old.region (D.seen store.old.disk) (D.may_leave store.old.disk) store.old.records
+    ensures holds { D.observable → Holds store.old.region (D.seen store.old.disk) (D.may_leave store.old.disk) store.old.records
         → OnOk result (Holds store.new.region (D.seen store.new.disk) (D.may_leave store.new.disk) store.new.records) }
-    ensures any_moment { D.told → Holds store.old.region (D.seen store.old.disk) (D.may_leave store.old.disk) store.old.records
+    ensures any_moment { D.observable → Holds store.old.region (D.seen store.old.disk) (D.may_leave store.old.disk) store.old.records
         → LeavesOnly D.moment D.left_since store.old.disk store.new.disk (StandsForEither store.old.records
         (if is_open (acceptor_of store.old.records place) ballot then committed store.old.records (kind.Promise place ballot) else store.old.records)) }
-    ensures either { D.told → Holds store.old.region (D.seen store.old.disk) (D.may_leave store.old.disk) store.old.records
+    ensures either { D.observable → Holds store.old.region (D.seen store.old.disk) (D.may_leave store.old.disk) store.old.records
         → WithOrWithout (D.seen store.new.disk) store.old.records (kind.Promise place ballot) }
     ensures full { IsErrOf result error.JournalFull
         → (store.old.region.count ≡ journal_records) × Needs store.old.records place ballot (kind.Promise place ballot) × (store.new ≡ store.old) }
@@ -84,13 +84,13 @@ pub fn on_accept<D: Disk>(
     ensures records { OnOk result (store.new.records ≡ (if is_open (acceptor_of store.old.records place) ballot
         then committed store.old.records (kind.Accepted place ballot command.now) else store.old.records)) }
     ensures err { OnErr result (store.new.records ≡ store.old.records) }
-    ensures holds { D.told → Holds store.old.region (D.seen store.old.disk) (D.may_leave store.old.disk) store.old.records
+    ensures holds { D.observable → Holds store.old.region (D.seen store.old.disk) (D.may_leave store.old.disk) store.old.records
         → OnOk result (Holds store.new.region (D.seen store.new.disk) (D.may_leave store.new.disk) store.new.records) }
-    ensures any_moment { D.told → Holds store.old.region (D.seen store.old.disk) (D.may_leave store.old.disk) store.old.records
+    ensures any_moment { D.observable → Holds store.old.region (D.seen store.old.disk) (D.may_leave store.old.disk) store.old.records
         → LeavesOnly D.moment D.left_since store.old.disk store.new.disk (StandsForEither store.old.records
         (if is_open (acceptor_of store.old.records place) ballot then committed store.old.records (kind.Accepted place ballot command.now)
         else store.old.records)) }
-    ensures either { D.told → Holds store.old.region (D.seen store.old.disk) (D.may_leave store.old.disk) store.old.records
+    ensures either { D.observable → Holds store.old.region (D.seen store.old.disk) (D.may_leave store.old.disk) store.old.records
         → WithOrWithout (D.seen store.new.disk) store.old.records (kind.Accepted place ballot command.now) }
     ensures full { IsErrOf result error.JournalFull
         → (store.old.region.count ≡ journal_records) × Needs store.old.records place ballot (kind.Accepted place ballot command.now) × (store.new ≡ store.old) }

@@ -8,13 +8,13 @@ use Rattle.petal_disk.specs.Plans.{fails, stops, is_late, after, plan_state}
 
 -- a write of these bytes: where the plan is met it fails, and all of them, their first half or none were written, or the disk
 -- beneath failed; elsewhere it is the write of the disk beneath
-pub record PlannedWrite {D T E : Type 0} (told : Type 0) (seen : D → List ℕ) (faults : D → ℕ) (old new : Planned D) (at : ℕ) (bytes half : List ℕ)
+pub record PlannedWrite {D T E : Type 0} (observable : Type 0) (seen : D → List ℕ) (faults : D → ℕ) (old new : Planned D) (at : ℕ) (bytes half : List ℕ)
     (result : Result T E) : Type 0 where
   pub struck : fails (plan_state old).plan Write ≡ true → IsErr result
   pub late : fails (plan_state old).plan Write ≡ true → is_late (plan_state old).plan ≡ true
-      → (told → seen new.disk ≡ written (seen old.disk) at bytes) ⊎ (faults old.disk < faults new.disk)
+      → (observable → seen new.disk ≡ written (seen old.disk) at bytes) ⊎ (faults old.disk < faults new.disk)
   pub halved : fails (plan_state old).plan Write ≡ true → is_late (plan_state old).plan ≡ false → stops (plan_state old).plan ≡ true
-      → (told → seen new.disk ≡ written (seen old.disk) at half) ⊎ (faults old.disk < faults new.disk)
+      → (observable → seen new.disk ≡ written (seen old.disk) at half) ⊎ (faults old.disk < faults new.disk)
   pub unwritten : fails (plan_state old).plan Write ≡ true → is_late (plan_state old).plan ≡ false → stops (plan_state old).plan ≡ false
       → new.disk ≡ old.disk
   pub spared : fails (plan_state old).plan Write ≡ false → HasCause (faults old.disk) (faults new.disk) result

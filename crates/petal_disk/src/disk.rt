@@ -12,7 +12,7 @@ pub trait Disk: Send + Drop {
     ghost size: { Self → ℕ };
 
     /// That contracts know the bytes, as they do not of a file of the system.
-    ghost told: { Type 0 };
+    ghost observable: { Type 0 };
 
     /// The bytes that a read gives.
     ghost seen: { Self → List ℕ };
@@ -39,7 +39,7 @@ pub trait Disk: Send + Drop {
     /// Reads a part of the bytes.
     fn read(&mut self, at: u64, into: &mut [u8]) -> Result<(), Failed>
         requires { at + length into.old ≤ size self.old }
-        ensures bytes { OnOk result (told → into.new ≡ part (seen self.old) at (length into.old)) }
+        ensures bytes { OnOk result (observable → into.new ≡ part (seen self.old) at (length into.old)) }
         ensures size { size self.new ≡ size self.old }
         ensures seen { seen self.new ≡ seen self.old }
         ensures crash { Within (may_leave self.old) (may_leave self.new) }
@@ -50,8 +50,8 @@ pub trait Disk: Send + Drop {
     /// Writes over a part of the bytes. Until a sync, a crash may leave any bytes in the range; so may a write that fails.
     fn write_at(&mut self, at: u64, bytes: &[u8]) -> Result<(), Failed>
         requires { at + length bytes.now ≤ size self.old }
-        ensures written { OnOk result (told → seen self.new ≡ written (seen self.old) at bytes.now) }
-        ensures torn { told → Torn at (length bytes.now) (seen self.old) (seen self.new) }
+        ensures written { OnOk result (observable → seen self.new ≡ written (seen self.old) at bytes.now) }
+        ensures torn { observable → Torn at (length bytes.now) (seen self.old) (seen self.new) }
         ensures size { size self.new ≡ size self.old }
         ensures crash { Follows (Torn at (length bytes.now)) (may_leave self.old) (may_leave self.new) }
         ensures time { Elapses (moment self.old) (moment self.new) (left_since self.old) (left_since self.new) (may_leave self.new) }
@@ -61,8 +61,8 @@ pub trait Disk: Send + Drop {
     /// Writes zeros over `n` bytes, as `write_at` writes bytes.
     fn write_zeros(&mut self, at: u64, n: u64) -> Result<(), Failed>
         requires { at + n ≤ size self.old }
-        ensures written { OnOk result (told → seen self.new ≡ written (seen self.old) at (replicate n 0)) }
-        ensures torn { told → Torn at n (seen self.old) (seen self.new) }
+        ensures written { OnOk result (observable → seen self.new ≡ written (seen self.old) at (replicate n 0)) }
+        ensures torn { observable → Torn at n (seen self.old) (seen self.new) }
         ensures size { size self.new ≡ size self.old }
         ensures crash { Follows (Torn at n) (may_leave self.old) (may_leave self.new) }
         ensures time { Elapses (moment self.old) (moment self.new) (left_since self.old) (left_since self.new) (may_leave self.new) }
@@ -71,7 +71,7 @@ pub trait Disk: Send + Drop {
 
     /// After it, a crash leaves what a read gives.
     fn sync(&mut self) -> Result<(), Failed>
-        ensures durable { OnOk result (told → Only (seen self.old) (may_leave self.new)) }
+        ensures durable { OnOk result (observable → Only (seen self.old) (may_leave self.new)) }
         ensures size { size self.new ≡ size self.old }
         ensures seen { seen self.new ≡ seen self.old }
         ensures crash { Within (may_leave self.old) (may_leave self.new) }
@@ -81,8 +81,8 @@ pub trait Disk: Send + Drop {
 
     /// Loses what is not kept. A read then gives one of the contents that a crash could leave, and nothing is pending.
     fn crash(&mut self)
-        ensures left { told → may_leave self.old (seen self.new) }
-        ensures kept { told → Only (seen self.new) (may_leave self.new) }
+        ensures left { observable → may_leave self.old (seen self.new) }
+        ensures kept { observable → Only (seen self.new) (may_leave self.new) }
         ensures size { size self.new ≡ size self.old }
         ensures crash { Within (may_leave self.old) (may_leave self.new) }
         ensures time { Elapses (moment self.old) (moment self.new) (left_since self.old) (left_since self.new) (may_leave self.new) }
@@ -90,7 +90,7 @@ pub trait Disk: Send + Drop {
         ensures run { came_to self.old self.new };
 
     /// The bytes that are told are all the bytes.
-    ghost whole: { (disk : Self) → told → length (seen disk) ≡ size disk };
+    ghost whole: { (disk : Self) → observable → length (seen disk) ≡ size disk };
 
     /// So are those that a crash leaves.
     ghost left_whole: { (disk : Self) (c : List ℕ) → may_leave disk c → length c ≡ size disk };

@@ -154,7 +154,7 @@ impl MemDisk {
 impl Disk for MemDisk {
     ghost size = { λ m. m.len };
 
-    ghost told = { Unit {0} };
+    ghost observable = { Unit {0} };
 
     ghost seen = { λ m. padded m.now.items m.len };
 

@@ -148,7 +148,7 @@ impl<D: Disk> Disk for Planned<D> {
 
     ghost size = { λ p. D.size p.disk };
 
-    ghost told = { D.told };
+    ghost observable = { D.observable };
 
     ghost seen = { λ p. D.seen p.disk };
 
@@ -181,7 +181,7 @@ impl<D: Disk> Disk for Planned<D> {
 
     fn read(&mut self, at: u64, into: &mut [u8]) -> Result<(), Failed>
         requires { at + length into.old ≤ D.size self.old.disk }
-        ensures bytes { OnOk result (D.told → into.new ≡ part (D.seen self.old.disk) at (length into.old)) }
+        ensures bytes { OnOk result (D.observable → into.new ≡ part (D.seen self.old.disk) at (length into.old)) }
         ensures size { D.size self.new.disk ≡ D.size self.old.disk }
         ensures seen { D.seen self.new.disk ≡ D.seen self.old.disk }
         ensures crash { Within (D.may_leave self.old.disk) (D.may_leave self.new.disk) }
@@ -201,15 +201,15 @@ impl<D: Disk> Disk for Planned<D> {
 
     fn write_at(&mut self, at: u64, bytes: &[u8]) -> Result<(), Failed>
         requires { at + length bytes.now ≤ D.size self.old.disk }
-        ensures written { OnOk result (D.told → D.seen self.new.disk ≡ written (D.seen self.old.disk) at bytes.now) }
-        ensures torn { D.told → Torn at (length bytes.now) (D.seen self.old.disk) (D.seen self.new.disk) }
+        ensures written { OnOk result (D.observable → D.seen self.new.disk ≡ written (D.seen self.old.disk) at bytes.now) }
+        ensures torn { D.observable → Torn at (length bytes.now) (D.seen self.old.disk) (D.seen self.new.disk) }
         ensures size { D.size self.new.disk ≡ D.size self.old.disk }
         ensures crash { Follows (Torn at (length bytes.now)) (D.may_leave self.old.disk) (D.may_leave self.new.disk) }
         ensures time { Elapses (D.moment self.old.disk) (D.moment self.new.disk) (D.left_since self.old.disk) (D.left_since self.new.disk)
             (D.may_leave self.new.disk) }
         ensures cause { HasCause (D.faults self.old.disk + self.old.watch.strikes.times) (D.faults self.new.disk + self.new.watch.strikes.times) result }
         ensures run { D.came_to self.old.disk self.new.disk × CameTo (plan_state self.old) (plan_state self.new) }
-        ensures planned { PlannedWrite D.told D.seen D.faults self.old self.new at bytes.now (take (length bytes.now / 2) bytes.now) result }
+        ensures planned { PlannedWrite D.observable D.seen D.faults self.old self.new at bytes.now (take (length bytes.now / 2) bytes.now) result }
     {
         let late = self.watch.is_late();
         let stops = self.watch.stops();
@@ -226,15 +226,15 @@ impl<D: Disk> Disk for Planned<D> {
 
     fn write_zeros(&mut self, at: u64, n: u64) -> Result<(), Failed>
         requires { at + n ≤ D.size self.old.disk }
-        ensures written { OnOk result (D.told → D.seen self.new.disk ≡ written (D.seen self.old.disk) at (replicate n 0)) }
-        ensures torn { D.told → Torn at n (D.seen self.old.disk) (D.seen self.new.disk) }
+        ensures written { OnOk result (D.observable → D.seen self.new.disk ≡ written (D.seen self.old.disk) at (replicate n 0)) }
+        ensures torn { D.observable → Torn at n (D.seen self.old.disk) (D.seen self.new.disk) }
         ensures size { D.size self.new.disk ≡ D.size self.old.disk }
         ensures crash { Follows (Torn at n) (D.may_leave self.old.disk) (D.may_leave self.new.disk) }
         ensures time { Elapses (D.moment self.old.disk) (D.moment self.new.disk) (D.left_since self.old.disk) (D.left_since self.new.disk)
             (D.may_leave self.new.disk) }
         ensures cause { HasCause (D.faults self.old.disk + self.old.watch.strikes.times) (D.faults self.new.disk + self.new.watch.strikes.times) result }
         ensures run { D.came_to self.old.disk self.new.disk × CameTo (plan_state self.old) (plan_state self.new) }
-        ensures planned { PlannedWrite D.told D.seen D.faults self.old self.new at (replicate n 0) (replicate (n / 2) 0) result }
+        ensures planned { PlannedWrite D.observable D.seen D.faults self.old self.new at (replicate n 0) (replicate (n / 2) 0) result }
     {
         let late = self.watch.is_late();
         let stops = self.watch.stops();
@@ -250,7 +250,7 @@ impl<D: Disk> Disk for Planned<D> {
     }
 
     fn sync(&mut self) -> Result<(), Failed>
-        ensures durable { OnOk result (D.told → Only (D.seen self.old.disk) (D.may_leave self.new.disk)) }
+        ensures durable { OnOk result (D.observable → Only (D.seen self.old.disk) (D.may_leave self.new.disk)) }
         ensures size { D.size self.new.disk ≡ D.size self.old.disk }
         ensures seen { D.seen self.new.disk ≡ D.seen self.old.disk }
         ensures crash { Within (D.may_leave self.old.disk) (D.may_leave self.new.disk) }
@@ -261,7 +261,7 @@ impl<D: Disk> Disk for Planned<D> {
         ensures struck { fails (plan_state self.old).plan call.Sync ≡ true
             → IsErr result × (is_late (plan_state self.old).plan ≡ false → self.new.disk ≡ self.old.disk) }
         ensures late { fails (plan_state self.old).plan call.Sync ≡ true → is_late (plan_state self.old).plan ≡ true
-            → (D.told → Only (D.seen self.old.disk) (D.may_leave self.new.disk))
+            → (D.observable → Only (D.seen self.old.disk) (D.may_leave self.new.disk))
             ⊎ (D.faults self.old.disk < D.faults self.new.disk) }
         ensures spared { fails (plan_state self.old).plan call.Sync ≡ false → HasCause (D.faults self.old.disk) (D.faults self.new.disk) result }
         ensures state { plan_state self.new ≡ after (plan_state self.old) call.Sync }

@@ -28,8 +28,8 @@ pub trait Shelf: Send {
         size: u64,
     ) -> Result<Self::Disk, DeviceError>
         ensures size { IfOk result (λ disk. Self.Disk.size disk ≡ size) }
-        ensures bytes { IfOk result (λ disk. Self.Disk.told → Self.Disk.seen disk ≡ replicate size 0) }
-        ensures crash { IfOk result (λ disk. Self.Disk.told → Only (replicate size 0) (Self.Disk.may_leave disk)) }
+        ensures bytes { IfOk result (λ disk. Self.Disk.observable → Self.Disk.seen disk ≡ replicate size 0) }
+        ensures crash { IfOk result (λ disk. Self.Disk.observable → Only (replicate size 0) (Self.Disk.may_leave disk)) }
         ensures sound { IfOk result (λ disk. Self.Disk.faults disk ≡ 0) }
         ensures later { faults self.old ≤ faults self.new }
         ensures failed { IsErrOf result error.Failed → faults self.old < faults self.new };

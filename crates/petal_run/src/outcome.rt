@@ -64,19 +64,19 @@ pub fn petal<T: Wait, R: Source, W: Sink, S: Shelf>(
     ensures known { result.status ≤ status_sink_failed }
 
     // What is written, and what the history is.
-    ensures done { R.told → W.told → result.status ≤ status_refused
+    ensures done { R.observable → W.observable → result.status ≤ status_refused
         → Done (asked (map string_bytes words.now) (text_read (R.left source.old))) result.status result.history.records
         (R.left source.new) (W.taken sink.old) (W.taken sink.new) }
     ensures usage { result.status ≡ status_no_form → is_run (map string_bytes words.now) ≡ false }
-    ensures in_part { R.told → W.told → (result.status ≡ status_no_memory) ⊎ (result.status ≡ status_sink_failed)
+    ensures in_part { R.observable → W.observable → (result.status ≡ status_no_memory) ⊎ (result.status ≡ status_sink_failed)
         → DoneInPart (asked (map string_bytes words.now) (text_read (R.left source.old))) result.history.records
         (W.taken sink.old) (W.taken sink.new) }
-    ensures whole_phase { R.told → result.status ≡ status_sink_failed
+    ensures whole_phase { R.observable → result.status ≡ status_sink_failed
         → EndsWithPhase (asked (map string_bytes words.now) (text_read (R.left source.old))) result.history.records }
-    ensures by_phases { R.told → W.told → result.status ≡ status_no_memory
+    ensures by_phases { R.observable → W.observable → result.status ≡ status_no_memory
         → WrittenByPhases (asked (map string_bytes words.now) (text_read (R.left source.old))) result.history.records
         (W.taken sink.old) (W.taken sink.new) }
-    ensures last_phase { R.told → W.told → result.status ≡ status_sink_failed
+    ensures last_phase { R.observable → W.observable → result.status ≡ status_sink_failed
         → WrittenInPhase (asked (map string_bytes words.now) (text_read (R.left source.old))) result.history.records
         (W.taken sink.old) (W.taken sink.new) }
     ensures nothing { result.status ≡ status_source_failed → sink.new ≡ sink.old }

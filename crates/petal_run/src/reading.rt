@@ -16,8 +16,8 @@ const LIMIT: usize = SCRIPT_BYTES + 1;
 
 /// The bytes of the source up to its end, or the first so many of them.
 pub(crate) fn read_text<R: Source>(alloc: Global, source: &mut R) -> Result<Vec<u8>, DeviceError>
-    ensures bytes { IfOk result (λ text. R.told → text.items ≡ text_read (R.left source.old)) }
-    ensures rest { IfOk result (λ _. R.told → R.left source.new ≡ drop (longest_script + 1) (R.left source.old)) }
+    ensures bytes { IfOk result (λ text. R.observable → text.items ≡ text_read (R.left source.old)) }
+    ensures rest { IfOk result (λ _. R.observable → R.left source.new ≡ drop (longest_script + 1) (R.left source.old)) }
     ensures later { R.faults source.old ≤ R.faults source.new }
     ensures failed { IsErrOf result error.Failed → R.faults source.old < R.faults source.new }
 {

@@ -54,8 +54,8 @@ pub(crate) fn say<W: Sink>(alloc: Global, sink: &mut W, bytes: &[u8], status: u8
     requires { status ≤ status_refused }
     ensures known { (result.status ≡ status) ⊎ (result.status ≡ status_sink_failed) }
     ensures history { result.history.records ≡ [] }
-    ensures all { W.told → result.status ≡ status → W.taken sink.new ≡ W.taken sink.old ++ bytes.now }
-    ensures front { W.told → Adds (W.taken sink.old) bytes.now (W.taken sink.new) }
+    ensures all { W.observable → result.status ≡ status → W.taken sink.new ≡ W.taken sink.old ++ bytes.now }
+    ensures front { W.observable → Adds (W.taken sink.old) bytes.now (W.taken sink.new) }
     ensures failed { result.status ≡ status_sink_failed → W.faults sink.old < W.faults sink.new }
     ensures later { W.faults sink.old ≤ W.faults sink.new }
 {
@@ -69,8 +69,8 @@ pub(crate) fn say<W: Sink>(alloc: Global, sink: &mut W, bytes: &[u8], status: u8
 fn refuse<W: Sink>(alloc: Global, sink: &mut W, line: u32, cause: &str) -> Outcome
     ensures known { (result.status ≡ status_refused) ⊎ (result.status ≡ status_no_memory) ⊎ (result.status ≡ status_sink_failed) }
     ensures history { result.history.records ≡ [] }
-    ensures all { W.told → result.status ≡ status_refused → W.taken sink.new ≡ W.taken sink.old ++ refusal_line line cause.now }
-    ensures front { W.told → Adds (W.taken sink.old) (refusal_line line cause.now) (W.taken sink.new) }
+    ensures all { W.observable → result.status ≡ status_refused → W.taken sink.new ≡ W.taken sink.old ++ refusal_line line cause.now }
+    ensures front { W.observable → Adds (W.taken sink.old) (refusal_line line cause.now) (W.taken sink.new) }
     ensures nothing { result.status ≡ status_no_memory → sink.new ≡ sink.old }
     ensures failed { result.status ≡ status_sink_failed → W.faults sink.old < W.faults sink.new }
     ensures later { W.faults sink.old ≤ W.faults sink.new }
@@ -83,8 +83,8 @@ fn refuse<W: Sink>(alloc: Global, sink: &mut W, line: u32, cause: &str) -> Outco
 
 /// Writes the answers of a phase.
 fn tell<W: Sink>(alloc: Global, sink: &mut W, answers: Answers) -> Result<(), DeviceError>
-    ensures all { OnOk result (W.told → W.taken sink.new ≡ W.taken sink.old ++ text_of_answers answers) }
-    ensures front { IsErrOf result error.Failed → W.told → Adds (W.taken sink.old) (text_of_answers answers) (W.taken sink.new) }
+    ensures all { OnOk result (W.observable → W.taken sink.new ≡ W.taken sink.old ++ text_of_answers answers) }
+    ensures front { IsErrOf result error.Failed → W.observable → Adds (W.taken sink.old) (text_of_answers answers) (W.taken sink.new) }
     ensures nothing { IsErrOf result error.NoMemory → sink.new ≡ sink.old }
     ensures failed { IsErrOf result error.Failed → W.faults sink.old < W.faults sink.new }
     ensures later { W.faults sink.old ≤ W.faults sink.new }
@@ -110,13 +110,13 @@ fn play_and_tell<R: Wait, W: Sink>(
     ensures known { IfSome result (λ status. (status ≡ status_ended) ⊎ (status ≡ status_no_memory) ⊎ (status ≡ status_sink_failed)) }
     ensures since { (result ≡ Some status_no_memory → ⊥) → playing.new.since ≡ [] }
     ensures whole { result ≡ Some status_ended → all_answered (answers_of playing.new.ended) playing.new.script.lines ≡ true }
-    ensures goes_on { W.told → (base : List ℕ) → result ≡ None → Wrote base playing.old.ended (W.taken sink.old)
+    ensures goes_on { W.observable → (base : List ℕ) → result ≡ None → Wrote base playing.old.ended (W.taken sink.old)
         → Wrote base playing.new.ended (W.taken sink.new) }
-    ensures all { W.told → (base : List ℕ) → result ≡ Some status_ended → Wrote base playing.old.ended (W.taken sink.old)
+    ensures all { W.observable → (base : List ℕ) → result ≡ Some status_ended → Wrote base playing.old.ended (W.taken sink.old)
         → Wrote base playing.new.ended (W.taken sink.new) }
-    ensures phases { W.told → (base : List ℕ) → result ≡ Some status_no_memory → Wrote base playing.old.ended (W.taken sink.old)
+    ensures phases { W.observable → (base : List ℕ) → result ≡ Some status_no_memory → Wrote base playing.old.ended (W.taken sink.old)
         → WrotePhases playing.new.script (records_of playing.new) base (W.taken sink.new) }
-    ensures last { W.told → (base : List ℕ) → result ≡ Some status_sink_failed → Wrote base playing.old.ended (W.taken sink.old)
+    ensures last { W.observable → (base : List ℕ) → result ≡ Some status_sink_failed → Wrote base playing.old.ended (W.taken sink.old)
         → WroteInPhase playing.new.script (records_of playing.new) base (W.taken sink.new) }
     ensures failed { result ≡ Some status_sink_failed → W.faults sink.old < W.faults sink.new }
     ensures later { W.faults sink.old ≤ W.faults sink.new }
@@ -143,9 +143,9 @@ fn play_phases<R: Wait, W: Sink>(rt: &R, alloc: Global, playing: &mut Playing, s
     ensures known { (result ≡ status_ended) ⊎ (result ≡ status_no_memory) ⊎ (result ≡ status_sink_failed) }
     ensures since { (result ≡ status_no_memory → ⊥) → playing.new.since ≡ [] }
     ensures whole { result ≡ status_ended → all_answered (answers_of playing.new.ended) playing.new.script.lines ≡ true }
-    ensures all { W.told → result ≡ status_ended → Wrote (W.taken sink.old) playing.new.ended (W.taken sink.new) }
-    ensures phases { W.told → result ≡ status_no_memory → WrotePhases playing.new.script (records_of playing.new) (W.taken sink.old) (W.taken sink.new) }
-    ensures last { W.told → result ≡ status_sink_failed → WroteInPhase playing.new.script (records_of playing.new) (W.taken sink.old) (W.taken sink.new) }
+    ensures all { W.observable → result ≡ status_ended → Wrote (W.taken sink.old) playing.new.ended (W.taken sink.new) }
+    ensures phases { W.observable → result ≡ status_no_memory → WrotePhases playing.new.script (records_of playing.new) (W.taken sink.old) (W.taken sink.new) }
+    ensures last { W.observable → result ≡ status_sink_failed → WroteInPhase playing.new.script (records_of playing.new) (W.taken sink.old) (W.taken sink.new) }
     ensures failed { result ≡ status_sink_failed → W.faults sink.old < W.faults sink.new }
     ensures later { W.faults sink.old ≤ W.faults sink.new }
 {
@@ -165,12 +165,12 @@ fn play<R: Wait, W: Sink>(rt: &R, alloc: Global, script: Script, sink: &mut W) -
     requires ordered { AreOrdered script.lines }
     requires rising { AreRising script.lines }
     ensures known { (result.status ≡ status_ended) ⊎ (result.status ≡ status_no_memory) ⊎ (result.status ≡ status_sink_failed) }
-    ensures done { W.told → result.status ≡ status_ended → Done (Play script) result.status result.history.records [] (W.taken sink.old) (W.taken sink.new) }
-    ensures in_part { W.told → (result.status ≡ status_no_memory) ⊎ (result.status ≡ status_sink_failed)
+    ensures done { W.observable → result.status ≡ status_ended → Done (Play script) result.status result.history.records [] (W.taken sink.old) (W.taken sink.new) }
+    ensures in_part { W.observable → (result.status ≡ status_no_memory) ⊎ (result.status ≡ status_sink_failed)
         → DoneInPart (Play script) result.history.records (W.taken sink.old) (W.taken sink.new) }
     ensures whole_phase { result.status ≡ status_sink_failed → EndsWithPhase (Play script) result.history.records }
-    ensures by_phases { W.told → result.status ≡ status_no_memory → WrotePhases script result.history.records (W.taken sink.old) (W.taken sink.new) }
-    ensures last_phase { W.told → result.status ≡ status_sink_failed → WroteInPhase script result.history.records (W.taken sink.old) (W.taken sink.new) }
+    ensures by_phases { W.observable → result.status ≡ status_no_memory → WrotePhases script result.history.records (W.taken sink.old) (W.taken sink.new) }
+    ensures last_phase { W.observable → result.status ≡ status_sink_failed → WroteInPhase script result.history.records (W.taken sink.old) (W.taken sink.new) }
     ensures failed { result.status ≡ status_sink_failed → W.faults sink.old < W.faults sink.new }
     ensures later { W.faults sink.old ≤ W.faults sink.new }
 {
@@ -197,14 +197,14 @@ pub(crate) fn run_text<R: Wait, W: Sink>(
 ) -> Outcome
     ensures known { (result.status ≡ status_ended) ⊎ (result.status ≡ status_refused) ⊎ (result.status ≡ status_no_memory)
         ⊎ (result.status ≡ status_sink_failed) }
-    ensures done { W.told → result.status ≤ status_refused
+    ensures done { W.observable → result.status ≤ status_refused
         → Done (by_text (script_of text.now)) result.status result.history.records [] (W.taken sink.old) (W.taken sink.new) }
-    ensures in_part { W.told → (result.status ≡ status_no_memory) ⊎ (result.status ≡ status_sink_failed)
+    ensures in_part { W.observable → (result.status ≡ status_no_memory) ⊎ (result.status ≡ status_sink_failed)
         → DoneInPart (by_text (script_of text.now)) result.history.records (W.taken sink.old) (W.taken sink.new) }
     ensures whole_phase { result.status ≡ status_sink_failed → EndsWithPhase (by_text (script_of text.now)) result.history.records }
-    ensures by_phases { W.told → result.status ≡ status_no_memory
+    ensures by_phases { W.observable → result.status ≡ status_no_memory
         → WrittenByPhases (by_text (script_of text.now)) result.history.records (W.taken sink.old) (W.taken sink.new) }
-    ensures last_phase { W.told → result.status ≡ status_sink_failed
+    ensures last_phase { W.observable → result.status ≡ status_sink_failed
         → WrittenInPhase (by_text (script_of text.now)) result.history.records (W.taken sink.old) (W.taken sink.new) }
     ensures short { result.status ≡ status_ended → length text.now ≤ longest_script }
     ensures failed { result.status ≡ status_sink_failed → W.faults sink.old < W.faults sink.new }

@@ -49,10 +49,10 @@ pub fn answer_read<D: Disk>(
     epoch: Epoch,
 ) -> Result<Reply, DeviceError>
     requires { readable here.now.state here.now.me cell ≡ true }
-    ensures reply { IfOk result (λ reply. D.told → reply ≡ reads.reply_to here.now (own_of side.now store.old) cell epoch) }
+    ensures reply { IfOk result (λ reply. D.observable → reply ≡ reads.reply_to here.now (own_of side.now store.old) cell epoch) }
     ensures same { store.new ≡ record store.old { disk = store.new.disk } }
     ensures device { KeepsDevice D.size D.seen D.may_leave D.moment D.left_since store.old.disk store.new.disk }
-    ensures holds { D.told → HoldsAt D.Disk store.old → HoldsAt D.Disk store.new }
+    ensures holds { D.observable → HoldsAt D.Disk store.old → HoldsAt D.Disk store.new }
     ensures cause { IsReadFault (D.faults store.old.disk) (D.faults store.new.disk) result }
     ensures run { D.came_to store.old.disk store.new.disk }
 {

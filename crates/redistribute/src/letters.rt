@@ -55,7 +55,7 @@ fn letter_to<D: Disk>(
     to: ServerId,
     cell: Cell,
 ) -> Result<Option<(ServerId, Body)>, DeviceError>
-    ensures letter { IfOk result (λ found. D.told → found
+    ensures letter { IfOk result (λ found. D.observable → found
         ≡ letter_with key (Some (to, cell)) (option_map (λ entry. entry.bytes) (at nat_cmp (chain_in (chains_of store.old.entries) (cell_of key)) key.epoch))) }
     ensures look { IsLook D.Disk store.old store.new result }
 {
@@ -71,7 +71,7 @@ fn letter_of<D: Disk>(
     store: &mut Store<D>,
     key: Key,
 ) -> Result<Option<(ServerId, Body)>, DeviceError>
-    ensures letter { IfOk result (λ found. D.told → (side : Sides) → posts_of found ≡ fills.sends_key here.now.state (own_of side store.old) (Some key)) }
+    ensures letter { IfOk result (λ found. D.observable → (side : Sides) → posts_of found ≡ fills.sends_key here.now.state (own_of side store.old) (Some key)) }
     ensures look { IsLook D.Disk store.old store.new result }
 {
     match destination(here, key) {
@@ -86,7 +86,7 @@ pub fn fill_letter<D: Disk>(
     store: &mut Store<D>,
     key: Option<Key>,
 ) -> Result<Option<(ServerId, Body)>, DeviceError>
-    ensures letter { IfOk result (λ found. D.told → (side : Sides) → posts_of found ≡ fills.sends_key here.now.state (own_of side store.old) key) }
+    ensures letter { IfOk result (λ found. D.observable → (side : Sides) → posts_of found ≡ fills.sends_key here.now.state (own_of side store.old) key) }
     ensures look { IsLook D.Disk store.old store.new result }
 {
     match key {
@@ -106,7 +106,7 @@ pub fn fills_after<D: Disk>(
     store: &mut Store<D>,
     before: Sequence<Letter>,
 ) -> Result<Sequence<Letter>, DeviceError>
-    ensures letters { IfOk result (λ letters. D.told → letters
+    ensures letters { IfOk result (λ letters. D.observable → letters
         ≡ before ++ letters_of (sender here.now) (length before) (fills.fill_posts here.now (own_of side.now store.old))) }
     ensures look { IsLook D.Disk store.old store.new result }
 {

@@ -108,14 +108,14 @@ raised_as records less = let other : (inc_of records == 4294967295) ≡ false = 
 module _ {D : Type 0} (device : Ghosts D) (old : ServerView) (before : Keeping D) (known : old.log.voter.inc ≡ inc_of before.records) where
   -- what a crash within the call that raises the incarnation leaves
   abbrev Leaves : Keeping D → Type 0
-  Leaves after = device.told → HoldsAt device before
+  Leaves after = device.observable → HoldsAt device before
       → LeavesOnly device.moment device.left_since before.disk after.disk (λ c. WithOrWithout c before.records (Inc (inc_of before.records + 1)))
 
   -- the server runs
   pub booted_done : (new : ServerView) (after : Keeping D) (letters : List Letter) → after.records ≡ raised_records before.records
       → ((log : Log) → log.records ≡ after.records → new ≡ booted old.log.voter (known_run log 1 after.region.count))
       → letters ≡ letters_of (sender_of new.log) 0 (down_posts old.log.voter.me old.log.voter.inc old.log.voter.servers)
-      → (device.told → HoldsAt device before → HoldsAt device after)
+      → (device.observable → HoldsAt device before → HoldsAt device after)
       → Leaves after → device.faults before.disk ≤ device.faults after.disk → device.came_to before.disk after.disk
       → IsBoot device old new before after (Ok letters)
   booted_done new after letters made is sent holds left later run =

@@ -41,7 +41,7 @@ module _ {D : Type 0} (device : Ghosts D) (records : List StateRecord) (old new 
   -- it is done as the rule says
   pub pair_worked : (done : JobResult) (letters : List Letter) → IsDone device (here_in old) old.side new.side before after (Ok done) rule
       → new.running ≡ old.running → new.log ≡ old.log → new.queue ≡ drop 1 old.queue ++ follow_up done.follow → letters ≡ done.letters
-      → device.told → HoldsAt device before → length records ≤ journal_records
+      → device.observable → HoldsAt device before → length records ≤ journal_records
       → acted new (store_of after) records letters ≡ works (here_in old) (server_of old (store_of before) records) old.queue
   unfolding made
   pair_worked done letters is running log queue same told holds few_log =

@@ -29,7 +29,7 @@ pub log_moments : {D : Type 0} (device : Ghosts D) (store : Store) (old : Server
     → slice_get old.queue 0 ≡ Some first → kind_of first ≡ OfLog
     → {new : Part} {result : Result LogDone StateError}
     → IsLogDone device old.log new before after result (log_rule old.log old.side store before.records first old.log.voter)
-    → device.told → HoldsAt device before
+    → device.observable → HoldsAt device before
     → LeavesOnly device.moment device.left_since before.disk after.disk (StandsForEither before.records (left_by_first old store before.records).log.records)
 log_moments device store old before after first there kind done told holds =
     left_as device before.disk after.disk before.records _ _ (log_left old store before.records first there kind) (done.moments told holds)

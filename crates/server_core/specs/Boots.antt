@@ -52,20 +52,20 @@ module _ {D : Type 0} where
   pub record IsFullBoot (device : Ghosts D) (old new : ServerView) (before after : Keeping D) : Type 0 where
     pub count : before.region.count ≡ journal_records
     pub same : (new ≡ old) × (after ≡ before)
-    pub stays : device.told → logs.HoldsAt device before → (store : Store)
+    pub stays : device.observable → logs.HoldsAt device before → (store : Store)
         → boots (here_in old) (server_of old store before.records) Done ≡ stays (server_of old store before.records)
 
   -- the server boots as the rule says where the device tells its bytes and stands for the records, at each store that fits its
   -- journal. A crash at any moment leaves the records before, or those with the next incarnation
   pub record IsBoot (device : Ghosts D) (old new : ServerView) (before after : Keeping D) (result : Result (List Letter) WorkError) : Type 0 where
-    pub step : IfOk result (λ letters. device.told → logs.HoldsAt device before → (store : Store) → store.records ≤ journal_records
+    pub step : IfOk result (λ letters. device.observable → logs.HoldsAt device before → (store : Store) → store.records ≤ journal_records
         → acted new (shut store) after.records letters ≡ boots (here_in old) (server_of old store before.records) Done)
     pub runs : OnOk result (new.running ≡ true)
     pub voter : OnOk result (new.log.voter ≡ next_voter old.log.voter)
     pub side : OnOk result (new.side ≡ new_side)
     pub raised : OnOk result (after.records ≡ raised_records before.records)
-    pub holds : device.told → logs.HoldsAt device before → OnOk result (logs.HoldsAt device after)
-    pub moments : device.told → logs.HoldsAt device before
+    pub holds : device.observable → logs.HoldsAt device before → OnOk result (logs.HoldsAt device after)
+    pub moments : device.observable → logs.HoldsAt device before
         → LeavesOnly device.moment device.left_since before.disk after.disk (StandsForEither before.records (raised_records before.records))
     pub same : OnErr result (new ≡ old)
     pub kept : result ≡ Err Failed → after.records ≡ before.records

@@ -38,23 +38,23 @@ module _ {D : Type 0} where
   pub record IsFullStore (device : Ghosts D) (records : List StateRecord) (old new : ServerView) (before after : Holdings D) : Type 0 where
     pub count : before.log.region.count ≡ journal_records
     pub same : (new ≡ old) × (after ≡ before)
-    pub stops : device.told → HoldsAt device before → Stops old (store_of before) records
+    pub stops : device.observable → HoldsAt device before → Stops old (store_of before) records
 
   -- the first job, of the pairs or that applies an entry, is done as the rule says at these records of the state device, where
   -- the data device tells its bytes and shows the store; the rest is as of each job of the pairs. The state device is not called
   pub record IsStoreWork (device : Ghosts D) (records : List StateRecord) (old new : ServerView) (before after : Holdings D)
       (result : Result (List Letter) WorkError) : Type 0 where
-    pub work : IfOk result (λ letters. device.told → HoldsAt device before → length records ≤ journal_records
+    pub work : IfOk result (λ letters. device.observable → HoldsAt device before → length records ≤ journal_records
         → acted new (store_of after) records letters ≡ works (here_in old) (server_of old (store_of before) records) old.queue)
     pub life : (new.running ≡ old.running) × (new.log.voter ≡ old.log.voter)
     pub keeps : OnOk result (HasTicketsAt new.side after)
-    pub holds : device.told → HoldsAt device before → OnOk result (HoldsAt device after)
-    pub moments : device.told → HoldsAt device before
+    pub holds : device.observable → HoldsAt device before → OnOk result (HoldsAt device after)
+    pub moments : device.observable → HoldsAt device before
         → LeavesOnly device.moment device.left_since before.disk after.disk
         (StandsAsEither (store_of before) (left_by_first old (store_of before) records).own.store)
-    pub still : result ≡ Err NoMemory → device.told → HoldsAt device before → HoldsAt device after
+    pub still : result ≡ Err NoMemory → device.observable → HoldsAt device before → HoldsAt device after
     pub same : result ≡ Err NoMemory → (new ≡ old) × (after ≡ record before { disk = after.disk })
-    pub kept : OnErr result (device.told → after.entries ≡ before.entries)
+    pub kept : OnErr result (device.observable → after.entries ≡ before.entries)
     pub full : result ≡ Err JournalFull → IsFullStore device records old new before after
     pub cause : HasFault (device.faults before.disk) (device.faults after.disk) result
     pub run : device.came_to before.disk after.disk
@@ -63,17 +63,17 @@ module _ {D : Type 0} where
   pub record IsFullLog (device : Ghosts D) (store : Store) (old new : ServerView) (before after : Keeping D) : Type 0 where
     pub count : before.region.count ≡ journal_records
     pub same : (new ≡ old) × (after ≡ before)
-    pub stops : device.told → logs.HoldsAt device before → Stops old store before.records
+    pub stops : device.observable → logs.HoldsAt device before → Stops old store before.records
 
   -- the first job, of the agreed log, is done as the rule says at this store, where the device tells its bytes and stands for the
   -- records; the rest is as of each job of the log. The store is not called
   pub record IsLogWork (device : Ghosts D) (store : Store) (old new : ServerView) (before after : Keeping D) (result : Result (List Letter) WorkError) : Type 0 where
-    pub work : IfOk result (λ letters. device.told → logs.HoldsAt device before → store.records ≤ journal_records
+    pub work : IfOk result (λ letters. device.observable → logs.HoldsAt device before → store.records ≤ journal_records
         → acted new store after.records letters ≡ works (here_in old) (server_of old store before.records) old.queue)
     pub life : (new.running ≡ old.running) × (new.log.voter ≡ old.log.voter)
     pub side : new.side ≡ record old.side { copies = new.side.copies }
-    pub holds : device.told → logs.HoldsAt device before → OnOk result (logs.HoldsAt device after)
-    pub moments : device.told → logs.HoldsAt device before
+    pub holds : device.observable → logs.HoldsAt device before → OnOk result (logs.HoldsAt device after)
+    pub moments : device.observable → logs.HoldsAt device before
         → LeavesOnly device.moment device.left_since before.disk after.disk
         (StandsForEither before.records (left_by_first old store before.records).log.records)
     pub same : result ≡ Err NoMemory → (new ≡ old) × (after ≡ before)
@@ -86,4 +86,4 @@ module _ {D : Type 0} where
 pub record IsFullWork {D E : Type 0} (device : Ghosts D) (other : Ghosts E) (old new : ServerView) (before after : Holdings D) (state left : Keeping E) : Type 0 where
   pub count : (before.log.region.count ≡ journal_records) ⊎ (state.region.count ≡ journal_records)
   pub same : (new ≡ old) × (after ≡ before) × (left ≡ state)
-  pub stops : device.told → other.told → HoldsAt device before → logs.HoldsAt other state → Stops old (store_of before) state.records
+  pub stops : device.observable → other.observable → HoldsAt device before → logs.HoldsAt other state → Stops old (store_of before) state.records

@@ -26,22 +26,22 @@ as_some (Err e) = Err e
 pub record IsFirstJob {D E : Type 0} (device : Ghosts D) (other : Ghosts E) (old new : ServerView) (before after : Holdings D) (state left : Keeping E)
     (result : Result (Option (List Letter)) WorkError) : Type 0 where
   pub idle : (result ≡ Ok None) ↔ (old.queue ≡ [])
-  pub work : IfOk result (λ worked. device.told → other.told → HoldsAt device before → logs.HoldsAt other state
+  pub work : IfOk result (λ worked. device.observable → other.observable → HoldsAt device before → logs.HoldsAt other state
       → IsWork old (store_of before) state.records new (store_of after) left.records worked)
   pub life : (new.running ≡ old.running) × (new.log.voter ≡ old.log.voter)
   pub keeps : OnOk result (HasTicketsAt new.side after)
-  pub holds : device.told → HoldsAt device before → OnOk result (HoldsAt device after)
-  pub moments : device.told → HoldsAt device before
+  pub holds : device.observable → HoldsAt device before → OnOk result (HoldsAt device after)
+  pub moments : device.observable → HoldsAt device before
       → LeavesOnly device.moment device.left_since before.disk after.disk
       (StandsAsEither (store_of before) (left_by_first old (store_of before) state.records).own.store)
-  pub still : result ≡ Err NoMemory → device.told → HoldsAt device before → HoldsAt device after
+  pub still : result ≡ Err NoMemory → device.observable → HoldsAt device before → HoldsAt device after
   pub same : result ≡ Err NoMemory → (new ≡ old) × (after ≡ record before { disk = after.disk }) × (left ≡ state)
-  pub kept : OnErr result (device.told → after.entries ≡ before.entries)
+  pub kept : OnErr result (device.observable → after.entries ≡ before.entries)
   pub full : result ≡ Err JournalFull → IsFullWork device other old new before after state left
   pub cause : HasFaults (device.faults before.disk) (device.faults after.disk) (other.faults state.disk) (other.faults left.disk) result
   pub run : device.came_to before.disk after.disk
-  pub state_holds : other.told → logs.HoldsAt other state → OnOk result (logs.HoldsAt other left)
-  pub state_moments : other.told → logs.HoldsAt other state
+  pub state_holds : other.observable → logs.HoldsAt other state → OnOk result (logs.HoldsAt other left)
+  pub state_moments : other.observable → logs.HoldsAt other state
       → LeavesOnly other.moment other.left_since state.disk left.disk
       (StandsForEither state.records (left_by_first old (store_of before) state.records).log.records)
   pub state_kept : OnErr result (left.records ≡ state.records)

@@ -180,13 +180,13 @@ impl ServerCore {
         alloc: Global,
         store: &mut Store<D>,
     ) -> Result<Sequence<Letter>, DeviceError>
-        ensures ok { IfOk result (λ letters. D.told → (records : List StateRecord) → acted self.new (store_of store.new) records letters
+        ensures ok { IfOk result (λ letters. D.observable → (records : List StateRecord) → acted self.new (store_of store.new) records letters
             ≡ jobs.ticks (here_in self.old) (server_of self.old (store_of store.old) records)) }
         ensures life { (self.new.running ≡ self.old.running) × (self.new.log.voter ≡ self.old.log.voter) × (self.new.side ≡ self.old.side) }
         ensures err { OnErr result (self.new ≡ self.old) }
         ensures same { store.new ≡ record store.old { disk = store.new.disk } }
         ensures device { KeepsDevice D.size D.seen D.may_leave D.moment D.left_since store.old.disk store.new.disk }
-        ensures holds { D.told → HoldsAt D.Disk store.old → HoldsAt D.Disk store.new }
+        ensures holds { D.observable → HoldsAt D.Disk store.old → HoldsAt D.Disk store.new }
         ensures cause { IsReadFault (D.faults store.old.disk) (D.faults store.new.disk) result }
         ensures run { D.came_to store.old.disk store.new.disk }
     {

@@ -37,7 +37,7 @@ fn copies_after<D: Disk>(
     store: &mut Store<D>,
     before: Sequence<Letter>,
 ) -> Result<Sequence<Letter>, DeviceError>
-    ensures letters { IfOk result (λ letters. D.told → letters ≡ before ++ letters_of (sender (here_in parts.now)) (length before)
+    ensures letters { IfOk result (λ letters. D.observable → letters ≡ before ++ letters_of (sender (here_in parts.now)) (length before)
         (copies_again (here_in parts.now) (own_in parts.now.side (store_of store.old)))) }
     ensures look { IsLook D.Disk store.old store.new result }
 {
@@ -58,11 +58,11 @@ pub fn tick_letters<D: Disk>(
     parts: &ServerMemory,
     store: &mut Store<D>,
 ) -> Result<Sequence<Letter>, DeviceError>
-    ensures letters { IfOk result (λ letters. D.told → (records : List StateRecord) → letters
+    ensures letters { IfOk result (λ letters. D.observable → (records : List StateRecord) → letters
         ≡ letters_of (sender (here_in parts.now)) 0 (tick_posts (here_in parts.now) (server_of parts.now (store_of store.old) records))) }
     ensures same { store.new ≡ record store.old { disk = store.new.disk } }
     ensures device { KeepsDevice D.size D.seen D.may_leave D.moment D.left_since store.old.disk store.new.disk }
-    ensures holds { D.told → HoldsAt D.Disk store.old → HoldsAt D.Disk store.new }
+    ensures holds { D.observable → HoldsAt D.Disk store.old → HoldsAt D.Disk store.new }
     ensures cause { IsReadFault (D.faults store.old.disk) (D.faults store.new.disk) result }
     ensures run { D.came_to store.old.disk store.new.disk }
 {

@@ -79,7 +79,7 @@ module _ {D : Type 0} (device : Ghosts D) where
       → (IsErrOf refusal NoMemory → after ≡ before)
       → (IsErrOf refusal Failed → device.faults before.disk < device.faults after.disk)
       → after.records ≡ before.records → IsCommitError e
-      → (device.told → HoldsAt device before
+      → (device.observable → HoldsAt device before
       → LeavesOnly device.moment device.left_since before.disk after.disk (StandsForEither before.records made))
       → device.faults before.disk ≤ device.faults after.disk → device.came_to before.disk after.disk
       → IsLogDone device part part before after (Err e) rule

@@ -30,8 +30,8 @@ module _ {D : Type 0} where
   pub record IsLogDone (device : Ghosts D) (old new : Part) (before after : Keeping D) (result : Result LogDone StateError) (rule : Rule) : Type 0 where
     pub done : IfOk result (λ done. IsBy (sender_of old) (log_of new after.records) done rule)
     pub voter : new.voter ≡ old.voter
-    pub holds : device.told → HoldsAt device before → OnOk result (HoldsAt device after)
-    pub moments : device.told → HoldsAt device before
+    pub holds : device.observable → HoldsAt device before → OnOk result (HoldsAt device after)
+    pub moments : device.observable → HoldsAt device before
         → LeavesOnly device.moment device.left_since before.disk after.disk (StandsForEither before.records rule.log.records)
     pub kept : OnErr result (after.records ≡ before.records)
     pub same : result ≡ Err NoMemory → (new ≡ old) × (after ≡ before)

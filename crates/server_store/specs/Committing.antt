@@ -15,9 +15,9 @@ pub record IsCommitOf {D T : Type 0} (device : Ghosts D) (before after : Holding
     (content : List ℕ) : Type 0 where
   pub records : OnOk result (after.log.records ≡ (if needed then before.log.records ++ entry ∷ [] else before.log.records))
   pub unrecorded : OnErr result (after.log.records ≡ before.log.records)
-  pub holds : device.told → HoldsAt device before → OnOk result (HoldsAt device after)
-  pub either : device.told → HoldsAt device before → BeforeOrAfter (device.seen after.disk) before entry content
-  pub any_moment : device.told → HoldsAt device before
+  pub holds : device.observable → HoldsAt device before → OnOk result (HoldsAt device after)
+  pub either : device.observable → HoldsAt device before → BeforeOrAfter (device.seen after.disk) before entry content
+  pub any_moment : device.observable → HoldsAt device before
       → LeavesOnly device.moment device.left_since before.disk after.disk (λ c. BeforeOrAfter c before entry content)
   pub cause : HasFault (device.faults before.disk) (device.faults after.disk) result
   pub run : device.came_to before.disk after.disk

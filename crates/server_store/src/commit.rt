@@ -31,12 +31,12 @@ pub fn commit<D: Disk>(
     ensures full { IsErrOf result StoreError.JournalFull ↔ (log.old.region.count ≡ journal_records) }
     ensures unchanged { IsErrOf result StoreError.JournalFull → (log.new ≡ log.old) × (disk.new ≡ disk.old) }
     ensures errors { IfErr result IsCommitError }
-    ensures contents { D.told → (es : List Entry) → map (held_in (D.seen disk.new)) es ≡ map (held_in (D.seen disk.old)) es }
-    ensures keeps { D.told → (slots : ℕ) (picture : Picture) → Keeps slots log.old picture (D.seen disk.old) (D.may_leave disk.old)
+    ensures contents { D.observable → (es : List Entry) → map (held_in (D.seen disk.new)) es ≡ map (held_in (D.seen disk.old)) es }
+    ensures keeps { D.observable → (slots : ℕ) (picture : Picture) → Keeps slots log.old picture (D.seen disk.old) (D.may_leave disk.old)
         → OnOk result (Keeps slots log.new (picture_after picture change.now []) (D.seen disk.new) (D.may_leave disk.new)) }
-    ensures either { D.told → (slots : ℕ) (picture : Picture) → Keeps slots log.old picture (D.seen disk.old) (D.may_leave disk.old)
+    ensures either { D.observable → (slots : ℕ) (picture : Picture) → Keeps slots log.old picture (D.seen disk.old) (D.may_leave disk.old)
         → ShowsEither (D.seen disk.new) slots log.old picture change.now [] }
-    ensures any_moment { D.told → (slots : ℕ) (picture : Picture) → Keeps slots log.old picture (D.seen disk.old) (D.may_leave disk.old)
+    ensures any_moment { D.observable → (slots : ℕ) (picture : Picture) → Keeps slots log.old picture (D.seen disk.old) (D.may_leave disk.old)
         → LeavesOnly D.moment D.left_since disk.old disk.new (λ c. ShowsEither c slots log.old picture change.now []) }
     ensures cause { HasFault (D.faults disk.old) (D.faults disk.new) result }
     ensures size { D.size disk.new ≡ D.size disk.old }
@@ -62,17 +62,17 @@ pub fn commit_put<D: Disk>(
     ensures err { OnErr result (log.new.records ≡ log.old.records) }
     ensures fresh { log.new.fresh ≡ log.old.fresh }
     ensures errors { IfErr result (λ e. e ≡ StoreError.Failed) }
-    ensures contents { D.told → (es : List Entry) → All (λ e. e.slot ≢ entry.now.slot) es
+    ensures contents { D.observable → (es : List Entry) → All (λ e. e.slot ≢ entry.now.slot) es
         → map (held_in (D.seen disk.new)) es ≡ map (held_in (D.seen disk.old)) es }
-    ensures content { OnOk result (D.told → slot_bytes (D.seen disk.new) entry.now.slot ≡ block.now) }
-    ensures keeps { D.told → (picture : Picture) → Keeps (length slots.now.used) log.old picture (D.seen disk.old) (D.may_leave disk.old)
+    ensures content { OnOk result (D.observable → slot_bytes (D.seen disk.new) entry.now.slot ≡ block.now) }
+    ensures keeps { D.observable → (picture : Picture) → Keeps (length slots.now.used) log.old picture (D.seen disk.old) (D.may_leave disk.old)
         → All (λ e. e.slot ≢ entry.now.slot) (kept_of log.old.fresh log.old.records).entries
         → OnOk result (Keeps (length slots.now.used) log.new (picture_after picture (kind.Put entry.now.key entry.now.version entry.now.slot) block.now)
         (D.seen disk.new) (D.may_leave disk.new)) }
-    ensures either { D.told → (picture : Picture) → Keeps (length slots.now.used) log.old picture (D.seen disk.old) (D.may_leave disk.old)
+    ensures either { D.observable → (picture : Picture) → Keeps (length slots.now.used) log.old picture (D.seen disk.old) (D.may_leave disk.old)
         → All (λ e. e.slot ≢ entry.now.slot) (kept_of log.old.fresh log.old.records).entries
         → ShowsEither (D.seen disk.new) (length slots.now.used) log.old picture (kind.Put entry.now.key entry.now.version entry.now.slot) block.now }
-    ensures any_moment { D.told → (picture : Picture) → Keeps (length slots.now.used) log.old picture (D.seen disk.old) (D.may_leave disk.old)
+    ensures any_moment { D.observable → (picture : Picture) → Keeps (length slots.now.used) log.old picture (D.seen disk.old) (D.may_leave disk.old)
         → All (λ e. e.slot ≢ entry.now.slot) (kept_of log.old.fresh log.old.records).entries
         → LeavesOnly D.moment D.left_since disk.old disk.new
         (λ c. ShowsEither c (length slots.now.used) log.old picture (kind.Put entry.now.key entry.now.version entry.now.slot) block.now) }

@@ -94,15 +94,15 @@ impl<D: Disk> Store<D> {
           log = record { fresh = fresh; records = []; region = store.log.region };
           disk = store.disk;
         }) }
-        ensures holds { IfOk result (λ store. D.told → Holds store (D.seen store.disk) (D.may_leave store.disk)) }
+        ensures holds { IfOk result (λ store. D.observable → Holds store (D.seen store.disk) (D.may_leave store.disk)) }
         ensures size { IfOk result (λ store. D.size store.disk ≡ D.size disk) }
         ensures errors { IfErr result (λ e. IsFormatError e.1) }
         ensures failed { IfErr result (λ e. e.1 ≡ StoreError.Failed → D.faults disk < D.faults e.0) }
         ensures any_moment { IfOk result
-            (λ store. D.told → LeavesOnly D.moment D.left_since disk store.disk (LeftByFormat (D.may_leave disk) (D.size disk) slots fresh)) }
+            (λ store. D.observable → LeavesOnly D.moment D.left_since disk store.disk (LeftByFormat (D.may_leave disk) (D.size disk) slots fresh)) }
         ensures err_any_moment { IfErr result
-            (λ e. D.told → LeavesOnly D.moment D.left_since disk e.0 (LeftByFormat (D.may_leave disk) (D.size disk) slots fresh)) }
-        ensures err_either { IfErr result (λ e. D.told → LeftByFormat (λ file. file ≡ D.seen disk) (D.size disk) slots fresh (D.seen e.0)) }
+            (λ e. D.observable → LeavesOnly D.moment D.left_since disk e.0 (LeftByFormat (D.may_leave disk) (D.size disk) slots fresh)) }
+        ensures err_either { IfErr result (λ e. D.observable → LeftByFormat (λ file. file ≡ D.seen disk) (D.size disk) slots fresh (D.seen e.0)) }
         ensures err_size { IfErr result (λ e. D.size e.0 ≡ D.size disk) }
         ensures memory { IfErr result (λ e. e.1 ≡ StoreError.NoMemory → e.0 ≡ disk) }
         ensures later { IfOk result (λ store. D.faults disk ≤ D.faults store.disk) }
@@ -129,21 +129,21 @@ impl<D: Disk> Store<D> {
     /// `BadRecord` where the record of this index counts and has no spelling, or puts into a slot that is in use or not there;
     /// `Failed`, where the device failed, and `NoMemory`. The device is handed back, and but for a sync it is as it was.
     pub fn open(alloc: Global, disk: D) -> Result<Opened<D>, (D, StoreError)>
-        ensures headed { IfOk result (λ o. IfStore o (λ store. D.told → take header_bytes (D.seen disk) ≡ header store.slots store.log.fresh)) }
-        ensures counts { IfOk result (λ o. IfStore o (λ store. D.told → JournalCounts (D.seen disk) (bodies_of store.log.records))) }
+        ensures headed { IfOk result (λ o. IfStore o (λ store. D.observable → take header_bytes (D.seen disk) ≡ header store.slots store.log.fresh)) }
+        ensures counts { IfOk result (λ o. IfStore o (λ store. D.observable → JournalCounts (D.seen disk) (bodies_of store.log.records))) }
         ensures spelled { IfOk result
             (λ o. IfStore o (λ store. AreSpelled store.log.records × AllFit store.slots (formatted store.log.fresh) store.log.records)) }
         ensures shown { IfOk result (λ o. IfStore o (λ store. picture_of store ≡ picture_in (D.seen disk) (kept_of store.log.fresh store.log.records))) }
         ensures no_tickets { IfOk result (λ o. IfStore o (λ store. store.tickets ≡ [])) }
         ensures same { (slots : ℕ) (fresh : Bool) (recorded : List StoreRecord) (picture : Picture)
-            → IfOk result (λ o. D.told → slots < 2 ^ 32 → slot_start slots ≤ D.size disk → Shows (D.seen disk) slots fresh recorded picture
+            → IfOk result (λ o. D.observable → slots < 2 ^ 32 → slot_start slots ≤ D.size disk → Shows (D.seen disk) slots fresh recorded picture
             → IsStore o (λ store. Reopened slots fresh recorded picture store (D.seen store.disk) (D.may_leave store.disk))) }
-        ensures blank { IfOk result (λ o. IfBlank o (λ _. D.told → IsBlank (D.seen disk) (D.size disk))) }
-        ensures bad { (index slots : ℕ) (fresh : Bool) → IfErr result (λ e. e.1 ≡ StoreError.BadRecord index → D.told → slots < 2 ^ 32
+        ensures blank { IfOk result (λ o. IfBlank o (λ _. D.observable → IsBlank (D.seen disk) (D.size disk))) }
+        ensures bad { (index slots : ℕ) (fresh : Bool) → IfErr result (λ e. e.1 ≡ StoreError.BadRecord index → D.observable → slots < 2 ^ 32
             → take header_bytes (D.seen disk) ≡ header slots fresh → IsBadOn (D.seen disk) slots fresh index) }
-        ensures bad_headed { (index : ℕ) → IfErr result (λ e. e.1 ≡ StoreError.BadRecord index → D.told → ¬ IsBlank (D.seen disk) (D.size disk)) }
+        ensures bad_headed { (index : ℕ) → IfErr result (λ e. e.1 ≡ StoreError.BadRecord index → D.observable → ¬ IsBlank (D.seen disk) (D.size disk)) }
         ensures good { (slots : ℕ) (fresh : Bool) (recorded : List StoreRecord)
-            → IfErr result (λ e. D.told → slots < 2 ^ 32 → StandsFor (D.seen disk) slots fresh recorded → IsGoodError e.1) }
+            → IfErr result (λ e. D.observable → slots < 2 ^ 32 → StandsFor (D.seen disk) slots fresh recorded → IsGoodError e.1) }
         ensures errors { IfErr result (λ e. IsOpenError e.1) }
         ensures failed { IfErr result (λ e. e.1 ≡ StoreError.Failed → D.faults disk < D.faults e.0) }
         ensures later { IfOk result (λ o. IfStore o (λ store. D.faults disk ≤ D.faults store.disk)) }
@@ -174,9 +174,9 @@ impl<D: Disk> Store<D> {
     /// # Errors
     /// `BadRecord`, `Failed` and `NoMemory`, as of `open`: what is held is not to be used.
     pub fn reopen(&mut self, alloc: Global) -> Result<bool, StoreError>
-        ensures left { D.told → D.may_leave self.old.disk (D.seen self.new.disk) }
+        ensures left { D.observable → D.may_leave self.old.disk (D.seen self.new.disk) }
         ensures same { (slots : ℕ) (fresh : Bool) (recorded : List StoreRecord) (picture : Picture)
-            → IfOk result (λ found. found ≡ true → D.told → slots < 2 ^ 32 → Shows (D.seen self.new.disk) slots fresh recorded picture
+            → IfOk result (λ found. found ≡ true → D.observable → slots < 2 ^ 32 → Shows (D.seen self.new.disk) slots fresh recorded picture
             → Reopened slots fresh recorded picture self.new (D.seen self.new.disk) (D.may_leave self.new.disk)) }
         ensures no_tickets { IfOk result (λ found. found ≡ true → self.new.tickets ≡ []) }
         ensures errors { IfErr result IsOpenError }
@@ -230,11 +230,11 @@ impl<D: Disk> Store<D> {
         requires { Contains self.old.tickets ticket }
 
         ensures put { OnOk result (listed self.new.entries ≡ placed key_of (listed self.old.entries) (record { key = key; slot = ticket; version = version })) }
-        ensures content { OnOk result (D.told → self.new.entries ≡ placed key_held self.old.entries
+        ensures content { OnOk result (D.observable → self.new.entries ≡ placed key_held self.old.entries
             (record { entry = record { key = key; slot = ticket; version = version }; content = block.now })) }
 
         ensures listed { OnErr result (listed self.new.entries ≡ listed self.old.entries) }
-        ensures kept { OnErr result (D.told → self.new.entries ≡ self.old.entries) }
+        ensures kept { OnErr result (D.observable → self.new.entries ≡ self.old.entries) }
         ensures errors { IfErr result IsCommitError }
         ensures full { IsErrOf result StoreError.JournalFull ↔ (self.old.log.region.count ≡ journal_records) }
         ensures full_rest { IsErrOf result StoreError.JournalFull → self.new ≡ record self.old { tickets = without self.old.tickets ticket } }
@@ -285,7 +285,7 @@ impl<D: Disk> Store<D> {
         ensures ok { OnOk result (self.new.marks ≡ with_mark self.old.marks (record { kind = kind; cell = cell })) }
         ensures err { OnErr result (self.new.marks ≡ self.old.marks) }
         ensures listed { listed self.new.entries ≡ listed self.old.entries }
-        ensures kept { D.told → self.new.entries ≡ self.old.entries }
+        ensures kept { D.observable → self.new.entries ≡ self.old.entries }
         ensures errors { IfErr result IsMarkError }
         ensures full { IsErrOf result StoreError.JournalFull
             → (self.old.log.region.count ≡ journal_records) × (not (has_mark (record { kind = kind; cell = cell }) self.old.marks) ≡ true)
@@ -320,7 +320,7 @@ impl<D: Disk> Store<D> {
         ensures ok { OnOk result (self.new.marks ≡ without_mark self.old.marks (record { kind = kind; cell = cell })) }
         ensures err { OnErr result (self.new.marks ≡ self.old.marks) }
         ensures listed { listed self.new.entries ≡ listed self.old.entries }
-        ensures kept { D.told → self.new.entries ≡ self.old.entries }
+        ensures kept { D.observable → self.new.entries ≡ self.old.entries }
         ensures errors { IfErr result IsCommitError }
         ensures full { IsErrOf result StoreError.JournalFull ↔ (self.old.log.region.count ≡ journal_records)
             × (has_mark (record { kind = kind; cell = cell }) self.old.marks ≡ true) }
@@ -345,9 +345,9 @@ impl<D: Disk> Store<D> {
     /// As of `put`. The entries stay as they were.
     pub fn drop_key(&mut self, key: Key) -> Result<(), StoreError>
         ensures ok { OnOk result (listed self.new.entries ≡ without_key (listed self.old.entries) key) }
-        ensures content { OnOk result (D.told → self.new.entries ≡ without_held self.old.entries key) }
+        ensures content { OnOk result (D.observable → self.new.entries ≡ without_held self.old.entries key) }
         ensures listed { OnErr result (listed self.new.entries ≡ listed self.old.entries) }
-        ensures kept { OnErr result (D.told → self.new.entries ≡ self.old.entries) }
+        ensures kept { OnErr result (D.observable → self.new.entries ≡ self.old.entries) }
         ensures errors { IfErr result IsCommitError }
         ensures full { IsErrOf result StoreError.JournalFull
             ↔ (self.old.log.region.count ≡ journal_records) × (is_some (slot_of (listed self.old.entries) key) ≡ true) }
@@ -379,7 +379,7 @@ impl<D: Disk> Store<D> {
         ensures ok { OnOk result (self.new.fresh ≡ false) }
         ensures err { OnErr result (self.new.fresh ≡ self.old.fresh) }
         ensures listed { listed self.new.entries ≡ listed self.old.entries }
-        ensures kept { D.told → self.new.entries ≡ self.old.entries }
+        ensures kept { D.observable → self.new.entries ≡ self.old.entries }
         ensures errors { IfErr result IsCommitError }
         ensures full { IsErrOf result StoreError.JournalFull ↔ (self.old.log.region.count ≡ journal_records) × (self.old.fresh ≡ true) }
         ensures full_rest { IsErrOf result StoreError.JournalFull → self.new ≡ self.old }
@@ -405,11 +405,11 @@ impl<D: Disk> Store<D> {
     ) -> Result<Option<Entry>, Failed>
         requires { length into.old ≡ block_bytes }
         ensures found { IfOk result (λ found. found ≡ newest key_of (record { map = map; block = block; epoch = epoch }) (listed self.old.entries)) }
-        ensures content { OnOk result (D.told → into.new ≡ content_of (newest key_held (record { map = map; block = block; epoch = epoch }) self.old.entries)) }
+        ensures content { OnOk result (D.observable → into.new ≡ content_of (newest key_held (record { map = map; block = block; epoch = epoch }) self.old.entries)) }
         ensures zeros { IfOk result (λ found. IfNone found (into.new ≡ zero_block)) }
         ensures same { self.new ≡ record self.old { disk = self.new.disk } }
         ensures device { KeepsDevice D.size D.seen D.may_leave D.moment D.left_since self.old.disk self.new.disk }
-        ensures holds { D.told → Holds self.old (D.seen self.old.disk) (D.may_leave self.old.disk)
+        ensures holds { D.observable → Holds self.old (D.seen self.old.disk) (D.may_leave self.old.disk)
             → Holds self.new (D.seen self.new.disk) (D.may_leave self.new.disk) }
         ensures cause { HasCause (D.faults self.old.disk) (D.faults self.new.disk) result }
         ensures run { D.came_to self.old.disk self.new.disk }

@@ -91,10 +91,10 @@ impl SlotStore {
     pub fn write<D: Disk>(&self, disk: &mut D, slot: u32, block: &Block) -> Result<(), Failed>
         requires slot { slot < length self.now.used }
         requires room { slot_start self.now.base slot + block_bytes ≤ D.size disk.old }
-        ensures written { OnOk result (D.told → D.seen disk.new ≡ written (D.seen disk.old) (slot_start self.now.base slot) block.now) }
+        ensures written { OnOk result (D.observable → D.seen disk.new ≡ written (D.seen disk.old) (slot_start self.now.base slot) block.now) }
         ensures block { IsBlock block.now }
-        ensures durable { OnOk result (D.told → Only (D.seen disk.new) (D.may_leave disk.new)) }
-        ensures torn { D.told → Torn (slot_start self.now.base slot) block_bytes (D.seen disk.old) (D.seen disk.new) }
+        ensures durable { OnOk result (D.observable → Only (D.seen disk.new) (D.may_leave disk.new)) }
+        ensures torn { D.observable → Torn (slot_start self.now.base slot) block_bytes (D.seen disk.old) (D.seen disk.new) }
         ensures size { D.size disk.new ≡ D.size disk.old }
         ensures crash { Follows (Torn (slot_start self.now.base slot) block_bytes) (D.may_leave disk.old) (D.may_leave disk.new) }
         ensures any_moment { LeavesOnly D.moment D.left_since disk.old disk.new
@@ -116,7 +116,7 @@ impl SlotStore {
         requires slot { slot < length self.now.used }
         requires room { slot_start self.now.base slot + block_bytes ≤ D.size disk.old }
         requires block { IsBlock into.old }
-        ensures bytes { OnOk result (D.told → into.new ≡ part (D.seen disk.old) (slot_start self.now.base slot) block_bytes) }
+        ensures bytes { OnOk result (D.observable → into.new ≡ part (D.seen disk.old) (slot_start self.now.base slot) block_bytes) }
         ensures size { D.size disk.new ≡ D.size disk.old }
         ensures seen { D.seen disk.new ≡ D.seen disk.old }
         ensures crash { Within (D.may_leave disk.old) (D.may_leave disk.new) }

@@ -66,11 +66,11 @@ impl<D: Disk> Device<D> {
     pub fn format(disk: D, inc: Inc) -> Result<Device<D>, (D, StateError)>
         requires { device_bytes ≤ D.size disk }
         ensures ok { IfOk result (λ d. (d.records ≡ kind.Inc inc ∷ []) × (d.region.count ≡ 1)) }
-        ensures holds { IfOk result (λ d. D.told → Holds d.region (D.seen d.disk) (D.may_leave d.disk) d.records) }
+        ensures holds { IfOk result (λ d. D.observable → Holds d.region (D.seen d.disk) (D.may_leave d.disk) d.records) }
         ensures errors { IfErr result (λ e. e.1 ≡ error.Failed) }
-        ensures any_moment { IfOk result (λ d. D.told → LeavesOnly D.moment D.left_since disk d.disk (LeftByFormat (D.may_leave disk) inc)) }
-        ensures err_any_moment { IfErr result (λ e. D.told → LeavesOnly D.moment D.left_since disk e.0 (LeftByFormat (D.may_leave disk) inc)) }
-        ensures err_either { IfErr result (λ e. D.told → LeftByFormat (λ file. file ≡ D.seen disk) inc (D.seen e.0)) }
+        ensures any_moment { IfOk result (λ d. D.observable → LeavesOnly D.moment D.left_since disk d.disk (LeftByFormat (D.may_leave disk) inc)) }
+        ensures err_any_moment { IfErr result (λ e. D.observable → LeavesOnly D.moment D.left_since disk e.0 (LeftByFormat (D.may_leave disk) inc)) }
+        ensures err_either { IfErr result (λ e. D.observable → LeftByFormat (λ file. file ≡ D.seen disk) inc (D.seen e.0)) }
         ensures err_size { IfErr result (λ e. D.size e.0 ≡ D.size disk) }
         ensures failed { IfErr result (λ e. D.faults disk < D.faults e.0) }
         ensures later { IfOk result (λ d. D.faults disk ≤ D.faults d.disk) }
@@ -90,18 +90,18 @@ impl<D: Disk> Device<D> {
 
     /// The device with the records that it stands for, and what these give.
     pub fn open(alloc: Global, disk: D) -> Result<(Device<D>, Kept), (D, StateError)>
-        ensures found { IfOk result (λ o. D.told → (take header_bytes (D.seen disk) ≡ header) × JournalCounts (D.seen disk) (bodies_of o.0.records)) }
+        ensures found { IfOk result (λ o. D.observable → (take header_bytes (D.seen disk) ≡ header) × JournalCounts (D.seen disk) (bodies_of o.0.records)) }
         ensures spelled { IfOk result (λ o. AreSpelled o.0.records) }
-        ensures same { (records : List StateRecord) → IfOk result (λ o. D.told → StandsFor (D.seen disk) records → o.0.records ≡ records) }
+        ensures same { (records : List StateRecord) → IfOk result (λ o. D.observable → StandsFor (D.seen disk) records → o.0.records ≡ records) }
         ensures holds { (records : List StateRecord)
-            → IfOk result (λ o. D.told → StandsFor (D.seen disk) records → Holds o.0.region (D.seen o.0.disk) (D.may_leave o.0.disk) o.0.records) }
+            → IfOk result (λ o. D.observable → StandsFor (D.seen disk) records → Holds o.0.region (D.seen o.0.disk) (D.may_leave o.0.disk) o.0.records) }
         ensures rows { IfOk result (λ o. (place : ℕ) → row_at o.1.places place ≡ row_of o.0.records place) }
         ensures inc { IfOk result (λ o. o.1.inc ≡ inc_of o.0.records) }
-        ensures blank { IfErr result (λ e. e.1 ≡ error.Blank → D.told → device_bytes ≤ D.size disk → take header_bytes (D.seen disk) ≢ header) }
-        ensures bad { (index : ℕ) → IfErr result (λ e. e.1 ≡ error.BadRecord index → D.told → IsBadOn (D.seen disk) index) }
+        ensures blank { IfErr result (λ e. e.1 ≡ error.Blank → D.observable → device_bytes ≤ D.size disk → take header_bytes (D.seen disk) ≢ header) }
+        ensures bad { (index : ℕ) → IfErr result (λ e. e.1 ≡ error.BadRecord index → D.observable → IsBadOn (D.seen disk) index) }
         ensures failed { IfErr result (λ e. e.1 ≡ error.Failed → D.faults disk < D.faults e.0) }
         ensures bad_headed { (index : ℕ)
-            → IfErr result (λ e. e.1 ≡ error.BadRecord index → (device_bytes ≤ D.size disk) × (D.told → take header_bytes (D.seen disk) ≡ header)) }
+            → IfErr result (λ e. e.1 ≡ error.BadRecord index → (device_bytes ≤ D.size disk) × (D.observable → take header_bytes (D.seen disk) ≡ header)) }
         ensures not_full { IfErr result (λ e. e.1 ≢ error.JournalFull) }
         ensures device { IfOk result (λ o. KeepsDevice D.size D.seen D.may_leave D.moment D.left_since disk o.0.disk) }
         ensures err_device { IfErr result (λ e. KeepsDevice D.size D.seen D.may_leave D.moment D.left_since disk e.0) }
@@ -127,9 +127,9 @@ impl<D: Disk> Device<D> {
     /// Loses what the device does not keep, as in a crash, and reads again the records that the device then stands for, and what
     /// these give.
     pub fn reopen(&mut self, alloc: Global) -> Result<Kept, StateError>
-        ensures left { D.told → D.may_leave self.old.disk (D.seen self.new.disk) }
-        ensures same { (records : List StateRecord) → OnOk result (D.told → StandsFor (D.seen self.new.disk) records → self.new.records ≡ records) }
-        ensures holds { (records : List StateRecord) → OnOk result (D.told → StandsFor (D.seen self.new.disk) records
+        ensures left { D.observable → D.may_leave self.old.disk (D.seen self.new.disk) }
+        ensures same { (records : List StateRecord) → OnOk result (D.observable → StandsFor (D.seen self.new.disk) records → self.new.records ≡ records) }
+        ensures holds { (records : List StateRecord) → OnOk result (D.observable → StandsFor (D.seen self.new.disk) records
             → Holds self.new.region (D.seen self.new.disk) (D.may_leave self.new.disk) self.new.records) }
         ensures rows { IfOk result (λ kept. (place : ℕ) → row_at kept.places place ≡ row_of self.new.records place) }
         ensures inc { IfOk result (λ kept. kept.inc ≡ inc_of self.new.records) }
@@ -166,11 +166,11 @@ impl<D: Disk> Device<D> {
         ensures failed { IsErrOf result error.Failed → D.faults self.old.disk < D.faults self.new.disk }
         ensures errors { ¬ IsErrOf result error.NoMemory }
         ensures only { IfErr result IsAppendError }
-        ensures holds { D.told → Holds self.old.region (D.seen self.old.disk) (D.may_leave self.old.disk) self.old.records
+        ensures holds { D.observable → Holds self.old.region (D.seen self.old.disk) (D.may_leave self.old.disk) self.old.records
             → OnOk result (Holds self.new.region (D.seen self.new.disk) (D.may_leave self.new.disk) self.new.records) }
-        ensures either { D.told → Holds self.old.region (D.seen self.old.disk) (D.may_leave self.old.disk) self.old.records
+        ensures either { D.observable → Holds self.old.region (D.seen self.old.disk) (D.may_leave self.old.disk) self.old.records
             → WithOrWithout (D.seen self.new.disk) self.old.records entry.now }
-        ensures any_moment { D.told → Holds self.old.region (D.seen self.old.disk) (D.may_leave self.old.disk) self.old.records
+        ensures any_moment { D.observable → Holds self.old.region (D.seen self.old.disk) (D.may_leave self.old.disk) self.old.records
             → LeavesOnly D.moment D.left_since self.old.disk self.new.disk (λ c. WithOrWithout c self.old.records entry.now) }
         ensures later { D.faults self.old.disk ≤ D.faults self.new.disk }
         ensures run { D.came_to self.old.disk self.new.disk }
@@ -199,10 +199,10 @@ const HEADER: [u8; 64] = [
 fn write_format<D: Disk>(disk: &mut D, inc: Inc) -> Result<Journal<128>, StateError>
     requires { device_bytes ≤ D.size disk.old }
     ensures region { IfOk result (λ j. (j.base ≡ journal_base) × (j.limit ≡ journal_records) × (j.count ≡ 1)) }
-    ensures holds { IfOk result (λ j. D.told → Holds j (D.seen disk.new) (D.may_leave disk.new) (kind.Inc inc ∷ [])) }
+    ensures holds { IfOk result (λ j. D.observable → Holds j (D.seen disk.new) (D.may_leave disk.new) (kind.Inc inc ∷ [])) }
     ensures errors { IfErr result (λ e. e ≡ error.Failed) }
-    ensures any_moment { D.told → LeavesOnly D.moment D.left_since disk.old disk.new (LeftByFormat (D.may_leave disk.old) inc) }
-    ensures either { D.told → LeftByFormat (λ file. file ≡ D.seen disk.old) inc (D.seen disk.new) }
+    ensures any_moment { D.observable → LeavesOnly D.moment D.left_since disk.old disk.new (LeftByFormat (D.may_leave disk.old) inc) }
+    ensures either { D.observable → LeftByFormat (λ file. file ≡ D.seen disk.old) inc (D.seen disk.new) }
     ensures failed { OnErr result (D.faults disk.old < D.faults disk.new) }
     ensures later { D.faults disk.old ≤ D.faults disk.new }
     ensures size { D.size disk.new ≡ D.size disk.old }
@@ -217,12 +217,12 @@ fn write_format<D: Disk>(disk: &mut D, inc: Inc) -> Result<Journal<128>, StateEr
 fn write_first<D: Disk>(disk: &mut D, inc: Inc) -> Result<Journal<128>, StateError>
     requires { device_bytes ≤ D.size disk.old }
     ensures region { IfOk result (λ j. (j.base ≡ journal_base) × (j.limit ≡ journal_records) × (j.count ≡ 1)) }
-    ensures stands { IfOk result (λ j. D.told → JournalStands (D.seen disk.new) (bodies_of (kind.Inc inc ∷ []))) }
-    ensures durable { OnOk result (D.told → Only (D.seen disk.new) (D.may_leave disk.new)) }
-    ensures shut { OnOk result (D.told → IsShut (D.seen disk.new)) }
+    ensures stands { IfOk result (λ j. D.observable → JournalStands (D.seen disk.new) (bodies_of (kind.Inc inc ∷ []))) }
+    ensures durable { OnOk result (D.observable → Only (D.seen disk.new) (D.may_leave disk.new)) }
+    ensures shut { OnOk result (D.observable → IsShut (D.seen disk.new)) }
     ensures errors { IfErr result (λ e. e ≡ error.Failed) }
-    ensures any_moment { D.told → LeavesOnly D.moment D.left_since disk.old disk.new (λ c. D.may_leave disk.old c ⊎ IsShut c) }
-    ensures either { D.told → (D.seen disk.new ≡ D.seen disk.old) ⊎ IsShut (D.seen disk.new) }
+    ensures any_moment { D.observable → LeavesOnly D.moment D.left_since disk.old disk.new (λ c. D.may_leave disk.old c ⊎ IsShut c) }
+    ensures either { D.observable → (D.seen disk.new ≡ D.seen disk.old) ⊎ IsShut (D.seen disk.new) }
     ensures failed { OnErr result (D.faults disk.old < D.faults disk.new) }
     ensures later { D.faults disk.old ≤ D.faults disk.new }
     ensures size { D.size disk.new ≡ D.size disk.old }
@@ -236,9 +236,9 @@ fn write_first<D: Disk>(disk: &mut D, inc: Inc) -> Result<Journal<128>, StateErr
 /// Whether the header of a state device stands there; then a crash leaves what a read gives.
 fn has_header<D: Disk>(disk: &mut D) -> Result<bool, Failed>
     ensures size { IfOk result (λ found. OnTrue found (device_bytes ≤ D.size disk.old)) }
-    ensures headed { IfOk result (λ found. OnTrue found (D.told → take header_bytes (D.seen disk.old) ≡ header)) }
-    ensures blank { IfOk result (λ found. OnFalse found (D.told → device_bytes ≤ D.size disk.old → take header_bytes (D.seen disk.old) ≢ header)) }
-    ensures durable { IfOk result (λ found. OnTrue found (D.told → Only (D.seen disk.new) (D.may_leave disk.new))) }
+    ensures headed { IfOk result (λ found. OnTrue found (D.observable → take header_bytes (D.seen disk.old) ≡ header)) }
+    ensures blank { IfOk result (λ found. OnFalse found (D.observable → device_bytes ≤ D.size disk.old → take header_bytes (D.seen disk.old) ≢ header)) }
+    ensures durable { IfOk result (λ found. OnTrue found (D.observable → Only (D.seen disk.new) (D.may_leave disk.new))) }
     ensures device { KeepsDevice D.size D.seen D.may_leave D.moment D.left_since disk.old disk.new }
     ensures cause { HasCause (D.faults disk.old) (D.faults disk.new) result }
     ensures run { D.came_to disk.old disk.new }
@@ -258,15 +258,15 @@ fn read_journal<D: Disk>(
 ) -> Result<(Journal<128>, Register), StateError>
     requires { device_bytes ≤ D.size disk.old }
     ensures region { IfOk result (λ o. (o.0.base ≡ journal_base) × (o.0.limit ≡ journal_records)) }
-    ensures counts { IfOk result (λ o. D.told → JournalCounts (D.seen disk.old) (bodies_of o.1.history.items)) }
+    ensures counts { IfOk result (λ o. D.observable → JournalCounts (D.seen disk.old) (bodies_of o.1.history.items)) }
     ensures spelled { IfOk result (λ o. AreSpelled o.1.history.items) }
-    ensures same { (records : List StateRecord) → IfOk result (λ o. D.told → StandsFor (D.seen disk.old) records → o.1.history.items ≡ records) }
+    ensures same { (records : List StateRecord) → IfOk result (λ o. D.observable → StandsFor (D.seen disk.old) records → o.1.history.items ≡ records) }
     ensures holds { (records : List StateRecord)
-        → IfOk result (λ o. D.told → Only (D.seen disk.old) (D.may_leave disk.old) → StandsFor (D.seen disk.old) records
+        → IfOk result (λ o. D.observable → Only (D.seen disk.old) (D.may_leave disk.old) → StandsFor (D.seen disk.old) records
         → Holds o.0 (D.seen disk.new) (D.may_leave disk.new) o.1.history.items) }
     ensures rows { IfOk result (λ o. (place : ℕ) → row_at o.1.places place ≡ row_of o.1.history.items place) }
     ensures inc { IfOk result (λ o. o.1.inc ≡ inc_of o.1.history.items) }
-    ensures bad { (index : ℕ) → IfErr result (λ e. e ≡ error.BadRecord index → D.told → IsBadOn (D.seen disk.old) index) }
+    ensures bad { (index : ℕ) → IfErr result (λ e. e ≡ error.BadRecord index → D.observable → IsBadOn (D.seen disk.old) index) }
     ensures cause { HasJournalCause (D.faults disk.old) (D.faults disk.new) result }
     ensures device { KeepsDevice D.size D.seen D.may_leave D.moment D.left_since disk.old disk.new }
     ensures run { D.came_to disk.old disk.new }
@@ -283,19 +283,19 @@ fn read_journal<D: Disk>(
 fn read_device<D: Disk>(alloc: Global, disk: &mut D) -> Result<(Journal<128>, Register), StateError>
     ensures region { IfOk result (λ o. (o.0.base ≡ journal_base) × (o.0.limit ≡ journal_records)) }
     ensures size { IfOk result (λ o. device_bytes ≤ D.size disk.new) }
-    ensures found { IfOk result (λ o. D.told → (take header_bytes (D.seen disk.old) ≡ header) × JournalCounts (D.seen disk.old) (bodies_of o.1.history.items)) }
+    ensures found { IfOk result (λ o. D.observable → (take header_bytes (D.seen disk.old) ≡ header) × JournalCounts (D.seen disk.old) (bodies_of o.1.history.items)) }
     ensures spelled { IfOk result (λ o. AreSpelled o.1.history.items) }
-    ensures same { (records : List StateRecord) → IfOk result (λ o. D.told → StandsFor (D.seen disk.old) records → o.1.history.items ≡ records) }
+    ensures same { (records : List StateRecord) → IfOk result (λ o. D.observable → StandsFor (D.seen disk.old) records → o.1.history.items ≡ records) }
     ensures holds { (records : List StateRecord)
-        → IfOk result (λ o. D.told → StandsFor (D.seen disk.old) records → Holds o.0 (D.seen disk.new) (D.may_leave disk.new) o.1.history.items) }
+        → IfOk result (λ o. D.observable → StandsFor (D.seen disk.old) records → Holds o.0 (D.seen disk.new) (D.may_leave disk.new) o.1.history.items) }
     ensures rows { IfOk result (λ o. (place : ℕ) → row_at o.1.places place ≡ row_of o.1.history.items place) }
     ensures inc { IfOk result (λ o. o.1.inc ≡ inc_of o.1.history.items) }
-    ensures blank { IsErrOf result error.Blank → D.told → device_bytes ≤ D.size disk.old → take header_bytes (D.seen disk.old) ≢ header }
-    ensures bad { (index : ℕ) → IfErr result (λ e. e ≡ error.BadRecord index → D.told → IsBadOn (D.seen disk.old) index) }
+    ensures blank { IsErrOf result error.Blank → D.observable → device_bytes ≤ D.size disk.old → take header_bytes (D.seen disk.old) ≢ header }
+    ensures bad { (index : ℕ) → IfErr result (λ e. e ≡ error.BadRecord index → D.observable → IsBadOn (D.seen disk.old) index) }
     ensures failed { IsErrOf result error.Failed → D.faults disk.old < D.faults disk.new }
     ensures later { D.faults disk.old ≤ D.faults disk.new }
     ensures bad_headed { (index : ℕ)
-        → IfErr result (λ e. e ≡ error.BadRecord index → (device_bytes ≤ D.size disk.old) × (D.told → take header_bytes (D.seen disk.old) ≡ header)) }
+        → IfErr result (λ e. e ≡ error.BadRecord index → (device_bytes ≤ D.size disk.old) × (D.observable → take header_bytes (D.seen disk.old) ≡ header)) }
     ensures not_full { ¬ IsErrOf result error.JournalFull }
     ensures device { KeepsDevice D.size D.seen D.may_leave D.moment D.left_since disk.old disk.new }
     ensures run { D.came_to disk.old disk.new }

@@ -56,12 +56,12 @@ impl<D: Disk> StateStore<D> {
     pub fn format(alloc: Global, disk: D, inc: Inc) -> Result<StateStore<D>, (D, StateError)>
         requires { device_bytes ≤ D.size disk }
         ensures ok { IfOk result (λ s. s.records ≡ kind.Inc inc ∷ []) }
-        ensures count { IfOk result (λ s. D.told → s.region.count ≡ 1) }
-        ensures holds { IfOk result (λ s. D.told → Holds s.region (D.seen s.disk) (D.may_leave s.disk) s.records) }
+        ensures count { IfOk result (λ s. D.observable → s.region.count ≡ 1) }
+        ensures holds { IfOk result (λ s. D.observable → Holds s.region (D.seen s.disk) (D.may_leave s.disk) s.records) }
         ensures errors { IfErr result (λ e. e.1 ≡ error.Failed) }
-        ensures any_moment { IfOk result (λ s. D.told → LeavesOnly D.moment D.left_since disk s.disk (LeftByFormat (D.may_leave disk) inc)) }
-        ensures err_any_moment { IfErr result (λ e. D.told → LeavesOnly D.moment D.left_since disk e.0 (LeftByFormat (D.may_leave disk) inc)) }
-        ensures err_either { IfErr result (λ e. D.told → LeftByFormat (λ file. file ≡ D.seen disk) inc (D.seen e.0)) }
+        ensures any_moment { IfOk result (λ s. D.observable → LeavesOnly D.moment D.left_since disk s.disk (LeftByFormat (D.may_leave disk) inc)) }
+        ensures err_any_moment { IfErr result (λ e. D.observable → LeavesOnly D.moment D.left_since disk e.0 (LeftByFormat (D.may_leave disk) inc)) }
+        ensures err_either { IfErr result (λ e. D.observable → LeftByFormat (λ file. file ≡ D.seen disk) inc (D.seen e.0)) }
         ensures err_size { IfErr result (λ e. D.size e.0 ≡ D.size disk) }
         ensures failed { IfErr result (λ e. D.faults disk < D.faults e.0) }
         ensures later { IfOk result (λ s. D.faults disk ≤ D.faults s.disk) }
@@ -85,16 +85,16 @@ impl<D: Disk> StateStore<D> {
     /// record of this index has no spelling, and its gate and all before it are open; `Failed`, where the device failed, and `NoMemory`. The device
     /// is handed back, and but for a sync it is as it was.
     pub fn open(alloc: Global, disk: D) -> Result<StateStore<D>, (D, StateError)>
-        ensures found { IfOk result (λ s. D.told → (take header_bytes (D.seen disk) ≡ header) × JournalCounts (D.seen disk) (bodies_of s.records)) }
+        ensures found { IfOk result (λ s. D.observable → (take header_bytes (D.seen disk) ≡ header) × JournalCounts (D.seen disk) (bodies_of s.records)) }
         ensures spelled { IfOk result (λ s. AreSpelled s.records) }
-        ensures same { (records : List StateRecord) → IfOk result (λ s. D.told → StandsFor (D.seen disk) records → s.records ≡ records) }
+        ensures same { (records : List StateRecord) → IfOk result (λ s. D.observable → StandsFor (D.seen disk) records → s.records ≡ records) }
         ensures holds { (records : List StateRecord)
-            → IfOk result (λ s. D.told → StandsFor (D.seen disk) records → Holds s.region (D.seen s.disk) (D.may_leave s.disk) s.records) }
-        ensures blank { IfErr result (λ e. e.1 ≡ error.Blank → D.told → device_bytes ≤ D.size disk → take header_bytes (D.seen disk) ≢ header) }
-        ensures bad { (index : ℕ) → IfErr result (λ e. e.1 ≡ error.BadRecord index → D.told → IsBadOn (D.seen disk) index) }
+            → IfOk result (λ s. D.observable → StandsFor (D.seen disk) records → Holds s.region (D.seen s.disk) (D.may_leave s.disk) s.records) }
+        ensures blank { IfErr result (λ e. e.1 ≡ error.Blank → D.observable → device_bytes ≤ D.size disk → take header_bytes (D.seen disk) ≢ header) }
+        ensures bad { (index : ℕ) → IfErr result (λ e. e.1 ≡ error.BadRecord index → D.observable → IsBadOn (D.seen disk) index) }
         ensures failed { IfErr result (λ e. e.1 ≡ error.Failed → D.faults disk < D.faults e.0) }
         ensures bad_headed { (index : ℕ)
-            → IfErr result (λ e. e.1 ≡ error.BadRecord index → (device_bytes ≤ D.size disk) × (D.told → take header_bytes (D.seen disk) ≡ header)) }
+            → IfErr result (λ e. e.1 ≡ error.BadRecord index → (device_bytes ≤ D.size disk) × (D.observable → take header_bytes (D.seen disk) ≡ header)) }
         ensures not_full { IfErr result (λ e. e.1 ≢ error.JournalFull) }
         ensures device { IfOk result (λ s. KeepsDevice D.size D.seen D.may_leave D.moment D.left_since disk s.disk) }
         ensures err_device { IfErr result (λ e. KeepsDevice D.size D.seen D.may_leave D.moment D.left_since disk e.0) }
@@ -114,9 +114,9 @@ impl<D: Disk> StateStore<D> {
     /// # Errors
     /// `Blank`, `BadRecord`, `Failed` and `NoMemory`, as of `open`. The records in memory are as they were, and are not to be used.
     pub fn reopen(&mut self, alloc: Global) -> Result<(), StateError>
-        ensures left { D.told → D.may_leave self.old.disk (D.seen self.new.disk) }
-        ensures same { (records : List StateRecord) → OnOk result (D.told → StandsFor (D.seen self.new.disk) records → self.new.records ≡ records) }
-        ensures holds { (records : List StateRecord) → OnOk result (D.told → StandsFor (D.seen self.new.disk) records
+        ensures left { D.observable → D.may_leave self.old.disk (D.seen self.new.disk) }
+        ensures same { (records : List StateRecord) → OnOk result (D.observable → StandsFor (D.seen self.new.disk) records → self.new.records ≡ records) }
+        ensures holds { (records : List StateRecord) → OnOk result (D.observable → StandsFor (D.seen self.new.disk) records
             → Holds self.new.region (D.seen self.new.disk) (D.may_leave self.new.disk) self.new.records) }
         ensures err { OnErr result (self.new.records ≡ self.old.records) }
         ensures failed { IsErrOf result error.Failed → D.faults self.old.disk < D.faults self.new.disk }
@@ -180,11 +180,11 @@ impl<D: Disk> StateStore<D> {
         ensures memory { ¬ IsErrOf result error.NoMemory }
         ensures only { IfErr result IsAppendError }
         ensures failed { IsErrOf result error.Failed → D.faults self.old.disk < D.faults self.new.disk }
-        ensures holds { D.told → Holds self.old.region (D.seen self.old.disk) (D.may_leave self.old.disk) self.old.records
+        ensures holds { D.observable → Holds self.old.region (D.seen self.old.disk) (D.may_leave self.old.disk) self.old.records
             → OnOk result (Holds self.new.region (D.seen self.new.disk) (D.may_leave self.new.disk) self.new.records) }
-        ensures either { D.told → Holds self.old.region (D.seen self.old.disk) (D.may_leave self.old.disk) self.old.records
+        ensures either { D.observable → Holds self.old.region (D.seen self.old.disk) (D.may_leave self.old.disk) self.old.records
             → WithOrWithout (D.seen self.new.disk) self.old.records (kind.Inc (inc_of self.old.records + 1)) }
-        ensures any_moment { D.told → Holds self.old.region (D.seen self.old.disk) (D.may_leave self.old.disk) self.old.records
+        ensures any_moment { D.observable → Holds self.old.region (D.seen self.old.disk) (D.may_leave self.old.disk) self.old.records
             → LeavesOnly D.moment D.left_since self.old.disk self.new.disk (λ c. WithOrWithout c self.old.records (kind.Inc (inc_of self.old.records + 1))) }
         ensures later { D.faults self.old.disk ≤ D.faults self.new.disk }
         ensures run { D.came_to self.old.disk self.new.disk }
@@ -215,11 +215,11 @@ impl<D: Disk> StateStore<D> {
         ensures memory { IsErrOf result error.NoMemory → self.new ≡ self.old }
         ensures only { IfErr result IsCommitError }
         ensures failed { IsErrOf result error.Failed → D.faults self.old.disk < D.faults self.new.disk }
-        ensures holds { D.told → Holds self.old.region (D.seen self.old.disk) (D.may_leave self.old.disk) self.old.records
+        ensures holds { D.observable → Holds self.old.region (D.seen self.old.disk) (D.may_leave self.old.disk) self.old.records
             → OnOk result (Holds self.new.region (D.seen self.new.disk) (D.may_leave self.new.disk) self.new.records) }
-        ensures either { D.told → Holds self.old.region (D.seen self.old.disk) (D.may_leave self.old.disk) self.old.records
+        ensures either { D.observable → Holds self.old.region (D.seen self.old.disk) (D.may_leave self.old.disk) self.old.records
             → WithOrWithout (D.seen self.new.disk) self.old.records (kind.Promise place ballot) }
-        ensures any_moment { D.told → Holds self.old.region (D.seen self.old.disk) (D.may_leave self.old.disk) self.old.records
+        ensures any_moment { D.observable → Holds self.old.region (D.seen self.old.disk) (D.may_leave self.old.disk) self.old.records
             → LeavesOnly D.moment D.left_since self.old.disk self.new.disk
             (StandsForEither self.old.records (committed self.old.records (kind.Promise place ballot))) }
         ensures later { D.faults self.old.disk ≤ D.faults self.new.disk }
@@ -249,11 +249,11 @@ impl<D: Disk> StateStore<D> {
         ensures memory { IsErrOf result error.NoMemory → self.new ≡ self.old }
         ensures only { IfErr result IsCommitError }
         ensures failed { IsErrOf result error.Failed → D.faults self.old.disk < D.faults self.new.disk }
-        ensures holds { D.told → Holds self.old.region (D.seen self.old.disk) (D.may_leave self.old.disk) self.old.records
+        ensures holds { D.observable → Holds self.old.region (D.seen self.old.disk) (D.may_leave self.old.disk) self.old.records
             → OnOk result (Holds self.new.region (D.seen self.new.disk) (D.may_leave self.new.disk) self.new.records) }
-        ensures either { D.told → Holds self.old.region (D.seen self.old.disk) (D.may_leave self.old.disk) self.old.records
+        ensures either { D.observable → Holds self.old.region (D.seen self.old.disk) (D.may_leave self.old.disk) self.old.records
             → WithOrWithout (D.seen self.new.disk) self.old.records (kind.Accepted place ballot command.now) }
-        ensures any_moment { D.told → Holds self.old.region (D.seen self.old.disk) (D.may_leave self.old.disk) self.old.records
+        ensures any_moment { D.observable → Holds self.old.region (D.seen self.old.disk) (D.may_leave self.old.disk) self.old.records
             → LeavesOnly D.moment D.left_since self.old.disk self.new.disk
             (StandsForEither self.old.records (committed self.old.records (kind.Accepted place ballot command.now))) }
         ensures later { D.faults self.old.disk ≤ D.faults self.new.disk }
@@ -285,11 +285,11 @@ impl<D: Disk> StateStore<D> {
         ensures memory { IsErrOf result error.NoMemory → self.new ≡ self.old }
         ensures only { IfErr result IsCommitError }
         ensures failed { IsErrOf result error.Failed → D.faults self.old.disk < D.faults self.new.disk }
-        ensures holds { D.told → Holds self.old.region (D.seen self.old.disk) (D.may_leave self.old.disk) self.old.records
+        ensures holds { D.observable → Holds self.old.region (D.seen self.old.disk) (D.may_leave self.old.disk) self.old.records
             → OnOk result (Holds self.new.region (D.seen self.new.disk) (D.may_leave self.new.disk) self.new.records) }
-        ensures either { D.told → Holds self.old.region (D.seen self.old.disk) (D.may_leave self.old.disk) self.old.records
+        ensures either { D.observable → Holds self.old.region (D.seen self.old.disk) (D.may_leave self.old.disk) self.old.records
             → WithOrWithout (D.seen self.new.disk) self.old.records (kind.Chosen place command.now) }
-        ensures any_moment { D.told → Holds self.old.region (D.seen self.old.disk) (D.may_leave self.old.disk) self.old.records
+        ensures any_moment { D.observable → Holds self.old.region (D.seen self.old.disk) (D.may_leave self.old.disk) self.old.records
             → LeavesOnly D.moment D.left_since self.old.disk self.new.disk
             (StandsForEither self.old.records (committed self.old.records (kind.Chosen place command.now))) }
         ensures later { D.faults self.old.disk ≤ D.faults self.new.disk }
@@ -317,11 +317,11 @@ impl<D: Disk> StateStore<D> {
         ensures memory { IsErrOf result error.NoMemory → self.new ≡ self.old }
         ensures only { IfErr result IsCommitError }
         ensures failed { IsErrOf result error.Failed → D.faults self.old.disk < D.faults self.new.disk }
-        ensures holds { D.told → Holds self.old.region (D.seen self.old.disk) (D.may_leave self.old.disk) self.old.records
+        ensures holds { D.observable → Holds self.old.region (D.seen self.old.disk) (D.may_leave self.old.disk) self.old.records
             → OnOk result (Holds self.new.region (D.seen self.new.disk) (D.may_leave self.new.disk) self.new.records) }
-        ensures either { D.told → Holds self.old.region (D.seen self.old.disk) (D.may_leave self.old.disk) self.old.records
+        ensures either { D.observable → Holds self.old.region (D.seen self.old.disk) (D.may_leave self.old.disk) self.old.records
             → WithOrWithout (D.seen self.new.disk) self.old.records entry.now }
-        ensures any_moment { D.told → Holds self.old.region (D.seen self.old.disk) (D.may_leave self.old.disk) self.old.records
+        ensures any_moment { D.observable → Holds self.old.region (D.seen self.old.disk) (D.may_leave self.old.disk) self.old.records
             → LeavesOnly D.moment D.left_since self.old.disk self.new.disk (StandsForEither self.old.records (committed self.old.records entry.now)) }
         ensures later { D.faults self.old.disk ≤ D.faults self.new.disk }
         ensures run { D.came_to self.old.disk self.new.disk }
@@ -343,11 +343,11 @@ impl<D: Disk> StateStore<D> {
         ensures memory { IsErrOf result error.NoMemory → self.new ≡ self.old }
         ensures only { IfErr result IsCommitError }
         ensures failed { IsErrOf result error.Failed → D.faults self.old.disk < D.faults self.new.disk }
-        ensures holds { D.told → Holds self.old.region (D.seen self.old.disk) (D.may_leave self.old.disk) self.old.records
+        ensures holds { D.observable → Holds self.old.region (D.seen self.old.disk) (D.may_leave self.old.disk) self.old.records
             → OnOk result (Holds self.new.region (D.seen self.new.disk) (D.may_leave self.new.disk) self.new.records) }
-        ensures either { D.told → Holds self.old.region (D.seen self.old.disk) (D.may_leave self.old.disk) self.old.records
+        ensures either { D.observable → Holds self.old.region (D.seen self.old.disk) (D.may_leave self.old.disk) self.old.records
             → WithOrWithout (D.seen self.new.disk) self.old.records entry.now }
-        ensures any_moment { D.told → Holds self.old.region (D.seen self.old.disk) (D.may_leave self.old.disk) self.old.records
+        ensures any_moment { D.observable → Holds self.old.region (D.seen self.old.disk) (D.may_leave self.old.disk) self.old.records
             → LeavesOnly D.moment D.left_since self.old.disk self.new.disk (λ c. WithOrWithout c self.old.records entry.now) }
         ensures later { D.faults self.old.disk ≤ D.faults self.new.disk }
         ensures run { D.came_to self.old.disk self.new.disk }

@@ -105,7 +105,7 @@ module _ {D : Type 0} (op : Pending) (side : PairMemory) (store : Holdings D) (h
               (stage.moments told (subst (HoldsAt device) (sym opened.store) holds));
           still = λ no. absurd (memory no);
           same = λ no. absurd (memory no);
-          kept = subst (λ (s : Holdings D). OnErr result (device.told → left.entries ≡ s.entries)) opened.store stage.kept;
+          kept = subst (λ (s : Holdings D). OnErr result (device.observable → left.entries ≡ s.entries)) opened.store stage.kept;
           full = λ no. absurd (full no);
           cause = subst (λ (s : Holdings D). HasFault (device.faults s.disk) (device.faults left.disk) result) opened.store stage.cause;
           run = subst (λ (s : Holdings D). device.came_to s.disk left.disk) opened.store stage.run;

@@ -8,7 +8,7 @@ invariant-loop-done g l =
     record {
       within : l.done ≤ length l.into;
       same_length : length l.into ≡ length l.fn.into;
-      so_far : s.told → TakenSoFar (s.left l.fn.source) (s.left l.source) l.fn.into l.into l.done;
+      so_far : s.observable → TakenSoFar (s.left l.fn.source) (s.left l.source) l.fn.into l.into l.done;
       later : s.faults l.fn.source ≤ s.faults l.source;
     }
 

@@ -7,6 +7,6 @@ loop-done-preserved g c =
     let inv = c.loop-done.invariant in
     record {
       within = search rules;
-      so_far = λ told. more_written _ _ _ _ _ _ _ refl (inv.so_far told) (c.in_ok-done.ensures.takes told);
+      so_far = λ observable. more_written _ _ _ _ _ _ _ refl (inv.so_far observable) (c.in_ok-done.ensures.takes observable);
       later = omega (arith, inv.later, c.write.ensures.cause.later);
     }

@@ -6,7 +6,7 @@ invariant-loop-done g l =
     let s = g.S.Sink in
     record {
       within : l.done ≤ length l.bytes;
-      so_far : s.told → s.taken l.sink ≡ s.taken l.fn.sink ++ take l.done l.bytes;
+      so_far : s.observable → s.taken l.sink ≡ s.taken l.fn.sink ++ take l.done l.bytes;
       later : s.faults l.fn.sink ≤ s.faults l.sink;
     }
 

@@ -11,7 +11,7 @@ use Rattle.copy_recovery.proofs.again.copies_after.Given as goal
 abbrev pub invariant-loop-cell : goal.invariant-loop-cell
 invariant-loop-cell g l = record {
   seen : IsSeen g.D.Disk l.fn.store l.store;
-  letters : g.D.Disk.told →
+  letters : g.D.Disk.observable →
       l.letters ++ letters_of (sender l.here) l.nth
       (flat_map (λ row. copy_awaited l.here (own_of l.side l.fn.store) row.0 row.1 (copy_stage (store_of l.fn.store) row.0 row.1)) l.cell-iterator)
       ≡ l.initial.letters

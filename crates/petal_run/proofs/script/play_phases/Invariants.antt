@@ -8,5 +8,5 @@ abbrev pub invariant-loop : goal.invariant-loop
 invariant-loop g l =
     (goal.iterator-loop g).can_next l.iterator' × (goal.iterator-loop g).is_finite l.iterator'
     × (l.playing.script ≡ l.fn.playing.script) × GoesByPhases l.playing × (l.playing.since ≡ [])
-    × (g.W.Sink.told → Wrote (g.W.Sink.taken l.fn.sink) l.playing.ended (g.W.Sink.taken l.sink))
+    × (g.W.Sink.observable → Wrote (g.W.Sink.taken l.fn.sink) l.playing.ended (g.W.Sink.taken l.sink))
     × (g.W.Sink.faults l.fn.sink ≤ g.W.Sink.faults l.sink)

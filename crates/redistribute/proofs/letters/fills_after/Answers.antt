@@ -24,7 +24,7 @@ loop-row-preserved g c =
     let is : at + 1 ≡ suc at = omega arith in
     let seen = c.loop-row.invariant.seen in
     let same : own_of side c.loop-row.store ≡ own_of side first = ap (λ (s : Holdings _). own_of side s) seen.same in
-    let letter = λ (told : g.D.Disk.told).
+    let letter = λ (told : g.D.Disk.observable).
     c.in_ok-found.ensures.letter told side
     ∙ ap (λ (k : Option Key). sends_key here.state (own_of side c.loop-row.store) k) c.fill_of-key.ensures
     ∙ ap (λ (own : PairState). sends_key here.state own (fill_of here.state here.me (get_or rows at no_row) own)) same in
