@@ -1,13 +1,8 @@
 -- The chosen log is the longest run of chosen places, and only grows.
-use Rattle.std.proofs.Common.{◌≡◌, ◌⊎◌, inl, inr, ℕ, zero, suc, ◌+◌, ◌<◌, ◌≤◌, List, [], ◌∷◌, ◌++◌, length, map, fold, Option}
-use Rattle.std.proofs.Common.{Some, None, refl, sym, ap, subst, ◌∙◌, arith}
-use Rattle.std.proofs.lemmas.Bool.{cases_lt}
-use Rattle.std.specs.Prelude.{max, slice_get, unwrap_or}
-use Rattle.std.specs.List.{flat_map, range_with_len}
-use Rattle.petal_command.specs.declared.command.Command.{Command}
-use Rattle.spec_paxos.specs.Member.{In}
+use Rattle.law_agreement.proofs.Imports.{[], ◌++◌, ◌+◌, ◌<◌, ◌∙◌, ◌∷◌, ◌≡◌, ◌≤◌, ◌⊎◌, Command, Devices, In, IsChosenBy, List, None, Option, Some, ap, arith}
+use Rattle.law_agreement.proofs.Imports.{before_first, cases_lt, chosen_at, chosen_from, chosen_log, flat_map, fold, inl, inr, last_place, length, map, max}
+use Rattle.law_agreement.proofs.Imports.{range_with_len, refl, slice_get, subst, suc, sym, unwrap_or, vote_place, zero, ℕ}
 use Rattle.spec_paxos.specs.declared.record.StateRecord.TheVariants.{Accepted}
-use Rattle.spec_paxos.specs.Chosen.{Devices, chosen_at, IsChosenBy, before_first, vote_place, last_place, chosen_from, chosen_log}
 use Rattle.law_agreement.specs.Single.{IsSingle, IsKept}
 use Rattle.law_agreement.proofs.MajoritiesChoose.{in_flat, in_range, one_of_many, told_is_chosen, chosen_is_told, chosen_stays}
 

@@ -1,15 +1,8 @@
 -- What is chosen stays chosen, and some server wanted it.
-use Rattle.std.proofs.Common.{ℕ, ◌≤◌, Bool, ◌≡◌, inl, inr, List, [], ◌∷◌, ◌++◌, Option, Some, None, refl, subst}
-use Rattle.std.specs.Prelude.{⊤}
-use Rattle.petal_command.specs.declared.ballot.Ballot.{Ballot}
-use Rattle.petal_command.specs.declared.command.Command.{Command}
-use Rattle.spec_paxos.specs.declared.phase.Phase.{Phase}
-use Rattle.spec_paxos.specs.declared.phase.Phase.TheVariants.{Idle, Collecting, Voting}
-use Rattle.spec_paxos.specs.Member.{In, put}
-use Rattle.spec_paxos.specs.Proposer.{nobody, to_propose}
-use Rattle.spec_paxos.specs.Schedule.{Vote, World, Event, Starts, Handed, Stops, Boots, happens, run, begin, IsChosen, IsWanted}
+use Rattle.law_agreement.proofs.Imports.{[], ◌++◌, ◌∷◌, ◌≡◌, ◌≤◌, Ballot, Bool, Boots, Collecting, Command, Event, Handed, Idle, In, IsChosen, IsWanted, List}
+use Rattle.law_agreement.proofs.Imports.{None, Option, Phase, Some, Starts, Stops, Vote, Voting, World, begin, happens, in_cons, in_nil, in_there, inl, inr}
+use Rattle.law_agreement.proofs.Imports.{nobody, put, refl, run, subst, to_propose, ℕ, ⊤}
 use Rattle.law_agreement.proofs.ScheduleFacts.{SomeoneCast, Asked, Holds}
-use Rattle.spec_paxos.proofs.Members.{in_nil, in_cons, in_there}
 use Rattle.law_agreement.proofs.MovesKeepFacts.{at_put, Origin, HasOrigin, IsMove, Promises, Casts, Sends, Turns, Asks, Learns, Raises, keeps}
 use Rattle.law_agreement.proofs.SchedulesKeepFacts.{moves, happens_holds, run_holds, begin_holds, meets}
 

@@ -1,12 +1,6 @@
 -- What a world's letters and proposers say stays true in every later world.
-use Rattle.std.proofs.Common.{ℕ, Option, Some, None, arith}
-use Rattle.petal_command.specs.declared.ballot.Ballot.{Ballot}
-use Rattle.petal_command.specs.declared.command.Command.{Command}
-use Rattle.petal_command.specs.declared.pax.Pax.{Pax}
-use Rattle.petal_command.specs.declared.pax.Pax.TheVariants.{Prepare, Promise, Accept, Accepted, Refuse, Chosen}
-use Rattle.spec_paxos.specs.declared.phase.Phase.{Phase}
-use Rattle.spec_paxos.specs.declared.phase.Phase.TheVariants.{Idle, Collecting, Voting}
-use Rattle.spec_paxos.specs.Schedule.{World, IsChosen}
+use Rattle.law_agreement.proofs.Imports.{Accept, Accepted, Ballot, Chosen, Collecting, Command, Idle, IsChosen, None, Option, Pax, Phase, Prepare, Promise}
+use Rattle.law_agreement.proofs.Imports.{Refuse, Some, Voting, World, arith, ℕ}
 use Rattle.law_agreement.proofs.ScheduleFacts.{HasPromised, IsGreatestBelow, HasCast, SomeoneCast, IsShut, IsBacked, Knows, IsLater}
 
 pub later_promised : (w v : World) → IsLater w v → (s p : ℕ) (b : Ballot) → HasPromised w s p b → HasPromised v s p b

@@ -1,3 +1,4 @@
+pub mod Imports
 pub mod Quorum
 pub mod ScheduleFacts
 pub mod LaterWorldsSay

@@ -1,19 +1,10 @@
 -- A command is chosen for a place exactly where a majority of the state devices has its acceptance in one ballot.
-use Rattle.std.proofs.Common.{◌≡◌, ◌⊎◌, inl, inr, ℕ, zero, suc, ◌+◌, ◌<◌, ◌≤◌, Bool, true, false, if◌then◌else◌, cond, ◌==◌, ◌||◌, List, []}
-use Rattle.std.proofs.Common.{◌∷◌, ◌++◌, Option, Some, None, refl, sym, ap, subst, ◌∙◌, arith}
-use Rattle.std.proofs.lemmas.Bool.Decides.{nat_tests}
-use Rattle.std.specs.Prelude.{find, option_map, ◌/◌, unwrap_or}
-use Rattle.std.specs.List.{flat_map, filter_map, cons_option, list_any, range_with_len}
-use Rattle.petal_command.specs.declared.ballot.Ballot.{Ballot}
-use Rattle.petal_command.specs.declared.command.Command.{Command}
-use Rattle.petal_command.proofs.Equal.{number_is}
-use Rattle.spec_paxos.specs.Member.{In}
-use Rattle.spec_paxos.specs.Quorum.{IsMajority, count_below}
-use Rattle.spec_paxos.specs.Kept.{same_acceptance}
-use Rattle.spec_paxos.specs.declared.record.StateRecord.{StateRecord}
-use Rattle.spec_paxos.specs.declared.record.StateRecord.TheVariants.{Inc, Promise, Accepted, Chosen}
-use Rattle.spec_paxos.specs.Chosen.{Devices, acceptance_at, votes_for, has_voted, wins, chosen_at, IsChosenBy}
-use Rattle.spec_paxos.proofs.Committed.{at_place, acceptance_is, acceptance_self}
+use Rattle.law_agreement.proofs.Imports.{[], if◌then◌else◌, ◌++◌, ◌+◌, ◌/◌, ◌<◌, ◌==◌, ◌||◌, ◌∙◌, ◌∷◌, ◌≡◌, ◌≤◌, ◌⊎◌, Ballot, Bool, Command, Devices, In, Inc}
+use Rattle.law_agreement.proofs.Imports.{IsChosenBy, IsMajority, List, None, Option, Some, StateRecord, acceptance_at, acceptance_is, acceptance_self, ap}
+use Rattle.law_agreement.proofs.Imports.{arith, at_place, chosen_at, cond, cons_option, count_below, false, filter_map, find, flat_map, has_voted, inl, inr}
+use Rattle.law_agreement.proofs.Imports.{list_any, nat_tests, number_is, option_map, range_with_len, refl, same_acceptance, subst, suc, sym, true, unwrap_or}
+use Rattle.law_agreement.proofs.Imports.{votes_for, wins, zero, ℕ}
+use Rattle.spec_paxos.specs.declared.record.StateRecord.TheVariants.{Promise, Accepted, Chosen}
 use Rattle.law_agreement.specs.Single.{IsSingle, IsKept}
 
 -- ### Members of lists

@@ -1,21 +1,10 @@
 -- The moves that an event is made of: each keeps what holds.
-use Rattle.std.proofs.Common.{ℕ, zero, suc, ◌+◌, ◌≤◌, ◌<◌, Bool, true, false, ◌≡◌, ◌≢◌, ◌⊎◌, inl, inr, List, ◌∷◌, get_or, replicate}
-use Rattle.std.proofs.Common.{Option, Some, None, arith, refl, sym, ap, subst, ◌∙◌}
-use Rattle.std.specs.Prelude.{⊤}
-use Rattle.petal_command.specs.declared.ballot.Ballot.{Ballot}
-use Rattle.petal_command.specs.declared.command.Command.{Command}
-use Rattle.petal_command.specs.declared.pax.Pax.{Pax}
-use Rattle.petal_command.specs.declared.pax.Pax.TheVariants.{Accept}
-use Rattle.petal_command.specs.Ballot.{number}
-use Rattle.spec_paxos.specs.declared.phase.Phase.{Phase}
-use Rattle.spec_paxos.specs.declared.phase.Phase.TheVariants.{Idle, Collecting, Voting}
-use Rattle.spec_paxos.specs.Member.{In, put}
-use Rattle.spec_paxos.specs.Acceptor.{Acceptor, rank, accept}
-use Rattle.spec_paxos.specs.Proposer.{nobody, is_in, to_propose}
-use Rattle.spec_paxos.specs.Schedule.{Vote, vote, sent, World, End, Event, Starts, keep, cast, learn, raise, send, turn, IsChosen}
+use Rattle.law_agreement.proofs.Imports.{◌+◌, ◌<◌, ◌∙◌, ◌∷◌, ◌≡◌, ◌≢◌, ◌≤◌, ◌⊎◌, Accept, Acceptor, Ballot, Bool, Collecting, Command, End, Event, Idle, In}
+use Rattle.law_agreement.proofs.Imports.{IsChosen, List, None, Option, Pax, Phase, Some, Starts, Vote, Voting, World, accept, ap, arith, cast, false, get_or}
+use Rattle.law_agreement.proofs.Imports.{in_cons, in_here, in_there, inl, inr, is_in, keep, learn, nobody, number, put, put_at_cases, put_cases, raise, rank}
+use Rattle.law_agreement.proofs.Imports.{refl, replicate, send, sent, subst, suc, sym, to_propose, true, turn, vote, zero, ℕ, ⊤}
 use Rattle.law_agreement.proofs.ScheduleFacts.{promised, Asked, IsSafe, IsBacked, Knows, HasNotAsked, Holds, IsLater}
 use Rattle.law_agreement.proofs.LaterWorldsSay.{later_cast, later_backed, later_knows, later_chosen}
-use Rattle.spec_paxos.proofs.Members.{in_cons, in_there, in_here, put_cases, put_at_cases}
 
 -- what holds of the new value at k, and of each other one, holds of each after `put`
 pub at_put : {A : Type 0} (P : ℕ → A → Type 0) (f : ℕ → A) (k : ℕ) (x : A) → P k x → ((j : ℕ) → j ≢ k → P j (f j)) → (j : ℕ) → P j (put f k x j)

@@ -1,6 +1,5 @@
 -- Two majorities share a server.
-use Rattle.std.proofs.Common.{ℕ, zero, suc, ◌+◌, ◌<◌, Bool, true, false, ◌≡◌, ◌⊎◌, if◌then◌else◌, arith, refl, inl, inr}
-use Rattle.spec_paxos.specs.Quorum.{count_below, IsMajority}
+use Rattle.law_agreement.proofs.Imports.{if◌then◌else◌, ◌+◌, ◌<◌, ◌≡◌, ◌⊎◌, Bool, IsMajority, arith, count_below, false, inl, inr, refl, suc, true, zero, ℕ}
 
 -- a test that is true or false
 either : (b : Bool) → (b ≡ true) ⊎ (b ≡ false)

@@ -1,18 +1,7 @@
 -- What holds of every world that a schedule leads to.
-use Rattle.std.proofs.Common.{ℕ, ◌+◌, ◌≤◌, ◌<◌, Bool, true, ◌≡◌, ◌≢◌, ◌⊎◌, Option, Some, None}
-use Rattle.std.specs.Prelude.{⊤}
-use Rattle.petal_command.specs.declared.ballot.Ballot.{Ballot}
-use Rattle.petal_command.specs.declared.command.Command.{Command}
-use Rattle.petal_command.specs.declared.pax.Pax.{Pax}
-use Rattle.petal_command.specs.declared.pax.Pax.TheVariants.{Prepare, Promise, Accept, Accepted, Refuse, Chosen}
-use Rattle.petal_command.specs.Ballot.{number}
-use Rattle.spec_paxos.specs.declared.phase.Phase.{Phase}
-use Rattle.spec_paxos.specs.declared.phase.Phase.TheVariants.{Idle, Collecting, Voting}
-use Rattle.spec_paxos.specs.Member.{In}
-use Rattle.spec_paxos.specs.Quorum.{IsMajority}
-use Rattle.spec_paxos.specs.Acceptor.{rank}
-use Rattle.spec_paxos.specs.Proposer.{rank_of, is_in}
-use Rattle.spec_paxos.specs.Schedule.{Vote, vote, sent, World, IsChosen}
+use Rattle.law_agreement.proofs.Imports.{◌+◌, ◌<◌, ◌≡◌, ◌≢◌, ◌≤◌, ◌⊎◌, Accept, Accepted, Ballot, Bool, Chosen, Collecting, Command, Idle, In, IsChosen}
+use Rattle.law_agreement.proofs.Imports.{IsMajority, None, Option, Pax, Phase, Prepare, Promise, Refuse, Some, Vote, Voting, World, is_in, number, rank}
+use Rattle.law_agreement.proofs.Imports.{rank_of, sent, true, vote, ℕ, ⊤}
 
 -- 0 while the server has promised nothing at the place, else one more than the ballot's number
 abbrev pub promised : World → ℕ → ℕ → ℕ

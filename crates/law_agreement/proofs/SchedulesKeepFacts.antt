@@ -1,26 +1,16 @@
 -- Each event keeps what holds, and so does each schedule.
-use Rattle.std.proofs.Common.{ℕ, ◌≤◌, ◌<◌, Bool, true, false, ◌≡◌, ◌≢◌, ◌⊎◌, inl, inr, if◌then◌else◌, List, [], ◌∷◌, ◌==◌, nat_lt, ◌&&◌, set}
-use Rattle.std.proofs.Common.{Option, Some, None, arith, refl, sym, subst, ◌∙◌, get_or-set_other}
-use Rattle.std.specs.Prelude.{not}
-use Rattle.std.proofs.lemmas.Bool.Decides.{nat_tests}
-use Rattle.petal_command.specs.declared.ballot.Ballot.{Ballot}
-use Rattle.petal_command.specs.declared.command.Command.{Command}
-use Rattle.petal_command.specs.declared.pax.Pax.{Pax}
-use Rattle.petal_command.specs.declared.pax.Pax.TheVariants.{Prepare, Promise, Accept, Accepted, Refuse, Chosen}
-use Rattle.petal_command.specs.Ballot.{number, same}
-use Rattle.spec_paxos.specs.declared.phase.Phase.{Phase}
-use Rattle.spec_paxos.specs.declared.phase.Phase.TheVariants.{Idle, Collecting, Voting}
-use Rattle.spec_paxos.specs.Member.{In}
-use Rattle.spec_paxos.specs.Quorum.{IsMajority}
-use Rattle.spec_paxos.specs.Acceptor.{is_open, is_unpromised, promise, refusal}
-use Rattle.spec_paxos.specs.Proposer.{rank_of, is_in, has_majority, higher, to_propose, collected, counted, is_for, counts, collecting, hear}
-use Rattle.spec_paxos.specs.Schedule.{vote, Sent, sent, World, End, Goes, StopsBefore, StopsAfter, Event, Starts, Handed, Stops, Boots, keep, learn, raise}
-use Rattle.spec_paxos.specs.Schedule.{send, turn, ended, starting, started, starts, comes_out, handed, arrives, boots, happens, run, begin, IsChosen}
-use Rattle.law_agreement.proofs.ScheduleFacts.{promised, HasPromised, IsGreatestBelow, HasCast, SomeoneCast, Asked, IsSafe, IsBacked, Knows, HasNotAsked, Holds}
+use Rattle.law_agreement.proofs.Imports.{[], if◌then◌else◌, ◌&&◌, ◌<◌, ◌==◌, ◌∙◌, ◌∷◌, ◌≡◌, ◌≢◌, ◌≤◌, ◌⊎◌, Accept, Accepted, Ballot, Bool, Boots, Chosen}
+use Rattle.law_agreement.proofs.Imports.{Collecting, Command, End, Event, Goes, Handed, Idle, In, IsChosen, IsMajority, List, None, Option, Pax, Phase}
+use Rattle.law_agreement.proofs.Imports.{Prepare, Promise, Refuse, Sent, Some, Starts, Stops, StopsAfter, StopsBefore, Voting, World, arith, arrives, begin}
+use Rattle.law_agreement.proofs.Imports.{boots, collected, collecting, comes_out, counted, counts, ended, false, get_or-set_other, handed, happens}
+use Rattle.law_agreement.proofs.Imports.{has_majority, hear, higher, in_got, in_here, in_nil, in_there, inl, inr, is_for, is_in, is_open, is_unpromised, keep}
+use Rattle.law_agreement.proofs.Imports.{learn, nat_lt, nat_tests, not, number, promise, put_at_cases, raise, rank_of, refl, refusal, run, same, send, sent}
+use Rattle.law_agreement.proofs.Imports.{set, started, starting, starts, subst, sym, to_propose, true, turn, vote, ℕ}
+use Rattle.law_agreement.proofs.ScheduleFacts.{promised, HasPromised, IsGreatestBelow, HasCast, SomeoneCast, Asked, IsSafe, IsBacked, Knows, HasNotAsked}
+use Rattle.law_agreement.proofs.ScheduleFacts.{Holds}
 use Rattle.law_agreement.proofs.LaterWorldsSay.{later_cast}
 use Rattle.law_agreement.proofs.MovesKeepFacts.{keep_later, cast_in, one_server, not_in_nobody, Origin, HasOrigin, Promises, Casts, Sends, Turns, Asks}
 use Rattle.law_agreement.proofs.MovesKeepFacts.{Learns, Raises, move_holds, Leads, Still, goes, last, keeps}
-use Rattle.spec_paxos.proofs.Members.{in_nil, in_here, in_there, put_at_cases, in_got}
 use Rattle.law_agreement.proofs.Quorum.{meet}
 
 -- tests

@@ -1,33 +1,13 @@
 -- No line is answered twice: what a client has open, and what it has still to call, has no answer.
-use Rattle.std.proofs.Common.{◌≡◌, ◌≢◌, ◌≤◌, ◌<◌, ◌+◌, ℕ, Bool, true, List, [], ◌∷◌, ◌++◌, Option, Some, None, is_some}
-use Rattle.std.proofs.Common.{refl, sym, ap, ◌∙◌, subst, ◌⊎◌, inl, inr, arith}
-use Rattle.std.specs.Ordering.{nat_cmp}
-use Rattle.std.specs.List.{fold}
-use Rattle.std.specs.Prelude.{slice_get}
-use Rattle.petal_table.specs.Table.{Table, at, put}
-use Rattle.petal_table.proofs.Rows.{at_apart, at-empty}
-use Rattle.petal_msg.specs.declared.body.Body.{Body}
-use Rattle.petal_msg.specs.declared.letter.Actor.{Actor}
-use Rattle.petal_msg.specs.declared.letter.Actor.TheVariants as actor
-use Rattle.script_lines.specs.declared.answer.Answer.{Answer}
-use Rattle.script_lines.specs.declared.request.Line.{Line}
-use Rattle.script_lines.specs.declared.script.Script.{Script}
-use Rattle.spec_rules.specs.Lists.{In}
-use Rattle.spec_rules.specs.Clients.{Client, Asked, Reaction}
-use Rattle.spec_rules.specs.World.{Setting, World, StepResult, IsAnswered, MayActor, lines_of, next_line, client_step}
-use Rattle.spec_rules.specs.World.{client_state, step, start, setting_of, with_answer}
-use Rattle.spec_rules.specs.declared.step.Step.{Step}
-use Rattle.spec_history.specs.Steps.{Follows, AreSteps, AreStepsFrom, stepped, world_after}
-use Rattle.spec_history.specs.Text.{with_given}
-use Rattle.spec_history.specs.declared.record.Record.{Record}
-use Rattle.law_steps.specs.DidStep.{Heard}
-use Rattle.law_steps.specs.DidClient.{Turned, StaysOpen, Goes_on, Is_told, Begins, Reads, Judges}
-use Rattle.law_steps.specs.DidClient as happens
-use Rattle.law_steps.proofs.ClientStepKinds.{client_turns, is_call}
-use Rattle.law_steps.proofs.KindsInHistories.{front_legal}
-use Rattle.spec_rules.proofs.Tests.{same_some, none_some, by_bool, same_or_apart, true_false, all_put_apart}
-use Rattle.spec_history.specs.Order.{AreRising, is_answered, IsOpenLine}
+use Rattle.law_answers.proofs.Imports.{[], ◌++◌, ◌+◌, ◌<◌, ◌∙◌, ◌∷◌, ◌≡◌, ◌≢◌, ◌≤◌, ◌⊎◌, Actor, Answer, AreRising, AreSteps, AreStepsFrom, Asked, Begins}
+use Rattle.law_answers.proofs.Imports.{Body, Bool, Client, Follows, Goes_on, Heard, In, IsAnswered, IsOpenLine, Is_told, Judges, Line, List, MayActor, None}
+use Rattle.law_answers.proofs.Imports.{Option, Reaction, Reads, Record, Script, Setting, Some, StaysOpen, Step, StepResult, Table, Turned, World}
+use Rattle.law_answers.proofs.Imports.{all_put_apart, ap, arith, at, at-empty, at_apart, by_bool, client_state, client_step, client_turns, fold, front_legal}
+use Rattle.law_answers.proofs.Imports.{inl, inr, is_answered, is_call, is_some, lines_of, nat_cmp, next_line, none_some, put, refl, same_or_apart, same_some}
+use Rattle.law_answers.proofs.Imports.{setting_of, slice_get, start, step, stepped, subst, sym, true, true_false, with_answer, with_given, world_after, ℕ}
 use Rattle.law_answers.proofs.LinesHavePlaces.{line_at, one_client, one_place}
+use Rattle.petal_msg.specs.declared.letter.Actor.TheVariants as actor
+use Rattle.law_steps.specs.DidClient as happens
 
 -- ### Answers given
 

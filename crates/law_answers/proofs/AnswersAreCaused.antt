@@ -1,48 +1,15 @@
 -- Each answer has its cause: by induction on the history, in view of the log at its end.
-use Rattle.std.proofs.Common.{◌≡◌, inl, inr, ◌<◌, ◌≤◌, ◌+◌, ◌++◌, ◌==◌, if◌then◌else◌, ℕ, zero, suc, Bool, true, false, List, [], ◌∷◌, length, take, Option}
-use Rattle.std.proofs.Common.{Some, None, refl, sym, ap, ◌∙◌, subst, arith, append_assoc, length-append}
-use Rattle.std.proofs.Math.Seq.{take-append_seam}
-use Rattle.std.specs.Prelude.{slice_get}
-use Rattle.global_tables.specs.Disk.{named}
-use Rattle.global_tables.specs.declared.disk.Latest.{Latest}
-use Rattle.global_tables.specs.declared.disk.Verdict.TheVariants as verdict
-use Rattle.petal_command.specs.declared.command.Command.{Command}
-use Rattle.petal_command.specs.declared.command.Command.TheVariants.{Witness}
-use Rattle.petal_msg.specs.declared.body.Body.{Body}
-use Rattle.petal_msg.specs.declared.body.Body.TheVariants as body
-use Rattle.petal_msg.specs.declared.letter.Actor.TheVariants as actor
-use Rattle.petal_msg.specs.declared.letter.Letter.{Letter}
-use Rattle.petal_msg.specs.declared.operation.Ending.{Ending}
-use Rattle.petal_msg.specs.declared.operation.Ending.TheVariants as ending
-use Rattle.script_lines.specs.Requests.{is_snap}
-use Rattle.script_lines.specs.declared.answer.Answer.{Answer}
-use Rattle.script_lines.specs.declared.answer.Answer.TheVariants as answer
-use Rattle.script_lines.specs.declared.request.Line.{Line}
-use Rattle.script_lines.specs.declared.request.Request.{Request}
-use Rattle.script_lines.specs.declared.request.Request.TheVariants as request
-use Rattle.spec_state.specs.State.{start as first_state, latest}
-use Rattle.spec_state.specs.Command.{state_after}
-use Rattle.spec_history.specs.Causes.{HasWitness, HasVerdict, CauseOf, AreCaused, WasTold, may_answer}
-use Rattle.spec_history.specs.Claims.{IsPrefix}
-use Rattle.spec_history.specs.Order.{AreRising}
-use Rattle.spec_rules.specs.Lists.{In}
-use Rattle.spec_rules.specs.State.{State, is_in}
-use Rattle.spec_rules.specs.Clients.{Client, Asked, Reaction, Sight, is_read, is_write, command_of, refusal, verdict_for, verdict_answer, is_witness}
-use Rattle.spec_rules.specs.World.{Setting, World, lines_of, chosen_log, chosen_state, state_at, with_answer, setting_of}
-use Rattle.spec_rules.proofs.Tests.{by_test, same_some, none_some, same_numbers, both_true, all_put, true_false}
-use Rattle.law_state.specs.Plain.{IsPlainLog}
-use Rattle.law_state.proofs.ListLookups.{in_get}
-use Rattle.law_state.proofs.Ages.{between}
-use Rattle.law_state.proofs.Disks.{first_at_start}
-use Rattle.law_state.proofs.EntriesOnlyAdd.{log_plain}
-use Rattle.law_state.proofs.Steady.{log_below, log_steady}
-use Rattle.law_steps.specs.DidClient.{Turned, IsSame, StaysOpen, IsReason, By_verdict, By_witness, IsJudged, Goes_on, Is_told, Begins, Reads, Ends, Shown}
-use Rattle.law_steps.specs.DidClient.{IsSeenAs, Stops_it, Stops_at, Fails_it, Starts_it, Blanks_it, Has_no_space, Is_settled, Judges, answer_of}
-use Rattle.law_steps.specs.DidStep.{Happens, Heard, Blanks, Serves, Turns}
-use Rattle.spec_rules.proofs.ListLemmas.{put_same}
-use Rattle.law_steps.proofs.Fronts.{front_itself, front_on, below_itself}
-use Rattle.law_jobs.proofs.Runs.{Run, after, by_run, firm_in, grown_in, happened_in, longer, setting_in}
-use Rattle.law_jobs.proofs.LettersWereSent.{still_sent}
+use Rattle.law_answers.proofs.Imports.{[], if◌then◌else◌, ◌++◌, ◌+◌, ◌<◌, ◌==◌, ◌∙◌, ◌∷◌, ◌≡◌, ◌≤◌, Answer, AreCaused, AreRising, Asked, Begins, Blanks}
+use Rattle.law_answers.proofs.Imports.{Blanks_it, Body, Bool, By_verdict, By_witness, CauseOf, Client, Command, Ending, Ends, Fails_it, Goes_on, Happens}
+use Rattle.law_answers.proofs.Imports.{HasVerdict, HasWitness, Has_no_space, Heard, In, IsJudged, IsPlainLog, IsPrefix, IsReason, IsSame, IsSeenAs}
+use Rattle.law_answers.proofs.Imports.{Is_settled, Is_told, Judges, Latest, Letter, Line, List, None, Option, Reaction, Reads, Request, Run, Serves, Setting}
+use Rattle.law_answers.proofs.Imports.{Shown, Sight, Some, Starts_it, State, StaysOpen, Stops_at, Stops_it, Turned, Turns, WasTold, Witness, World, after}
+use Rattle.law_answers.proofs.Imports.{all_put, answer_of, ap, append_assoc, arith, below_itself, between, both_true, by_run, by_test, chosen_log}
+use Rattle.law_answers.proofs.Imports.{chosen_state, command_of, false, firm_in, first_at_start, first_state, front_itself, front_on, grown_in, happened_in}
+use Rattle.law_answers.proofs.Imports.{in_get, inl, inr, is_in, is_read, is_snap, is_witness, is_write, latest, length, length-append, lines_of, log_below}
+use Rattle.law_answers.proofs.Imports.{log_plain, log_steady, longer, may_answer, named, none_some, put_same, refl, refusal, same_numbers, same_some}
+use Rattle.law_answers.proofs.Imports.{setting_in, setting_of, slice_get, state_after, state_at, still_sent, subst, suc, sym, take, take-append_seam, true}
+use Rattle.law_answers.proofs.Imports.{true_false, verdict_answer, verdict_for, with_answer, zero, ℕ}
 use Rattle.law_answers.specs.AskedCommands.{AreAsked, asker}
 use Rattle.law_answers.proofs.LinesHavePlaces.{line_at, one_client, one_place}
 use Rattle.law_answers.proofs.CommandsWereAsked.{commands_are_asked}
@@ -51,6 +18,12 @@ use Rattle.law_answers.proofs.OldNumbersStayOld.{judged_low}
 use Rattle.law_answers.proofs.Verdicts.{has_at, judged_at_once, judged_first, judged_made, placed_before, placed_first}
 use Rattle.law_answers.proofs.RequestsStayDone.{plain_front}
 use Rattle.law_answers.proofs.KnownDisksAreServed.{never_unavailable}
+use Rattle.global_tables.specs.declared.disk.Verdict.TheVariants as verdict
+use Rattle.petal_msg.specs.declared.body.Body.TheVariants as body
+use Rattle.petal_msg.specs.declared.letter.Actor.TheVariants as actor
+use Rattle.petal_msg.specs.declared.operation.Ending.TheVariants as ending
+use Rattle.script_lines.specs.declared.answer.Answer.TheVariants as answer
+use Rattle.script_lines.specs.declared.request.Request.TheVariants as request
 
 -- ### Fronts of a list
 

@@ -1,26 +1,13 @@
 -- What a request is answered is of its kind: a verdict of its own command, what its Witness says, and what ends a read or a write.
-use Rattle.std.proofs.Common.{◌≡◌, ℕ, Bool, true, false, List, Option, Some, None, refl, sym, ap, ◌∙◌}
-use Rattle.std.specs.Prelude.{◌==◌, ◌||◌, if◌then◌else◌, is_some}
-use Rattle.global_tables.specs.declared.disk.Latest.{Latest}
-use Rattle.global_tables.specs.declared.disk.Verdict.{Verdict}
+use Rattle.law_answers.proofs.Imports.{if◌then◌else◌, ◌==◌, ◌||◌, ◌∙◌, ◌≡◌, Answer, Bool, CauseOf, Cell, Command, DiskView, Ending, Latest, List, None}
+use Rattle.law_answers.proofs.Imports.{Option, Request, Setting, Some, State, Verdict, World, answer_of, ap, by_bool, cell_asked, command_of, epoch_for}
+use Rattle.law_answers.proofs.Imports.{false, find, is_moving, is_name_taken, is_read, is_some, is_unread, is_write, lacks_disk, lead, may_answer, none_some}
+use Rattle.law_answers.proofs.Imports.{read_refusal, read_refusal_at, refl, refusal, same_some, sym, true, true_false, verdict_answer, verdict_for}
+use Rattle.law_answers.proofs.Imports.{write_refusal, ℕ}
 use Rattle.global_tables.specs.declared.disk.Verdict.TheVariants as verdict
-use Rattle.petal_base.specs.declared.cell.Cell.{Cell}
-use Rattle.petal_command.specs.declared.command.Command.{Command}
-use Rattle.petal_msg.specs.declared.operation.Ending.{Ending}
 use Rattle.petal_msg.specs.declared.operation.Ending.TheVariants as ending
-use Rattle.script_lines.specs.declared.answer.Answer.{Answer}
 use Rattle.script_lines.specs.declared.answer.Answer.TheVariants as answer
-use Rattle.script_lines.specs.declared.request.Request.{Request}
 use Rattle.script_lines.specs.declared.request.Request.TheVariants as request
-use Rattle.spec_state.specs.CellState.{cell_asked}
-use Rattle.spec_state.specs.declared.answer.DiskView.{DiskView}
-use Rattle.spec_rules.specs.Clients.{command_of, epoch_for, is_read, is_unread, is_write, read_refusal, read_refusal_at, refusal}
-use Rattle.spec_rules.specs.Clients.{verdict_answer, verdict_for, write_refusal}
-use Rattle.spec_rules.specs.State.{State, find, lead}
-use Rattle.spec_rules.specs.World.{Setting, World}
-use Rattle.spec_rules.proofs.Tests.{by_bool, none_some, same_some, true_false}
-use Rattle.spec_history.specs.Causes.{CauseOf, is_moving, is_name_taken, lacks_disk, may_answer}
-use Rattle.law_steps.specs.DidClient.{answer_of}
 
 -- ### Verdicts
 

@@ -1,29 +1,15 @@
 -- A client's step of a history, as its open request, its letters and its answer see it.
-use Rattle.std.proofs.Common.{◌≡◌, ◌+◌, ◌≤◌, ℕ, List, [], ◌∷◌, Bool, true, false, Some, length, refl, sym, ap, ◌∙◌, subst, inl, inr, arith}
-use Rattle.petal_base.specs.declared.cell.Cell.{Cell}
-use Rattle.petal_msg.specs.declared.body.Body.{Body}
-use Rattle.petal_msg.specs.declared.body.Body.TheVariants as body
-use Rattle.petal_msg.specs.declared.letter.Actor.{Actor}
-use Rattle.petal_msg.specs.declared.letter.Actor.TheVariants as actor
-use Rattle.petal_msg.specs.declared.letter.Letter.{Letter}
-use Rattle.script_lines.specs.declared.answer.Answer.TheVariants as answer
-use Rattle.spec_state.specs.Command.{state_after}
-use Rattle.spec_rules.specs.Clients.{Asked, Client, Reaction, client_sender, is_read}
-use Rattle.spec_rules.specs.Lists.{In}
-use Rattle.spec_rules.specs.World.{MayActor, MayClient, Setting, World, client_state, client_step, next_line, reacts, step}
-use Rattle.spec_rules.specs.declared.step.Step.{Step}
-use Rattle.spec_rules.specs.declared.step.Step.TheVariants.{Call, Deliver, Tick}
-use Rattle.spec_rules.proofs.ListLemmas.{put_apart, put_same}
-use Rattle.spec_rules.proofs.Tests.{same_or_apart, true_false}
-use Rattle.law_requests.specs.AskedRequests.{IsAsked}
-use Rattle.law_steps.specs.DidStep.{Heard}
-use Rattle.law_steps.specs.DidClient.{Turned, Goes_on, Is_told, Begins, Reads, Ends, Shown, Judges}
-use Rattle.law_steps.proofs.Fronts.{front_long}
-use Rattle.law_steps.proofs.Letters.{said}
-use Rattle.law_steps.proofs.ClientLetters.{is_ask, turned_asks}
-use Rattle.law_steps.proofs.ClientStepKinds.{Turning, client_turns, is_call}
-use Rattle.law_answers.proofs.ClientReadSteps.{As_before, Asks, HasWay, Is_called, Later, OnWay, Turns, Was_open, turned_answers, turned_asks_read, turned_way}
+use Rattle.law_answers.proofs.Imports.{[], ◌+◌, ◌∙◌, ◌∷◌, ◌≡◌, ◌≤◌, Actor, Asked, Begins, Body, Bool, Call, Cell, Client, Deliver, Ends, Goes_on, Heard, In}
+use Rattle.law_answers.proofs.Imports.{IsAsked, Is_told, Judges, Letter, List, MayActor, MayClient, Reaction, Reads, Setting, Shown, Some, Step, Tick, Turned}
+use Rattle.law_answers.proofs.Imports.{Turning, World, ap, arith, client_sender, client_state, client_step, client_turns, false, front_long, inl, inr, is_ask}
+use Rattle.law_answers.proofs.Imports.{is_call, is_read, length, next_line, put_apart, put_same, reacts, refl, said, same_or_apart, state_after, step, subst}
+use Rattle.law_answers.proofs.Imports.{sym, true, true_false, turned_asks, ℕ}
+use Rattle.law_answers.proofs.ClientReadSteps.{As_before, Asks, HasWay, Is_called, Later, OnWay, Turns, Was_open, turned_answers, turned_asks_read}
+use Rattle.law_answers.proofs.ClientReadSteps.{turned_way}
 use Rattle.law_answers.proofs.OldMapByRevision.{Stays, heard_stays, tick_stays}
+use Rattle.petal_msg.specs.declared.body.Body.TheVariants as body
+use Rattle.petal_msg.specs.declared.letter.Actor.TheVariants as actor
+use Rattle.script_lines.specs.declared.answer.Answer.TheVariants as answer
 
 -- the step is the delivery of a letter of this revision that says this
 pub record Delivers (what : Step) (rev : ℕ) (says : Body) : Type 0 where

@@ -1,35 +1,17 @@
 -- What a client's step makes of its open request, what it sends for a read, and which letter it answers with data.
-use Rattle.std.proofs.Common.{◌≡◌, ◌≤◌, ◌<◌, ◌+◌, ◌==◌, ◌||◌, ℕ, List, Bool, true, false, Option, Some, None, is_some, length, refl, sym, ap, ◌∙◌, subst, inl, inr, arith}
-use Rattle.petal_base.specs.declared.cell.Cell.{Cell}
-use Rattle.petal_command.specs.declared.command.Command.{Command}
-use Rattle.global_tables.specs.declared.disk.Latest.{Latest}
-use Rattle.global_tables.specs.declared.disk.Verdict.{Verdict}
-use Rattle.global_tables.specs.declared.disk.Verdict.TheVariants as verdict
-use Rattle.petal_msg.specs.Kinds.{is_logged, subject_of}
-use Rattle.petal_msg.specs.declared.body.Body.{Body}
-use Rattle.petal_msg.specs.declared.body.Body.TheVariants as body
-use Rattle.petal_msg.specs.declared.operation.Ending.{Ending}
-use Rattle.petal_msg.specs.declared.operation.Ending.TheVariants as ending
-use Rattle.script_lines.specs.declared.answer.Answer.{Answer}
-use Rattle.script_lines.specs.declared.answer.Answer.TheVariants as answer
-use Rattle.script_lines.specs.declared.request.Line.{Line}
-use Rattle.script_lines.specs.declared.request.Request.{Request}
-use Rattle.script_lines.specs.declared.request.Request.TheVariants as request
-use Rattle.spec_state.specs.CellState.{cell_asked}
-use Rattle.spec_state.specs.Command.{state_after}
-use Rattle.spec_state.specs.State.{latest}
-use Rattle.spec_state.specs.declared.answer.DiskView.{DiskView}
-use Rattle.spec_rules.specs.Clients.{Asked, Client, Reaction, Sight, is_read, is_unread, read_refusal, read_refusal_at, refusal, verdict_answer}
-use Rattle.spec_rules.specs.Clients.{epoch_for, verdict_for, write_refusal}
-use Rattle.spec_rules.specs.Lists.{In}
-use Rattle.spec_rules.specs.Server.{Post}
-use Rattle.spec_rules.specs.State.{State, find, lead}
-use Rattle.spec_rules.specs.World.{next_line}
-use Rattle.spec_rules.proofs.Tests.{by_bool, by_test, none_some, same_or_apart, same_some, true_false}
-use Rattle.law_steps.specs.DidClient.{Turned, Says, Of_the_log, A_write, A_read, IsSame, WasSent, As_it_was, Anew, StaysOpen, IsReason, IsSeenAs, answer_of}
-use Rattle.law_steps.specs.DidClient.{By_verdict, By_witness, Stops_it, Stops_at, Fails_it, Starts_it, Blanks_it, Has_no_space, Is_settled, Goes_on, Is_told}
-use Rattle.law_steps.specs.DidClient.{Begins, Reads, Ends, Shown, Judges}
+use Rattle.law_answers.proofs.Imports.{◌+◌, ◌<◌, ◌==◌, ◌||◌, ◌∙◌, ◌≡◌, ◌≤◌, A_read, A_write, Anew, Answer, As_it_was, Asked, Begins, Blanks_it, Body, Bool}
+use Rattle.law_answers.proofs.Imports.{By_verdict, By_witness, Cell, Client, Command, DiskView, Ending, Ends, Fails_it, Goes_on, Has_no_space, In, IsReason}
+use Rattle.law_answers.proofs.Imports.{IsSame, IsSeenAs, Is_settled, Is_told, Judges, Latest, Line, List, None, Of_the_log, Option, Post, Reaction, Reads}
+use Rattle.law_answers.proofs.Imports.{Request, Says, Shown, Sight, Some, Starts_it, State, StaysOpen, Stops_at, Stops_it, Turned, Verdict, WasSent}
+use Rattle.law_answers.proofs.Imports.{answer_of, ap, arith, by_bool, by_test, cell_asked, epoch_for, false, find, inl, inr, is_logged, is_read, is_some}
+use Rattle.law_answers.proofs.Imports.{is_unread, latest, lead, length, next_line, none_some, read_refusal, read_refusal_at, refl, refusal, same_or_apart}
+use Rattle.law_answers.proofs.Imports.{same_some, state_after, subject_of, subst, sym, true, true_false, verdict_answer, verdict_for, write_refusal, ℕ}
 use Rattle.law_answers.proofs.OldMapByRevision.{Stays}
+use Rattle.global_tables.specs.declared.disk.Verdict.TheVariants as verdict
+use Rattle.petal_msg.specs.declared.body.Body.TheVariants as body
+use Rattle.petal_msg.specs.declared.operation.Ending.TheVariants as ending
+use Rattle.script_lines.specs.declared.answer.Answer.TheVariants as answer
+use Rattle.script_lines.specs.declared.request.Request.TheVariants as request
 
 -- ### The way of an open request
 

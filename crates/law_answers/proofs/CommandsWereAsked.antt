@@ -1,21 +1,9 @@
 -- Each command of the chosen log that carries a request out was asked for: it is that of a line.
-use Rattle.std.proofs.Common.{◌≡◌, ◌+◌, ℕ, List, Some, refl, sym, ap, ◌∙◌, subst, inl, inr}
-use Rattle.std.specs.Prelude.{slice_get}
-use Rattle.script_lines.specs.declared.request.Line.{Line}
-use Rattle.script_lines.specs.declared.request.Request.{Request}
-use Rattle.script_lines.specs.declared.request.Request.TheVariants as request
-use Rattle.script_lines.specs.declared.script.Script.{Script}
-use Rattle.petal_command.specs.declared.command.Command.{Command}
-use Rattle.petal_command.specs.declared.command.Command.TheVariants.{Caught, Drained, Join, Leave, Moved}
-use Rattle.spec_history.specs.Steps.{AreSteps, world_after}
-use Rattle.spec_history.specs.Sound.{IsSound}
-use Rattle.spec_history.specs.declared.record.Record.{Record}
-use Rattle.spec_rules.specs.Clients.{command_of}
-use Rattle.spec_rules.specs.World.{World, Setting, lines_of, chosen_log, setting_of, start}
-use Rattle.spec_rules.proofs.Tests.{same_some, none_some}
-use Rattle.law_log.specs.ProposedCommands.{IsOfLives, WasWanted}
-use Rattle.law_log.proofs.LogInHistories.{chosen_is_called_for}
+use Rattle.law_answers.proofs.Imports.{◌+◌, ◌∙◌, ◌≡◌, AreSteps, Caught, Command, Drained, IsOfLives, IsSound, Join, Leave, Line, List, Moved, Record, Request}
+use Rattle.law_answers.proofs.Imports.{Script, Setting, Some, WasWanted, World, ap, chosen_is_called_for, chosen_log, command_of, inl, inr, lines_of}
+use Rattle.law_answers.proofs.Imports.{none_some, refl, same_some, setting_of, slice_get, start, subst, sym, world_after, ℕ}
 use Rattle.law_answers.specs.AskedCommands.{IsAsked, AreAsked, asker}
+use Rattle.script_lines.specs.declared.request.Request.TheVariants as request
 
 -- the command of a request names its client and number
 pub asker_of : (client seq : ℕ) (asked : Request) (command : Command) → command_of client seq asked ≡ Some command → asker command ≡ Some (client, seq)

@@ -1,36 +1,18 @@
 -- What one entry makes of what clients were told of their last commands: its command tells one client, where it is new, and each fence that
 -- passes tells the client that waits for it.
-use Rattle.std.proofs.Common.{◌≡◌, ◌≢◌, ◌⊎◌, inl, inr, ◌<◌, ◌≤◌, ◌==◌, ℕ, suc, Bool, true, false, not, if◌then◌else◌, List, length}
-use Rattle.std.proofs.Common.{Option, Some, None, is_some, refl, sym, ap, ◌∙◌, subst, arith}
-use Rattle.std.specs.Prelude.{nat_lt, slice_get, unwrap_or}
-use Rattle.std.proofs.lemmas.Bool.{cases_lt}
-use Rattle.std.proofs.lemmas.Bool.Decides.{nat_tests}
-use Rattle.std.proofs.lemmas.List.{length-set}
-use Rattle.std.proofs.lemmas.Option.{slice_get_past}
-use Rattle.global_tables.specs.Disk.{completes, frozen, named}
-use Rattle.global_tables.specs.View.{passed}
-use Rattle.global_tables.specs.declared.disk.Latest.{Latest}
-use Rattle.global_tables.specs.declared.disk.Verdict.{Verdict}
-use Rattle.global_tables.specs.declared.disk.Verdict.TheVariants as verdict
-use Rattle.global_tables.specs.declared.fence.Fence.{Fence}
-use Rattle.global_tables.specs.declared.fence.FenceKind.{FenceKind}
-use Rattle.global_tables.specs.declared.fence.FenceKind.TheVariants.{Region, Whole}
-use Rattle.script_lines.specs.declared.answer.Answer.{Answer}
-use Rattle.script_lines.specs.declared.answer.Answer.TheVariants as answer
-use Rattle.petal_command.specs.declared.command.Command.{Command}
-use Rattle.petal_command.specs.declared.command.Command.TheVariants.{Caught, Drained, Join, Leave, MakeDisk, Moved, Snap, StartMove, Witness}
-use Rattle.spec_state.specs.State.{State, is_up_as, latest, links_of, told}
-use Rattle.spec_state.specs.Command.{act, after, is_new, may_join, move_of, moved_by, mover_in, note, with_disk, with_fence, with_move}
-use Rattle.spec_state.specs.Fence.{confirmed, effect, settled}
-use Rattle.spec_rules.specs.Clients.{verdict_answer, verdict_for}
-use Rattle.spec_rules.proofs.Tests.{by_test, none_some, not_true, number_itself, same_numbers, same_or_apart, same_some, true_false}
-use Rattle.law_state.specs.Plain.{IsPlain}
-use Rattle.law_state.proofs.Caughts.{act_caught}
-use Rattle.law_state.proofs.MovesOfDisks.{act_start}
-use Rattle.law_state.proofs.FencesPass.{one_passed, settled_keeps}
-use Rattle.law_state.proofs.ListLookups.{get_set_beside, get_set_here}
-use Rattle.law_state.proofs.SnapsQueueFences.{act_drained, act_snap, none_of}
+use Rattle.law_answers.proofs.Imports.{if◌then◌else◌, ◌<◌, ◌==◌, ◌∙◌, ◌≡◌, ◌≢◌, ◌≤◌, ◌⊎◌, Answer, Bool, Caught, Command, Drained, Fence, FenceKind, IsPlain}
+use Rattle.law_answers.proofs.Imports.{Join, Latest, Leave, List, MakeDisk, Moved, None, Option, Region, Snap, Some, StartMove, Verdict, Whole, Witness, act}
+use Rattle.law_answers.proofs.Imports.{act_caught, act_drained, act_snap, act_start, ap, arith, by_test, cases_lt, completes, confirmed, effect, false}
+use Rattle.law_answers.proofs.Imports.{frozen, get_set_beside, get_set_here, inl, inr, is_new, is_some, is_up_as, latest, length, length-set, links_of}
+use Rattle.law_answers.proofs.Imports.{may_join, move_of, moved_by, mover_in, named, nat_lt, nat_tests, none_of, none_some, not, not_true, note}
+use Rattle.law_answers.proofs.Imports.{number_itself, one_passed, passed, refl, same_numbers, same_or_apart, same_some, settled, settled_keeps, slice_get}
+use Rattle.law_answers.proofs.Imports.{slice_get_past, subst, suc, sym, told, true, true_false, unwrap_or, verdict_answer, verdict_for, with_disk, with_fence}
+use Rattle.law_answers.proofs.Imports.{with_move, ℕ}
+use Rattle.spec_state.specs.State.{State}
+use Rattle.spec_state.specs.Command.{after}
 use Rattle.law_answers.specs.AskedCommands.{asker}
+use Rattle.global_tables.specs.declared.disk.Verdict.TheVariants as verdict
+use Rattle.script_lines.specs.declared.answer.Answer.TheVariants as answer
 
 -- ### One client is told
 

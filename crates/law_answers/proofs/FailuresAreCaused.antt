@@ -1,40 +1,19 @@
 -- Which answers are `failed`, what answers a line that names a server, and why a boot leaves its server stopped.
-use Rattle.std.proofs.Common.{◌≡◌, ◌≢◌, ◌⊎◌, inl, inr, ◌==◌, ℕ, Bool, true, false, List, Option, Some, None}
-use Rattle.std.proofs.Common.{is_some, refl, sym, ap, ◌∙◌, subst}
-use Rattle.std.specs.Prelude.{◌||◌, if◌then◌else◌}
-use Rattle.global_tables.specs.declared.disk.Latest.{Latest}
-use Rattle.global_tables.specs.declared.disk.Verdict.{Verdict}
-use Rattle.global_tables.specs.declared.disk.Verdict.TheVariants as verdict
-use Rattle.petal_base.specs.declared.cell.Cell.{Cell}
-use Rattle.petal_command.specs.declared.command.Command.{Command}
-use Rattle.petal_msg.specs.declared.operation.Ending.{Ending}
-use Rattle.petal_msg.specs.declared.operation.Ending.TheVariants as ending
-use Rattle.spec_state.specs.CellState.{cell_asked}
-use Rattle.spec_state.specs.declared.answer.DiskView.{DiskView}
-use Rattle.spec_state.specs.State.{latest}
-use Rattle.script_lines.specs.Requests.{names}
-use Rattle.script_lines.specs.declared.answer.Answer.{Answer}
-use Rattle.script_lines.specs.declared.answer.Answer.TheVariants as answer
-use Rattle.script_lines.specs.declared.request.Request.{Request}
-use Rattle.script_lines.specs.declared.request.Request.TheVariants as request
-use Rattle.spec_rules.specs.Boots.{awake, boots, raised, stays, wakes}
-use Rattle.spec_rules.specs.Clients.{Sight as Shown_by}
-use Rattle.spec_rules.specs.Clients.{Asked, epoch_for, is_read, is_unread, is_write, command_of, read_refusal}
-use Rattle.spec_rules.specs.Clients.{read_refusal_at, refusal, verdict_answer, verdict_for, write_refusal}
-use Rattle.spec_rules.specs.Jobs.{Acted, is_overfull}
-use Rattle.spec_rules.specs.Server.{JobContext}
-use Rattle.spec_rules.specs.State.{State, find, lead}
-use Rattle.spec_rules.specs.World.{Booted, Deed, IsDone}
-use Rattle.spec_rules.specs.World.{World}
-use Rattle.spec_rules.specs.declared.step.Step.TheVariants.{Boot}
-use Rattle.spec_rules.specs.declared.step.WorkEnd.{WorkEnd}
-use Rattle.spec_rules.specs.declared.step.WorkEnd.TheVariants as work_end
-use Rattle.spec_rules.proofs.Tests.{by_test, none_some, same_some, true_false}
-use Rattle.law_steps.specs.DidClient.{IsReason, By_verdict, By_witness, IsSeenAs}
-use Rattle.law_steps.specs.DidClient.{Stops_it, Stops_at, Fails_it, Starts_it, Blanks_it, Has_no_space, Is_settled, answer_of}
+use Rattle.law_answers.proofs.Imports.{if◌then◌else◌, ◌==◌, ◌||◌, ◌∙◌, ◌≡◌, ◌≢◌, ◌⊎◌, Acted, Answer, Asked, Blanks_it, Bool, Boot, Booted, By_verdict}
+use Rattle.law_answers.proofs.Imports.{By_witness, Cell, Command, Deed, DiskView, Ending, Fails_it, Has_no_space, IsDone, IsReason, IsSeenAs, Is_settled}
+use Rattle.law_answers.proofs.Imports.{JobContext, Latest, List, None, Option, Request, Shown_by, Some, Starts_it, State, Stops_at, Stops_it, Verdict}
+use Rattle.law_answers.proofs.Imports.{WorkEnd, World, answer_of, ap, awake, boots, by_test, cell_asked, command_of, epoch_for, false, find, inl, inr}
+use Rattle.law_answers.proofs.Imports.{is_overfull, is_read, is_some, is_unread, is_write, latest, lead, names, none_some, raised, read_refusal}
+use Rattle.law_answers.proofs.Imports.{read_refusal_at, refl, refusal, same_some, stays, subst, sym, true, true_false, verdict_answer, verdict_for, wakes}
+use Rattle.law_answers.proofs.Imports.{write_refusal, ℕ}
 use Rattle.law_answers.specs.FailureCauses.{IsReasonToFail, Device_failed, Journal_full}
 use Rattle.law_answers.specs.Glances.{Tells}
 use Rattle.law_answers.specs.Lines.{AsksToBoot}
+use Rattle.global_tables.specs.declared.disk.Verdict.TheVariants as verdict
+use Rattle.petal_msg.specs.declared.operation.Ending.TheVariants as ending
+use Rattle.script_lines.specs.declared.answer.Answer.TheVariants as answer
+use Rattle.script_lines.specs.declared.request.Request.TheVariants as request
+use Rattle.spec_rules.specs.declared.step.WorkEnd.TheVariants as work_end
 
 -- ### Which answers are `failed`
 

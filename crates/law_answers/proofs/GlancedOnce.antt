@@ -1,31 +1,12 @@
 -- No line is glanced at twice: once a server was shown for it, it is not glanced at again.
-use Rattle.std.proofs.Common.{◌≡◌, ◌++◌, ℕ, Bool, true, false, List, [], ◌∷◌, Some, inl, inr, refl, sym, ap, ◌∙◌, subst, append_assoc}
-use Rattle.petal_msg.specs.declared.body.Body.TheVariants as body
-use Rattle.petal_msg.specs.declared.letter.Actor.{Actor}
-use Rattle.petal_msg.specs.declared.letter.Actor.TheVariants as actor
-use Rattle.petal_msg.specs.declared.letter.Letter.{Letter}
-use Rattle.script_lines.specs.Requests.{names}
-use Rattle.script_lines.specs.declared.answer.Answer.{Answer}
-use Rattle.script_lines.specs.declared.request.Line.{Line}
-use Rattle.script_lines.specs.declared.script.Script.{Script}
-use Rattle.spec_rules.specs.Jobs.{shown}
-use Rattle.spec_rules.specs.Lists.{In}
-use Rattle.spec_rules.specs.Server.{Server}
-use Rattle.spec_rules.specs.World.{MayActor, MayClient, MayGlance, MayServer, Setting, World, setting_of, start, step}
-use Rattle.spec_rules.specs.declared.step.Step.{Step}
-use Rattle.spec_rules.specs.declared.step.Step.TheVariants.{Glance}
-use Rattle.spec_rules.proofs.ListLemmas.{in-append}
-use Rattle.spec_rules.proofs.Tests.{by_test}
-use Rattle.spec_history.specs.Steps.{AreSteps, world_after}
-use Rattle.spec_history.specs.Order.{AreRising}
-use Rattle.spec_history.specs.Sound.{IsSound}
-use Rattle.spec_history.specs.declared.record.Record.{Record}
-use Rattle.law_state.specs.Moments.{IsMoment}
-use Rattle.law_steps.proofs.KindsInHistories.{front_legal}
-use Rattle.law_jobs.proofs.Runs.{Run, after, at_moment, follows_in, longer, run_of, setting_in, stepped_in}
-use Rattle.law_jobs.proofs.LettersWereSent.{stays_sent}
+use Rattle.law_answers.proofs.Imports.{[], ◌++◌, ◌∙◌, ◌∷◌, ◌≡◌, Actor, Answer, AreRising, AreSteps, Bool, Glance, In, IsMoment, IsSound, Letter, Line, List}
+use Rattle.law_answers.proofs.Imports.{MayActor, MayClient, MayGlance, MayServer, Record, Run, Script, Server, Setting, Some, Step, World, after, ap}
+use Rattle.law_answers.proofs.Imports.{append_assoc, at_moment, by_test, false, follows_in, front_legal, in-append, inl, inr, longer, names, refl, run_of}
+use Rattle.law_answers.proofs.Imports.{setting_in, setting_of, shown, start, stays_sent, step, stepped_in, subst, sym, true, world_after, ℕ}
 use Rattle.law_answers.specs.Glances.{HasGlance}
 use Rattle.law_answers.proofs.Glances.{glanced_before, was_glanced}
+use Rattle.petal_msg.specs.declared.body.Body.TheVariants as body
+use Rattle.petal_msg.specs.declared.letter.Actor.TheVariants as actor
 
 -- where an element of a list lies
 lies_in : (x : Record) (xs : List Record) → In x xs → (front : List Record) × (following : List Record) × (xs ≡ front ++ x ∷ following)

@@ -1,42 +1,15 @@
 -- What the lines that name a server are answered by: each by its own glance, which tells what it saw. And why a start or a blank
 -- fails: its glance comes right after the boot that its line gave, and finds the server stopped.
-use Rattle.std.proofs.Common.{◌≡◌, ◌≢◌, ◌⊎◌, inl, inr, ◌<◌, ◌+◌, ◌++◌, ℕ, Bool, true, false, List, [], ◌∷◌, Option, Some, None}
-use Rattle.std.proofs.Common.{refl, sym, ap, ◌∙◌, subst, arith, append_assoc}
-use Rattle.std.specs.Prelude.{slice_get, ◌==◌}
-use Rattle.std.proofs.lemmas.List.{append-nil}
-use Rattle.petal_msg.specs.declared.body.Body.TheVariants as body
-use Rattle.petal_msg.specs.declared.letter.Actor.{Actor}
-use Rattle.petal_msg.specs.declared.letter.Actor.TheVariants as actor
-use Rattle.petal_msg.specs.declared.letter.Letter.{Letter}
-use Rattle.script_lines.specs.Requests.{names}
-use Rattle.script_lines.specs.declared.answer.Answer.{Answer}
-use Rattle.script_lines.specs.declared.answer.Answer.TheVariants as answer
-use Rattle.script_lines.specs.declared.request.Line.{Line}
-use Rattle.script_lines.specs.declared.script.Script.{Script}
-use Rattle.spec_rules.specs.Boots.{stays}
-use Rattle.spec_rules.specs.Clients.{Client, Asked, Reaction}
-use Rattle.spec_rules.specs.Jobs.{here_of, operator, shown}
-use Rattle.spec_rules.specs.Lists.{In}
-use Rattle.spec_rules.specs.Server.{Server}
-use Rattle.spec_rules.specs.World.{Blanked, Booted, Control, Deed, IsDone, IsFree, IsGlanceDue, IsSettleGlance, MayActor, MayGlance, MayServer, Setting, Stopped}
-use Rattle.spec_rules.specs.World.{World, acts, client_state, client_step, controls, glanced_in, lines_of, next_line, reacts, server_state, server_step}
-use Rattle.spec_rules.specs.World.{setting_of, start, step, with_answer}
-use Rattle.spec_rules.specs.declared.step.Step.{Step}
-use Rattle.spec_rules.specs.declared.step.Step.TheVariants.{Call, Deliver, Tick, Work, StopIn, Stop, Blank, Boot, Arm, Glance}
-use Rattle.spec_rules.specs.declared.step.WorkEnd.{WorkEnd}
-use Rattle.spec_rules.proofs.ListLemmas.{in-append, put_apart, put_same}
-use Rattle.spec_rules.proofs.Tests.{all_put, by_test, none_some, same_numbers, same_some, true_false}
-use Rattle.spec_history.specs.Steps.{AreSteps, world_after}
-use Rattle.spec_history.specs.Order.{AreRising}
-use Rattle.spec_history.specs.Sound.{IsSound}
-use Rattle.spec_history.specs.declared.record.Record.{Record}
-use Rattle.law_state.specs.Moments.{IsMoment}
+use Rattle.law_answers.proofs.Imports.{[], ◌++◌, ◌+◌, ◌<◌, ◌==◌, ◌∙◌, ◌∷◌, ◌≡◌, ◌≢◌, ◌⊎◌, Actor, Answer, AreRising, AreSteps, Arm, Asked, Begins, Blank}
+use Rattle.law_answers.proofs.Imports.{Blanked, Bool, Boot, Booted, Call, Client, Control, Deed, Deliver, Ends, Glance, Goes_on, Heard, In, IsDone, IsFree}
+use Rattle.law_answers.proofs.Imports.{IsGlanceDue, IsMoment, IsSame, IsSeenAs, IsSettleGlance, IsSound, Is_told, Judges, Letter, Line, List, MayActor}
+use Rattle.law_answers.proofs.Imports.{MayGlance, MayServer, None, Option, Reaction, Reads, Record, Script, Server, Setting, Shown, Some, StaysOpen, Step}
+use Rattle.law_answers.proofs.Imports.{Stop, StopIn, Stopped, Tick, Turned, Work, WorkEnd, World, acts, all_put, ap, append-nil, append_assoc, arith, by_test}
+use Rattle.law_answers.proofs.Imports.{client_state, client_step, client_turns, controls, false, front_legal, glanced_in, here_of, in-append, inl, inr}
+use Rattle.law_answers.proofs.Imports.{lines_of, names, next_line, none_some, operator, put_apart, put_same, reacts, refl, same_numbers, same_some}
+use Rattle.law_answers.proofs.Imports.{server_state, server_step, setting_of, shown, slice_get, start, stays, step, subst, sym, true, true_false, with_answer}
+use Rattle.law_answers.proofs.Imports.{world_after, world_more, ℕ}
 use Rattle.law_answers.proofs.LinesHavePlaces.{line_at, one_place}
-use Rattle.law_steps.specs.DidStep.{Heard}
-use Rattle.law_steps.specs.DidClient.{Turned, IsSame, StaysOpen, Goes_on, Is_told, Begins, Reads, Ends, Shown, IsSeenAs}
-use Rattle.law_steps.specs.DidClient.{Judges}
-use Rattle.law_steps.proofs.KindsInHistories.{front_legal, world_more}
-use Rattle.law_steps.proofs.ClientStepKinds.{client_turns}
 use Rattle.law_answers.specs.FailureCauses.{IsReasonToFail, HasReasonToFail}
 use Rattle.law_answers.specs.Glances.{IsGlance, Tells}
 use Rattle.law_answers.specs.Lines.{AsksToBoot}
@@ -46,6 +19,9 @@ use Rattle.law_answers.proofs.LettersMuteOfRevisions.{IsMute, is_mute}
 use Rattle.law_answers.proofs.WhatLettersSay.{Mute, Rev, Sight, server_says, client_says}
 use Rattle.law_answers.proofs.FailuresAreCaused.{seen_failed, ending_not, reason_not, not_read, not_written, not_judged, glanced_at, AnsweredAs, seen_as}
 use Rattle.law_answers.proofs.FailuresAreCaused.{told_by, boots_named, done_booted, boot_why}
+use Rattle.petal_msg.specs.declared.body.Body.TheVariants as body
+use Rattle.petal_msg.specs.declared.letter.Actor.TheVariants as actor
+use Rattle.script_lines.specs.declared.answer.Answer.TheVariants as answer
 
 -- ### A history
 

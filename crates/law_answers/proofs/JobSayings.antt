@@ -1,31 +1,12 @@
 -- What a job of a server says of two matters: nothing of either, or that its letter had another revision; and what a tick says.
-use Rattle.std.proofs.Common.{◌≡◌, ◌≢◌, ◌==◌, ℕ, Bool, true, false, not, Option}
-use Rattle.std.proofs.Common.{Some, None, refl, arith}
-use Rattle.std.proofs.lemmas.Bool.Decides.{nat_tests}
-use Rattle.std.specs.Prelude.{if◌then◌else◌}
-use Rattle.petal_msg.specs.Kinds.{asked_by}
-use Rattle.petal_msg.specs.declared.body.Body.TheVariants as body
-use Rattle.petal_msg.specs.declared.letter.Actor.{Actor}
-use Rattle.petal_msg.specs.declared.letter.Actor.TheVariants as actor
-use Rattle.petal_msg.specs.declared.letter.Letter.{Letter}
-use Rattle.spec_rules.specs.Copies.{repairs}
-use Rattle.spec_rules.specs.Sweeping.{sweeps}
-use Rattle.spec_rules.specs.Lists.{In}
-use Rattle.spec_rules.specs.State.{is_in}
-use Rattle.spec_rules.specs.Server.{Server, PairState, JobContext, JobResult, Post, silent}
-use Rattle.spec_rules.specs.Jobs.{handles, wrong_rev, at_other_rev, is_from_in, does}
-use Rattle.spec_rules.specs.Jobs.{voter_of}
-use Rattle.spec_rules.specs.Jobs.{stages, tick_posts}
-use Rattle.spec_rules.specs.declared.job.Job.{Job}
-use Rattle.spec_rules.specs.declared.job.Job.TheVariants as job
-use Rattle.spec_rules.proofs.Tests.{by_test, not_true}
-use Rattle.law_steps.proofs.Letters.{one_post}
-use Rattle.law_steps.proofs.LogJobs.{ballot_logged, ask_logged}
-use Rattle.law_log.proofs.CopyJobsLeaveLog.{IsCalm, calm_mends}
-use Rattle.law_log.proofs.FillJobsLeaveLog.{calm_sweeps}
-use Rattle.law_log.proofs.PairLettersLeaveLog.{calm_handles, calm_stages, calm_where_in, dated_copies_again}
-use Rattle.law_log.proofs.PairJobsLeaveLog.{dated_again}
+use Rattle.law_answers.proofs.Imports.{if◌then◌else◌, ◌==◌, ◌≡◌, ◌≢◌, Actor, Bool, In, IsCalm, Job, JobContext, JobResult, Letter, None, Option, PairState}
+use Rattle.law_answers.proofs.Imports.{Post, Server, Some, arith, ask_logged, asked_by, at_other_rev, ballot_logged, by_test, calm_handles, calm_mends}
+use Rattle.law_answers.proofs.Imports.{calm_stages, calm_sweeps, calm_where_in, dated_again, dated_copies_again, does, false, handles, is_from_in, is_in}
+use Rattle.law_answers.proofs.Imports.{nat_tests, not, not_true, one_post, refl, repairs, silent, stages, sweeps, tick_posts, true, voter_of, wrong_rev, ℕ}
 use Rattle.law_answers.proofs.LettersMuteOfRevisions.{IsMute, AreMute, M, both_mute, calm_mute, dated_mute, logged_mute, none_mute}
+use Rattle.petal_msg.specs.declared.body.Body.TheVariants as body
+use Rattle.petal_msg.specs.declared.letter.Actor.TheVariants as actor
+use Rattle.spec_rules.specs.declared.job.Job.TheVariants as job
 
 module _ (here : JobContext) where
   pub tick_mute : (server : Server) → AreMute (tick_posts here server)

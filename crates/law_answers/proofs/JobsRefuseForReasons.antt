@@ -1,46 +1,21 @@
 -- Each kind of job refuses for a reason.
-use Rattle.std.proofs.Common.{◌≡◌, ◌≤◌, ◌<◌, ℕ, List, true, false, Some, None, refl, sym, ap, ◌∙◌, subst, ◌⊎◌, inl, inr, arith}
-use Rattle.petal_base.specs.declared.cell.Cell.{Cell}
-use Rattle.petal_table.specs.Table.{Table, at, put}
-use Rattle.petal_msg.specs.declared.body.Body.{Body}
+use Rattle.law_answers.proofs.Imports.{◌<◌, ◌∙◌, ◌≡◌, ◌≤◌, ◌⊎◌, A_slot, An_entry_to_move, Asks, Asks_slot, Body, By_operation, Cell, Did, Ending, Ends_fill}
+use Rattle.law_answers.proofs.Imports.{Finished, For_a_fill, For_a_write, FoundNoSlot, Had_no_slot, Handled, HasCome, Has_no_slot, In, IsFinishedFor}
+use Rattle.law_answers.proofs.Imports.{IsSeated, IsSteady, Is_declined, Is_new, JobContext, JobResult, List, Moves, Moves_on, None, PairState, Pending, Post}
+use Rattle.law_answers.proofs.Imports.{Refused, Repeats, Some, Stood, Table, Was, Work, World, ap, arith, at, both_first, both_leads, both_row, by_bool}
+use Rattle.law_answers.proofs.Imports.{cell_cmp, chosen_log, dead_second, did_come, did_count, did_finish, ended, false, finished_of, first, in_both, in_once}
+use Rattle.law_answers.proofs.Imports.{inl, inr, is_clients, is_in, is_logged, is_second, is_the_one, lead_first, leads_link, letters_of_job, live, moved_as}
+use Rattle.law_answers.proofs.Imports.{none_some, one_front, own_place, own_steady, pending_on, put, refl, same_some, second, second_both, state_after}
+use Rattle.law_answers.proofs.Imports.{subject_of, subst, sym, to_client, to_server, true, true_false, was_same, ℕ}
+use Rattle.law_answers.specs.Refusals.{HadNoSlot, At_the_lead, At_the_second, Refusals}
+use Rattle.law_answers.proofs.SlotLetters.{is_slot, is_of_slots, not_full, logged_not_full, one_client, AsksFor, TellsNone, JobRefuses, Scene, still}
+use Rattle.law_answers.proofs.SlotLetters.{moved_not_full}
+use Rattle.law_steps.specs.DidLead.{Of_the_log}
+use Rattle.law_jobs.specs.Sayings.{Says}
 use Rattle.petal_msg.specs.declared.body.Body.TheVariants as body
 use Rattle.petal_msg.specs.declared.letter.Actor.TheVariants as actor
-use Rattle.petal_msg.specs.declared.operation.Ending.{Ending}
 use Rattle.petal_msg.specs.declared.operation.Ending.TheVariants as ending
-use Rattle.petal_msg.specs.declared.operation.Finished.{Finished}
-use Rattle.petal_msg.specs.declared.operation.Pending.{Pending}
-use Rattle.spec_rules.specs.Lists.{In}
-use Rattle.spec_state.specs.Command.{state_after}
-use Rattle.spec_rules.specs.State.{first, second, in_both, is_in, is_second, leads_link, live}
-use Rattle.spec_rules.specs.Store.{cell_cmp}
-use Rattle.spec_rules.specs.Server.{PairState, JobContext, Post, JobResult}
-use Rattle.spec_rules.specs.Writes.{is_clients, ended, pending_on}
-use Rattle.spec_rules.specs.Writes.{moved_as}
-use Rattle.spec_rules.specs.World.{World, chosen_log}
-use Rattle.spec_rules.specs.declared.step.Step.TheVariants.{Work}
 use Rattle.spec_rules.specs.declared.step.WorkEnd.TheVariants as work_end
-use Rattle.spec_rules.proofs.Tests.{by_bool, none_some, same_some, true_false, is_the_one}
-use Rattle.law_state.specs.Steady.{IsSteady}
-use Rattle.law_state.proofs.Ages.{in_once}
-use Rattle.law_state.proofs.LoneHolders.{both_row, lead_first, second_both}
-use Rattle.law_state.proofs.CellsByLinkRows.{both_first, both_leads}
-use Rattle.law_steps.specs.DidStep.{Handled, IsSeated, own_place}
-use Rattle.law_steps.proofs.KindsInHistories.{own_steady}
-use Rattle.law_steps.proofs.WhoLeads.{dead_second}
-use Rattle.law_answers.specs.Refusals.{HadNoSlot, At_the_lead, At_the_second, Refusals}
-use Rattle.law_steps.proofs.Fronts.{one_front}
-use Rattle.law_answers.proofs.SlotLetters.{is_slot, is_of_slots, not_full, logged_not_full, one_client, AsksFor}
-use Rattle.law_answers.proofs.SlotLetters.{TellsNone, JobRefuses, Scene, still, moved_not_full}
-use Rattle.petal_msg.specs.Kinds.{Refused, is_logged, subject_of}
-use Rattle.law_steps.specs.Did.{Did}
-use Rattle.law_steps.specs.DidLead.{Asks, A_slot, An_entry_to_move, Of_the_log}
-use Rattle.law_steps.specs.DidSecond.{FoundNoSlot}
-use Rattle.law_steps.proofs.Restages.{Was, was_same}
-use Rattle.law_jobs.specs.Effects.{By_operation, For_a_fill, For_a_write, Had_no_slot, Is_declined, IsFinishedFor}
-use Rattle.law_jobs.specs.Sayings.{Asks_slot, Ends_fill, Has_no_slot, Moves, Moves_on, Repeats, Says, to_client, to_server}
-use Rattle.law_jobs.proofs.JobsSay.{letters_of_job}
-use Rattle.law_jobs.proofs.CountsGrow.{did_count}
-use Rattle.law_jobs.proofs.OperationsCome.{HasCome, Is_new, Stood, did_come, did_finish, finished_of}
 use Rattle.law_jobs.specs.Sayings as says
 
 module _ (R S : ℕ → ℕ → Type 0) (scene : Scene R S) where

@@ -1,30 +1,14 @@
 -- In a state in which every server is In as its first incarnation, each read and write of a known disk has a server: none is refused
 -- for want of one.
-use Rattle.std.proofs.Common.{◌≡◌, ◌≢◌, ◌<◌, ◌≤◌, ◌+◌, ◌==◌, ◌&&◌, ◌||◌, ℕ, zero, suc, Bool, true, false, if◌then◌else◌, List, ◌∷◌, length}
-use Rattle.std.proofs.Common.{Option, Some, None, is_some, refl, sym, ap, ◌∙◌, subst, inl, inr, arith}
-use Rattle.std.proofs.lemmas.Bool.Decides.{nat_tests}
-use Rattle.std.specs.Prelude.{filter}
-use Rattle.std.specs.List.{range_with_len}
-use Rattle.petal_base.specs.declared.cell.Cell.{Cell}
-use Rattle.global_tables.specs.declared.link.LinkRow.{LinkRow}
-use Rattle.global_tables.specs.declared.link.LinkState.TheVariants.{Both}
-use Rattle.spec_state.specs.CellState.{cell_asked, cell_link, leaving, live}
-use Rattle.spec_state.specs.State.{is_up_as}
-use Rattle.spec_state.specs.declared.answer.DiskView.{DiskView}
+use Rattle.law_answers.proofs.Imports.{if◌then◌else◌, ◌&&◌, ◌+◌, ◌<◌, ◌==◌, ◌||◌, ◌∙◌, ◌∷◌, ◌≡◌, ◌≢◌, ◌≤◌, Bool, Both, ByBoth, ByNone, ByOne, Cell, DiskView}
+use Rattle.law_answers.proofs.Imports.{IsBetween, IsLinked, IsPlainState, IsSteady, LinkRow, List, None, Option, Request, Some, State, ap, arith, asked_takes}
+use Rattle.law_answers.proofs.Imports.{both_leads, both_reader, by_bool, cell_asked, cell_link, epoch_for, false, filter, find, has_stage, in_up, inl, inr}
+use Rattle.law_answers.proofs.Imports.{is_some, is_unread, is_up_as, lead, lead_is, leaving, length, nat_tests, none_some, primary_is_one, range_with_len}
+use Rattle.law_answers.proofs.Imports.{read_refusal, read_refusal_at, readable, readers, refl, refusal, same_numbers, servers_of, subst, suc, sym, true}
+use Rattle.law_answers.proofs.Imports.{true_false, write_refusal, zero, ℕ}
+use Rattle.spec_state.specs.CellState.{live}
 use Rattle.script_lines.specs.declared.answer.Answer.TheVariants as answer
-use Rattle.script_lines.specs.declared.request.Request.{Request}
 use Rattle.script_lines.specs.declared.request.Request.TheVariants as request
-use Rattle.spec_rules.specs.Clients.{refusal, write_refusal, read_refusal, read_refusal_at, readers, is_unread, epoch_for}
-use Rattle.spec_rules.specs.State.{State, servers_of, find, lead, readable}
-use Rattle.spec_rules.proofs.Tests.{by_bool, none_some, same_numbers, true_false}
-use Rattle.law_state.specs.LinkRows.{IsBetween, ByBoth, ByNone, ByOne}
-use Rattle.law_state.specs.Steady.{IsLinked, IsSteady}
-use Rattle.law_state.specs.Tables.{IsPlainState}
-use Rattle.law_state.proofs.Ages.{in_up}
-use Rattle.law_state.proofs.CellsByLinkRows.{both_leads, both_reader, lead_is}
-use Rattle.law_state.proofs.Homes.{has_stage}
-use Rattle.law_state.proofs.NamedCells.{asked_takes}
-use Rattle.law_state.proofs.Roles.{primary_is_one}
 
 -- a list of numbers below, of which one passes, keeps one
 some_kept : (test : ℕ → Bool) (a n k : ℕ) → a ≤ k → k < a + n → test k ≡ true → 0 < length (filter test (range_with_len a n))

@@ -1,18 +1,6 @@
 -- What the laws below know of a world of a legal history, whatever front of it leads there.
-use Rattle.std.proofs.Common.{List}
-use Rattle.script_lines.specs.declared.script.Script.{Script}
-use Rattle.spec_state.specs.Command.{state_after}
-use Rattle.spec_rules.specs.State.{State}
-use Rattle.spec_rules.specs.World.{Setting, World, chosen_log, setting_of, start}
-use Rattle.spec_history.specs.Steps.{AreSteps, world_after}
-use Rattle.spec_history.specs.Sound.{IsSound}
-use Rattle.spec_history.specs.declared.record.Record.{Record}
-use Rattle.law_state.specs.Steady.{IsSteady}
-use Rattle.law_state.proofs.Steady.{log_steady}
-use Rattle.law_steps.proofs.Fronts.{front_itself}
-use Rattle.law_jobs.proofs.Runs.{after, firm_in, run_of, setting_in}
-use Rattle.law_run.specs.MachineTies.{Ground}
-use Rattle.law_run.proofs.GroundInHistories.{footing_after}
+use Rattle.law_answers.proofs.Imports.{AreSteps, Ground, IsSound, IsSteady, List, Record, Script, Setting, State, World, after, chosen_log, firm_in}
+use Rattle.law_answers.proofs.Imports.{footing_after, front_itself, log_steady, run_of, setting_in, setting_of, start, state_after, world_after}
 
 -- a world with what is known of it, at a steady state from what is chosen on
 pub record Stands (setting : Setting) (w : World) : Type 0 where

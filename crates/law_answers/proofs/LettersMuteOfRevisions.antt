@@ -1,14 +1,7 @@
 -- What says nothing of other revisions and of servers that run: each letter of the log, and each that is handled at its sender's revision alone.
-use Rattle.std.proofs.Common.{◌≡◌, inl, inr, ◌++◌, Bool, true, false, List, [], refl}
-use Rattle.petal_msg.specs.Kinds.{is_logged, subject_of}
-use Rattle.petal_msg.specs.declared.body.Body.{Body}
+use Rattle.law_answers.proofs.Imports.{[], ◌++◌, ◌≡◌, Body, Bool, In, IsCalm, IsDated, JobResult, List, PairState, Post, false, in-append, inl, inr}
+use Rattle.law_answers.proofs.Imports.{is_logged, refl, subject_of, true, true_false}
 use Rattle.petal_msg.specs.declared.body.Body.TheVariants as body
-use Rattle.spec_rules.specs.Lists.{In}
-use Rattle.spec_rules.specs.Server.{JobResult, PairState, Post}
-use Rattle.spec_rules.proofs.ListLemmas.{in-append}
-use Rattle.spec_rules.proofs.Tests.{true_false}
-use Rattle.law_log.proofs.CopyJobsLeaveLog.{IsCalm}
-use Rattle.law_log.proofs.PairJobsLeaveLog.{IsDated}
 
 abbrev pub is_mute : Body → Bool
 is_mute (body.WrongRev seq) = false

@@ -1,24 +1,10 @@
 -- Which letter tells a look for a line, and what of a line's look is left.
-use Rattle.std.proofs.Common.{◌≡◌, ◌==◌, ◌<◌, ◌++◌, ℕ, Bool, true, false, List, [], ◌∷◌, Option, Some, None, refl, sym, ap, ◌∙◌, subst, inl, inr, arith}
-use Rattle.std.specs.Prelude.{if◌then◌else◌}
-use Rattle.std.specs.List.{flat_map}
-use Rattle.spec_machine.specs.declared.event.Event.{Event}
-use Rattle.spec_machine.specs.declared.event.Event.TheVariants.{Look}
-use Rattle.petal_msg.specs.declared.body.Body.{Body}
-use Rattle.petal_msg.specs.declared.body.Body.TheVariants as body
-use Rattle.petal_msg.specs.declared.letter.Actor.{Actor}
-use Rattle.petal_msg.specs.declared.letter.Letter.{Letter}
-use Rattle.script_lines.specs.declared.request.Line.{Line}
-use Rattle.script_lines.specs.declared.request.Request.TheVariants.{Read}
-use Rattle.spec_rules.specs.Lists.{In}
-use Rattle.spec_rules.specs.World.{Setting, World}
-use Rattle.spec_rules.proofs.ListLemmas.{in-append}
-use Rattle.spec_rules.proofs.Tests.{by_bool, number_itself, same_numbers, same_some}
-use Rattle.spec_history.specs.Events.{accepted, look_by, look_for, old_data, reads_old}
-use Rattle.spec_history.specs.Order.{AreRising}
-use Rattle.spec_history.specs.declared.record.Record.{Record}
-use Rattle.law_run.proofs.ListMembers.{none_pass, of_map}
+use Rattle.law_answers.proofs.Imports.{[], if◌then◌else◌, ◌++◌, ◌<◌, ◌==◌, ◌∙◌, ◌∷◌, ◌≡◌, Actor, AreRising, Body, Bool, Event, In, Letter, Line, List, Look}
+use Rattle.law_answers.proofs.Imports.{None, Option, Read, Record, Setting, Some, World, accepted, ap, arith, by_bool, false, flat_map, in-append, inl, inr}
+use Rattle.law_answers.proofs.Imports.{look_by, look_for, none_pass, number_itself, of_map, old_data, reads_old, refl, same_numbers, same_some, subst, sym}
+use Rattle.law_answers.proofs.Imports.{true, ℕ}
 use Rattle.law_answers.specs.Looks.{beside, letter_looks, look_beside, look_beside_data, of_line, record_looks}
+use Rattle.petal_msg.specs.declared.body.Body.TheVariants as body
 
 -- ### From a look to its letter
 

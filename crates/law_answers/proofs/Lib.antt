@@ -1,3 +1,4 @@
+pub mod Imports
 pub mod LinesHavePlaces
 pub mod AnsweredOnce
 pub mod PhasesRise

@@ -1,19 +1,11 @@
 -- The operator's open request is that of one of its lines, and what such a line asks of a server.
-use Rattle.std.proofs.Common.{◌≡◌, ℕ, List, Option, Some, ap, inl, inr}
-use Rattle.script_lines.specs.declared.request.Line.{Line}
-use Rattle.script_lines.specs.declared.request.Request.{Request}
-use Rattle.script_lines.specs.declared.request.Request.TheVariants as request
-use Rattle.script_lines.specs.declared.script.Script.{Script}
-use Rattle.spec_rules.specs.Clients.{Asked}
-use Rattle.spec_rules.specs.Jobs.{operator}
-use Rattle.spec_rules.specs.World.{Boots, Deed, IsOpenLine, Stops, World, setting_of, start}
-use Rattle.spec_history.specs.Steps.{AreSteps, world_after}
-use Rattle.spec_history.specs.Sound.{IsSound}
-use Rattle.spec_history.specs.declared.record.Record.{Record}
+use Rattle.law_answers.proofs.Imports.{◌≡◌, AreSteps, Asked, Boots, Deed, IsSound, Line, List, Option, Record, Request, Script, Some, Stops, World, ap, inl}
+use Rattle.law_answers.proofs.Imports.{inr, operator, run_of, setting_of, start, world_after, ℕ}
+use Rattle.spec_rules.specs.World.{IsOpenLine}
 use Rattle.law_answers.proofs.LinesHavePlaces.{line_at}
-use Rattle.law_jobs.proofs.Runs.{run_of}
 use Rattle.law_answers.specs.Lines.{AsksToBoot, AsksToStop, IsLineOf}
 use Rattle.law_answers.proofs.AnswersAreCaused.{IsOpenFor, open_after}
+use Rattle.script_lines.specs.declared.request.Request.TheVariants as request
 
 -- an open request is that of a line
 pub open_for : (script : Script) (records : List Record) → IsSound script → AreSteps script records → (c : ℕ) (asked : Asked)

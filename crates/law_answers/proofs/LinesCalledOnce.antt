@@ -1,22 +1,12 @@
 -- A line is called once.
-use Rattle.std.proofs.Common.{◌≡◌, ◌≤◌, ◌+◌, ◌++◌, ℕ, List, [], ◌∷◌, Some, sym, ap, ◌∙◌, subst, arith, append_assoc}
-use Rattle.std.specs.Prelude.{slice_get}
-use Rattle.petal_msg.specs.declared.letter.Actor.{Actor}
-use Rattle.petal_msg.specs.declared.letter.Actor.TheVariants as actor
-use Rattle.script_lines.specs.declared.request.Line.{Line}
-use Rattle.script_lines.specs.declared.script.Script.{Script}
-use Rattle.spec_rules.specs.Clients.{Client}
-use Rattle.spec_rules.specs.World.{MayActor, Setting, World, lines_of, setting_of, start, step}
-use Rattle.spec_rules.specs.declared.step.Step.TheVariants.{Call}
-use Rattle.spec_rules.proofs.ListLemmas.{put_same}
-use Rattle.spec_history.specs.Steps.{AreSteps, AreStepsFrom, stepped, world_after}
-use Rattle.spec_history.specs.Order.{AreRising}
-use Rattle.spec_history.specs.declared.record.Record.{Record}
+use Rattle.law_answers.proofs.Imports.{[], ◌++◌, ◌+◌, ◌∙◌, ◌∷◌, ◌≡◌, ◌≤◌, Actor, AreRising, AreSteps, AreStepsFrom, Call, Client, Line, List, MayActor}
+use Rattle.law_answers.proofs.Imports.{Record, Script, Setting, Some, World, ap, append_assoc, arith, front_legal, lines_of, put_same, setting_of, slice_get}
+use Rattle.law_answers.proofs.Imports.{start, step, stepped, subst, sym, world_after, ℕ}
 use Rattle.law_answers.proofs.LinesHavePlaces.{one_client, one_place}
-use Rattle.law_steps.proofs.KindsInHistories.{front_legal}
 use Rattle.law_answers.proofs.OneRecordAnswers.{world_split}
 use Rattle.law_answers.proofs.ListPositions.{AreOrdered, Are_one, Is_former, Is_latter, ordered}
 use Rattle.law_answers.proofs.ClientHistorySteps.{call_seq, reacted_to, step_seq}
+use Rattle.petal_msg.specs.declared.letter.Actor.TheVariants as actor
 
 -- who calls the line of this number, which then has the next number of the client's requests
 record IsCall (setting : Setting) (w v : World) (number : ℕ) : Type 0 where

@@ -1,11 +1,6 @@
 -- Lines that rise: each has a place of its own among its client's lines.
-use Rattle.std.proofs.Common.{◌≡◌, ◌<◌, ℕ, zero, suc, Bool, true, false, cond, List, [], ◌∷◌, Some, refl, sym, ap, ◌∙◌, subst, inl, inr, arith}
-use Rattle.std.specs.Prelude.{◌==◌, filter, slice_get}
-use Rattle.script_lines.specs.declared.request.Line.{Line}
-use Rattle.spec_rules.specs.Lists.{In}
-use Rattle.spec_rules.specs.World.{lines_of}
-use Rattle.spec_rules.proofs.Tests.{same_some, none_some, same_numbers}
-use Rattle.spec_history.specs.Order.{AreRising}
+use Rattle.law_answers.proofs.Imports.{[], ◌<◌, ◌==◌, ◌∙◌, ◌∷◌, ◌≡◌, AreRising, Bool, In, Line, List, Some, ap, arith, cond, false, filter, inl, inr}
+use Rattle.law_answers.proofs.Imports.{lines_of, none_some, refl, same_numbers, same_some, slice_get, subst, suc, sym, true, zero, ℕ}
 
 kept_line : (p : Line → Bool) (lines : List Line) (line : Line) → In line (filter p lines) → In line lines × (p line ≡ true)
 unfolding In

@@ -1,5 +1,5 @@
 -- Where two elements of one list stand to each other, and lists of which no element passes.
-use Rattle.std.proofs.Common.{◌≡◌, ◌++◌, List, [], ◌∷◌, refl, ap, sym}
+use Rattle.law_answers.proofs.Imports.{[], ◌++◌, ◌∷◌, ◌≡◌, List, ap, refl, sym}
 
 first_is : {A : Type 0} {x z : A} {xs zs : List A} → x ∷ xs ≡ z ∷ zs → x ≡ z
 first_is e = cc

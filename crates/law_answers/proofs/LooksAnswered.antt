@@ -1,15 +1,6 @@
 -- A look is told only for a line that is answered later.
-use Rattle.std.proofs.Common.{◌≡◌, ◌++◌, ℕ, false, List, ◌∷◌, refl, sym, ap, ◌∙◌, subst, append_assoc}
-use Rattle.spec_machine.specs.declared.event.Event.{Event}
-use Rattle.petal_msg.specs.declared.letter.Letter.{Letter}
-use Rattle.script_lines.specs.declared.script.Script.{Script}
-use Rattle.spec_rules.specs.Lists.{In}
-use Rattle.spec_rules.specs.World.{Setting, World, setting_of, start}
-use Rattle.spec_history.specs.Steps.{AreSteps, stepped, world_after}
-use Rattle.spec_history.specs.Order.{AreRising}
-use Rattle.spec_history.specs.Sound.{IsSound}
-use Rattle.spec_history.specs.declared.record.Record.{Record}
-use Rattle.law_state.specs.Moments.{IsMoment}
+use Rattle.law_answers.proofs.Imports.{◌++◌, ◌∙◌, ◌∷◌, ◌≡◌, AreRising, AreSteps, Event, In, IsMoment, IsSound, Letter, List, Record, Script, Setting, World}
+use Rattle.law_answers.proofs.Imports.{ap, append_assoc, false, refl, setting_of, start, stepped, subst, sym, world_after, ℕ}
 use Rattle.law_answers.specs.Looks.{IsAnsweredAfter, looks_at}
 use Rattle.law_answers.proofs.OneRecordAnswers.{accepted_by}
 use Rattle.law_answers.proofs.LettersTellLooks.{By_data, By_turning, TellsIt, told_by}

@@ -1,17 +1,9 @@
 -- The looks beside their lines are those of the events.
-use Rattle.std.proofs.Common.{◌≡◌, ◌++◌, ℕ, Bool, true, false, List, [], ◌∷◌, Option, Some, None, refl, sym, ap, ◌∙◌}
-use Rattle.std.specs.Prelude.{map, if◌then◌else◌}
-use Rattle.std.specs.List.{flat_map}
-use Rattle.spec_machine.specs.declared.event.Event.{Event}
-use Rattle.petal_msg.specs.declared.body.Body.{Body}
-use Rattle.petal_msg.specs.declared.body.Body.TheVariants as body
-use Rattle.petal_msg.specs.declared.letter.Actor.{Actor}
-use Rattle.petal_msg.specs.declared.letter.Letter.{Letter}
-use Rattle.script_lines.specs.declared.request.Line.{Line}
-use Rattle.spec_rules.specs.World.{Setting, World}
-use Rattle.spec_history.specs.Events.{accepted, look_for, look_for_data, look_of, looks, old_data, reads_old}
-use Rattle.spec_history.specs.declared.record.Record.{Record}
+use Rattle.law_answers.proofs.Imports.{[], if◌then◌else◌, ◌++◌, ◌∙◌, ◌∷◌, ◌≡◌, Actor, Body, Bool, Event, Letter, Line, List, None, Option, Record, Setting}
+use Rattle.law_answers.proofs.Imports.{Some, World, accepted, ap, false, flat_map, look_for, look_for_data, look_of, looks, map, old_data, reads_old, refl}
+use Rattle.law_answers.proofs.Imports.{sym, true, ℕ}
 use Rattle.law_answers.specs.Looks.{beside, letter_looks, look_beside, look_beside_data, record_looks}
+use Rattle.petal_msg.specs.declared.body.Body.TheVariants as body
 
 abbrev events_in : List (ℕ × Event) → List Event
 events_in looks = map (λ look. look.1) looks

@@ -1,43 +1,19 @@
 -- A server remembers that a slot was wanting since a letter told it so: of its last copy, by the link's other server, which had none; or of an
 -- entry that it is to move, by the new map's lead, which had none, or whose second server had none.
-use Rattle.std.proofs.Common.{◌≡◌, ℕ, Bool, List, [], ◌∷◌, ◌++◌, Option, Some, None, true, refl, sym}
-use Rattle.std.proofs.Common.{ap, ◌∙◌, subst, ◌⊎◌, inl, inr}
-use Rattle.global_tables.specs.declared.link.LinkRow.{LinkRow}
-use Rattle.petal_base.specs.declared.cell.Cell.{Cell}
-use Rattle.petal_command.specs.declared.command.Command.{Command}
-use Rattle.petal_command.specs.declared.command.Command.TheVariants.{Caught}
-use Rattle.petal_msg.specs.declared.body.Body.{Body}
-use Rattle.petal_msg.specs.declared.body.Body.TheVariants as body
-use Rattle.petal_msg.specs.declared.letter.Actor.{Actor}
-use Rattle.petal_msg.specs.declared.letter.Actor.TheVariants as actor
-use Rattle.petal_msg.specs.declared.letter.Letter.{Letter}
-use Rattle.spec_rules.specs.Crossing.{crossed}
-use Rattle.spec_rules.specs.Jobs.{Acted}
-use Rattle.spec_rules.specs.Lists.{In}
-use Rattle.spec_rules.specs.Returns.{holds_link, proposed}
-use Rattle.spec_rules.specs.Server.{PairState, Copies, JobContext, JobResult, Server}
-use Rattle.spec_rules.specs.State.{State, link_named}
-use Rattle.spec_rules.specs.World.{Setting, World, server_state, step, MayActor}
-use Rattle.spec_rules.specs.declared.step.Step.{Step}
-use Rattle.spec_rules.specs.declared.step.Step.TheVariants.{Blank, Work}
-use Rattle.spec_rules.specs.declared.step.WorkEnd.TheVariants as work_end
-use Rattle.spec_rules.proofs.Settled.{settling}
-use Rattle.spec_rules.proofs.Tests.{all_put, true_false}
-use Rattle.spec_history.specs.declared.record.Record.{Record}
-use Rattle.law_state.specs.Firm.{Firm}
-use Rattle.law_state.proofs.Moments.{last_moment, moment_more}
-use Rattle.law_steps.specs.Did.{Did}
-use Rattle.law_steps.specs.DidStep.{Handled, By_job, By_ballot, By_entry, Serving, Goes, Ends, Stays, Wakes, Fails, own_place}
-use Rattle.law_steps.specs.Ready.{Rests}
-use Rattle.law_steps.proofs.KindsInHistories.{own_steady}
-use Rattle.law_steps.proofs.ServerStepKinds.{server_serves}
-use Rattle.law_jobs.specs.Effects.{Effect, HearsNone, Is_full, May, applied}
-use Rattle.law_jobs.proofs.JobsAreEffects.{job_keeps}
-use Rattle.law_jobs.proofs.Runs.{At, OneMore, Run, after, at_moment, by_run, firm_in, firm_then, follows_in, longer, rests_in, setting_in, stepped_in}
-use Rattle.law_jobs.proofs.LettersWereSent.{was_sent}
+use Rattle.law_answers.proofs.Imports.{[], ◌++◌, ◌∙◌, ◌∷◌, ◌≡◌, ◌⊎◌, Acted, Actor, At, Blank, Body, Bool, By_ballot, By_entry, By_job, Caught, Cell, Command}
+use Rattle.law_answers.proofs.Imports.{Copies, Did, Effect, Fails, Firm, Goes, Handled, HearsNone, In, Is_full, JobContext, JobResult, Letter, LinkRow, List}
+use Rattle.law_answers.proofs.Imports.{May, MayActor, None, OneMore, Option, PairState, Record, Rests, Run, Server, Serving, Setting, Some, State, Stays}
+use Rattle.law_answers.proofs.Imports.{Step, Wakes, Work, World, after, all_put, ap, applied, at_moment, by_run, crossed, firm_in, firm_then, follows_in}
+use Rattle.law_answers.proofs.Imports.{holds_link, inl, inr, job_keeps, last_moment, link_named, longer, moment_more, own_place, own_steady, proposed, refl}
+use Rattle.law_answers.proofs.Imports.{rests_in, server_serves, server_state, setting_in, settling, step, stepped_in, subst, sym, true, true_false, was_sent}
+use Rattle.law_answers.proofs.Imports.{ℕ}
+use Rattle.law_steps.specs.DidStep.{Ends}
 use Rattle.law_answers.specs.FullCauses.{By_copy, By_fill, HadNoRoom, HasFoundNone, HasJob, WasTold}
 use Rattle.law_answers.proofs.Reasons.{reason_found}
 use Rattle.law_answers.proofs.RefusalsHaveReasons.{was_declined}
+use Rattle.petal_msg.specs.declared.body.Body.TheVariants as body
+use Rattle.petal_msg.specs.declared.letter.Actor.TheVariants as actor
+use Rattle.spec_rules.specs.declared.step.WorkEnd.TheVariants as work_end
 
 -- ### What is remembered
 

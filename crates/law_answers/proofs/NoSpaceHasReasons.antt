@@ -1,51 +1,24 @@
 -- Over every legal history, each answer that there was no space has a reason.
-use Rattle.std.proofs.Common.{◌≡◌, ℕ, List, [], ◌∷◌, ◌++◌, Bool, true, false, Option, Some, None, refl, sym}
-use Rattle.std.proofs.Common.{ap, ◌∙◌, subst, ◌⊎◌, inl, inr}
-use Rattle.std.specs.Prelude.{◌||◌, if◌then◌else◌, is_some, ◌==◌}
-use Rattle.std.specs.Ordering.{nat_cmp}
-use Rattle.petal_base.specs.declared.cell.Cell.{Cell}
-use Rattle.petal_command.specs.declared.command.Command.{Command}
-use Rattle.petal_table.proofs.Rows.{at-empty}
-use Rattle.global_tables.specs.declared.disk.Latest.{Latest}
-use Rattle.global_tables.specs.declared.disk.Verdict.{Verdict}
-use Rattle.global_tables.specs.declared.disk.Verdict.TheVariants as verdict
-use Rattle.petal_msg.specs.declared.body.Body.TheVariants as body
-use Rattle.petal_msg.specs.declared.letter.Actor.{Actor}
-use Rattle.petal_msg.specs.declared.letter.Actor.TheVariants as actor
-use Rattle.petal_msg.specs.declared.letter.Letter.{Letter}
-use Rattle.petal_msg.specs.declared.operation.Ending.TheVariants as ending
-use Rattle.script_lines.specs.declared.answer.Answer.{Answer}
-use Rattle.script_lines.specs.declared.answer.Answer.TheVariants as answer
-use Rattle.script_lines.specs.declared.request.Request.{Request}
-use Rattle.script_lines.specs.declared.request.Request.TheVariants as request
-use Rattle.script_lines.specs.declared.script.Script.{Script}
-use Rattle.spec_state.specs.CellState.{cell_asked}
-use Rattle.spec_state.specs.Command.{state_after}
-use Rattle.spec_state.specs.State.{latest}
-use Rattle.spec_state.specs.declared.answer.DiskView.{DiskView}
-use Rattle.spec_rules.specs.Boots.{stays}
-use Rattle.spec_rules.specs.Clients.{Asked, Reaction, Sight, epoch_for, is_unread, refusal, read_refusal}
-use Rattle.spec_rules.specs.Clients.{read_refusal_at, write_refusal, verdict_answer, verdict_for}
-use Rattle.spec_rules.specs.Lists.{In}
-use Rattle.spec_rules.specs.State.{State, find, lead}
-use Rattle.spec_rules.specs.Store.{cell_cmp}
-use Rattle.spec_rules.specs.World.{Setting, World, step, start, setting_of, client_step, client_state}
-use Rattle.spec_rules.specs.World.{next_line, MayActor}
-use Rattle.spec_rules.specs.declared.step.Step.{Step}
-use Rattle.spec_rules.proofs.Tests.{same_some, none_some, by_test}
-use Rattle.spec_history.specs.Steps.{world_after}
-use Rattle.spec_history.specs.declared.record.Record.{Record}
-use Rattle.law_state.proofs.Moments.{last_moment, moment_more}
-use Rattle.law_steps.specs.DidStep.{Heard}
-use Rattle.law_steps.specs.DidClient.{Turned, Goes_on, Is_told, Begins, Reads, Ends, Shown, Judges, IsReason, By_verdict, By_witness, IsSeenAs}
-use Rattle.law_steps.specs.DidClient.{Stops_it, Stops_at, Fails_it, Starts_it, Blanks_it, Has_no_space, Is_settled}
-use Rattle.law_steps.proofs.ClientStepKinds.{client_turns, is_call}
-use Rattle.law_jobs.proofs.Runs.{OneMore, Run, after, at_moment, by_run, firm_in, firm_then, follows_in, grown_then, longer, rests_in, setting_in, stepped_in}
+use Rattle.law_answers.proofs.Imports.{[], if◌then◌else◌, ◌++◌, ◌==◌, ◌||◌, ◌∙◌, ◌∷◌, ◌≡◌, ◌⊎◌, Actor, Answer, Asked, Begins, Blanks_it, Bool, By_verdict}
+use Rattle.law_answers.proofs.Imports.{By_witness, Cell, Command, DiskView, Ends, Fails_it, Goes_on, Has_no_space, Heard, In, IsReason, IsSeenAs, Is_settled}
+use Rattle.law_answers.proofs.Imports.{Is_told, Judges, Latest, Letter, List, MayActor, None, OneMore, Option, Reaction, Reads, Record, Request, Run, Script}
+use Rattle.law_answers.proofs.Imports.{Setting, Shown, Sight, Some, Starts_it, State, Step, Stops_at, Stops_it, Turned, Verdict, World, after, ap, at-empty}
+use Rattle.law_answers.proofs.Imports.{at_moment, by_run, by_test, cell_asked, cell_cmp, client_state, client_step, client_turns, epoch_for, false, find}
+use Rattle.law_answers.proofs.Imports.{firm_in, firm_then, follows_in, grown_then, inl, inr, is_call, is_some, is_unread, last_moment, latest, lead, longer}
+use Rattle.law_answers.proofs.Imports.{moment_more, nat_cmp, next_line, none_some, read_refusal, read_refusal_at, refl, refusal, rests_in, same_some}
+use Rattle.law_answers.proofs.Imports.{setting_in, setting_of, start, state_after, stays, step, stepped_in, subst, sym, true, verdict_answer, verdict_for}
+use Rattle.law_answers.proofs.Imports.{world_after, write_refusal, ℕ}
 use Rattle.law_answers.proofs.SettlesAreAnswered.{shown_full}
 use Rattle.law_answers.specs.Refusals.{HadNoSlot, WasRefused, HasReason, Refusals}
 use Rattle.law_answers.specs.FullCauses.{HasFullServer}
 use Rattle.law_answers.proofs.NoSlotWasReported.{found_none}
 use Rattle.law_answers.proofs.StepRefusals.{step_kept}
+use Rattle.global_tables.specs.declared.disk.Verdict.TheVariants as verdict
+use Rattle.petal_msg.specs.declared.body.Body.TheVariants as body
+use Rattle.petal_msg.specs.declared.letter.Actor.TheVariants as actor
+use Rattle.petal_msg.specs.declared.operation.Ending.TheVariants as ending
+use Rattle.script_lines.specs.declared.answer.Answer.TheVariants as answer
+use Rattle.script_lines.specs.declared.request.Request.TheVariants as request
 
 module _ (setting : Setting) where
   -- ### Histories

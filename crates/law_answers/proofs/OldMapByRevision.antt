@@ -1,26 +1,16 @@
 -- A read that asks the old map asks it as long as the revision of its latest send stays the same.
-use Rattle.std.proofs.Common.{◌≡◌, ◌+◌, ◌++◌, ◌==◌, ◌&&◌, ℕ, Bool, true, false, List, [], ◌∷◌, Option, Some, None, length, refl, sym, ap, ◌∙◌, subst}
-use Rattle.std.specs.Prelude.{not, map, nat_le, if◌then◌else◌}
-use Rattle.petal_command.specs.declared.command.Command.{Command}
-use Rattle.petal_msg.specs.Kinds.{about}
-use Rattle.petal_msg.specs.declared.body.Body.{Body}
-use Rattle.petal_msg.specs.declared.body.Body.TheVariants as body
-use Rattle.petal_msg.specs.declared.letter.Actor.{Actor}
-use Rattle.petal_msg.specs.declared.letter.Actor.TheVariants as actor
-use Rattle.petal_msg.specs.declared.letter.Letter.{Letter}
-use Rattle.script_lines.specs.declared.answer.Answer.{Answer}
-use Rattle.script_lines.specs.declared.answer.Answer.TheVariants as answer
-use Rattle.script_lines.specs.declared.request.Request.{Request}
-use Rattle.script_lines.specs.declared.request.Request.TheVariants as request
-use Rattle.spec_state.specs.Settled.{is_settled}
-use Rattle.spec_state.specs.State.{latest}
+use Rattle.law_answers.proofs.Imports.{[], if◌then◌else◌, ◌&&◌, ◌++◌, ◌+◌, ◌==◌, ◌∙◌, ◌∷◌, ◌≡◌, Actor, Answer, Asked, Body, Bool, Client, Command, Learning}
+use Rattle.law_answers.proofs.Imports.{Letter, List, None, Option, Reaction, Request, Sight, Some, State, about, answered_where, answers, ap, asks_and_sends}
+use Rattle.law_answers.proofs.Imports.{by_test, command_of, false, goes_out, goes_out_where, goes_the_old_way, heard, hears, hears_any, hears_of, is_read}
+use Rattle.law_answers.proofs.Imports.{is_settled, is_witness, is_write, judged, judged_by, latest, length, map, nat_le, next_entries, none_some, not}
+use Rattle.law_answers.proofs.Imports.{number_itself, refl, refusal, replies, rests, rounds, same_some, sees, sees_for, sees_from, sends_or_proposes}
+use Rattle.law_answers.proofs.Imports.{servers_of, settles, stays_open, subst, sym, takes_all, takes_entries, takes_entry, ticked, to_propose, true}
+use Rattle.law_answers.proofs.Imports.{verdict_for, way_now, with_sight, witnessed, ℕ}
 use Rattle.spec_state.specs.Command.{after}
-use Rattle.spec_rules.specs.State.{State, servers_of}
-use Rattle.spec_rules.specs.Clients.{Client, Asked, Learning, Reaction, Sight, answers, answered_where, asks_and_sends, command_of, goes_out}
-use Rattle.spec_rules.specs.Clients.{goes_out_where, goes_the_old_way, heard, hears, hears_any, hears_of, is_read, is_witness, is_write, judged}
-use Rattle.spec_rules.specs.Clients.{judged_by, next_entries, refusal, replies, rests, rounds, sees, sees_for, sees_from, sends_or_proposes, settles, stays_open}
-use Rattle.spec_rules.specs.Clients.{takes_all, takes_entries, takes_entry, ticked, to_propose, verdict_for, way_now, with_sight, witnessed}
-use Rattle.spec_rules.proofs.Tests.{by_test, none_some, number_itself, same_some}
+use Rattle.petal_msg.specs.declared.body.Body.TheVariants as body
+use Rattle.petal_msg.specs.declared.letter.Actor.TheVariants as actor
+use Rattle.script_lines.specs.declared.answer.Answer.TheVariants as answer
+use Rattle.script_lines.specs.declared.request.Request.TheVariants as request
 
 -- the request that is open then asks the old map, if the one before did at the same revision
 abbrev pub Stays : Option Asked → Option Asked → Type 0

@@ -1,18 +1,9 @@
 -- Along a plain log each state tells as many clients, and a client's number that is old stays so.
-use Rattle.std.proofs.Common.{◌≡◌, inl, inr, ◌<◌, ◌≤◌, ℕ, zero, suc, false, List, [], ◌∷◌, length, take, Some, refl, ap, ◌∙◌, subst, arith}
-use Rattle.std.proofs.lemmas.Bool.{cases_lt}
-use Rattle.std.proofs.lemmas.Grind.{fold-append}
-use Rattle.std.specs.Prelude.{slice_get}
-use Rattle.script_lines.specs.declared.answer.Answer.{Answer}
-use Rattle.petal_command.specs.declared.command.Command.{Command}
-use Rattle.spec_state.specs.State.{State, start, latest}
-use Rattle.spec_state.specs.Command.{after, is_new, state_after}
-use Rattle.spec_rules.specs.Clients.{verdict_for}
-use Rattle.spec_rules.proofs.Tests.{none_some}
-use Rattle.law_state.specs.Plain.{IsPlain, IsPlainLog}
-use Rattle.law_state.specs.Tables.{IsPlainState}
-use Rattle.law_state.proofs.EntriesOnlyAdd.{log_plain}
-use Rattle.law_state.proofs.ListLookups.{get_within, in_get}
+use Rattle.law_answers.proofs.Imports.{[], ◌<◌, ◌∙◌, ◌∷◌, ◌≡◌, ◌≤◌, Answer, Command, IsPlain, IsPlainLog, IsPlainState, List, Some, ap, arith, cases_lt}
+use Rattle.law_answers.proofs.Imports.{false, fold-append, get_within, in_get, inl, inr, is_new, latest, length, log_plain, none_some, refl, slice_get}
+use Rattle.law_answers.proofs.Imports.{state_after, subst, suc, take, verdict_for, zero, ℕ}
+use Rattle.spec_state.specs.State.{State, start}
+use Rattle.spec_state.specs.Command.{after}
 use Rattle.law_answers.specs.AskedCommands.{asker}
 use Rattle.law_answers.proofs.EntriesTellClients.{many_after, none_past, old_after, old_following}
 use Rattle.law_answers.proofs.RequestsStayDone.{plain_front, take_next}

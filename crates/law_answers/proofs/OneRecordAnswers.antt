@@ -1,33 +1,17 @@
 -- Which record answers a line with data: one alone, and so one letter alone is accepted for the line.
-use Rattle.std.proofs.Common.{◌≡◌, ◌++◌, ℕ, List, [], ◌∷◌, true, Some, refl, sym, ap, ◌∙◌, subst, inl, append_assoc}
-use Rattle.petal_msg.specs.declared.body.Body.TheVariants as body
-use Rattle.petal_msg.specs.declared.letter.Actor.{Actor}
-use Rattle.petal_msg.specs.declared.letter.Actor.TheVariants as actor
-use Rattle.petal_msg.specs.declared.letter.Letter.{Letter}
+use Rattle.law_answers.proofs.Imports.{[], ◌++◌, ◌∙◌, ◌∷◌, ◌≡◌, Actor, Answer, AreRising, AreSteps, Deliver, In, IsAnswered, IsMoment, IsSound, Letter, Line}
+use Rattle.law_answers.proofs.Imports.{List, MayActor, MayClient, MayDeliver, Record, Run, Script, Setting, Some, Step, World, accepted, after, answers_in}
+use Rattle.law_answers.proofs.Imports.{ap, append_assoc, at_moment, before_part, inl, line_by, longer, none_some, refl, run_of, same_name, same_some}
+use Rattle.law_answers.proofs.Imports.{setting_of, since, start, step, stepped, subst, sym, true, with_answer, world_after, ℕ}
 use Rattle.script_lines.specs.Requests.{is_read}
-use Rattle.script_lines.specs.declared.answer.Answer.{Answer}
-use Rattle.script_lines.specs.declared.answer.Answer.TheVariants as answer
-use Rattle.script_lines.specs.declared.request.Line.{Line}
-use Rattle.script_lines.specs.declared.script.Script.{Script}
-use Rattle.spec_rules.specs.Lists.{In}
-use Rattle.spec_rules.specs.World.{IsAnswered, MayActor, MayClient, MayDeliver, Setting, World, setting_of, start, step, with_answer}
-use Rattle.spec_rules.specs.declared.step.Step.{Step}
-use Rattle.spec_rules.specs.declared.step.Step.TheVariants.{Deliver}
-use Rattle.spec_rules.proofs.Tests.{none_some, same_some}
-use Rattle.spec_history.specs.Events.{accepted, same_name}
-use Rattle.spec_history.specs.Steps.{AreSteps, stepped, world_after}
-use Rattle.spec_history.specs.Order.{AreRising}
-use Rattle.spec_history.specs.Sound.{IsSound}
-use Rattle.spec_history.specs.declared.record.Record.{Record}
 use Rattle.law_answers.proofs.AnsweredOnce.{ahead_after, ahead_start, answered_more, stepped_is}
-use Rattle.law_state.specs.Moments.{IsMoment}
-use Rattle.law_steps.specs.DidClient.{line_by}
-use Rattle.law_jobs.proofs.Runs.{Run, after, at_moment, before_part, longer, run_of, since}
-use Rattle.law_jobs.proofs.LettersWereSent.{answers_in}
 use Rattle.law_answers.proofs.RecordsInOrder.{asked_at, follows_on, named_at, sent_after}
 use Rattle.law_answers.proofs.ListPositions.{AreOrdered, AreSame, Are_one, Is_former, Is_latter, ordered}
 use Rattle.law_answers.proofs.SearchesFindLooks.{accepted_in}
 use Rattle.law_answers.proofs.ClientHistorySteps.{own_answers}
+use Rattle.petal_msg.specs.declared.body.Body.TheVariants as body
+use Rattle.petal_msg.specs.declared.letter.Actor.TheVariants as actor
+use Rattle.script_lines.specs.declared.answer.Answer.TheVariants as answer
 use Rattle.law_answers.proofs.ClientHistorySteps as steps
 
 -- this record answers the line of this number with data: a client hears them in the letter, for its read of the line

@@ -1,38 +1,13 @@
 -- What a server sends to whoever reads: the reply to the one read that it handles in the step.
-use Rattle.std.proofs.Common.{◌≡◌, ℕ, List, [], ◌∷◌, Bool, true, false, Option, Some, None, refl, sym, ap, ◌∙◌, inl, inr}
-use Rattle.std.specs.Prelude.{map}
-use Rattle.petal_base.specs.declared.cell.Cell.{Cell}
-use Rattle.petal_msg.specs.Kinds.{Glanced, Subject, is_logged, subject_of}
-use Rattle.petal_msg.specs.declared.body.Body.{Body}
+use Rattle.law_answers.proofs.Imports.{[], ◌∙◌, ◌∷◌, ◌≡◌, Acted, Actor, Body, Bool, By_ballot, By_entry, By_job, By_read, Cell, Did, Fails, Glanced, Goes}
+use Rattle.law_answers.proofs.Imports.{Grounded, Handled, In, IsReadable, IsSeated, IsSteady, JobResult, Letter, List, Lives, NeverDead, None, Not_here}
+use Rattle.law_answers.proofs.Imports.{Option, PairState, Post, SaysOk, Scene, Sender, Serving, Setting, Shows, Some, Stays, Step, Subject, Wakes, World, ap}
+use Rattle.law_answers.proofs.Imports.{awake, bytes_of, chain_in, down_posts, entry_at, false, inl, inr, is_logged, is_looked, job_tells, letters_of, map}
+use Rattle.law_answers.proofs.Imports.{never_dead, own_place, owns_of, post_of, quiet_data, raised, refl, rev_of, said, sender, server_state, servers_of}
+use Rattle.law_answers.proofs.Imports.{stamped, subject_of, sym, true, true_false, without_rev, ℕ}
+use Rattle.law_steps.specs.DidStep.{Ends}
 use Rattle.petal_msg.specs.declared.body.Body.TheVariants as body
-use Rattle.petal_msg.specs.declared.letter.Actor.{Actor}
 use Rattle.petal_msg.specs.declared.letter.Actor.TheVariants as actor
-use Rattle.petal_msg.specs.declared.letter.Letter.{Letter}
-use Rattle.spec_rules.specs.Ballots.{post_of}
-use Rattle.spec_rules.specs.Boots.{awake, raised}
-use Rattle.spec_rules.specs.Jobs.{Acted, down_posts}
-use Rattle.spec_rules.specs.Lists.{In}
-use Rattle.spec_rules.specs.Log.{rev_of}
-use Rattle.spec_rules.specs.Server.{JobResult, PairState, Post, Sender, letters_of, sender}
-use Rattle.spec_rules.specs.State.{servers_of}
-use Rattle.spec_rules.specs.Store.{bytes_of, chain_in, entry_at}
-use Rattle.spec_rules.specs.World.{Setting, World, server_state, stamped}
-use Rattle.spec_rules.specs.declared.step.Step.{Step}
-use Rattle.spec_rules.proofs.Tests.{true_false}
-use Rattle.law_steps.specs.Did.{By_read, Did}
-use Rattle.law_steps.specs.DidRead.{IsReadable, Not_here, Shows}
-use Rattle.law_steps.specs.DidStep.{By_ballot, By_entry, By_job, Ends, Fails, Goes, Handled, IsSeated, Serving, Stays, Wakes, own_place, without_rev}
-use Rattle.law_steps.proofs.Letters.{said}
-use Rattle.law_copies.specs.Pair.{owns_of}
-use Rattle.law_requests.proofs.ServerStepsKeepRequests.{SaysOk, Scene}
-use Rattle.law_requests.specs.KnownRequests.{Lives}
-use Rattle.law_requests.proofs.LeadJobsKeepRequests.{job_tells}
-use Rattle.law_moves.proofs.JobsChangeOneChain.{NeverDead}
-use Rattle.law_run.proofs.GroundGives.{never_dead}
-use Rattle.law_run.proofs.ReadsLookWhereSent.{is_looked}
-use Rattle.law_run.proofs.DataLetters.{quiet_data}
-use Rattle.law_run.proofs.RunScenes.{Grounded}
-use Rattle.law_state.specs.Steady.{IsSteady}
 
 -- the number of the read to which this is a reply: data, or that the new map has nothing
 abbrev pub answers_read : Body → Option ℕ

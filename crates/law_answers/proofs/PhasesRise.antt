@@ -1,26 +1,9 @@
 -- Answers of greater lines stand after.
-use Rattle.std.proofs.Common.{◌≡◌, ◌<◌, ℕ, true, false, cond, List, [], ◌∷◌, ◌++◌, Option, Some, None, is_some, refl, sym, ap, ◌∙◌, subst, inl, inr, arith}
-use Rattle.std.proofs.lemmas.Bool.Decides.{nat_tests}
-use Rattle.std.proofs.lemmas.Grind.{flat_map-append, fold-append}
-use Rattle.std.specs.Cmp.{nat_cmp_total, tied_itself}
-use Rattle.std.specs.declared.cmp.Ordering.TheVariants.{Greater}
-use Rattle.std.specs.Ordering.{nat_cmp, is_eq, match_ordering}
-use Rattle.std.specs.BTreeMap.{insert_entry, is_at}
-use Rattle.std.specs.Map.{lookup}
-use Rattle.std.specs.List.{fold, flat_map}
-use Rattle.petal_table.specs.Table.{Table, at, put}
-use Rattle.script_lines.specs.Printed.{answer_line}
-use Rattle.script_lines.specs.declared.answer.Answer.{Answer}
-use Rattle.script_lines.specs.declared.request.Line.{Line}
-use Rattle.script_lines.specs.declared.script.Script.{Script}
-use Rattle.spec_rules.specs.Lists.{In}
-use Rattle.spec_rules.specs.World.{Setting, World, IsAnswered, start, setting_of}
-use Rattle.spec_history.specs.Steps.{AreSteps, AreStepsFrom, stepped, world_after}
-use Rattle.spec_history.specs.Text.{answers_of, text_of, with_given}
-use Rattle.spec_history.specs.declared.record.Record.{Record}
-use Rattle.law_steps.proofs.KindsInHistories.{front_legal}
-use Rattle.spec_rules.proofs.Tests.{by_bool}
-use Rattle.spec_history.specs.Order.{AreRising, AnsweredComeFirst, is_answered}
+use Rattle.law_answers.proofs.Imports.{[], ◌++◌, ◌<◌, ◌∙◌, ◌∷◌, ◌≡◌, Answer, AnsweredComeFirst, AreRising, AreSteps, AreStepsFrom, Greater, In, IsAnswered}
+use Rattle.law_answers.proofs.Imports.{Line, List, None, Option, Record, Script, Setting, Some, Table, World, answer_line, answers_of, ap, arith, at, by_bool}
+use Rattle.law_answers.proofs.Imports.{cond, false, flat_map, flat_map-append, fold, fold-append, front_legal, inl, inr, insert_entry, is_answered, is_at}
+use Rattle.law_answers.proofs.Imports.{is_eq, is_some, lookup, match_ordering, nat_cmp, nat_cmp_total, nat_tests, put, refl, setting_of, start, stepped}
+use Rattle.law_answers.proofs.Imports.{subst, sym, text_of, tied_itself, true, with_given, world_after, ℕ}
 use Rattle.law_answers.proofs.AnsweredOnce.{Ahead, answered_more, stepped_is, ahead_after, told_after, ahead_start, told_start}
 
 -- ### Tables

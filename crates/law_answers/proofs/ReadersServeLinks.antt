@@ -1,17 +1,7 @@
 -- Whoever may read a cell by its own state, and runs, serves the cell's link by what is chosen, too.
-use Rattle.std.proofs.Common.{◌≡◌, ℕ, true, Some, sym, ap, ◌∙◌, subst, inl, inr}
-use Rattle.petal_base.specs.declared.cell.Cell.{Cell}
-use Rattle.global_tables.specs.declared.link.LinkRow.{LinkRow}
-use Rattle.spec_state.specs.CellState.{cell_link, serves}
-use Rattle.spec_rules.specs.State.{State, is_in, readable}
-use Rattle.spec_rules.specs.World.{chosen_log, chosen_state, server_state}
-use Rattle.spec_rules.proofs.Tests.{none_some, same_some, true_false}
-use Rattle.law_state.specs.LaterStates.{IsServing}
-use Rattle.law_state.specs.Homes.{HasDied}
-use Rattle.law_state.proofs.Roles.{log_roles}
-use Rattle.law_steps.proofs.KindsInHistories.{runs_now}
-use Rattle.law_run.proofs.ContentsAsked.{reader_serves}
-use Rattle.law_run.proofs.RunScenes.{Grounded}
+use Rattle.law_answers.proofs.Imports.{◌∙◌, ◌≡◌, Cell, Grounded, HasDied, IsServing, LinkRow, Some, State, ap, cell_link, chosen_log, chosen_state, inl, inr}
+use Rattle.law_answers.proofs.Imports.{is_in, log_roles, none_some, readable, reader_serves, runs_now, same_some, server_state, serves, subst, sym, true}
+use Rattle.law_answers.proofs.Imports.{true_false, ℕ}
 use Rattle.law_answers.specs.ReadLinks.{IsUnlost}
 
 serving_unlost : (state : State) (n : ℕ) (cell : Cell) → IsServing state n cell → IsUnlost state n cell

@@ -1,43 +1,17 @@
 -- Each read that is answered with data is looked at once.
-use Rattle.std.proofs.Common.{◌≡◌, ◌⊎◌, ◌++◌, ℕ, List, [], ◌∷◌, Bool, true, false, Option, Some, length, refl, sym, ap, ◌∙◌, subst, inl, inr, append_assoc}
-use Rattle.std.proofs.lemmas.List.{append-nil}
-use Rattle.std.specs.Prelude.{◌-◌, if◌then◌else◌}
-use Rattle.std.specs.List.{flat_map}
-use Rattle.spec_machine.specs.declared.event.Event.{Event}
-use Rattle.spec_machine.specs.declared.event.Event.TheVariants.{Look}
-use Rattle.petal_msg.specs.declared.body.Body.{Body}
-use Rattle.petal_msg.specs.declared.body.Body.TheVariants as body
-use Rattle.petal_msg.specs.declared.letter.Actor.TheVariants as actor
-use Rattle.petal_msg.specs.declared.letter.Letter.{Letter}
+use Rattle.law_answers.proofs.Imports.{[], if◌then◌else◌, ◌++◌, ◌-◌, ◌∙◌, ◌∷◌, ◌≡◌, ◌⊎◌, AreRising, AreSteps, Body, Bool, Event, Grounded, In, IsMoment}
+use Rattle.law_answers.proofs.Imports.{IsSound, Letter, Line, List, Look, MayActor, MayClient, MayDeliver, NotThere, Option, Record, Request, Script, Setting}
+use Rattle.law_answers.proofs.Imports.{Some, World, accepted, ap, append-nil, append_assoc, before_part, by_bool, false, flat_map, inl, inr, is_ask, length}
+use Rattle.law_answers.proofs.Imports.{line_by, log_rev, look_for, none_some, old_data, reads_old, reads_old_is, refl, rev_of, run_of, same_some, setting_of}
+use Rattle.law_answers.proofs.Imports.{start, stepped, subst, sym, true, true_false, turns, was_sent, world_after, ℕ}
 use Rattle.script_lines.specs.Requests.{is_read}
-use Rattle.script_lines.specs.declared.answer.Answer.TheVariants as answer
-use Rattle.script_lines.specs.declared.request.Line.{Line}
-use Rattle.script_lines.specs.declared.request.Request.{Request}
-use Rattle.script_lines.specs.declared.request.Request.TheVariants as request
-use Rattle.script_lines.specs.declared.script.Script.{Script}
-use Rattle.spec_rules.specs.Lists.{In}
-use Rattle.spec_rules.specs.Log.{rev_of}
-use Rattle.spec_rules.specs.World.{MayActor, MayClient, MayDeliver, Setting, World, setting_of, start}
-use Rattle.spec_rules.proofs.Tests.{by_bool, none_some, same_some, true_false}
-use Rattle.spec_history.specs.Events.{NotThere, accepted, look_for, old_data, reads_old, turns}
-use Rattle.spec_history.specs.Steps.{AreSteps, stepped, world_after}
-use Rattle.spec_history.specs.Order.{AreRising}
-use Rattle.spec_history.specs.Sound.{IsSound}
-use Rattle.spec_history.specs.declared.record.Record.{Record}
-use Rattle.law_state.specs.Moments.{IsMoment}
-use Rattle.law_state.proofs.Steady.{log_rev}
 use Rattle.law_answers.proofs.LinesHavePlaces.{line_at}
-use Rattle.law_run.proofs.ContentsAsked.{reads_old_is}
-use Rattle.law_run.proofs.RunScenes.{Grounded}
-use Rattle.law_steps.specs.DidClient.{line_by}
-use Rattle.law_steps.proofs.ClientLetters.{is_ask}
 use Rattle.law_answers.specs.ReadLinks.{IsReadFrom}
-use Rattle.law_answers.specs.Looks.{HasItsLook, IsCalledIn, IsLookedAtOnce, beside, letter_looks, look_beside, look_beside_data, of_line, record_looks, looks_at}
-use Rattle.law_answers.proofs.OneRecordAnswers.{Answers, accepted_by, client_is, data_seq, deliver_is, same_line, the_answer, the_one}
-use Rattle.law_answers.proofs.OneRecordAnswers.{world_split}
+use Rattle.law_answers.specs.Looks.{HasItsLook, IsCalledIn, IsLookedAtOnce, beside, letter_looks, look_beside, look_beside_data, of_line, record_looks}
+use Rattle.law_answers.specs.Looks.{looks_at}
+use Rattle.law_answers.proofs.OneRecordAnswers.{Answers, accepted_by, client_is, data_seq, deliver_is, same_line, the_answer, the_one, world_split}
 use Rattle.law_answers.proofs.LettersTellLooks.{By_data, By_turning, IsToldBy, TellsIt, beside_one, line_looks, none_of_line, told_by}
-use Rattle.law_jobs.proofs.Runs.{before_part, run_of}
-use Rattle.law_jobs.proofs.LettersWereSent.{WasSent, was_sent}
+use Rattle.law_jobs.proofs.LettersWereSent.{WasSent}
 use Rattle.law_answers.proofs.RecordsInOrder.{From_client, From_server, IsSentFrom, follows_on, sent_after, sent_by, sent_once}
 use Rattle.law_answers.proofs.ListPositions.{AreOrdered, AreSame, Are_one, Is_former, Is_latter, ordered}
 use Rattle.law_answers.proofs.OneReplyEachRead.{IsReply, answers_read, is_of_read}
@@ -47,6 +21,10 @@ use Rattle.law_answers.proofs.LawsBelow.{stands_after}
 use Rattle.law_answers.proofs.ClientHistorySteps.{own_says}
 use Rattle.law_answers.proofs.ReadersServeLinks.{unlost}
 use Rattle.law_answers.proofs.ReadsTurnToOldMap.{IsTurn, IsTurnOf, WasTurned, turn_is_seen, turn_of, turns_once}
+use Rattle.petal_msg.specs.declared.body.Body.TheVariants as body
+use Rattle.petal_msg.specs.declared.letter.Actor.TheVariants as actor
+use Rattle.script_lines.specs.declared.answer.Answer.TheVariants as answer
+use Rattle.script_lines.specs.declared.request.Request.TheVariants as request
 
 -- ### Words
 

@@ -1,30 +1,16 @@
 -- How reads come to ask the old map: by one delivery alone for each revision; and what is open was called.
-use Rattle.std.proofs.Common.{◌≡◌, ◌≤◌, ◌<◌, ◌++◌, ◌&&◌, ℕ, List, [], ◌∷◌, Bool, true, false, not, Option, Some, None, refl, sym, ap, ◌∙◌, subst, ◌⊎◌, inl, inr, arith, append_assoc}
-use Rattle.petal_msg.specs.declared.body.Body.TheVariants as body
-use Rattle.petal_msg.specs.declared.letter.Actor.{Actor}
-use Rattle.petal_msg.specs.declared.letter.Actor.TheVariants as actor
-use Rattle.petal_msg.specs.declared.letter.Letter.{Letter}
-use Rattle.script_lines.specs.declared.request.Line.{Line}
-use Rattle.script_lines.specs.declared.script.Script.{Script}
-use Rattle.spec_rules.specs.Clients.{Asked}
-use Rattle.spec_rules.specs.Lists.{In}
-use Rattle.spec_rules.specs.World.{MayClient, MayDeliver, Setting, World, next_line, setting_of, start}
-use Rattle.spec_rules.specs.declared.step.Step.{Step}
-use Rattle.spec_rules.specs.declared.step.Step.TheVariants.{Call, Deliver}
-use Rattle.spec_rules.proofs.ListLemmas.{in_former, in_later}
-use Rattle.spec_rules.proofs.Tests.{both_true, none_some, not_true, same_some, true_false}
-use Rattle.spec_history.specs.Events.{delivers, goes_old, is_old_way, same_name, turns}
-use Rattle.spec_history.specs.Steps.{Follows, AreSteps, stepped, world_after}
-use Rattle.spec_history.specs.Sound.{IsSound}
-use Rattle.spec_history.specs.declared.record.Record.{Record}
-use Rattle.law_state.specs.Moments.{IsMoment}
-use Rattle.law_state.proofs.Moments.{last_moment, moment_more}
-use Rattle.law_steps.proofs.ClientStepKinds.{is_call}
-use Rattle.law_jobs.proofs.Runs.{At, OneMore, Run, after, before_part, by_run, follows_in, longer, run_of, setting_in, since, stepped_in}
+use Rattle.law_answers.proofs.Imports.{[], ◌&&◌, ◌++◌, ◌<◌, ◌∙◌, ◌∷◌, ◌≡◌, ◌≤◌, ◌⊎◌, Actor, AreSteps, Asked, At, Bool, Call, Deliver, Follows, In, IsMoment}
+use Rattle.law_answers.proofs.Imports.{IsSound, Letter, Line, List, MayClient, MayDeliver, None, OneMore, Option, Record, Run, Script, Setting, Some, Step}
+use Rattle.law_answers.proofs.Imports.{World, after, ap, append_assoc, arith, before_part, both_true, by_run, delivers, false, follows_in, goes_old}
+use Rattle.law_answers.proofs.Imports.{in_former, in_later, inl, inr, is_call, is_old_way, last_moment, longer, moment_more, next_line, none_some, not}
+use Rattle.law_answers.proofs.Imports.{not_true, refl, run_of, same_name, same_some, setting_in, setting_of, since, start, stepped, stepped_in, subst, sym}
+use Rattle.law_answers.proofs.Imports.{true, true_false, turns, world_after, ℕ}
 use Rattle.law_answers.proofs.ClientReadSteps.{As_before, HasWay, Is_called, Later, OnWay, Turns, Was_open}
 use Rattle.law_answers.proofs.RecordsInOrder.{asked_at, named_at, next_is}
 use Rattle.law_answers.proofs.SearchesFindLooks.{name_itself}
 use Rattle.law_answers.proofs.ClientHistorySteps.{By_its_step, Delivers, Is_still, StepWay, step_seq, step_way}
+use Rattle.petal_msg.specs.declared.body.Body.TheVariants as body
+use Rattle.petal_msg.specs.declared.letter.Actor.TheVariants as actor
 
 -- the client's open request of this number, of this revision and way
 pub record IsAskedSo (w : World) (c seq rev : ℕ) (way : Bool) : Type 0 where

@@ -1,46 +1,18 @@
 -- A read that a server handles was called before; and where it is of an old map, its client was turned to that map before.
-use Rattle.std.proofs.Common.{◌≡◌, ◌++◌, ℕ, List, [], ◌∷◌, Bool, true, false, Some, length, refl, sym, ap, ◌∙◌, subst, arith, append_assoc}
-use Rattle.petal_base.specs.declared.cell.Cell.{Cell}
-use Rattle.petal_command.specs.declared.command.Command.{Command}
-use Rattle.petal_msg.specs.declared.body.Body.{Body}
-use Rattle.petal_msg.specs.declared.body.Body.TheVariants as body
-use Rattle.petal_msg.specs.declared.letter.Actor.TheVariants as actor
-use Rattle.petal_msg.specs.declared.letter.Letter.{Letter}
-use Rattle.spec_state.specs.CellState.{cell_asked}
-use Rattle.spec_state.specs.Command.{state_after}
-use Rattle.spec_state.specs.declared.answer.DiskView.{DiskView}
-use Rattle.script_lines.specs.declared.request.Line.{Line}
-use Rattle.script_lines.specs.declared.script.Script.{Script}
-use Rattle.spec_rules.specs.Clients.{Client}
-use Rattle.spec_rules.specs.Lists.{In}
-use Rattle.spec_rules.specs.Log.{rev_of}
-use Rattle.spec_rules.specs.State.{find, leaving}
-use Rattle.spec_rules.specs.World.{MayClient, Setting, World, chosen_log, reacts, setting_of, start, step}
-use Rattle.spec_rules.specs.declared.step.Step.{Step}
-use Rattle.spec_rules.specs.declared.step.Step.TheVariants.{Call}
-use Rattle.spec_rules.proofs.ListLemmas.{in_former, put_same}
-use Rattle.spec_rules.proofs.Tests.{by_bool, none_some, same_some, true_false}
-use Rattle.spec_history.specs.Claims.{IsPrefix}
-use Rattle.spec_history.specs.Steps.{AreSteps, stepped, world_after}
-use Rattle.spec_history.specs.Sound.{IsSound}
-use Rattle.spec_history.specs.declared.record.Record.{Record}
-use Rattle.law_state.specs.Plain.{IsPlainLog}
-use Rattle.law_state.proofs.EntriesOnlyAdd.{log_plain}
-use Rattle.law_state.proofs.NamedCells.{asked_takes}
-use Rattle.law_state.proofs.Steady.{front_plain, log_rev}
-use Rattle.law_log.proofs.LogInHistories.{history_grows}
-use Rattle.law_steps.specs.DidStep.{Handled}
-use Rattle.law_steps.specs.DidClient.{line_by}
-use Rattle.law_steps.proofs.MovesAreOfComingCells.{stage_facts}
-use Rattle.law_steps.proofs.Fronts.{front_on, one_front}
+use Rattle.law_answers.proofs.Imports.{[], ◌++◌, ◌∙◌, ◌∷◌, ◌≡◌, AreSteps, Body, Bool, Call, Cell, Client, Command, DiskView, Handled, In, IsPlainLog}
+use Rattle.law_answers.proofs.Imports.{IsPrefix, IsSound, Letter, Line, List, MayClient, Record, Script, Setting, Some, Step, World, ap, append_assoc, arith}
+use Rattle.law_answers.proofs.Imports.{asked_takes, by_bool, cell_asked, chosen_log, false, find, front_on, front_plain, history_grows, in_former, length}
+use Rattle.law_answers.proofs.Imports.{line_by, log_plain, log_rev, none_some, one_front, put_same, reacts, refl, rev_of, run_of, same_some, setting_of}
+use Rattle.law_answers.proofs.Imports.{stage_facts, start, state_after, step, stepped, subst, sym, true, true_false, was_sent, world_after, ℕ}
+use Rattle.spec_rules.specs.State.{leaving}
 use Rattle.law_answers.proofs.ClientReadSteps.{Asks}
-use Rattle.law_jobs.proofs.Runs.{run_of}
-use Rattle.law_jobs.proofs.LettersWereSent.{was_sent}
 use Rattle.law_answers.proofs.RecordsInOrder.{From_client, From_server, IsSentFrom, asked_at, legal_upto, next_is, sent_by}
 use Rattle.law_answers.proofs.OneReplyEachRead.{answers_read, is_of_read}
 use Rattle.law_answers.proofs.LawsBelow.{stands_after}
 use Rattle.law_answers.proofs.ClientHistorySteps.{own_asks, reacted_to}
 use Rattle.law_answers.proofs.ReadsTurnToOldMap.{WasCalled, WasTurned, was_called, was_turned}
+use Rattle.petal_msg.specs.declared.body.Body.TheVariants as body
+use Rattle.petal_msg.specs.declared.letter.Actor.TheVariants as actor
 
 -- the client's request by which a read was sent, as the step leaves it
 record IsSentFor (setting : Setting) (v : World) (client seq : ℕ) (cell : Cell) (rev : ℕ) : Type 0 where

@@ -1,42 +1,20 @@
 -- Why a server refuses, or tells that no slot is free: what was so in the job in which it said so.
-use Rattle.std.proofs.Common.{◌≡◌, ℕ, Bool, true, false, Some, refl, sym, ap, ◌∙◌, subst, inl, inr}
-use Rattle.petal_base.specs.Cells.{cell_of}
-use Rattle.petal_base.specs.declared.cell.Cell.{Cell}
-use Rattle.petal_base.specs.declared.cell.Key.{Key}
-use Rattle.petal_table.specs.Table.{at}
-use Rattle.petal_msg.specs.Kinds.{is_logged, is_refused, subject_of}
-use Rattle.petal_msg.specs.declared.body.Body.{Body}
-use Rattle.petal_msg.specs.declared.body.Body.TheVariants as body
-use Rattle.petal_msg.specs.declared.letter.Actor.{Actor}
-use Rattle.petal_msg.specs.declared.letter.Actor.TheVariants as actor
-use Rattle.petal_msg.specs.declared.letter.Letter.{Letter}
-use Rattle.petal_msg.specs.declared.operation.Ending.{Ending}
-use Rattle.petal_msg.specs.declared.operation.Ending.TheVariants as ending
-use Rattle.petal_msg.specs.declared.operation.OpKind.TheVariants as kind
-use Rattle.petal_msg.specs.declared.operation.Pending.{Pending}
-use Rattle.spec_rules.specs.Fills.{Moving}
-use Rattle.spec_rules.specs.Lists.{In}
-use Rattle.spec_rules.specs.Server.{PairState, JobContext, Post}
-use Rattle.spec_rules.specs.State.{first, is_second}
-use Rattle.spec_rules.specs.Store.{cell_cmp, free_of}
-use Rattle.spec_rules.specs.World.{Setting, World}
-use Rattle.spec_rules.specs.Writes.{ended}
-use Rattle.spec_rules.specs.declared.step.Step.{Step}
-use Rattle.spec_rules.specs.declared.step.Step.TheVariants.{Work}
-use Rattle.spec_rules.specs.declared.step.WorkEnd.TheVariants as work_end
-use Rattle.spec_rules.proofs.Tests.{by_bool, true_false}
-use Rattle.law_steps.specs.Did.{IsBusy, IsHeldBack, IsRefusal}
-use Rattle.law_steps.specs.DidLead.{Asks, An_entry_to_move, IsNewFill, Of_the_log}
-use Rattle.law_steps.specs.DidSecond.{FoundNoSlot}
-use Rattle.law_steps.specs.DidStep.{Handled, own_place}
-use Rattle.law_jobs.specs.Sayings as says
-use Rattle.law_jobs.specs.Effects.{HasEnded, Is_declined}
+use Rattle.law_answers.proofs.Imports.{◌∙◌, ◌≡◌, Actor, An_entry_to_move, Asks, Body, Bool, Cell, Ending, FoundNoSlot, Handled, HasEnded, In, IsBusy}
+use Rattle.law_answers.proofs.Imports.{IsHeldBack, IsNewFill, IsRefusal, Is_declined, JobContext, Key, Letter, Moving, OneMore, PairState, Pending, Post}
+use Rattle.law_answers.proofs.Imports.{Setting, Some, Step, Work, World, after, ap, at, by_bool, cell_cmp, cell_of, ended, false, first, free_of, inl, inr}
+use Rattle.law_answers.proofs.Imports.{is_logged, is_refused, is_second, letters_of_job, own_place, refl, rests_in, setting_in, subject_of, subst, sym, true}
+use Rattle.law_answers.proofs.Imports.{true_false, ℕ}
+use Rattle.law_steps.specs.DidLead.{Of_the_log}
 use Rattle.law_jobs.specs.Sayings.{Says}
-use Rattle.law_jobs.proofs.JobsSay.{letters_of_job}
-use Rattle.law_jobs.proofs.Runs.{OneMore, after, rests_in, setting_in}
 use Rattle.law_answers.specs.FullCauses.{LacksRoom}
 use Rattle.law_answers.specs.Refusals.{HasNothingOf}
 use Rattle.law_answers.proofs.WhatStepsSend.{is_aside, logged_aside, sent_by}
+use Rattle.petal_msg.specs.declared.body.Body.TheVariants as body
+use Rattle.petal_msg.specs.declared.letter.Actor.TheVariants as actor
+use Rattle.petal_msg.specs.declared.operation.Ending.TheVariants as ending
+use Rattle.petal_msg.specs.declared.operation.OpKind.TheVariants as kind
+use Rattle.spec_rules.specs.declared.step.WorkEnd.TheVariants as work_end
+use Rattle.law_jobs.specs.Sayings as says
 
 -- it refuses, or tells another server that no slot is free
 abbrev pub has_reason : Body → Bool

@@ -1,31 +1,12 @@
 -- The records of a legal history: what each follows on, and where a letter was sent.
-use Rattle.std.proofs.Common.{◌≡◌, ◌++◌, ℕ, List, [], ◌∷◌, true, Some, refl, sym, ap, ◌∙◌, subst, arith, append_assoc}
-use Rattle.petal_msg.specs.declared.letter.Actor.{Actor}
-use Rattle.petal_msg.specs.declared.letter.Actor.TheVariants as actor
-use Rattle.petal_msg.specs.declared.letter.Letter.{Letter}
-use Rattle.script_lines.specs.declared.script.Script.{Script}
-use Rattle.spec_rules.specs.Clients.{Asked}
-use Rattle.spec_rules.specs.Jobs.{Acted}
-use Rattle.spec_rules.specs.Lists.{In}
-use Rattle.spec_rules.specs.World.{MayActor, MayClient, Setting, World, acts, clock_of, reacts, server_state, server_step, setting_of, start, step}
-use Rattle.spec_rules.specs.declared.step.Step.{Step}
-use Rattle.spec_rules.specs.declared.step.Step.TheVariants.{Blank}
-use Rattle.spec_rules.proofs.Tests.{true_false}
-use Rattle.spec_history.specs.Steps.{Follows, AreSteps, stepped}
-use Rattle.spec_history.specs.Sound.{IsSound}
-use Rattle.spec_history.specs.declared.record.Record.{Record}
-use Rattle.law_state.specs.Firm.{Firm}
-use Rattle.law_requests.specs.AskedRequests.{IsAsked}
-use Rattle.law_requests.proofs.RequestsInHistories.{asking_after}
-use Rattle.law_run.specs.MachineTies.{Named}
-use Rattle.law_run.proofs.RunScenes.{Grounded}
-use Rattle.law_steps.proofs.KindsInHistories.{front_legal, own_steady, world_more}
-use Rattle.law_steps.proofs.ServerStepKinds.{server_serves}
-use Rattle.law_jobs.proofs.Runs.{At, before_part, run_of}
-use Rattle.law_jobs.proofs.LettersWereSent.{sent_since}
+use Rattle.law_answers.proofs.Imports.{[], ◌++◌, ◌∙◌, ◌∷◌, ◌≡◌, Acted, Actor, AreSteps, Asked, At, Blank, Firm, Follows, Grounded, In, IsAsked, IsSound}
+use Rattle.law_answers.proofs.Imports.{Letter, List, MayActor, MayClient, Named, Record, Script, Setting, Some, Step, World, acts, ap, append_assoc, arith}
+use Rattle.law_answers.proofs.Imports.{asking_after, before_part, clock_of, front_legal, own_steady, reacts, refl, run_of, sent_since, server_serves}
+use Rattle.law_answers.proofs.Imports.{server_state, server_step, setting_of, start, step, stepped, subst, sym, true, true_false, world_more, ℕ}
 use Rattle.law_answers.proofs.OneReplyEachRead.{IsReply, Is_apart, IsSentBy, Replies, is_of_read, sends}
 use Rattle.law_answers.proofs.LawsBelow.{Stands, stands_after}
 use Rattle.law_answers.proofs.ClientHistorySteps.{reacted_to}
+use Rattle.petal_msg.specs.declared.letter.Actor.TheVariants as actor
 
 -- who sent a letter of a read: a server as its reply to one, or a client
 pub data IsSentFrom (setting : Setting) (w : World) (own : Record) (letter : Letter) : Type 0 where

@@ -1,29 +1,12 @@
 -- What a server's step has to show so that each refusal has its reason.
-use Rattle.std.proofs.Common.{◌≡◌, ◌≤◌, ◌<◌, ℕ, true, length, Some, ap, sym, ◌∙◌, subst, ◌⊎◌, inl, inr, arith}
-use Rattle.std.specs.Ordering.{nat_cmp}
-use Rattle.petal_base.specs.declared.cell.Cell.{Cell}
-use Rattle.petal_table.specs.Table.{at}
-use Rattle.petal_msg.specs.declared.body.Body.TheVariants as body
-use Rattle.petal_msg.specs.declared.letter.Actor.TheVariants as actor
-use Rattle.petal_msg.specs.declared.letter.Letter.{Letter}
-use Rattle.petal_msg.specs.declared.operation.Ending.TheVariants as ending
-use Rattle.petal_msg.specs.declared.operation.Finished.{Finished}
-use Rattle.petal_msg.specs.declared.operation.Pending.{Pending}
-use Rattle.spec_rules.specs.Lists.{In}
-use Rattle.spec_rules.specs.Store.{cell_cmp}
-use Rattle.spec_rules.specs.Writes.{is_clients}
-use Rattle.spec_rules.specs.State.{first, is_in}
-use Rattle.spec_rules.specs.Server.{Server}
-use Rattle.spec_rules.specs.Jobs.{Acted}
-use Rattle.spec_rules.specs.World.{Setting, World, acts, chosen_log, server_state, stamped}
-use Rattle.spec_rules.specs.declared.step.Step.{Step}
-use Rattle.spec_rules.proofs.ListLemmas.{put_same, in-append}
-use Rattle.spec_rules.proofs.Tests.{all_put}
-use Rattle.spec_history.specs.Claims.{IsPrefix}
-use Rattle.law_steps.proofs.Fronts.{front_on}
-use Rattle.law_steps.proofs.Restages.{Was, was_same}
+use Rattle.law_answers.proofs.Imports.{◌<◌, ◌∙◌, ◌≡◌, ◌≤◌, ◌⊎◌, Acted, Cell, Finished, In, IsPrefix, Letter, Pending, Server, Setting, Some, Step, Was, World}
+use Rattle.law_answers.proofs.Imports.{acts, all_put, ap, arith, at, cell_cmp, chosen_log, first, front_on, in-append, inl, inr, is_clients, is_in, length}
+use Rattle.law_answers.proofs.Imports.{nat_cmp, put_same, server_state, stamped, subst, sym, true, was_same, ℕ}
 use Rattle.law_answers.specs.Refusals.{IsDeclined, IsNumbered, Refusals}
 use Rattle.law_answers.proofs.SlotLetters.{WereRefused}
+use Rattle.petal_msg.specs.declared.body.Body.TheVariants as body
+use Rattle.petal_msg.specs.declared.letter.Actor.TheVariants as actor
+use Rattle.petal_msg.specs.declared.operation.Ending.TheVariants as ending
 
 -- an operation was pending on the cell, in whatever stage, or has a number that was not given out before
 abbrev pub IsOldOrNew : Server → Cell → Pending → Type 0

@@ -1,19 +1,12 @@
 -- A server refuses a request in the step that found the reason: another operation pending on the block, or a copy under way; or a fence,
 -- or a ballot of its own for the link's Caught, that holds the request back; or that the new map has nothing of what a read asked for.
-use Rattle.std.proofs.Common.{◌≡◌, ℕ, refl}
-use Rattle.petal_base.specs.Cells.{cell_of}
-use Rattle.petal_base.specs.declared.cell.Key.{Key}
-use Rattle.petal_msg.specs.declared.body.Body.TheVariants as body
-use Rattle.petal_msg.specs.declared.letter.Letter.{Letter}
-use Rattle.spec_rules.specs.Lists.{In}
-use Rattle.spec_rules.specs.World.{Setting, World}
-use Rattle.law_steps.specs.DidStep.{Handled, own_place}
-use Rattle.law_jobs.proofs.Runs.{OneMore, Run, after, at_moment, setting_in}
-use Rattle.law_jobs.proofs.LettersWereSent.{was_sent}
+use Rattle.law_answers.proofs.Imports.{◌≡◌, Handled, In, Key, Letter, OneMore, Run, Setting, World, after, at_moment, cell_of, own_place, refl, setting_in}
+use Rattle.law_answers.proofs.Imports.{was_sent, ℕ}
 use Rattle.law_answers.specs.FullCauses.{HadNoFill, At_the_lead, At_the_second, WasDeclined}
 use Rattle.law_answers.specs.Refusals.{FoundBusy, FoundHeld, FoundNothing}
 use Rattle.law_answers.proofs.Reasons.{HasFound, SaysNone, Has_none, Was_declined, reason_found}
 use Rattle.law_answers.proofs.SecondsLackSlots.{told_lead}
+use Rattle.petal_msg.specs.declared.body.Body.TheVariants as body
 
 module _ (it : OneMore) (letter : Letter) where
   open it use {own}

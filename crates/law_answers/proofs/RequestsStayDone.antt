@@ -1,30 +1,15 @@
 -- What requests with commands ask for, and what a state goes on to say of it: a disk, a snapshot, or that a disk is on the move.
-use Rattle.std.proofs.Common.{◌≡◌, inl, inr, ◌++◌, if◌then◌else◌, ℕ, zero, suc, Bool, true, false, List, [], ◌∷◌, take}
-use Rattle.std.proofs.Common.{Option, Some, None, is_some, refl, sym, ap, ◌∙◌}
-use Rattle.std.specs.Option.{option_map_or}
-use Rattle.std.specs.Prelude.{find, option_map, replicate, slice_get, unwrap_or}
-use Rattle.global_tables.specs.Disk.{disk_at, move_fenced, named, row_fenced, row_frozen, same_name, snapshot_named}
-use Rattle.global_tables.specs.declared.disk.DiskRow.{DiskRow}
-use Rattle.global_tables.specs.declared.disk.Latest.{Latest}
-use Rattle.global_tables.specs.declared.disk.Snapshot.{Snapshot}
-use Rattle.global_tables.specs.declared.fence.Fence.{Fence}
-use Rattle.global_tables.specs.declared.fence.FenceKind.TheVariants.{Region, Whole}
-use Rattle.script_lines.specs.declared.request.Request.{Request}
-use Rattle.script_lines.specs.declared.request.Request.TheVariants as request
-use Rattle.petal_command.specs.declared.command.Command.{Command}
-use Rattle.petal_command.specs.declared.command.Command.TheVariants.{MakeDisk, Snap, StartMove}
-use Rattle.spec_history.specs.Causes.{has_made}
+use Rattle.law_answers.proofs.Imports.{[], if◌then◌else◌, ◌++◌, ◌∙◌, ◌∷◌, ◌≡◌, Bool, Command, DiskRow, Fence, In, IsFence, IsGrown, IsLaterDisk, IsPlainLog}
+use Rattle.law_answers.proofs.Imports.{IsUnsettled, Latest, List, MakeDisk, None, Of_disk, Of_region, Option, Region, Request, Snap, Snapshot, Some}
+use Rattle.law_answers.proofs.Imports.{StartMove, Whole, ap, command_of, disk_at, disk_at_is, false, find_after, find_front, find_here, found_at, has_made}
+use Rattle.law_answers.proofs.Imports.{head_get, here_row, inl, inr, is_some, move_fenced, named, nat_lists_same, none_some, one_passed, option_map}
+use Rattle.law_answers.proofs.Imports.{option_map_or, passed_beside, passed_here, passing, ready_by, refl, region_beside, region_here, replicate, row_fenced}
+use Rattle.law_answers.proofs.Imports.{row_frozen, same_or_apart, same_some, settled, settled_keeps, slice_get, snapshot_named, some_or_none, suc, sym, take}
+use Rattle.law_answers.proofs.Imports.{text_itself, true, true_false, unwrap_or, zero, ℕ}
+use Rattle.std.specs.Prelude.{find}
+use Rattle.global_tables.specs.Disk.{same_name}
 use Rattle.spec_state.specs.State.{State}
-use Rattle.spec_state.specs.Fence.{settled}
-use Rattle.spec_rules.specs.Clients.{command_of}
-use Rattle.spec_rules.specs.Lists.{In}
-use Rattle.spec_rules.proofs.Tests.{nat_lists_same, none_some, same_or_apart, same_some, some_or_none, true_false}
-use Rattle.law_state.specs.Plain.{IsPlainLog}
-use Rattle.law_state.specs.Tables.{IsFence, IsGrown, IsLaterDisk, Of_disk, Of_region}
-use Rattle.law_state.proofs.Fences.{IsUnsettled, head_get, ready_by}
-use Rattle.law_state.proofs.FencesPass.{here_row, one_passed, passed_beside, passed_here, passing, region_beside, region_here, settled_keeps}
-use Rattle.law_state.proofs.ListLookups.{find_after, find_front, find_here, found_at, text_itself}
-use Rattle.law_state.proofs.Owners.{disk_at_is}
+use Rattle.script_lines.specs.declared.request.Request.TheVariants as request
 
 -- ### Fronts of a log
 

@@ -1,26 +1,13 @@
 -- A client is told of another revision in one place alone: where its letter has one.
-use Rattle.std.proofs.Common.{◌≡◌, inl, ℕ, List, ◌∷◌, refl, sym, ap, ◌∙◌, subst}
-use Rattle.petal_msg.specs.declared.body.Body.TheVariants as body
-use Rattle.petal_msg.specs.declared.letter.Actor.{Actor}
-use Rattle.petal_msg.specs.declared.letter.Actor.TheVariants as actor
-use Rattle.petal_msg.specs.declared.letter.Letter.{Letter}
-use Rattle.spec_rules.specs.Jobs.{here_of, shown}
-use Rattle.spec_rules.specs.Lists.{In}
-use Rattle.spec_rules.specs.Server.{Server}
-use Rattle.spec_rules.specs.World.{Setting, World, server_state, step, MayActor, start}
-use Rattle.spec_rules.specs.declared.job.Job.{Job}
-use Rattle.spec_rules.specs.declared.job.Job.TheVariants as job
-use Rattle.spec_rules.specs.declared.step.Step.{Step}
-use Rattle.spec_rules.proofs.Tests.{true_false, by_test}
-use Rattle.spec_history.specs.Steps.{Follows, stepped}
-use Rattle.spec_history.specs.declared.record.Record.{Record}
-use Rattle.law_state.proofs.Steady.{log_rev}
-use Rattle.law_steps.specs.Ready.{Rests}
-use Rattle.law_jobs.proofs.Runs.{Run, after, at_moment, follows_in, rests_in, setting_in}
-use Rattle.law_jobs.proofs.LettersWereSent.{was_sent}
+use Rattle.law_answers.proofs.Imports.{◌∙◌, ◌∷◌, ◌≡◌, Actor, Follows, In, Job, Letter, List, MayActor, Record, Rests, Run, Server, Setting, Step, World}
+use Rattle.law_answers.proofs.Imports.{after, ap, at_moment, by_test, follows_in, here_of, inl, log_rev, refl, rests_in, server_state, setting_in, shown}
+use Rattle.law_answers.proofs.Imports.{start, step, stepped, subst, sym, true_false, was_sent, ℕ}
 use Rattle.law_answers.specs.Revisions.{IsOtherRev, HasReason}
 use Rattle.law_answers.proofs.LettersMuteOfRevisions.{IsMute, is_mute}
 use Rattle.law_answers.proofs.WhatLettersSay.{Mute, Rev, Sight, TellsRev, server_says, client_says}
+use Rattle.petal_msg.specs.declared.body.Body.TheVariants as body
+use Rattle.petal_msg.specs.declared.letter.Actor.TheVariants as actor
+use Rattle.spec_rules.specs.declared.job.Job.TheVariants as job
 
 -- ### Steps
 

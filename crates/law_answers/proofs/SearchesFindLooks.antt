@@ -1,24 +1,12 @@
 -- What the searches find by which looks are told: the record that accepts a letter, and the data that a read gets by the old map.
-use Rattle.std.proofs.Common.{◌≡◌, ◌==◌, ◌&&◌, ◌||◌, ◌++◌, ℕ, Bool, true, false, List, [], ◌∷◌, Option, Some, None, refl, sym, ap, ◌∙◌, subst}
-use Rattle.std.proofs.Common.{◌⊎◌, inl, inr}
-use Rattle.std.specs.Prelude.{if◌then◌else◌, option_map}
-use Rattle.petal_msg.specs.declared.body.Body.{Body}
+use Rattle.law_answers.proofs.Imports.{[], if◌then◌else◌, ◌&&◌, ◌++◌, ◌==◌, ◌||◌, ◌∙◌, ◌∷◌, ◌≡◌, ◌⊎◌, Actor, Answer, Body, Bool, Deliver, In, Letter, List}
+use Rattle.law_answers.proofs.Imports.{None, NotThere, Option, Record, Setting, Some, Step, World, accepted, accepts, ap, both_true, by_bool, data_among}
+use Rattle.law_answers.proofs.Imports.{data_line, data_of, false, first_data, first_of, inl, inr, line_of_data, none_some, number_itself, old_data, one_actor}
+use Rattle.law_answers.proofs.Imports.{option_map, reads_old, refl, same_actor, same_name, same_numbers, same_some, stepped, subst, sym, true, turns}
+use Rattle.law_answers.proofs.Imports.{world_after, ℕ}
 use Rattle.petal_msg.specs.declared.body.Body.TheVariants as body
-use Rattle.petal_msg.specs.declared.letter.Actor.{Actor}
 use Rattle.petal_msg.specs.declared.letter.Actor.TheVariants as actor
-use Rattle.petal_msg.specs.declared.letter.Letter.{Letter}
-use Rattle.script_lines.specs.declared.answer.Answer.{Answer}
 use Rattle.script_lines.specs.declared.answer.Answer.TheVariants as answer
-use Rattle.spec_rules.specs.Lists.{In}
-use Rattle.spec_rules.specs.World.{Setting, World}
-use Rattle.spec_rules.specs.declared.step.Step.{Step}
-use Rattle.spec_rules.specs.declared.step.Step.TheVariants.{Deliver}
-use Rattle.spec_rules.proofs.Tests.{both_true, by_bool, none_some, number_itself, same_numbers, same_some}
-use Rattle.spec_history.specs.Events.{NotThere, accepted, accepts, data_among, data_line, data_of, first_data, first_of, line_of_data, old_data}
-use Rattle.spec_history.specs.Events.{reads_old, same_actor, same_name, turns}
-use Rattle.spec_history.specs.Steps.{stepped, world_after}
-use Rattle.spec_history.specs.declared.record.Record.{Record}
-use Rattle.law_run.proofs.LetterNames.{one_actor}
 
 -- ### Who accepts a letter
 

@@ -1,19 +1,10 @@
 -- Who tells a lead that its second server has no slot: that server, which was asked for one and had none. Each such letter was sent in such a step.
-use Rattle.std.proofs.Common.{◌≡◌, ℕ, refl, sym, ◌∙◌, subst}
-use Rattle.petal_base.specs.declared.cell.Cell.{Cell}
-use Rattle.petal_msg.specs.declared.body.Body.TheVariants as body
-use Rattle.petal_msg.specs.declared.letter.Actor.{Actor}
-use Rattle.petal_msg.specs.declared.letter.Actor.TheVariants as actor
-use Rattle.petal_msg.specs.declared.letter.Letter.{Letter}
-use Rattle.spec_rules.specs.Lists.{In}
-use Rattle.spec_rules.specs.World.{Setting, World}
-use Rattle.spec_rules.specs.declared.step.Step.{Step}
-use Rattle.spec_rules.proofs.Tests.{is_the_one}
-use Rattle.law_steps.specs.DidStep.{Handled}
-use Rattle.law_jobs.proofs.Runs.{At, OneMore, Run, after, at_moment, setting_in}
-use Rattle.law_jobs.proofs.LettersWereSent.{was_sent}
+use Rattle.law_answers.proofs.Imports.{◌∙◌, ◌≡◌, Actor, At, Cell, Handled, In, Letter, OneMore, Run, Setting, Step, World, after, at_moment, is_the_one, refl}
+use Rattle.law_answers.proofs.Imports.{setting_in, subst, sym, was_sent, ℕ}
 use Rattle.law_answers.specs.FullCauses.{SecondHadNone, WasToldBySecond}
 use Rattle.law_answers.proofs.Reasons.{reason_found}
+use Rattle.petal_msg.specs.declared.body.Body.TheVariants as body
+use Rattle.petal_msg.specs.declared.letter.Actor.TheVariants as actor
 
 -- the second server told this lead
 record TellsNow (setting : Setting) (w : World) (who : Actor) (what : Step) (letter : Letter) (number : ℕ) (cell : Cell) : Type 0 where

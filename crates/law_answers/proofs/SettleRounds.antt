@@ -1,30 +1,16 @@
 -- What a client's step does to the round of a settle: it keeps it, begins with none, or takes up what a glance showed.
-use Rattle.std.proofs.Common.{◌≡◌, ◌≢◌, ◌+◌, ◌++◌, ◌==◌, ◌&&◌, ℕ, Bool, true, false, List, [], ◌∷◌, Option, Some, None}
-use Rattle.std.proofs.Common.{if◌then◌else◌, refl, sym, ap, ◌∙◌, subst}
-use Rattle.petal_command.specs.declared.command.Command.{Command}
-use Rattle.petal_msg.specs.Kinds.{about}
-use Rattle.petal_msg.specs.declared.body.Body.{Body}
-use Rattle.petal_msg.specs.declared.body.Body.TheVariants as body
-use Rattle.petal_msg.specs.declared.letter.Actor.{Actor}
-use Rattle.petal_msg.specs.declared.letter.Actor.TheVariants as actor
-use Rattle.petal_msg.specs.declared.letter.Letter.{Letter}
-use Rattle.script_lines.specs.declared.answer.Answer.{Answer}
-use Rattle.script_lines.specs.declared.answer.Answer.TheVariants as answer
-use Rattle.script_lines.specs.declared.request.Line.{Line}
-use Rattle.script_lines.specs.declared.request.Request.{Request}
-use Rattle.script_lines.specs.declared.request.Request.TheVariants as request
-use Rattle.spec_state.specs.State.{latest}
+use Rattle.law_answers.proofs.Imports.{[], if◌then◌else◌, ◌&&◌, ◌++◌, ◌+◌, ◌==◌, ◌∙◌, ◌∷◌, ◌≡◌, ◌≢◌, Actor, Answer, Asked, Body, Bool, Call, Client, Command}
+use Rattle.law_answers.proofs.Imports.{Deliver, In, Learning, Letter, Line, List, MayClient, None, Option, Reaction, Request, Setting, Sight, Some, State}
+use Rattle.law_answers.proofs.Imports.{Step, Tick, World, about, answered_where, answers, ap, asks_and_sends, both_true, by_test, calls, client_state}
+use Rattle.law_answers.proofs.Imports.{client_step, command_of, false, goes_out, goes_out_where, goes_the_old_way, heard, hears, hears_any, hears_of, is_read}
+use Rattle.law_answers.proofs.Imports.{is_witness, is_write, judged, judged_by, latest, next_entries, next_line, none_some, refl, refusal, replies, rests}
+use Rattle.law_answers.proofs.Imports.{same_numbers, same_some, sees, sees_for, sees_from, sends_or_proposes, settles, subst, sym, takes_all, takes_entries}
+use Rattle.law_answers.proofs.Imports.{takes_entry, then_goes_out, ticked, to_propose, true, true_false, verdict_for, witnessed, ℕ}
 use Rattle.spec_state.specs.Command.{after}
-use Rattle.spec_rules.specs.Lists.{In}
-use Rattle.spec_rules.specs.State.{State}
-use Rattle.spec_rules.specs.Clients.{Client, Asked, Reaction, Learning, Sight, rests, to_propose, sends_or_proposes, goes_out, goes_out_where}
-use Rattle.spec_rules.specs.Clients.{goes_the_old_way, asks_and_sends, replies, is_read, is_write, settles, sees_for, sees, sees_from, answers, hears}
-use Rattle.spec_rules.specs.Clients.{hears_of, heard, hears_any, command_of, refusal, verdict_for, answered_where, witnessed, is_witness, judged, judged_by}
-use Rattle.spec_rules.specs.Clients.{takes_entry, takes_all, then_goes_out, takes_entries, next_entries, ticked}
-use Rattle.spec_rules.specs.World.{Setting, World, MayClient, client_state, client_step, calls, next_line}
-use Rattle.spec_rules.specs.declared.step.Step.{Step}
-use Rattle.spec_rules.specs.declared.step.Step.TheVariants.{Call, Deliver, Tick}
-use Rattle.spec_rules.proofs.Tests.{by_test, both_true, none_some, same_numbers, same_some, true_false}
+use Rattle.petal_msg.specs.declared.body.Body.TheVariants as body
+use Rattle.petal_msg.specs.declared.letter.Actor.TheVariants as actor
+use Rattle.script_lines.specs.declared.answer.Answer.TheVariants as answer
+use Rattle.script_lines.specs.declared.request.Request.TheVariants as request
 
 -- the request is open as before, in the same round
 pub record SameRound (old new : Asked) : Type 0 where

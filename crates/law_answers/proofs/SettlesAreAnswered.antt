@@ -1,58 +1,24 @@
 -- What a settle is answered by. What the operator has seen in a round, glances of that round showed.
-use Rattle.std.proofs.Common.{◌≡◌, ◌≤◌, ◌<◌, ◌⊎◌, inl, inr, ◌+◌, ◌++◌, ◌==◌, ◌&&◌, ℕ, zero, suc, Bool, true, false, not, List, [], ◌∷◌, Option}
-use Rattle.std.proofs.Common.{Some, None, length, refl, sym, ap, ◌∙◌, subst, arith}
-use Rattle.std.proofs.lemmas.Bool.Decides.{nat_tests}
-use Rattle.std.proofs.lemmas.List.{length-append, length-map}
-use Rattle.std.specs.Cmp.{nat_cmp_total}
-use Rattle.std.specs.declared.cmp.Ordering.TheVariants.{Less}
-use Rattle.std.specs.Ordering.{nat_cmp}
-use Rattle.std.specs.Prelude.{if◌then◌else◌, map, nat_le, slice_get}
-use Rattle.petal_command.specs.declared.command.Command.{Command}
-use Rattle.petal_msg.specs.declared.body.Body.TheVariants as body
-use Rattle.petal_msg.specs.declared.letter.Actor.{Actor}
-use Rattle.petal_msg.specs.declared.letter.Actor.TheVariants as actor
-use Rattle.petal_msg.specs.declared.letter.Letter.{Letter}
-use Rattle.petal_table.specs.Table.{Table, at}
-use Rattle.petal_table.proofs.Rows.{at-empty, at_apart, at_same}
-use Rattle.script_lines.specs.declared.answer.Answer.{Answer}
-use Rattle.script_lines.specs.declared.answer.Answer.TheVariants as answer
-use Rattle.script_lines.specs.declared.request.Line.{Line}
-use Rattle.script_lines.specs.declared.request.Request.TheVariants as request
-use Rattle.script_lines.specs.declared.script.Script.{Script}
-use Rattle.spec_state.specs.Command.{state_after}
-use Rattle.spec_state.specs.Settled.{is_settled}
-use Rattle.spec_rules.specs.Clients.{Client, Asked, Reaction, Sight as Shown_by, rounds, settles, with_sight}
-use Rattle.spec_rules.specs.Jobs.{operator, shown}
-use Rattle.spec_rules.specs.Lists.{In}
-use Rattle.spec_rules.specs.Server.{Server}
-use Rattle.spec_rules.specs.State.{State, servers_of}
-use Rattle.spec_rules.specs.World.{MayActor, MayServer, Setting, World, acts, client_state, client_step, next_line, server_state}
-use Rattle.spec_rules.specs.World.{server_step, setting_of, start, step, with_answer}
-use Rattle.spec_rules.specs.declared.step.Step.{Step}
-use Rattle.spec_rules.specs.declared.step.Step.TheVariants.{Glance}
-use Rattle.spec_rules.proofs.ListLemmas.{in-append}
-use Rattle.spec_rules.proofs.Tests.{all_put, both_true, by_test, none_some, same_numbers, same_or_apart, same_some, true_false}
-use Rattle.spec_history.specs.Claims.{IsPrefix}
-use Rattle.spec_history.specs.Steps.{AreSteps, world_after}
-use Rattle.spec_history.specs.Sound.{IsSound}
-use Rattle.spec_history.specs.declared.record.Record.{Record}
+use Rattle.law_answers.proofs.Imports.{[], if◌then◌else◌, ◌&&◌, ◌++◌, ◌+◌, ◌<◌, ◌==◌, ◌∙◌, ◌∷◌, ◌≡◌, ◌≤◌, ◌⊎◌, Actor, Answer, AreSteps, Asked, Begins, Bool}
+use Rattle.law_answers.proofs.Imports.{Client, Command, Ends, Glance, Goes_on, Heard, In, IsPrefix, IsRising, IsSound, Is_told, Judges, Less, Letter, Line}
+use Rattle.law_answers.proofs.Imports.{List, MayActor, MayServer, None, Option, Reaction, Reads, Record, Run, Script, Server, Setting, Shown, Shown_by, Some}
+use Rattle.law_answers.proofs.Imports.{State, Step, Table, Turned, World, acts, after, all_put, always_firm, ap, arith, at, at-empty, at_apart, at_row}
+use Rattle.law_answers.proofs.Imports.{at_same, both_true, by_run, by_test, client_state, client_step, client_turns, false, firm_after, follows_in}
+use Rattle.law_answers.proofs.Imports.{front_plain, in-append, inl, inr, is_settled, last_moment, length, length-append, length-map, log_plain, log_rev}
+use Rattle.law_answers.proofs.Imports.{longer, map, moment_more, nat_cmp, nat_cmp_total, nat_le, nat_tests, next_line, none_some, not, operator, put_rises}
+use Rattle.law_answers.proofs.Imports.{refl, rounds, same_numbers, same_or_apart, same_some, server_state, server_step, servers_of, setting_in, setting_of}
+use Rattle.law_answers.proofs.Imports.{settles, shown, slice_get, start, state_after, step, stepped_in, subst, suc, sym, true, true_false, with_answer}
+use Rattle.law_answers.proofs.Imports.{with_sight, world_after, zero, ℕ}
 use Rattle.law_answers.proofs.LinesHavePlaces.{line_at}
-use Rattle.law_state.proofs.EntriesOnlyAdd.{log_plain}
-use Rattle.law_state.proofs.Steady.{front_plain, log_rev}
-use Rattle.law_state.proofs.Moments.{last_moment, moment_more}
-use Rattle.law_steps.specs.DidStep.{Heard}
-use Rattle.law_steps.specs.Ready.{IsRising}
-use Rattle.law_steps.specs.DidClient.{Turned, Goes_on, Is_told, Begins, Reads, Ends, Shown, Judges}
-use Rattle.law_steps.proofs.WorldsAreFirm.{always_firm}
-use Rattle.law_steps.proofs.KindsInHistories.{firm_after}
-use Rattle.law_jobs.proofs.Runs.{Run, after, by_run, follows_in, longer, setting_in, stepped_in}
-use Rattle.law_steps.proofs.TablesOfPuts.{at_row, put_rises}
-use Rattle.law_steps.proofs.ClientStepKinds.{client_turns}
 use Rattle.law_answers.specs.Settles.{HasFoundFull, HasGlanceAt, HasSettled, HasShown, WasSettled, runs_as}
 use Rattle.law_answers.proofs.Lines.{open_for}
 use Rattle.law_answers.proofs.SettleRounds.{HasSight, IsRounded, Keeps, Quiet, Rounds, Sees, Starts, client_rounds}
 use Rattle.law_answers.proofs.LettersMuteOfRevisions.{IsMute, is_mute}
 use Rattle.law_answers.proofs.WhatLettersSay.{Mute, Rev, Sight, server_says, client_says}
+use Rattle.petal_msg.specs.declared.body.Body.TheVariants as body
+use Rattle.petal_msg.specs.declared.letter.Actor.TheVariants as actor
+use Rattle.script_lines.specs.declared.answer.Answer.TheVariants as answer
+use Rattle.script_lines.specs.declared.request.Request.TheVariants as request
 
 -- ### A round that has shown each server
 

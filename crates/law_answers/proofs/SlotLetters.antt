@@ -1,29 +1,12 @@
 -- Which letters tell of a want of slots, or ask for one, and what a job has to show of those that it sends.
-use Rattle.std.proofs.Common.{◌≡◌, ◌≤◌, ◌<◌, ℕ, List, Bool, true, false, Some, None, length, refl, sym, ap, ◌∙◌, ◌⊎◌, inl}
-use Rattle.std.specs.Ordering.{nat_cmp}
-use Rattle.petal_base.specs.declared.cell.Cell.{Cell}
-use Rattle.petal_base.specs.declared.cell.Key.{Key}
-use Rattle.petal_table.specs.Table.{at}
-use Rattle.petal_msg.specs.Kinds.{Answered, Paired, Subject, is_logged, subject_of}
-use Rattle.petal_msg.specs.declared.body.Body.{Body}
+use Rattle.law_answers.proofs.Imports.{◌<◌, ◌∙◌, ◌≡◌, ◌≤◌, ◌⊎◌, Answered, Body, Bool, Cell, Ending, Finished, Firm, In, Key, Letter, List, None, PairState}
+use Rattle.law_answers.proofs.Imports.{Paired, Pending, Post, Rests, Setting, Some, Subject, Was, World, ap, at, cell_cmp, false, first, inl, is_clients}
+use Rattle.law_answers.proofs.Imports.{is_in, is_logged, length, moved_as, nat_cmp, post_to, refl, server_state, subject_of, sym, true, true_false, was_same}
+use Rattle.law_answers.proofs.Imports.{ℕ}
+use Rattle.law_answers.specs.Refusals.{IsNumbered, Refusals}
 use Rattle.petal_msg.specs.declared.body.Body.TheVariants as body
 use Rattle.petal_msg.specs.declared.letter.Actor.TheVariants as actor
-use Rattle.petal_msg.specs.declared.letter.Letter.{Letter}
-use Rattle.petal_msg.specs.declared.operation.Ending.{Ending}
 use Rattle.petal_msg.specs.declared.operation.Ending.TheVariants as ending
-use Rattle.petal_msg.specs.declared.operation.Finished.{Finished}
-use Rattle.petal_msg.specs.declared.operation.Pending.{Pending}
-use Rattle.spec_rules.specs.Lists.{In}
-use Rattle.spec_rules.specs.State.{first, is_in}
-use Rattle.spec_rules.specs.Store.{cell_cmp}
-use Rattle.spec_rules.specs.Server.{PairState, Post, post_to}
-use Rattle.spec_rules.specs.Writes.{is_clients, moved_as}
-use Rattle.spec_rules.specs.World.{Setting, World, server_state}
-use Rattle.spec_rules.proofs.Tests.{true_false}
-use Rattle.law_state.specs.Firm.{Firm}
-use Rattle.law_steps.specs.Ready.{Rests}
-use Rattle.law_steps.proofs.Restages.{Was, was_same}
-use Rattle.law_answers.specs.Refusals.{IsNumbered, Refusals}
 
 pub nobody : (what : Body) (post : Post) → In post (post_to None what) → ⊥
 unfolding In

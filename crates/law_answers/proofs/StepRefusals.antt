@@ -1,56 +1,21 @@
 -- By each step, of a client or of a server, every refusal goes on to have its reason.
-use Rattle.std.proofs.Common.{◌≡◌, ◌≤◌, ◌<◌, arith, ℕ, List, [], ◌∷◌, Bool, true, false, Option, Some, refl, sym}
-use Rattle.std.proofs.Common.{ap, ◌∙◌, subst, ◌⊎◌, inl, inr}
-use Rattle.std.specs.Prelude.{length, map}
-use Rattle.std.specs.Ordering.{nat_cmp}
-use Rattle.petal_command.specs.declared.command.Command.{Command}
-use Rattle.petal_table.specs.Table.{at}
-use Rattle.petal_table.proofs.Rows.{at-empty}
-use Rattle.petal_msg.specs.Kinds.{Answered, Paired, Glanced, is_logged, subject_of}
-use Rattle.petal_msg.specs.declared.body.Body.{Body}
-use Rattle.petal_msg.specs.declared.body.Body.TheVariants as body
-use Rattle.petal_msg.specs.declared.letter.Actor.{Actor}
-use Rattle.petal_msg.specs.declared.letter.Actor.TheVariants as actor
-use Rattle.petal_msg.specs.declared.letter.Letter.{Letter}
-use Rattle.petal_msg.specs.declared.operation.Ending.TheVariants as ending
-use Rattle.petal_msg.specs.declared.operation.Finished.{Finished}
-use Rattle.spec_rules.specs.Ballots.{post_of}
-use Rattle.spec_rules.specs.Boots.{awake, blanked, raised, stays, wakes}
-use Rattle.spec_rules.specs.Clients.{Reaction, client_sender}
-use Rattle.spec_rules.specs.Crossing.{crossed, settled_by}
-use Rattle.spec_rules.specs.Jobs.{Acted, down_posts}
-use Rattle.spec_rules.specs.Lists.{In}
-use Rattle.spec_rules.specs.Log.{Log}
-use Rattle.spec_rules.specs.Returns.{proposed}
-use Rattle.spec_rules.specs.Server.{PairState, Server, Pairs, JobResult, Post, Sender, silent, sender, letters_of, no_pairs, stopped}
-use Rattle.spec_rules.specs.State.{servers_of}
-use Rattle.spec_rules.specs.Store.{cell_cmp}
-use Rattle.spec_rules.specs.World.{Setting, World, reacts, step, stamped, client_step, client_state}
-use Rattle.spec_rules.specs.World.{server_state, chosen_log, next_line, MayActor}
-use Rattle.spec_rules.specs.declared.job.Job.{Job}
-use Rattle.spec_rules.specs.declared.step.Step.{Step}
-use Rattle.spec_rules.specs.declared.step.Step.TheVariants.{Blank, Work}
-use Rattle.spec_rules.specs.declared.step.WorkEnd.TheVariants as work_end
-use Rattle.spec_rules.proofs.ListLemmas.{in-append}
-use Rattle.spec_rules.proofs.Settled.{by_settled}
-use Rattle.spec_rules.proofs.Tests.{none_some, true_false}
-use Rattle.spec_history.specs.Claims.{IsPrefix}
-use Rattle.law_state.specs.Firm.{Firm}
-use Rattle.law_state.proofs.Steady.{log_rev}
-use Rattle.law_steps.specs.DidStep.{Heard, IsIdle, Worked, By_job, By_ballot, By_entry, Serving, Goes as Serves_on, Ends as Stops_so, Stays, Wakes}
-use Rattle.law_steps.specs.DidStep.{Fails, own_place, without_rev, served, served_so, stopped_so, shown_so}
-use Rattle.law_steps.specs.Ready.{Rests}
-use Rattle.law_steps.specs.DidClient.{Turned}
-use Rattle.law_steps.proofs.KindsInHistories.{own_steady, proposed_pairs}
-use Rattle.law_steps.proofs.Letters.{said}
-use Rattle.law_steps.proofs.Restages.{was_same}
-use Rattle.law_steps.proofs.ClientLetters.{is_ask, turned_asks}
-use Rattle.law_steps.proofs.ServerStepKinds.{server_serves}
-use Rattle.law_steps.proofs.ClientStepKinds.{client_turns, is_call}
+use Rattle.law_answers.proofs.Imports.{[], ◌<◌, ◌∙◌, ◌∷◌, ◌≡◌, ◌≤◌, ◌⊎◌, Acted, Actor, Answered, Blank, Body, Bool, By_ballot, By_entry, By_job, Command}
+use Rattle.law_answers.proofs.Imports.{Fails, Finished, Firm, Glanced, Heard, In, IsIdle, IsPrefix, Job, JobResult, Letter, List, Log, MayActor, Option}
+use Rattle.law_answers.proofs.Imports.{PairState, Paired, Pairs, Post, Reaction, Rests, Sender, Server, Serves_on, Serving, Setting, Some, Stays, Step}
+use Rattle.law_answers.proofs.Imports.{Stops_so, Turned, Wakes, Work, Worked, World, ap, arith, at, at-empty, awake, blanked, by_settled, cell_cmp}
+use Rattle.law_answers.proofs.Imports.{chosen_log, client_sender, client_state, client_step, client_turns, crossed, down_posts, false, in-append, inl, inr}
+use Rattle.law_answers.proofs.Imports.{is_ask, is_call, is_logged, length, letters_of, log_rev, map, nat_cmp, next_line, no_pairs, none_some, own_place}
+use Rattle.law_answers.proofs.Imports.{own_steady, post_of, proposed, proposed_pairs, raised, reacts, refl, said, sender, served, served_so, server_serves}
+use Rattle.law_answers.proofs.Imports.{server_state, servers_of, settled_by, shown_so, silent, stamped, stays, step, stopped, stopped_so, subject_of, subst}
+use Rattle.law_answers.proofs.Imports.{sym, true, true_false, turned_asks, wakes, was_same, without_rev, ℕ}
 use Rattle.law_answers.specs.Refusals.{HadNoSlot, Refusals}
 use Rattle.law_answers.proofs.RefusalFrames.{GoesOn, StepRefuses, still_declined, still_numbered, still_on, step_refusals}
 use Rattle.law_answers.proofs.SlotLetters.{JobRefuses, Scene, WereRefused, is_of_slots}
 use Rattle.law_answers.proofs.JobsRefuseForReasons.{asks_refuses, job_refuses, kept_refuses}
+use Rattle.petal_msg.specs.declared.body.Body.TheVariants as body
+use Rattle.petal_msg.specs.declared.letter.Actor.TheVariants as actor
+use Rattle.petal_msg.specs.declared.operation.Ending.TheVariants as ending
+use Rattle.spec_rules.specs.declared.step.WorkEnd.TheVariants as work_end
 
 -- ### Steps
 

@@ -1,42 +1,19 @@
 -- A server that ran at the start and does not run at the end stopped in a step of its own, since which it has not run, and the rule of
 -- that step says why.
-use Rattle.std.proofs.Common.{◌≡◌, ◌⊎◌, ◌++◌, ◌<◌, ℕ, true, false, List, [], ◌∷◌, refl, sym, ap, ◌∙◌, subst, inl, inr, arith, append_assoc}
-use Rattle.std.proofs.lemmas.Bool.Decides.{nat_tests}
-use Rattle.std.specs.Prelude.{nat_lt}
-use Rattle.petal_msg.specs.declared.letter.Actor.{Actor}
-use Rattle.petal_msg.specs.declared.letter.Actor.TheVariants as actor
-use Rattle.script_lines.specs.declared.request.Request.{Request}
-use Rattle.script_lines.specs.declared.script.Script.{Script}
-use Rattle.spec_state.specs.State.{start as first_state}
-use Rattle.spec_rules.specs.Jobs.{Acted, job_done, works, is_log_job, is_overfull, operator}
-use Rattle.spec_rules.specs.Lists.{In, put_at}
-use Rattle.spec_rules.specs.Server.{JobContext, Server}
-use Rattle.spec_rules.specs.State.{is_in}
-use Rattle.spec_rules.specs.World.{Setting, World, MayStop, MayServer, MayActor, acts, chosen_log, chosen_state}
-use Rattle.spec_rules.specs.World.{server_state, server_step, step, setting_of, start}
-use Rattle.spec_rules.specs.declared.job.Job.{Job}
-use Rattle.spec_rules.specs.declared.job.Job.TheVariants as job
-use Rattle.spec_rules.specs.declared.step.Step.{Step}
-use Rattle.spec_rules.specs.declared.step.Step.TheVariants.{Call, Deliver, Work, StopIn, Stop, Blank, Boot}
-use Rattle.spec_rules.specs.declared.step.WorkEnd.{WorkEnd}
-use Rattle.spec_rules.specs.declared.step.WorkEnd.TheVariants as work_end
-use Rattle.spec_rules.proofs.ListLemmas.{put_same, put_apart}
-use Rattle.spec_rules.proofs.Tests.{by_bool, by_test, same_or_apart, true_false}
-use Rattle.spec_history.specs.Steps.{AreSteps, stepped, world_after}
-use Rattle.spec_history.specs.Sound.{IsSound}
-use Rattle.spec_history.specs.declared.record.Record.{Record}
-use Rattle.law_state.proofs.Disks.{first_at_start}
-use Rattle.law_state.specs.Moments.{IsMoment}
-use Rattle.law_state.proofs.Moments.{first_moment, moment_later}
-use Rattle.law_log.specs.ProposedCommands.{NoneBoots}
-use Rattle.law_log.proofs.LogInHistories.{who_runs_is_in}
-use Rattle.law_log.proofs.FirstIncarnationsStay.{unbooted}
-use Rattle.law_steps.specs.DidStep.{own_place}
-use Rattle.law_steps.proofs.KindsInHistories.{front_legal}
+use Rattle.law_answers.proofs.Imports.{[], ◌++◌, ◌<◌, ◌∙◌, ◌∷◌, ◌≡◌, ◌⊎◌, Acted, Actor, AreSteps, Blank, Boot, Call, Deliver, In, IsMoment, IsSound, Job}
+use Rattle.law_answers.proofs.Imports.{JobContext, List, MayActor, MayServer, MayStop, NoneBoots, Record, Request, Script, Server, Setting, Step, Stop}
+use Rattle.law_answers.proofs.Imports.{StopIn, Work, WorkEnd, World, acts, ap, append_assoc, arith, by_bool, by_test, chosen_log, chosen_state, false}
+use Rattle.law_answers.proofs.Imports.{first_at_start, first_moment, first_state, front_legal, inl, inr, is_in, is_log_job, is_overfull, job_done}
+use Rattle.law_answers.proofs.Imports.{moment_later, nat_lt, nat_tests, operator, own_place, put_apart, put_at, put_same, refl, same_or_apart, server_state}
+use Rattle.law_answers.proofs.Imports.{server_step, setting_of, start, step, stepped, subst, sym, true, true_false, unbooted, who_runs_is_in, works}
+use Rattle.law_answers.proofs.Imports.{world_after, ℕ}
 use Rattle.law_answers.specs.Lines.{AsksToStop}
-use Rattle.law_answers.specs.Stops.{IsReasonToStop, Was_told, Device_failed, Device_stopped, Journal_full, HasReasonToStop, NoneIsStopped}
-use Rattle.law_answers.specs.Stops.{NoneStopsByItself, StaysDown, is_of_a_job, stops_a_server}
+use Rattle.law_answers.specs.Stops.{IsReasonToStop, Was_told, Device_failed, Device_stopped, Journal_full, HasReasonToStop, NoneIsStopped, NoneStopsByItself}
+use Rattle.law_answers.specs.Stops.{StaysDown, is_of_a_job, stops_a_server}
 use Rattle.law_answers.proofs.Lines.{asks_to_stop, line_of, open_for}
+use Rattle.petal_msg.specs.declared.letter.Actor.TheVariants as actor
+use Rattle.spec_rules.specs.declared.job.Job.TheVariants as job
+use Rattle.spec_rules.specs.declared.step.WorkEnd.TheVariants as work_end
 
 -- ### One step
 

@@ -1,52 +1,29 @@
 -- Where a plain log gives a client its verdict: by the client's own command, of which the state before its place says what the verdict says;
 -- and a snapshot that waits there is taken once its fence passes.
-use Rattle.std.proofs.Common.{◌≡◌, ◌≢◌, ◌⊎◌, inl, inr, ◌<◌, ◌≤◌, ◌+◌, ℕ, zero, suc, true, false, List, length, take, Option, Some}
-use Rattle.std.proofs.Common.{None, is_some, refl, sym, ap, ◌∙◌, subst, arith}
-use Rattle.std.proofs.lemmas.Bool.{cases_lt}
-use Rattle.std.specs.Option.{option_map_or}
-use Rattle.std.proofs.lemmas.Option.{slice_get_within}
-use Rattle.std.specs.Prelude.{is_none, slice_get, unwrap_or}
-use Rattle.global_tables.specs.Disk.{named, row_frozen, row_moving, same_name, snapshot_named}
-use Rattle.global_tables.specs.View.{following, passed, servers_in}
-use Rattle.global_tables.specs.View.{queued as with_queued}
-use Rattle.global_tables.specs.declared.disk.DiskRow.{DiskRow}
-use Rattle.global_tables.specs.declared.disk.Snapshot.{Snapshot}
-use Rattle.global_tables.specs.declared.disk.Verdict.{Verdict}
-use Rattle.global_tables.specs.declared.disk.Verdict.TheVariants as verdict
-use Rattle.global_tables.specs.declared.fence.Fence.{Fence}
-use Rattle.global_tables.specs.declared.fence.FenceKind.TheVariants.{Region, Whole}
-use Rattle.script_lines.specs.Requests.{is_snap}
-use Rattle.script_lines.specs.declared.answer.Answer.{Answer}
-use Rattle.script_lines.specs.declared.answer.Answer.TheVariants as answer
-use Rattle.script_lines.specs.declared.request.Request.{Request}
-use Rattle.script_lines.specs.declared.request.Request.TheVariants as request
-use Rattle.petal_command.specs.declared.command.Command.{Command}
-use Rattle.petal_command.specs.declared.command.Command.TheVariants.{Caught, Drained, Join, Leave, MakeDisk, Moved, Snap, StartMove, Witness}
-use Rattle.spec_history.specs.Causes.{has_made, is_moving, is_name_taken, lacks_disk}
-use Rattle.spec_state.specs.State.{State, is_up_as, latest, told}
-use Rattle.spec_state.specs.Command.{act, after, is_new, is_taken, may_join, note, state_after, with_disk, with_fence, with_move}
-use Rattle.spec_state.specs.Fence.{effect, settled}
-use Rattle.spec_state.proofs.Passing.{view-effect}
-use Rattle.spec_rules.specs.Clients.{command_of, verdict_answer, verdict_for}
-use Rattle.spec_rules.proofs.Tests.{by_test, none_some, same_some, some_or_none, true_false}
-use Rattle.law_state.specs.Plain.{IsPlainLog}
-use Rattle.law_state.specs.Tables.{IsForRegion, IsForSnapshot, Of_disk, Of_region}
-use Rattle.law_state.proofs.Caughts.{act_caught}
-use Rattle.law_state.proofs.EntriesOnlyAdd.{acting}
-use Rattle.law_state.proofs.Fences.{Acted, IsRequeued, IsUnsettled, get_after, head_get, ready_by, requeued_awaiting}
-use Rattle.law_state.proofs.Fences.{requeued_itself, requeued_reported}
-use Rattle.law_state.proofs.FencesPass.{one_passed, passed_here, passing, settled_keeps}
-use Rattle.law_state.proofs.ListLookups.{get_last, get_within, text_itself}
-use Rattle.law_state.proofs.MovesOfDisks.{IsNoting, act_moved, act_note, act_start}
-use Rattle.law_state.proofs.DiskRowChanges.{here_now}
-use Rattle.law_state.proofs.SnapsQueueFences.{act_drained, act_snap}
+use Rattle.law_answers.proofs.Imports.{◌+◌, ◌<◌, ◌∙◌, ◌≡◌, ◌≢◌, ◌≤◌, ◌⊎◌, Answer, Caught, Command, DiskRow, Drained, Fence, IsForRegion, IsForSnapshot}
+use Rattle.law_answers.proofs.Imports.{IsNoting, IsPlainLog, IsRequeued, IsUnsettled, Join, Leave, List, MakeDisk, Moved, None, Of_disk, Of_region, Option}
+use Rattle.law_answers.proofs.Imports.{Region, Request, Snap, Snapshot, Some, StartMove, Verdict, Whole, Witness, act, act_caught, act_drained, act_moved}
+use Rattle.law_answers.proofs.Imports.{act_note, act_snap, act_start, acting, ap, arith, by_test, cases_lt, command_of, effect, false, following, get_after}
+use Rattle.law_answers.proofs.Imports.{get_last, get_within, has_made, head_get, here_now, inl, inr, is_moving, is_name_taken, is_new, is_none, is_snap}
+use Rattle.law_answers.proofs.Imports.{is_some, is_taken, is_up_as, lacks_disk, latest, length, may_join, named, none_some, note, one_passed, option_map_or}
+use Rattle.law_answers.proofs.Imports.{passed, passed_here, passing, ready_by, refl, requeued_awaiting, requeued_itself, requeued_reported, row_frozen}
+use Rattle.law_answers.proofs.Imports.{row_moving, same_some, servers_in, settled, settled_keeps, slice_get, slice_get_within, snapshot_named, some_or_none}
+use Rattle.law_answers.proofs.Imports.{state_after, subst, suc, sym, take, text_itself, told, true, true_false, unwrap_or, verdict_answer, verdict_for}
+use Rattle.law_answers.proofs.Imports.{view-effect, with_disk, with_fence, with_move, with_queued, zero, ℕ}
+use Rattle.global_tables.specs.Disk.{same_name}
+use Rattle.spec_state.specs.State.{State}
+use Rattle.spec_state.specs.Command.{after}
+use Rattle.law_state.proofs.Fences.{Acted}
 use Rattle.law_answers.specs.AskedCommands.{asker}
 use Rattle.law_answers.proofs.CommandsWereAsked.{asker_of}
-use Rattle.law_answers.proofs.EntriesTellClients.{told_answers, act_make, judged_last, judged_old, old_now, onward_new, passed_old, passed_or}
-use Rattle.law_answers.proofs.EntriesTellClients.{passed_stays, settled_old, told_old, told_or, told_stays}
-use Rattle.law_answers.proofs.RequestsStayDone.{nobody_told, named_on, last_found, has_kept, made_on, asks_it, request_of, same_whole}
-use Rattle.law_answers.proofs.RequestsStayDone.{no_whole, row_known_at, settled_moving, IsMoving}
+use Rattle.law_answers.proofs.EntriesTellClients.{told_answers, act_make, judged_last, judged_old, old_now, onward_new, passed_old, passed_or, passed_stays}
+use Rattle.law_answers.proofs.EntriesTellClients.{settled_old, told_old, told_or, told_stays}
+use Rattle.law_answers.proofs.RequestsStayDone.{nobody_told, named_on, last_found, has_kept, made_on, asks_it, request_of, same_whole, no_whole, row_known_at}
+use Rattle.law_answers.proofs.RequestsStayDone.{settled_moving, IsMoving}
 use Rattle.law_answers.proofs.OldNumbersStayOld.{at_next, entry_plain, many_at, old_on, own_old, plain_at}
+use Rattle.global_tables.specs.declared.disk.Verdict.TheVariants as verdict
+use Rattle.script_lines.specs.declared.answer.Answer.TheVariants as answer
+use Rattle.script_lines.specs.declared.request.Request.TheVariants as request
 
 -- ### Along a log
 

@@ -1,42 +1,20 @@
 -- What letters say of two matters: a client is told of another revision in one place alone, where its letter has one; and of whether a
 -- server runs at a glance alone.
-use Rattle.std.proofs.Common.{◌≡◌, inl, inr, ℕ, Bool, true, List, [], ◌∷◌, Option}
-use Rattle.std.proofs.Common.{Some, None, refl, sym, ap, ◌∙◌, subst}
-use Rattle.std.specs.Prelude.{if◌then◌else◌, map}
-use Rattle.petal_msg.specs.declared.body.Body.{Body}
-use Rattle.petal_msg.specs.declared.body.Body.TheVariants as body
-use Rattle.petal_msg.specs.declared.letter.Actor.TheVariants as actor
-use Rattle.petal_msg.specs.declared.letter.Letter.{Letter}
-use Rattle.spec_rules.specs.Lists.{In}
-use Rattle.spec_rules.specs.State.{State, first, servers_of}
-use Rattle.spec_rules.specs.Server.{Server, JobContext, Post, Sender, sender, letters_of}
-use Rattle.petal_command.specs.declared.command.Command.{Command}
-use Rattle.spec_rules.specs.Ballots.{post_of, starts}
-use Rattle.spec_rules.specs.Boots.{awake, boots, raised, stays, wakes}
-use Rattle.spec_rules.specs.Entries.{applies}
-use Rattle.spec_rules.specs.Log.{LogDone, known, next_place, rev_of}
-use Rattle.spec_rules.specs.Jobs.{Acted, does, here_of, works, job_done, worked, entered, stops}
-use Rattle.spec_rules.specs.Jobs.{is_overfull, down_posts, glances, glance_sender, shown, operator, voter_of, wanted_by, is_log_job, faults}
-use Rattle.spec_rules.specs.Jobs.{tick_posts}
-use Rattle.spec_rules.specs.Clients.{Client, Asked, Reaction, client_sender}
-use Rattle.spec_rules.specs.World.{Setting, World, stamped, server_state, server_step, client_state, client_step, next_line, MayClient, MayServer}
-use Rattle.spec_rules.specs.declared.job.Job.{Job}
-use Rattle.spec_rules.specs.declared.job.Job.TheVariants as job
-use Rattle.spec_rules.specs.declared.step.CommitEnd.{CommitEnd}
-use Rattle.spec_rules.specs.declared.step.CommitEnd.TheVariants.{Before, After}
-use Rattle.spec_rules.specs.declared.step.Step.{Step}
-use Rattle.spec_rules.specs.declared.step.Step.TheVariants.{Call, Deliver, Tick, Work, StopIn, Stop, Blank, Boot, Arm, Glance}
-use Rattle.spec_rules.specs.declared.step.WorkEnd.{WorkEnd}
-use Rattle.spec_rules.specs.declared.step.WorkEnd.TheVariants as work_end
-use Rattle.spec_rules.proofs.Tests.{by_test}
-use Rattle.script_lines.specs.declared.request.Line.{Line}
-use Rattle.law_steps.specs.DidClient.{Turned, Says, Of_the_log, A_write, A_read, Goes_on, Is_told, Begins, Reads, Ends, Shown, Judges}
-use Rattle.law_steps.proofs.Letters.{one_post}
-use Rattle.law_steps.proofs.Letters.{said as said_in}
-use Rattle.law_steps.proofs.LogJobs.{LogFrame, letter_frame_of, start_frame_of, applied_entry, applied_none}
-use Rattle.law_steps.proofs.ClientStepKinds.{client_turns}
+use Rattle.law_answers.proofs.Imports.{[], if◌then◌else◌, ◌∙◌, ◌∷◌, ◌≡◌, A_read, A_write, Acted, After, Arm, Asked, Before, Begins, Blank, Body, Bool, Boot}
+use Rattle.law_answers.proofs.Imports.{Call, Client, Command, CommitEnd, Deliver, Ends, Glance, Goes_on, In, Is_told, Job, JobContext, Judges, Letter, Line}
+use Rattle.law_answers.proofs.Imports.{List, LogDone, LogFrame, MayClient, MayServer, None, Of_the_log, Option, Post, Reaction, Reads, Says, Sender, Server}
+use Rattle.law_answers.proofs.Imports.{Setting, Shown, Some, State, Step, Stop, StopIn, Tick, Turned, Work, WorkEnd, World, ap, applied_entry, applied_none}
+use Rattle.law_answers.proofs.Imports.{applies, awake, boots, by_test, client_sender, client_state, client_step, client_turns, does, down_posts, entered}
+use Rattle.law_answers.proofs.Imports.{faults, first, glance_sender, glances, here_of, inl, inr, is_log_job, is_overfull, job_done, known, letter_frame_of}
+use Rattle.law_answers.proofs.Imports.{letters_of, map, next_line, next_place, one_post, operator, post_of, raised, refl, rev_of, said_in, sender}
+use Rattle.law_answers.proofs.Imports.{server_state, server_step, servers_of, shown, stamped, start_frame_of, starts, stays, stops, subst, sym, tick_posts}
+use Rattle.law_answers.proofs.Imports.{true, voter_of, wakes, wanted_by, worked, works, ℕ}
 use Rattle.law_answers.proofs.LettersMuteOfRevisions.{IsMute, AreMute, none_mute, logged_mute}
 use Rattle.law_answers.proofs.JobSayings.{tick_mute, IsTold, Mute_post, Rev_post, job_tells}
+use Rattle.petal_msg.specs.declared.body.Body.TheVariants as body
+use Rattle.petal_msg.specs.declared.letter.Actor.TheVariants as actor
+use Rattle.spec_rules.specs.declared.job.Job.TheVariants as job
+use Rattle.spec_rules.specs.declared.step.WorkEnd.TheVariants as work_end
 
 -- ### Clients
 

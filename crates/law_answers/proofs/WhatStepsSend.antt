@@ -1,32 +1,14 @@
 -- What a step sends: the letters of a job that a server did; and else what is of the agreed log, shows a glance, or asks for a read or a write.
-use Rattle.std.proofs.Common.{◌≡◌, ℕ, Bool, List, [], ◌∷◌, true, false, refl, ap, ◌∙◌, subst, ◌⊎◌, inl, inr}
-use Rattle.std.specs.Prelude.{◌||◌, map}
-use Rattle.petal_msg.specs.Kinds.{Subject, Glanced, Logged, Read_asked, Write_asked, is_asked, is_logged, subject_of}
+use Rattle.law_answers.proofs.Imports.{[], ◌||◌, ◌∙◌, ◌∷◌, ◌≡◌, ◌⊎◌, Acted, Actor, Blank, Bool, By_ballot, By_entry, By_job, Did, Fails, Firm, Glanced, Goes}
+use Rattle.law_answers.proofs.Imports.{Handled, In, IsIdle, JobResult, Letter, List, Logged, MayActor, OneMore, Post, Read_asked, Rests, Said, Sender}
+use Rattle.law_answers.proofs.Imports.{Serving, Setting, Stays, Step, Subject, Wakes, Work, World, Write_asked, after, ap, client_sender, client_state}
+use Rattle.law_answers.proofs.Imports.{client_step, client_turns, down_posts, false, firm_in, firm_then, follows_in, inl, inr, is_ask, is_asked, is_call}
+use Rattle.law_answers.proofs.Imports.{is_logged, letters_of, map, next_line, own_place, own_steady, post_of, refl, rests_in, said, sender, server_serves}
+use Rattle.law_answers.proofs.Imports.{server_state, servers_of, setting_in, stamped, step, subject_of, subst, true, true_false, turned_asks, without_rev, ℕ}
+use Rattle.law_steps.specs.DidStep.{Ends}
 use Rattle.petal_msg.specs.declared.body.Body.TheVariants as body
-use Rattle.petal_msg.specs.declared.letter.Actor.{Actor}
 use Rattle.petal_msg.specs.declared.letter.Actor.TheVariants as actor
-use Rattle.petal_msg.specs.declared.letter.Letter.{Letter}
-use Rattle.spec_rules.specs.Ballots.{post_of}
-use Rattle.spec_rules.specs.Clients.{client_sender}
-use Rattle.spec_rules.specs.Jobs.{Acted, down_posts}
-use Rattle.spec_rules.specs.Lists.{In}
-use Rattle.spec_rules.specs.Server.{Post, JobResult, Sender, sender, letters_of}
-use Rattle.spec_rules.specs.State.{servers_of}
-use Rattle.spec_rules.specs.World.{Setting, World, client_state, client_step, next_line, server_state, stamped, step, MayActor}
-use Rattle.spec_rules.specs.declared.step.Step.{Step}
-use Rattle.spec_rules.specs.declared.step.Step.TheVariants.{Blank, Work}
 use Rattle.spec_rules.specs.declared.step.WorkEnd.TheVariants as work_end
-use Rattle.spec_rules.proofs.Tests.{true_false}
-use Rattle.law_state.specs.Firm.{Firm}
-use Rattle.law_steps.specs.Did.{Did}
-use Rattle.law_steps.specs.DidStep.{Handled, IsIdle, By_job, By_ballot, By_entry, Serving, Goes, Ends, Stays, Wakes, Fails, own_place, without_rev}
-use Rattle.law_steps.specs.Ready.{Rests}
-use Rattle.law_steps.proofs.KindsInHistories.{own_steady}
-use Rattle.law_steps.proofs.Letters.{Said, said}
-use Rattle.law_steps.proofs.ClientLetters.{is_ask, turned_asks}
-use Rattle.law_steps.proofs.ServerStepKinds.{server_serves}
-use Rattle.law_steps.proofs.ClientStepKinds.{client_turns, is_call}
-use Rattle.law_jobs.proofs.Runs.{OneMore, after, firm_in, firm_then, follows_in, rests_in, setting_in}
 
 -- of the agreed log, of a glance, or a client's request
 abbrev pub is_aside : Subject → Bool

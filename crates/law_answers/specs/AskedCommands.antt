@@ -1,11 +1,5 @@
 -- That the commands of a log that carry requests out were asked for.
-use Rattle.std.specs.Prelude.{◌≡◌, ◌+◌, ℕ, List, slice_get, Option, Some, None}
-use Rattle.petal_command.specs.declared.command.Command.{Command}
-use Rattle.petal_command.specs.declared.command.Command.TheVariants.{MakeDisk, Snap, StartMove}
-use Rattle.script_lines.specs.declared.request.Line.{Line}
-use Rattle.spec_rules.specs.Clients.{command_of}
-use Rattle.spec_rules.specs.Lists.{In}
-use Rattle.spec_rules.specs.World.{lines_of}
+use Rattle.law_answers.specs.Imports.{◌+◌, ◌≡◌, Command, In, Line, List, MakeDisk, None, Option, Snap, Some, StartMove, command_of, lines_of, slice_get, ℕ}
 
 -- the client of the request that the command carries out, and the request's number
 abbrev pub asker : Command → Option (ℕ × ℕ)

@@ -1,11 +1,6 @@
 -- The looks of a run that is computed.
-use Rattle.std.specs.Prelude.{ℕ, ◌+◌, List, [], ◌∷◌, ◌++◌, map}
-use Rattle.spec_machine.specs.declared.event.Event.{Event}
-use Rattle.spec_rules.specs.World.{Setting, World, start}
-use Rattle.spec_history.specs.Examples.{make_moves, read_moves, sevens, write_moves}
-use Rattle.spec_history.specs.Steps.{stepped}
-use Rattle.spec_history.specs.Play.{records_of}
-use Rattle.spec_history.specs.declared.record.Record.{Record}
+use Rattle.law_answers.specs.Imports.{[], ◌++◌, ◌+◌, ◌∷◌, Event, List, Record, Setting, World, make_moves, map, read_moves, records_of, sevens, start}
+use Rattle.law_answers.specs.Imports.{stepped, write_moves, ℕ}
 use Rattle.law_answers.specs.Looks.{record_looks}
 
 -- a look that is told: how many records stand before the one that tells it, and the look beside the number of its line

@@ -1,19 +1,9 @@
 -- Why a start or a blank fails: the boot that it gives its server.
-use Rattle.std.specs.Prelude.{◌≡◌, ℕ, List, true}
-use Rattle.petal_msg.specs.declared.letter.Actor.TheVariants as actor
-use Rattle.script_lines.specs.declared.request.Line.{Line}
-use Rattle.spec_rules.specs.Boots.{raised}
-use Rattle.spec_rules.specs.Clients.{Asked}
-use Rattle.spec_rules.specs.Jobs.{is_overfull}
-use Rattle.spec_rules.specs.World.{Setting, World}
-use Rattle.spec_rules.specs.declared.step.CommitEnd.{CommitEnd}
-use Rattle.spec_rules.specs.declared.step.Step.{Step}
-use Rattle.spec_rules.specs.declared.step.Step.TheVariants.{Boot}
-use Rattle.spec_rules.specs.declared.step.WorkEnd.TheVariants as work_end
-use Rattle.spec_history.specs.Steps.{world_after}
-use Rattle.spec_history.specs.declared.record.Record.{Record}
-use Rattle.law_state.specs.Moments.{IsMoment}
+use Rattle.law_answers.specs.Imports.{◌≡◌, Asked, Boot, CommitEnd, IsMoment, Line, List, Record, Setting, Step, World, is_overfull, raised, true, world_after}
+use Rattle.law_answers.specs.Imports.{ℕ}
 use Rattle.law_answers.specs.Lines.{AsksToBoot, IsLineOf}
+use Rattle.petal_msg.specs.declared.letter.Actor.TheVariants as actor
+use Rattle.spec_rules.specs.declared.step.WorkEnd.TheVariants as work_end
 
 -- why a boot leaves the server stopped: a device failed, or the journal has no room for the record of the next incarnation
 pub data IsReasonToFail (w : World) (n : ℕ) (what : Step) : Type 0 where

@@ -1,40 +1,14 @@
 -- Why a server remembers that a slot was wanting: the other server of a link that it holds alone had none for the next entry of a copy, or the
 -- lead of a disk's new map, or its second server, had none for an entry that this one was to move.
-use Rattle.std.specs.Prelude.{◌≡◌, ◌<◌, ℕ, true, List, length, Some}
-use Rattle.global_tables.specs.declared.link.LinkRow.{LinkRow}
-use Rattle.petal_base.specs.declared.cell.Cell.{Cell}
-use Rattle.petal_base.specs.declared.cell.Key.{Key}
-use Rattle.petal_base.specs.Cells.{cell_of}
-use Rattle.petal_table.specs.Table.{at}
-use Rattle.petal_msg.specs.declared.body.Body.{Body}
-use Rattle.petal_msg.specs.declared.body.Body.TheVariants as body
-use Rattle.petal_msg.specs.declared.copying.Copying.{Copying}
-use Rattle.petal_msg.specs.declared.copying.LastCopy.{LastCopy}
-use Rattle.petal_msg.specs.declared.letter.Actor.{Actor}
-use Rattle.petal_msg.specs.declared.letter.Actor.TheVariants as actor
-use Rattle.petal_msg.specs.declared.letter.Letter.{Letter}
-use Rattle.petal_msg.specs.declared.operation.OpKind.TheVariants as kind
-use Rattle.petal_msg.specs.declared.operation.Pending.{Pending}
-use Rattle.spec_rules.specs.Copies.{Entry}
-use Rattle.spec_rules.specs.Fills.{Moving}
-use Rattle.spec_rules.specs.Lists.{In}
-use Rattle.spec_rules.specs.Progress.{copying_on}
-use Rattle.spec_rules.specs.Server.{JobContext, PairState}
-use Rattle.spec_rules.specs.Store.{cell_cmp, chain_in, free_of}
-use Rattle.spec_rules.specs.State.{first, second}
-use Rattle.spec_rules.specs.World.{Setting, World, server_state, start}
-use Rattle.spec_rules.specs.declared.step.Step.{Step}
-use Rattle.spec_rules.specs.declared.step.Step.TheVariants.{Work}
-use Rattle.spec_rules.specs.declared.step.WorkEnd.TheVariants as work_end
-use Rattle.spec_history.specs.Steps.{world_after}
-use Rattle.spec_history.specs.declared.record.Record.{Record}
-use Rattle.law_state.specs.Moments.{IsMoment}
+use Rattle.law_answers.specs.Imports.{◌<◌, ◌≡◌, Actor, Body, Cell, Copying, Entry, FoundNoSlot, Handled, In, IsMoment, IsNewFill, IsNextKey, IsOfCopy}
+use Rattle.law_answers.specs.Imports.{JobContext, Key, LastCopy, Letter, LinkRow, List, Moving, PairState, Pending, Record, Setting, Some, Step, Work, World}
+use Rattle.law_answers.specs.Imports.{at, cell_cmp, cell_of, chain_in, copying_on, first, free_of, length, own_place, second, server_state, start, true}
+use Rattle.law_answers.specs.Imports.{world_after, ℕ}
 use Rattle.law_answers.specs.Settles.{HasFoundFull}
-use Rattle.law_steps.specs.DidFiller.{IsNextKey}
-use Rattle.law_steps.specs.DidLead.{IsNewFill}
-use Rattle.law_steps.specs.DidOther.{IsOfCopy}
-use Rattle.law_steps.specs.DidSecond.{FoundNoSlot}
-use Rattle.law_steps.specs.DidStep.{Handled, own_place}
+use Rattle.petal_msg.specs.declared.body.Body.TheVariants as body
+use Rattle.petal_msg.specs.declared.letter.Actor.TheVariants as actor
+use Rattle.petal_msg.specs.declared.operation.OpKind.TheVariants as kind
+use Rattle.spec_rules.specs.declared.step.WorkEnd.TheVariants as work_end
 
 -- a server is to put the next entry of the copy of this number, the last one of the cell to this server, by the one that holds the
 -- cell's link, by this server's own state; and no slot is free

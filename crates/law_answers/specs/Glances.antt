@@ -1,19 +1,10 @@
 -- What the answer of a line that names a server comes by: its glance.
-use Rattle.std.specs.Prelude.{◌≡◌, ◌≢◌, ◌++◌, ℕ, Bool, false, List, if◌then◌else◌}
-use Rattle.petal_msg.specs.declared.letter.Actor.TheVariants as actor
-use Rattle.script_lines.specs.declared.answer.Answer.{Answer}
-use Rattle.script_lines.specs.declared.answer.Answer.TheVariants as answer
-use Rattle.script_lines.specs.declared.request.Line.{Line}
-use Rattle.script_lines.specs.declared.request.Request.{Request}
-use Rattle.script_lines.specs.declared.request.Request.TheVariants as request
-use Rattle.spec_rules.specs.Clients.{Asked}
-use Rattle.spec_rules.specs.Lists.{In}
-use Rattle.spec_rules.specs.World.{Setting, World}
-use Rattle.spec_rules.specs.declared.step.Step.TheVariants.{Glance}
-use Rattle.spec_history.specs.Steps.{world_after}
-use Rattle.spec_history.specs.declared.record.Record.{Record}
-use Rattle.law_state.specs.Moments.{IsMoment}
+use Rattle.law_answers.specs.Imports.{if◌then◌else◌, ◌++◌, ◌≡◌, ◌≢◌, Answer, Asked, Bool, Glance, In, IsMoment, Line, List, Record, Request, Setting, World}
+use Rattle.law_answers.specs.Imports.{false, world_after, ℕ}
 use Rattle.law_answers.specs.Lines.{IsLineOf}
+use Rattle.petal_msg.specs.declared.letter.Actor.TheVariants as actor
+use Rattle.script_lines.specs.declared.answer.Answer.TheVariants as answer
+use Rattle.script_lines.specs.declared.request.Request.TheVariants as request
 
 -- a stop is answered `ok`, where its server does not run; a line that arms a device `ok`; a start or a blank `ok` where its server runs,
 -- and `failed` where it does not

@@ -1,12 +1,6 @@
 -- The operator's open line, and what it asks of a server.
-use Rattle.std.specs.Prelude.{◌≡◌, ◌⊎◌, ℕ, List}
-use Rattle.script_lines.specs.declared.request.Line.{Line}
-use Rattle.script_lines.specs.declared.request.Request.{Request}
+use Rattle.law_answers.specs.Imports.{◌≡◌, ◌⊎◌, Asked, In, IsOpenLine, Line, List, Request, World, operator, ℕ}
 use Rattle.script_lines.specs.declared.request.Request.TheVariants as request
-use Rattle.spec_rules.specs.Clients.{Asked}
-use Rattle.spec_rules.specs.Jobs.{operator}
-use Rattle.spec_rules.specs.Lists.{In}
-use Rattle.spec_rules.specs.World.{World, IsOpenLine}
 
 -- the operator has this request open, which was not glanced at, and it is that of this line
 pub record IsLineOf (lines : List Line) (w : World) (asked : Asked) (line : Line) : Type 0 where

@@ -1,23 +1,9 @@
 -- The looks of a history, each beside the number of the line that it answers; and that a line has exactly one.
-use Rattle.std.specs.Prelude.{◌≡◌, ◌≢◌, ◌==◌, ◌++◌, ℕ, false, List, [], ◌∷◌, map, filter, length, if◌then◌else◌, Option, Some, None}
-use Rattle.std.specs.List.{flat_map}
-use Rattle.spec_machine.specs.declared.event.Event.{Event}
-use Rattle.spec_machine.specs.declared.event.Event.TheVariants.{Look}
-use Rattle.petal_msg.specs.declared.body.Body.{Body}
+use Rattle.law_answers.specs.Imports.{[], if◌then◌else◌, ◌++◌, ◌==◌, ◌∷◌, ◌≡◌, ◌≢◌, Actor, Body, Call, Data, Event, In, IsMoment, Letter, Line, List, Look}
+use Rattle.law_answers.specs.Imports.{None, Option, Read, Record, Setting, Some, World, accepted, false, filter, flat_map, length, look_for, map, old_data}
+use Rattle.law_answers.specs.Imports.{reads_old, start, stepped, world_after, ℕ}
 use Rattle.petal_msg.specs.declared.body.Body.TheVariants as body
-use Rattle.petal_msg.specs.declared.letter.Actor.{Actor}
 use Rattle.petal_msg.specs.declared.letter.Actor.TheVariants as actor
-use Rattle.petal_msg.specs.declared.letter.Letter.{Letter}
-use Rattle.script_lines.specs.declared.answer.Answer.TheVariants.{Data}
-use Rattle.script_lines.specs.declared.request.Line.{Line}
-use Rattle.script_lines.specs.declared.request.Request.TheVariants.{Read}
-use Rattle.spec_rules.specs.Lists.{In}
-use Rattle.spec_rules.specs.World.{Setting, World, start}
-use Rattle.spec_rules.specs.declared.step.Step.TheVariants.{Call}
-use Rattle.spec_history.specs.Events.{accepted, look_for, old_data, reads_old}
-use Rattle.spec_history.specs.Steps.{stepped, world_after}
-use Rattle.spec_history.specs.declared.record.Record.{Record}
-use Rattle.law_state.specs.Moments.{IsMoment}
 
 -- ### Looks with their lines
 

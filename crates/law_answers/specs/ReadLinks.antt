@@ -1,25 +1,10 @@
 -- From which server's link a read is answered.
-use Rattle.std.specs.Prelude.{◌≡◌, ◌≢◌, ◌++◌, ℕ, List, ◌∷◌, true, Some, None}
-use Rattle.petal_base.specs.declared.cell.Cell.{Cell}
-use Rattle.global_tables.specs.declared.link.LinkRow.{LinkRow}
-use Rattle.global_tables.specs.declared.link.LinkState.TheVariants.{Lost}
+use Rattle.law_answers.specs.Imports.{◌++◌, ◌∷◌, ◌≡◌, ◌≢◌, Cell, Deliver, Handled, In, IsMoment, Letter, Line, LinkRow, List, Lost, None, Record, Setting}
+use Rattle.law_answers.specs.Imports.{Some, State, bytes_of, cell_link, chain_in, chosen_state, entry_at, line_by, serves, stage_at, start, true, world_after}
+use Rattle.law_answers.specs.Imports.{ℕ}
 use Rattle.petal_msg.specs.declared.body.Body.TheVariants.{Data, Read}
-use Rattle.petal_msg.specs.declared.letter.Actor.TheVariants as actor
-use Rattle.petal_msg.specs.declared.letter.Letter.{Letter}
-use Rattle.spec_state.specs.CellState.{cell_link, serves}
-use Rattle.script_lines.specs.declared.request.Line.{Line}
-use Rattle.spec_rules.specs.Lists.{In}
-use Rattle.spec_rules.specs.State.{State}
-use Rattle.spec_rules.specs.Store.{bytes_of, chain_in, entry_at}
-use Rattle.spec_rules.specs.World.{Setting, chosen_state, start}
-use Rattle.spec_rules.specs.declared.step.Step.TheVariants.{Deliver}
-use Rattle.spec_history.specs.Steps.{world_after}
-use Rattle.spec_history.specs.declared.record.Record.{Record}
-use Rattle.law_state.specs.Homes.{stage_at}
-use Rattle.law_state.specs.Moments.{IsMoment}
-use Rattle.law_steps.specs.DidStep.{Handled}
-use Rattle.law_steps.specs.DidClient.{line_by}
 use Rattle.law_answers.specs.Looks.{IsCalledIn}
+use Rattle.petal_msg.specs.declared.letter.Actor.TheVariants as actor
 
 -- by this state the server serves the cell's link, which so is not Lost; and where the cell has no link any more, its map is dead
 pub record IsUnlost (state : State) (server : ℕ) (cell : Cell) : Type 0 where

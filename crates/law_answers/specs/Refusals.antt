@@ -1,39 +1,13 @@
 -- Why a request was refused.
-use Rattle.std.specs.Prelude.{◌≡◌, ◌≤◌, ◌<◌, ◌⊎◌, ℕ, true, List, length, Some, None}
-use Rattle.std.specs.Ordering.{nat_cmp}
-use Rattle.petal_base.specs.declared.cell.Cell.{Cell}
-use Rattle.petal_command.specs.declared.command.Command.{Command}
-use Rattle.petal_table.specs.Table.{at}
-use Rattle.petal_msg.specs.declared.body.Body.{Body}
-use Rattle.petal_msg.specs.declared.body.Body.TheVariants as body
-use Rattle.petal_msg.specs.declared.letter.Actor.{Actor}
-use Rattle.petal_msg.specs.declared.letter.Actor.TheVariants as actor
-use Rattle.petal_msg.specs.declared.letter.Letter.{Letter}
-use Rattle.petal_msg.specs.declared.operation.Ending.TheVariants as ending
-use Rattle.petal_msg.specs.declared.operation.Finished.{Finished}
-use Rattle.petal_msg.specs.declared.operation.Pending.{Pending}
-use Rattle.script_lines.specs.declared.request.Request.TheVariants.{Settle}
-use Rattle.spec_rules.specs.Lists.{In}
-use Rattle.spec_rules.specs.Server.{JobContext, PairState}
-use Rattle.spec_state.specs.Command.{state_after}
-use Rattle.spec_rules.specs.State.{coming, first, second, is_in, is_lead}
-use Rattle.spec_rules.specs.Store.{cell_cmp, chain_in, entry_at, free_of}
-use Rattle.spec_rules.specs.Writes.{is_clients, pending_on}
-use Rattle.spec_rules.specs.Clients.{Asked}
-use Rattle.spec_rules.specs.World.{Setting, World, start, chosen_log, server_state}
-use Rattle.spec_rules.specs.declared.step.Step.{Step}
-use Rattle.spec_rules.specs.declared.step.Step.TheVariants.{Work}
-use Rattle.spec_rules.specs.declared.step.WorkEnd.TheVariants as work_end
-use Rattle.spec_history.specs.Claims.{IsPrefix}
-use Rattle.spec_history.specs.Steps.{world_after}
-use Rattle.spec_history.specs.declared.record.Record.{Record}
-use Rattle.law_state.specs.Moments.{IsMoment}
-use Rattle.law_steps.specs.Operations.{done_to}
-use Rattle.law_steps.specs.DidRead.{IsReadable}
-use Rattle.law_steps.specs.DidSecond.{FoundNoSlot}
-use Rattle.law_steps.specs.Did.{IsBusy, IsHeldBack}
-use Rattle.law_steps.specs.DidStep.{Handled, own_place}
+use Rattle.law_answers.specs.Imports.{◌<◌, ◌≡◌, ◌≤◌, ◌⊎◌, Actor, Asked, Body, Cell, Command, Finished, FoundNoSlot, Handled, In, IsBusy, IsHeldBack, IsMoment}
+use Rattle.law_answers.specs.Imports.{IsPrefix, IsReadable, JobContext, Letter, List, None, PairState, Pending, Record, Setting, Settle, Some, Step, Work}
+use Rattle.law_answers.specs.Imports.{World, at, cell_cmp, chain_in, chosen_log, coming, done_to, entry_at, first, free_of, is_clients, is_in, is_lead}
+use Rattle.law_answers.specs.Imports.{length, nat_cmp, own_place, pending_on, second, server_state, start, state_after, true, world_after, ℕ}
 use Rattle.law_answers.specs.FullCauses.{HasFullServer}
+use Rattle.petal_msg.specs.declared.body.Body.TheVariants as body
+use Rattle.petal_msg.specs.declared.letter.Actor.TheVariants as actor
+use Rattle.petal_msg.specs.declared.operation.Ending.TheVariants as ending
+use Rattle.spec_rules.specs.declared.step.WorkEnd.TheVariants as work_end
 
 -- ### No slot
 

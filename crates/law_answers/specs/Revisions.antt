@@ -1,19 +1,9 @@
 -- Why a client is told that its letter has another revision.
-use Rattle.std.specs.Prelude.{◌≡◌, ◌≢◌, ℕ, List, ◌∷◌, true, Some}
-use Rattle.petal_msg.specs.Kinds.{asked_by}
+use Rattle.law_answers.specs.Imports.{◌∷◌, ◌≡◌, ◌≢◌, In, IsMoment, Job, Letter, List, Record, Setting, Some, Work, World, asked_by, is_in, rev_of}
+use Rattle.law_answers.specs.Imports.{server_state, true, world_after, ℕ}
 use Rattle.petal_msg.specs.declared.letter.Actor.TheVariants as actor
-use Rattle.petal_msg.specs.declared.letter.Letter.{Letter}
-use Rattle.spec_rules.specs.Lists.{In}
-use Rattle.spec_rules.specs.Log.{rev_of}
-use Rattle.spec_rules.specs.State.{is_in}
-use Rattle.spec_rules.specs.World.{Setting, World, server_state}
-use Rattle.spec_rules.specs.declared.job.Job.{Job}
 use Rattle.spec_rules.specs.declared.job.Job.TheVariants as job
-use Rattle.spec_rules.specs.declared.step.Step.TheVariants.{Work}
 use Rattle.spec_rules.specs.declared.step.WorkEnd.TheVariants as work_end
-use Rattle.spec_history.specs.Steps.{world_after}
-use Rattle.spec_history.specs.declared.record.Record.{Record}
-use Rattle.law_state.specs.Moments.{IsMoment}
 
 -- in this step a server that is In as itself handled a read or write of this number, which a client had sent to it at another
 -- revision than the server's own, and told that client

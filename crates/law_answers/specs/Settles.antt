@@ -1,16 +1,8 @@
 -- What a settle is answered by: its glances, round by round.
-use Rattle.std.specs.Prelude.{◌≡◌, ◌≤◌, ◌<◌, ℕ, true, List, Option, Some, None, length, slice_get, if◌then◌else◌}
+use Rattle.law_answers.specs.Imports.{if◌then◌else◌, ◌<◌, ◌≡◌, ◌≤◌, Answer, Glance, IsMoment, List, None, Option, Record, Server, Setting, Some, World}
+use Rattle.law_answers.specs.Imports.{client_state, is_settled, length, operator, server_state, slice_get, true, world_after, ℕ}
 use Rattle.petal_msg.specs.declared.letter.Actor.TheVariants as actor
-use Rattle.script_lines.specs.declared.answer.Answer.{Answer}
 use Rattle.script_lines.specs.declared.answer.Answer.TheVariants as answer
-use Rattle.spec_state.specs.Settled.{is_settled}
-use Rattle.spec_rules.specs.Jobs.{operator}
-use Rattle.spec_rules.specs.Server.{Server}
-use Rattle.spec_rules.specs.World.{Setting, World, client_state, server_state}
-use Rattle.spec_rules.specs.declared.step.Step.TheVariants.{Glance}
-use Rattle.spec_history.specs.Steps.{world_after}
-use Rattle.spec_history.specs.declared.record.Record.{Record}
-use Rattle.law_state.specs.Moments.{IsMoment}
 
 -- as which incarnation the server runs, if it does
 abbrev pub runs_as : Server → Option ℕ

@@ -1,23 +1,10 @@
 -- Why a server stops.
-use Rattle.std.specs.Prelude.{◌≡◌, ◌++◌, ℕ, Bool, List, [], ◌∷◌, true, false}
-use Rattle.petal_msg.specs.declared.letter.Actor.TheVariants as actor
-use Rattle.script_lines.specs.declared.request.Line.{Line}
-use Rattle.script_lines.specs.declared.request.Request.{Request}
-use Rattle.script_lines.specs.declared.request.Request.TheVariants as request
-use Rattle.spec_rules.specs.Clients.{Asked}
-use Rattle.spec_rules.specs.Jobs.{job_done, is_overfull}
-use Rattle.spec_rules.specs.Lists.{In}
-use Rattle.spec_rules.specs.World.{Setting, World}
-use Rattle.spec_rules.specs.declared.job.Job.{Job}
-use Rattle.spec_rules.specs.declared.step.CommitEnd.{CommitEnd}
-use Rattle.spec_rules.specs.declared.step.Step.{Step}
-use Rattle.spec_rules.specs.declared.step.Step.TheVariants.{Work, StopIn, Stop}
-use Rattle.spec_rules.specs.declared.step.WorkEnd.TheVariants as work_end
-use Rattle.spec_history.specs.Steps.{stepped, world_after}
-use Rattle.spec_history.specs.declared.record.Record.{Record}
-use Rattle.law_state.specs.Moments.{IsMoment}
-use Rattle.law_steps.specs.DidStep.{own_place}
+use Rattle.law_answers.specs.Imports.{[], ◌++◌, ◌∷◌, ◌≡◌, Asked, Bool, CommitEnd, In, IsMoment, Job, Line, List, Record, Request, Setting, Step, Stop, StopIn}
+use Rattle.law_answers.specs.Imports.{Work, World, false, is_overfull, job_done, own_place, stepped, true, world_after, ℕ}
 use Rattle.law_answers.specs.Lines.{AsksToStop, IsLineOf}
+use Rattle.petal_msg.specs.declared.letter.Actor.TheVariants as actor
+use Rattle.script_lines.specs.declared.request.Request.TheVariants as request
+use Rattle.spec_rules.specs.declared.step.WorkEnd.TheVariants as work_end
 
 -- the server ran, and does not run after this step of its own
 pub record Stops (setting : Setting) (w : World) (own : Record) (n : ℕ) : Type 0 where

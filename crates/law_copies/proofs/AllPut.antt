@@ -1,18 +1,7 @@
 -- Where the other server has put all entries of a copy that is under way: it has the holder's chain, and no entry is left to be put.
-use Rattle.std.proofs.Common.{◌≡◌, ◌<◌, ◌⊎◌, ℕ, false, length, Option, Some, refl, sym, ap, ◌∙◌, subst, inl, inr, arith}
-use Rattle.std.specs.Prelude.{slice_get}
-use Rattle.std.specs.Ordering.{nat_cmp}
-use Rattle.std.proofs.lemmas.Option.{slice_get_within}
-use Rattle.global_tables.specs.declared.link.LinkRow.{LinkRow}
-use Rattle.petal_base.specs.declared.cell.Cell.{Cell}
-use Rattle.petal_msg.specs.declared.copying.Copying.{Copying}
-use Rattle.petal_msg.specs.declared.copying.LastCopy.{LastCopy}
-use Rattle.spec_rules.specs.Copies.{epochs_beyond}
-use Rattle.spec_rules.specs.Progress.{copying_on, last_copy}
-use Rattle.spec_rules.specs.Server.{PairState}
-use Rattle.spec_rules.specs.Store.{Chain, Store, chain_in, epochs_of}
-use Rattle.spec_rules.proofs.Tests.{same_some, true_false}
-use Rattle.law_steps.specs.Ready.{IsRising}
+use Rattle.law_copies.proofs.Imports.{◌<◌, ◌∙◌, ◌≡◌, ◌⊎◌, Cell, Chain, Copying, IsRising, LastCopy, LinkRow, Option, PairState, Some, Store, ap, arith}
+use Rattle.law_copies.proofs.Imports.{chain_in, copying_on, epochs_beyond, epochs_of, false, inl, inr, last_copy, length, nat_cmp, refl, same_some, slice_get}
+use Rattle.law_copies.proofs.Imports.{slice_get_within, subst, sym, true_false, ℕ}
 use Rattle.law_copies.specs.CopyProgress.{AreCopying, IsCopied, IsCopying, IsFollowed}
 use Rattle.law_copies.specs.LoneSteps.{IsStill}
 use Rattle.law_copies.proofs.CopyEpochs.{epoch_place, same_chains, within}

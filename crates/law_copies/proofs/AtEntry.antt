@@ -1,11 +1,6 @@
 -- A running server that applies an entry, and what is so of the world then.
-use Rattle.spec_rules.specs.Store.{Store}
-use Rattle.std.proofs.Common.{◌≡◌, ◌++◌, ℕ, [], ◌∷◌, true}
-use Rattle.petal_command.specs.declared.command.Command.{Command}
-use Rattle.spec_rules.specs.Log.{state_in}
-use Rattle.spec_rules.specs.Server.{Server}
-use Rattle.spec_rules.specs.State.{is_in}
-use Rattle.spec_rules.specs.World.{Setting, World, blank_joins_in, chosen_log, server_state}
+use Rattle.law_copies.proofs.Imports.{[], ◌++◌, ◌∷◌, ◌≡◌, Command, Server, Setting, Store, World, blank_joins_in, chosen_log, is_in, server_state, state_in}
+use Rattle.law_copies.proofs.Imports.{true, ℕ}
 use Rattle.law_copies.specs.Visits.{with_stores}
 use Rattle.law_copies.proofs.CopiesGround.{Ground}
 use Rattle.law_copies.proofs.AtStep.{AtStep, IsStep, at_step}

@@ -1,23 +1,7 @@
 -- A job of a server that is In as itself, and what it keeps.
-use Rattle.std.proofs.Common.{◌≡◌, ◌≤◌, ℕ, true, false, Option, Some, None}
-use Rattle.std.specs.Ordering.{nat_cmp}
-use Rattle.global_tables.specs.declared.link.LinkRow.{LinkRow}
-use Rattle.global_tables.specs.declared.link.LinkState.TheVariants.{Both, Lost}
-use Rattle.petal_base.specs.declared.cell.Cell.{Cell}
-use Rattle.petal_msg.specs.Kinds.{about, subject_of}
-use Rattle.petal_msg.specs.declared.body.Body.{Body}
-use Rattle.petal_msg.specs.declared.body.Body.TheVariants as body
-use Rattle.petal_msg.specs.declared.copying.LastCopy.{LastCopy}
-use Rattle.spec_state.specs.CellState.{cell_link}
-use Rattle.spec_rules.specs.Lists.{In}
-use Rattle.spec_rules.specs.Progress.{last_copy}
-use Rattle.spec_rules.specs.Server.{PairState, Post, Server, JobResult}
-use Rattle.spec_rules.specs.State.{holder_of, live}
-use Rattle.spec_rules.specs.Store.{Store, chain_in}
-use Rattle.spec_rules.specs.World.{Setting, World, chosen_log, server_state}
-use Rattle.law_state.specs.Homes.{stage_at}
-use Rattle.law_steps.specs.DidStep.{Handled, is_between, own_place}
-use Rattle.law_steps.specs.Ready.{IsRising}
+use Rattle.law_copies.proofs.Imports.{◌≡◌, ◌≤◌, Body, Both, Cell, Handled, In, IsRising, JobResult, LastCopy, LinkRow, Lost, None, Option, PairState, Post}
+use Rattle.law_copies.proofs.Imports.{Server, Setting, Some, Store, World, about, cell_link, chain_in, chosen_log, false, holder_of, is_between, last_copy}
+use Rattle.law_copies.proofs.Imports.{live, nat_cmp, own_place, server_state, stage_at, subject_of, true, ℕ}
 use Rattle.law_copies.specs.BothSteps.{LeadKeeps, SecondKeeps}
 use Rattle.law_copies.specs.CopyProgress.{IsOfLink, links_of}
 use Rattle.law_copies.specs.GoodCopies.{IsUnheard}
@@ -28,6 +12,7 @@ use Rattle.law_copies.proofs.CopiesGround.{Ground}
 use Rattle.law_copies.proofs.AtSeat.{AtSeat, IsAtWork}
 use Rattle.law_copies.proofs.AtStep.{AtStep, IsStep, at_step}
 use Rattle.law_copies.proofs.ServedAtLaterFronts.{AllStarted}
+use Rattle.petal_msg.specs.declared.body.Body.TheVariants as body
 
 -- what a job, or a ballot that is started, keeps by itself
 pub record IsKeeping (setting : Setting) (w : World) (k : ℕ) (done : JobResult) : Type 0 where

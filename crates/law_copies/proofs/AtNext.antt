@@ -1,20 +1,7 @@
 -- One entry more of the chosen log, and what is so of the world and of the log before it.
-use Rattle.std.proofs.Common.{◌==◌, if◌then◌else◌, ◌≡◌, ◌++◌, ◌⊎◌, ℕ, List, [], ◌∷◌, true, false}
-use Rattle.std.proofs.Common.{None}
-use Rattle.petal_base.specs.declared.cell.Cell.{Cell}
-use Rattle.petal_command.specs.declared.command.Command.{Command}
-use Rattle.petal_command.specs.declared.command.Command.TheVariants.{Caught}
-use Rattle.spec_history.specs.Claims.{IsPrefix}
-use Rattle.spec_history.specs.Steps.{world_after}
-use Rattle.spec_history.specs.declared.record.Record.{Record}
-use Rattle.spec_state.specs.Command.{state_after}
-use Rattle.spec_rules.specs.Blanked.{joins_blank}
-use Rattle.spec_rules.specs.State.{State, is_in}
-use Rattle.spec_rules.specs.Store.{Store}
-use Rattle.spec_rules.specs.World.{Setting, World, blank_joins_in, server_state, start}
-use Rattle.law_log.specs.ProposedCommands.{WasStarted}
-use Rattle.law_state.specs.Plain.{IsPlainLog}
-use Rattle.law_steps.proofs.Fronts.{front_on}
+use Rattle.law_copies.proofs.Imports.{[], if◌then◌else◌, ◌++◌, ◌==◌, ◌∷◌, ◌≡◌, ◌⊎◌, Caught, Cell, Command, IsPlainLog, IsPrefix, List, None, Record, Setting}
+use Rattle.law_copies.proofs.Imports.{State, Store, WasStarted, World, blank_joins_in, false, front_on, is_in, joins_blank, server_state, start, state_after}
+use Rattle.law_copies.proofs.Imports.{true, world_after, ℕ}
 use Rattle.law_copies.specs.GoodCopies.{Good}
 use Rattle.law_copies.specs.Pair.{HaveMarks}
 use Rattle.law_copies.specs.Visits.{Visits, with_stores}

@@ -1,8 +1,5 @@
 -- A running server that is In as itself, and what is so of the world then.
-use Rattle.std.proofs.Common.{◌≡◌, ℕ, true}
-use Rattle.spec_rules.specs.State.{is_in}
-use Rattle.spec_rules.specs.Store.{Store}
-use Rattle.spec_rules.specs.World.{Setting, World, blank_joins_in, chosen_log, server_state}
+use Rattle.law_copies.proofs.Imports.{◌≡◌, Setting, Store, World, blank_joins_in, chosen_log, is_in, server_state, true, ℕ}
 use Rattle.law_copies.proofs.CopiesGround.{Ground}
 
 -- a running server that is In as itself: its store is the one that counts, and no Join of it with an empty store is chosen after its

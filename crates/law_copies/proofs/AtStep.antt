@@ -1,11 +1,5 @@
 -- A step of a server, over what was good before it.
-use Rattle.std.proofs.Common.{◌≡◌, ◌≢◌, ℕ, List, None}
-use Rattle.petal_command.specs.declared.command.Command.{Command}
-use Rattle.spec_history.specs.Claims.{IsPrefix}
-use Rattle.spec_history.specs.declared.record.Record.{Record}
-use Rattle.spec_rules.specs.Server.{Server}
-use Rattle.spec_rules.specs.World.{Setting, World}
-use Rattle.law_state.specs.Plain.{IsPlainLog}
+use Rattle.law_copies.proofs.Imports.{◌≡◌, ◌≢◌, Command, IsPlainLog, IsPrefix, List, None, Record, Server, Setting, World, ℕ}
 use Rattle.law_copies.specs.GoodCopies.{Good}
 
 -- the world after a step of this server, which leaves each other server as it is, and does not take the server beyond the log so far

@@ -1,12 +1,6 @@
 -- A server that runs, and is In as itself, is at work with the store that counts.
-use Rattle.std.proofs.Common.{◌≡◌, ℕ, List, true}
-use Rattle.script_lines.specs.declared.script.Script.{Script}
-use Rattle.spec_history.specs.Steps.{AreSteps, world_after}
-use Rattle.spec_history.specs.Sound.{IsSound}
-use Rattle.spec_history.specs.declared.record.Record.{Record}
-use Rattle.spec_rules.specs.State.{is_in}
-use Rattle.spec_rules.specs.World.{World, kept, server_state, setting_of, start}
-use Rattle.law_log.proofs.LogInHistories.{history_is_firm}
+use Rattle.law_copies.proofs.Imports.{◌≡◌, AreSteps, IsSound, List, Record, Script, World, history_is_firm, is_in, kept, server_state, setting_of, start}
+use Rattle.law_copies.proofs.Imports.{true, world_after, ℕ}
 use Rattle.law_copies.proofs.StoreHistories.{in_counts, in_own}
 use Rattle.law_copies.proofs.AtSeat.{IsAtWork}
 

@@ -1,36 +1,19 @@
 -- What a ballot that a server starts keeps of a cell: of one whose link it holds alone, nothing is left to copy once it starts.
-use Rattle.std.proofs.Common.{◌≡◌, ℕ, true, Option, Some, None, refl, sym, ap, ◌∙◌, subst, inl, inr, arith}
-use Rattle.std.specs.Prelude.{is_some}
-use Rattle.std.specs.Ordering.{eq_by_cmp}
-use Rattle.busy_marks.specs.Marks.{above}
-use Rattle.global_tables.specs.declared.link.LinkRow.{LinkRow}
-use Rattle.petal_base.specs.declared.cell.Cell.{Cell}
-use Rattle.petal_command.specs.declared.command.Command.{Command}
-use Rattle.petal_command.specs.declared.command.Command.TheVariants.{Join, Leave, Caught, MakeDisk, Snap, StartMove, Drained, Moved, Witness}
-use Rattle.petal_msg.specs.declared.body.Body.{Body}
-use Rattle.petal_msg.specs.declared.copying.Copying.{Copying}
-use Rattle.petal_msg.specs.declared.copying.LinkId.{LinkId}
-use Rattle.petal_msg.specs.declared.copying.Progress.{Progress}
-use Rattle.spec_state.specs.CellState.{cell_link}
-use Rattle.petal_table.specs.Table.{Table, at}
-use Rattle.spec_rules.specs.Copies.{cell_at}
-use Rattle.spec_rules.specs.Progress.{progress_on, with_progress}
-use Rattle.spec_rules.specs.Returns.{holds_link, proposed}
-use Rattle.spec_rules.specs.Server.{PairState, Pairs, JobContext}
-use Rattle.spec_rules.specs.State.{State, id_of, link_cmp, link_named, live}
-use Rattle.spec_rules.specs.Store.{Store, cell_cmp, chain_in}
-use Rattle.spec_rules.proofs.Tests.{by_bool, none_some, true_false}
-use Rattle.law_log.proofs.BallotFlags.{flag_put, progress_beside, same_id}
-use Rattle.law_steps.specs.DidStep.{IsBallotFor, Starts}
-use Rattle.law_copies.specs.CopyProgress.{AreCopying, HasPage, IsCovered, Is_equal, Is_marked_here, Is_marked_there, Is_to_be_copied, IsLeft, IsTrimming, NotCopied}
+use Rattle.law_copies.proofs.Imports.{◌∙◌, ◌≡◌, Body, Caught, Cell, Command, Copying, Drained, IsBallotFor, JobContext, Join, Leave, LinkId, LinkRow}
+use Rattle.law_copies.proofs.Imports.{MakeDisk, Moved, None, Option, PairState, Pairs, Progress, Snap, Some, StartMove, Starts, State, Store, Table, Witness}
+use Rattle.law_copies.proofs.Imports.{above, ap, arith, at, by_bool, cell_at, cell_cmp, cell_link, chain_in, eq_by_cmp, flag_put, holds_link, id_of, inl, inr}
+use Rattle.law_copies.proofs.Imports.{is_some, link_cmp, link_named, live, none_some, progress_beside, progress_on, proposed, refl, same_id, subst, sym, true}
+use Rattle.law_copies.proofs.Imports.{true_false, with_progress, ℕ}
+use Rattle.law_copies.specs.CopyProgress.{AreCopying, HasPage, IsCovered, Is_equal, Is_marked_here, Is_marked_there, Is_to_be_copied, IsLeft, IsTrimming}
+use Rattle.law_copies.specs.CopyProgress.{NotCopied}
 use Rattle.law_copies.specs.LoneSteps.{BallotKeeps}
 use Rattle.law_copies.proofs.OwnPartFrames.{IsAlikeOwn, keeps_alike}
-use Rattle.law_copies.proofs.HolderSteps as steps
 use Rattle.law_copies.proofs.HolderChanges.{HolderStep, alike_by, alike_still, below, holder_copying, holder_told, trimmed_or}
 use Rattle.law_copies.proofs.LeftToCopy.{HasAny, IsDone, nothing_left}
 use Rattle.law_copies.proofs.CopiesGoOn.{onward_by}
 use Rattle.law_copies.proofs.HolderPace.{IsPaced, paced_beside, progress_itself}
 use Rattle.law_copies.proofs.RolesOfWorkers.{named_id, one_named}
+use Rattle.law_copies.proofs.HolderSteps as steps
 
 -- the link has a ballot in mind, and nothing else is changed
 abbrev pub flagged_on : PairState → LinkRow → PairState

@@ -1,48 +1,19 @@
 -- What a server does of copies, reads and fills is beside a cell that is in Both: its chain stays, and nothing is said of its pair.
-use Rattle.std.proofs.Common.{◌≡◌, ◌≢◌, ℕ, List, [], true, Some, refl, ap, sym, ◌∙◌, subst, inl, inr}
-use Rattle.std.specs.Prelude.{option_map}
-use Rattle.global_tables.specs.Link.{other_of}
-use Rattle.global_tables.specs.declared.link.LinkRow.{LinkRow}
-use Rattle.global_tables.specs.declared.link.LinkState.TheVariants.{Both}
-use Rattle.petal_base.specs.declared.cell.Cell.{Cell}
-use Rattle.petal_base.specs.Cells.{cell_of}
-use Rattle.petal_table.specs.Table.{at}
-use Rattle.petal_msg.specs.Kinds.{about, Refused, subject_of}
-use Rattle.petal_msg.specs.declared.body.Body.{Body}
-use Rattle.petal_msg.specs.declared.body.Body.TheVariants as body
-use Rattle.petal_msg.specs.declared.copying.Copying.{Copying}
-use Rattle.petal_msg.specs.declared.copying.LastCopy.{LastCopy}
-use Rattle.petal_msg.specs.declared.letter.Actor.{Actor}
-use Rattle.petal_msg.specs.declared.operation.Far.{Far}
-use Rattle.petal_msg.specs.declared.operation.Far.TheVariants as far
-use Rattle.spec_state.specs.CellState.{cell_link}
-use Rattle.spec_state.specs.Command.{is_alone}
-use Rattle.spec_rules.specs.Copies.{cell_holder}
-use Rattle.spec_rules.specs.Lists.{In}
-use Rattle.spec_rules.specs.State.{in_both, is_second, secondary}
-use Rattle.spec_rules.specs.Store.{chain_in}
-use Rattle.spec_rules.specs.Server.{PairState, Post, JobResult, says}
-use Rattle.spec_rules.specs.Writes.{follows, tells, with_last}
-use Rattle.spec_rules.proofs.Tests.{is_the_one, same_some, true_false}
-use Rattle.law_state.proofs.LoneHolders.{second_secondary, so_both}
-use Rattle.law_steps.specs.DidFiller.{DidFiller}
-use Rattle.law_steps.specs.DidSweep.{DidSweep}
-use Rattle.law_steps.specs.DidRead.{DidRead}
-use Rattle.law_steps.specs.DidSecond.{DidSecond, with_tickets, Sets_apart, Promises, Declines, Follows}
-use Rattle.law_steps.specs.DidHolder.{DidHolder, CopyStep, Closes_copy, TakenCopy, Copy_as_is, Copy_trimmed, Copy_synced}
-use Rattle.law_steps.specs.DidHolder.{Turns_page, Begins_copy, Goes_on_copying}
-use Rattle.law_steps.specs.DidOther.{DidOther, TrimStep, Is_trimmed, Drops_entry, Is_copied_to}
-use Rattle.law_steps.specs.DidOther.{Goes_on_trimming, Puts_entry}
-use Rattle.law_steps.proofs.CopyFrames.{CopyFrame}
-use Rattle.law_steps.proofs.Letters.{one_post, posted}
-use Rattle.law_steps.proofs.Subjects.{of_filler, of_read, of_sweep, told_own}
+use Rattle.law_copies.proofs.Imports.{[], ◌∙◌, ◌≡◌, ◌≢◌, Actor, Begins_copy, Body, Both, Cell, Closes_copy, CopyFrame, CopyStep, Copy_as_is, Copy_synced}
+use Rattle.law_copies.proofs.Imports.{Copy_trimmed, Copying, Declines, DidFiller, DidHolder, DidOther, DidRead, DidSecond, DidSweep, Drops_entry, Far}
+use Rattle.law_copies.proofs.Imports.{Follows, Goes_on_copying, Goes_on_trimming, In, Is_copied_to, Is_trimmed, JobResult, LastCopy, LinkRow, List, PairState}
+use Rattle.law_copies.proofs.Imports.{Post, Promises, Puts_entry, Refused, Sets_apart, Some, TakenCopy, TrimStep, Turns_page, about, ap, at, cell_holder}
+use Rattle.law_copies.proofs.Imports.{cell_link, cell_of, chain_apart, chain_in, copied_chains, drop_apart, follows, in_both, inl, inr, is_alone, is_paired}
+use Rattle.law_copies.proofs.Imports.{is_second, is_the_one, of_filler, of_read, of_sweep, one_post, option_map, other_of, page_chains, posted, refl}
+use Rattle.law_copies.proofs.Imports.{same_some, says, second_secondary, secondary, so_both, subject_of, subst, sym, tells, told_own, true, true_false}
+use Rattle.law_copies.proofs.Imports.{with_last, with_tickets, ℕ}
 use Rattle.law_copies.specs.BothSteps.{SaysKnown}
 use Rattle.law_copies.specs.Pair.{Known, pair_of}
-use Rattle.petal_msg.specs.Kinds.{is_paired}
 use Rattle.law_copies.proofs.CellInBoth.{CellInBoth}
 use Rattle.law_copies.proofs.MuteLettersTellNothing.{unpaired_known}
-use Rattle.law_jobs.proofs.ChainsApart.{chain_apart, copied_chains, drop_apart, page_chains}
 use Rattle.law_copies.proofs.OtherIsNotHolder.{IsOther, held_by}
+use Rattle.petal_msg.specs.declared.body.Body.TheVariants as body
+use Rattle.petal_msg.specs.declared.operation.Far.TheVariants as far
 
 module _ (it : CellInBoth) where
   open it use {heard, here, own, steady, cell, row, is_row, alive, both_row}

@@ -1,24 +1,10 @@
 -- A Join of a server with an empty store makes a new place of each of the server's links: so at one place of a link each of its two
 -- servers has one store.
-use Rattle.std.proofs.Common.{◌≡◌, ◌≤◌, ◌<◌, ◌+◌, ◌==◌, ◌&&◌, ℕ, List, [], ◌∷◌, true, if◌then◌else◌, refl, sym, ap, ◌∙◌, inl, inr, arith}
-use Rattle.std.specs.Prelude.{slice_get}
-use Rattle.global_tables.specs.Link.{has_server}
-use Rattle.global_tables.specs.declared.link.LinkRow.{LinkRow}
-use Rattle.petal_base.specs.declared.cell.Cell.{Cell}
-use Rattle.petal_command.specs.declared.command.Command.{Command}
-use Rattle.petal_command.specs.declared.command.Command.TheVariants.{Join}
-use Rattle.spec_history.specs.Claims.{IsPrefix}
-use Rattle.spec_state.specs.Command.{after, may_join, state_after}
-use Rattle.spec_state.specs.Place.{places_from, touches}
+use Rattle.law_copies.proofs.Imports.{[], if◌then◌else◌, ◌&&◌, ◌+◌, ◌<◌, ◌==◌, ◌∙◌, ◌∷◌, ◌≡◌, ◌≤◌, Cell, Command, IsPlainLog, IsPrefix, Join, LinkRow, List}
+use Rattle.law_copies.proofs.Imports.{Setting, State, Store, after, ap, arith, blank_joins_from, blank_joins_in, both_true, by_bool, has_server, inl, inr}
+use Rattle.law_copies.proofs.Imports.{joins_blank, joins_grow, joins_on, may_join, places_from, places_of_both, refl, same_numbers, slice_get, state_after}
+use Rattle.law_copies.proofs.Imports.{sym, touches, true, true_false, ℕ}
 use Rattle.spec_state.specs.State.{start}
-use Rattle.spec_rules.specs.Blanked.{blank_joins_from, joins_blank}
-use Rattle.spec_rules.specs.State.{State}
-use Rattle.spec_rules.specs.Store.{Store}
-use Rattle.spec_rules.specs.World.{Setting, blank_joins_in}
-use Rattle.spec_rules.proofs.Tests.{both_true, by_bool, same_numbers, true_false}
-use Rattle.law_state.specs.Plain.{IsPlainLog}
-use Rattle.law_state.proofs.BlankJoins.{joins_grow, joins_on}
-use Rattle.law_state.proofs.EntriesTouchLinks.{places_of_both}
 use Rattle.law_copies.specs.Visits.{IsLinked, place_by, store_by}
 use Rattle.law_copies.proofs.PlacesByFronts.{fronts_meet, place_of_later}
 

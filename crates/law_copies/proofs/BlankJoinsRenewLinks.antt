@@ -1,25 +1,9 @@
 -- An entry that counts as a Join with an empty store: of which server it is, and what becomes of the server's links.
-use Rattle.std.proofs.Common.{◌≡◌, ◌≢◌, ◌<◌, ◌++◌, ◌==◌, ◌&&◌, ◌||◌, ℕ, Bool, List, [], ◌∷◌, true, false, if◌then◌else◌}
-use Rattle.std.proofs.Common.{None, refl, sym, ap, ◌∙◌, subst, inl, inr}
-use Rattle.std.specs.Prelude.{slice_get, unwrap_or}
-use Rattle.std.proofs.lemmas.List.{append-nil}
-use Rattle.global_tables.specs.Link.{blanked_state, has_server, row_blanked}
-use Rattle.global_tables.specs.declared.link.LinkRow.{LinkRow}
-use Rattle.global_tables.specs.declared.link.LinkState.{LinkState}
-use Rattle.global_tables.specs.declared.link.LinkState.TheVariants.{Both, Lost, Only}
-use Rattle.petal_base.specs.declared.cell.Cell.{Cell}
-use Rattle.petal_command.specs.declared.command.Command.{Command}
-use Rattle.petal_command.specs.declared.command.Command.TheVariants.{Join}
-use Rattle.spec_state.specs.Command.{may_join, state_after}
-use Rattle.spec_rules.specs.Blanked.{joins_blank}
-use Rattle.spec_rules.specs.State.{State, is_whole}
-use Rattle.spec_rules.specs.Store.{Chain, Store, cell_cmp, chain_in}
-use Rattle.spec_rules.specs.World.{Setting, blank_joins_in}
-use Rattle.spec_rules.proofs.Tests.{both_true, by_bool, number_itself, same_numbers, true_false}
-use Rattle.petal_table.proofs.Rows.{at-empty}
-use Rattle.law_state.specs.LinkChanges.{row_joined}
-use Rattle.law_state.proofs.BlankJoins.{counts_joins, joined_counts}
-use Rattle.law_steps.proofs.Fronts.{front_itself}
+use Rattle.law_copies.proofs.Imports.{[], if◌then◌else◌, ◌&&◌, ◌++◌, ◌<◌, ◌==◌, ◌||◌, ◌∙◌, ◌∷◌, ◌≡◌, ◌≢◌, Bool, Both, Cell, Chain, Command, Join, LinkRow}
+use Rattle.law_copies.proofs.Imports.{LinkState, List, Lost, None, Only, Setting, State, Store, ap, append-nil, at-empty, blank_joins_in, blanked_state}
+use Rattle.law_copies.proofs.Imports.{both_true, by_bool, cell_cmp, chain_in, counts_joins, false, front_itself, has_server, inl, inr, is_whole}
+use Rattle.law_copies.proofs.Imports.{joined_counts, joins_blank, may_join, number_itself, refl, row_blanked, row_joined, same_numbers, slice_get}
+use Rattle.law_copies.proofs.Imports.{state_after, subst, sym, true, true_false, unwrap_or, ℕ}
 use Rattle.law_copies.specs.CopyProgress.{IsCovered, Is_equal, Is_to_be_copied}
 use Rattle.law_copies.proofs.ServedAtLaterFronts.{same_only}
 

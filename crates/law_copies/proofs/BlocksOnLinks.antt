@@ -1,17 +1,6 @@
 -- Which blocks of a map lie on a link: by how many links the map has.
-use Rattle.std.proofs.Common.{◌≡◌, ◌==◌, ℕ, List, Some, sym, ap, ◌∙◌, inl, inr}
-use Rattle.std.specs.Prelude.{length, option_and_then}
-use Rattle.std.specs.Option.{option_map_or}
-use Rattle.global_tables.specs.Link.{is_link, link_at}
-use Rattle.global_tables.specs.Map.{tuple_of}
-use Rattle.global_tables.specs.Region.{link_of}
-use Rattle.global_tables.specs.declared.link.LinkRow.{LinkRow}
-use Rattle.petal_base.specs.declared.cell.Cell.{Cell}
-use Rattle.spec_state.specs.CellState.{cell_link}
-use Rattle.spec_rules.specs.Copies.{cell_at}
-use Rattle.spec_rules.specs.State.{State}
-use Rattle.spec_rules.proofs.Tests.{both_true, none_some, same_numbers, some_or_none}
-use Rattle.law_state.proofs.ListLookups.{found_at}
+use Rattle.law_copies.proofs.Imports.{◌==◌, ◌∙◌, ◌≡◌, Cell, LinkRow, List, Some, State, ap, both_true, cell_at, cell_link, found_at, inl, inr, is_link}
+use Rattle.law_copies.proofs.Imports.{length, link_at, link_of, none_some, option_and_then, option_map_or, same_numbers, some_or_none, sym, tuple_of, ℕ}
 use Rattle.law_copies.specs.CopyProgress.{links_of}
 
 module _ (state : State) (cell : Cell) (row : LinkRow) (is : cell_link state cell ≡ Some row) where

@@ -1,15 +1,8 @@
 -- What happens to one cell keeps its two copies together.
-use Rattle.std.proofs.Common.{◌≡◌, ℕ, ◌+◌, ◌<◌, ◌≤◌, List, Some, None, true, false, inl, inr, arith}
-use Rattle.std.specs.Ordering.{nat_cmp}
-use Rattle.petal_base.specs.declared.cell.Key.{Key}
-use Rattle.petal_table.specs.Table.{put}
-use Rattle.petal_msg.specs.declared.body.Body.{Body}
-use Rattle.petal_msg.specs.declared.body.Body.TheVariants as body
-use Rattle.petal_msg.specs.declared.operation.Far.TheVariants.{Reserved, Replicated}
-use Rattle.petal_msg.specs.declared.operation.Pending.{Pending}
-use Rattle.spec_rules.specs.Store.{version_of}
-use Rattle.law_steps.specs.Operations.{progress}
+use Rattle.law_copies.proofs.Imports.{◌+◌, ◌<◌, ◌≡◌, ◌≤◌, Body, Key, List, None, Pending, Replicated, Reserved, Some, arith, false, inl, inr, nat_cmp}
+use Rattle.law_copies.proofs.Imports.{progress, put, true, version_of, ℕ}
 use Rattle.law_copies.specs.Pair.{Pair, far, ceiling, Grows, PairOk, IsPutting, Keeps, Known}
+use Rattle.petal_msg.specs.declared.body.Body.TheVariants as body
 
 -- nothing happens to the cell, but new numbers may be given to others
 pub stays : (pair : Pair) (next : ℕ) → PairOk pair → pair.next ≤ next → Keeps pair (record pair { next = next })

@@ -1,12 +1,5 @@
 -- A server, and a cell whose link is in Both by its own state.
-use Rattle.std.proofs.Common.{◌≡◌, Some}
-use Rattle.global_tables.specs.declared.link.LinkRow.{LinkRow}
-use Rattle.global_tables.specs.declared.link.LinkState.TheVariants.{Both}
-use Rattle.petal_base.specs.declared.cell.Cell.{Cell}
-use Rattle.petal_msg.specs.declared.body.Body.{Body}
-use Rattle.spec_state.specs.CellState.{cell_link}
-use Rattle.spec_rules.specs.Server.{JobContext, PairState}
-use Rattle.law_state.specs.Steady.{IsSteady}
+use Rattle.law_copies.proofs.Imports.{◌≡◌, Body, Both, Cell, IsSteady, JobContext, LinkRow, PairState, Some, cell_link}
 use Rattle.law_copies.specs.Visits.{AliveIn}
 
 -- what it handles, where it is and what it has, and the cell's row

@@ -1,22 +1,8 @@
 -- What a job leaves of a cell without a link.
-use Rattle.std.proofs.Common.{◌≡◌, ℕ, false, Some, None, refl, sym, ap, ◌∙◌, inl, inr}
-use Rattle.std.specs.Ordering.{eq_by_cmp}
-use Rattle.global_tables.specs.Link.{link_at}
-use Rattle.global_tables.specs.declared.link.LinkRow.{LinkRow}
-use Rattle.petal_base.specs.declared.cell.Cell.{Cell}
-use Rattle.petal_msg.specs.declared.body.Body.{Body}
-use Rattle.petal_msg.specs.declared.copying.LinkId.{LinkId}
-use Rattle.spec_state.specs.CellState.{cell_link, owner}
-use Rattle.spec_rules.specs.Progress.{progress_on}
-use Rattle.spec_rules.specs.Server.{PairState, JobContext, JobResult}
-use Rattle.spec_rules.specs.State.{State, id_of, link_cmp, link_named}
-use Rattle.spec_rules.proofs.Tests.{by_bool, none_some, some_or_none}
-use Rattle.law_log.proofs.BallotFlags.{progress_beside, same_id}
-use Rattle.law_state.specs.Tables.{IsPlainState}
-use Rattle.law_state.proofs.Steady.{linked}
-use Rattle.law_steps.specs.Did.{Did}
-use Rattle.law_jobs.specs.Effects.{Effect, May, Moves_on, applied}
-use Rattle.law_jobs.proofs.JobsAreEffects.{job_keeps}
+use Rattle.law_copies.proofs.Imports.{◌∙◌, ◌≡◌, Body, Cell, Did, Effect, IsPlainState, JobContext, JobResult, LinkId, LinkRow, May, None, PairState, Some}
+use Rattle.law_copies.proofs.Imports.{State, ap, applied, by_bool, cell_link, eq_by_cmp, false, id_of, inl, inr, job_keeps, link_at, link_cmp, link_named}
+use Rattle.law_copies.proofs.Imports.{linked, none_some, owner, progress_beside, progress_on, refl, same_id, some_or_none, sym, ℕ}
+use Rattle.law_jobs.specs.Effects.{Moves_on}
 use Rattle.law_copies.proofs.RolesOfWorkers.{named_id}
 
 -- ### Links

@@ -1,18 +1,7 @@
 -- Chains whose rows rise: which row stands at an epoch, and when two chains are one.
-use Rattle.std.proofs.Common.{◌≡◌, ◌≢◌, ◌<◌, ◌||◌, ℕ, Bool, true, false, cond, List, [], ◌∷◌, map, Some, None, refl, sym, ap, ◌∙◌, subst, inl, inr, arith}
-use Rattle.std.specs.Prelude.{filter, slice_get}
-use Rattle.std.specs.List.{list_any}
-use Rattle.std.specs.Cmp.{nat_cmp_total, ranked}
-use Rattle.std.specs.Ordering.{nat_cmp}
-use Rattle.std.specs.declared.cmp.Ordering.TheVariants.{Less}
-use Rattle.std.proofs.lemmas.Bool.Decides.{nat_tests}
-use Rattle.petal_table.specs.Table.{Table, at}
-use Rattle.petal_table.proofs.Rows.{at-empty}
-use Rattle.spec_rules.specs.Lists.{In}
-use Rattle.spec_rules.proofs.Tests.{by_bool, none_some, same_or_apart, same_some, some_or_none, true_false}
-use Rattle.law_state.proofs.ListLookups.{in_get, get_in}
-use Rattle.law_steps.specs.Ready.{IsRising}
-use Rattle.law_steps.proofs.TablesOfPuts.{at_row}
+use Rattle.law_copies.proofs.Imports.{[], ◌<◌, ◌||◌, ◌∙◌, ◌∷◌, ◌≡◌, ◌≢◌, Bool, In, IsRising, Less, List, None, Some, Table, ap, arith, at, at-empty, at_row}
+use Rattle.law_copies.proofs.Imports.{by_bool, cond, false, filter, get_in, in_get, inl, inr, list_any, map, nat_cmp, nat_cmp_total, nat_tests, none_some}
+use Rattle.law_copies.proofs.Imports.{ranked, refl, same_or_apart, same_some, slice_get, some_or_none, subst, sym, true, true_false, ℕ}
 
 module _ {X : Type 0} where
   at_here : (es : Table ℕ X) (k : ℕ) (x : X) → at nat_cmp ((k, x) ∷ es) k ≡ Some x

@@ -1,28 +1,8 @@
 -- What is kept of two copies holds at the start.
-use Rattle.std.proofs.Common.{◌≡◌, ℕ, false, [], None, refl, sym}
-use Rattle.std.proofs.Common.{ap, ◌∙◌, subst, inl, arith}
-use Rattle.std.specs.Prelude.{unwrap_or}
-use Rattle.std.specs.Option.{option_map_or}
-use Rattle.std.specs.Ordering.{nat_cmp}
-use Rattle.petal_base.specs.declared.cell.Cell.{Cell}
-use Rattle.petal_table.proofs.Rows.{at-empty}
-use Rattle.petal_msg.specs.declared.copying.Progress.{Progress}
-use Rattle.spec_state.specs.CellState.{cell_link}
-use Rattle.spec_state.specs.Command.{state_after}
-use Rattle.spec_state.specs.State.{start as first_state}
-use Rattle.spec_history.specs.Steps.{world_after}
-use Rattle.spec_rules.specs.Lists.{In}
-use Rattle.spec_rules.specs.Progress.{no_progress}
-use Rattle.spec_rules.specs.State.{id_of, link_cmp}
-use Rattle.spec_rules.specs.Store.{Store, cell_cmp, chain_in, empty_store}
-use Rattle.spec_rules.specs.World.{Setting, chosen_log, counted}
-use Rattle.spec_rules.specs.World.{start}
-use Rattle.spec_rules.proofs.Tests.{none_some, true_false}
-use Rattle.law_state.specs.StartedBallots.{is_flagged}
-use Rattle.law_state.proofs.EntriesOnlyAdd.{start_plain}
-use Rattle.law_state.proofs.LaterDisks.{past_link}
-use Rattle.law_steps.specs.Ready.{IsRising}
-use Rattle.law_steps.proofs.Records.{none_before_none}
+use Rattle.law_copies.proofs.Imports.{[], ◌∙◌, ◌≡◌, Cell, In, IsRising, None, Progress, Setting, Store, ap, arith, at-empty, cell_cmp, cell_link, chain_in}
+use Rattle.law_copies.proofs.Imports.{chosen_log, counted, empty_store, false, first_state, id_of, inl, is_flagged, link_cmp, nat_cmp, no_progress}
+use Rattle.law_copies.proofs.Imports.{none_before_none, none_some, option_map_or, past_link, refl, start, start_plain, state_after, subst, sym, true_false}
+use Rattle.law_copies.proofs.Imports.{unwrap_or, world_after, ℕ}
 use Rattle.law_copies.specs.CopyProgress.{Is_equal}
 use Rattle.law_copies.specs.GoodCopies.{Good}
 use Rattle.law_copies.specs.Visits.{Visits, place_by}

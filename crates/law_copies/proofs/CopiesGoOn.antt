@@ -1,30 +1,11 @@
 -- How the copies of a link go on at its holder, for a cell of it on which the job is not at work: the greatest copied block, and the
 -- copies of later blocks.
-use Rattle.std.proofs.Common.{◌≡◌, ◌≢◌, ◌<◌, ◌⊎◌, ℕ, true, false, Option, Some, None, refl, sym, ap, ◌∙◌, subst, inl, inr, arith}
-use Rattle.std.specs.Prelude.{is_some, nat_lt, unwrap_or}
-use Rattle.std.specs.Ordering.{eq_by_cmp}
-use Rattle.std.proofs.lemmas.Bool.Decides.{nat_tests}
-use Rattle.busy_marks.specs.Marks.{above}
-use Rattle.global_tables.specs.Region.{link_of}
-use Rattle.global_tables.specs.declared.link.LinkRow.{LinkRow}
-use Rattle.petal_base.specs.declared.cell.Cell.{Cell}
-use Rattle.petal_msg.specs.declared.copying.Copying.{Copying}
-use Rattle.petal_msg.specs.declared.copying.LinkId.{LinkId}
-use Rattle.petal_msg.specs.declared.copying.Progress.{Progress}
-use Rattle.spec_state.specs.CellState.{cell_link}
-use Rattle.petal_table.specs.Table.{Table, at}
-use Rattle.spec_history.specs.Claims.{IsMarked, IsToBeCopied}
-use Rattle.spec_rules.specs.Copies.{begins_copy, cell_at, with_copied}
-use Rattle.spec_rules.specs.Progress.{copying_on, no_progress, progress_on, with_copying, with_progress, without_copying}
-use Rattle.spec_rules.specs.Server.{PairState}
-use Rattle.spec_rules.specs.State.{State, id_of, link_cmp, live}
-use Rattle.spec_rules.specs.Store.{cell_cmp}
-use Rattle.spec_rules.proofs.CellTables.{cell_apart, cell_gone, cell_gone_apart}
-use Rattle.spec_rules.proofs.Tests.{by_bool, by_test, none_some, same_or_apart, same_some}
-use Rattle.law_log.proofs.BallotFlags.{progress_beside, progress_here, same_id}
-use Rattle.law_steps.specs.DidHolder.{first_copy}
-use Rattle.law_steps.proofs.CopiesRest.{row_named}
-use Rattle.law_steps.proofs.OperationsRest.{same_cell_or_apart}
+use Rattle.law_copies.proofs.Imports.{◌<◌, ◌∙◌, ◌≡◌, ◌≢◌, ◌⊎◌, Cell, Copying, IsMarked, IsToBeCopied, LinkId, LinkRow, None, Option, PairState, Progress}
+use Rattle.law_copies.proofs.Imports.{Some, State, Table, above, ap, arith, at, begins_copy, by_bool, by_test, cell_apart, cell_at, cell_cmp, cell_gone}
+use Rattle.law_copies.proofs.Imports.{cell_gone_apart, cell_link, copying_on, eq_by_cmp, false, first_copy, id_of, inl, inr, is_some, link_cmp, link_of, live}
+use Rattle.law_copies.proofs.Imports.{nat_lt, nat_tests, no_progress, none_some, progress_beside, progress_here, progress_on, refl, row_named}
+use Rattle.law_copies.proofs.Imports.{same_cell_or_apart, same_id, same_or_apart, same_some, subst, sym, true, unwrap_or, with_copied, with_copying}
+use Rattle.law_copies.proofs.Imports.{with_progress, without_copying, ℕ}
 use Rattle.law_copies.specs.CopyProgress.{AreInOrder, HasPage, IsCopied, NotCopied, links_of}
 use Rattle.law_copies.proofs.BlocksOnLinks.{block_on, on_block}
 use Rattle.law_copies.proofs.OwnPartFrames.{copied_alike}

@@ -1,10 +1,5 @@
 -- A world before a step, by the stores that count, and what is so of it.
-use Rattle.std.proofs.Common.{ℕ, List}
-use Rattle.spec_history.specs.declared.record.Record.{Record}
-use Rattle.spec_rules.specs.Store.{Store}
-use Rattle.spec_rules.specs.World.{Setting, World, chosen_log}
-use Rattle.law_state.specs.Firm.{Firm}
-use Rattle.law_steps.specs.Ready.{Rests}
+use Rattle.law_copies.proofs.Imports.{Firm, List, Record, Rests, Setting, Store, World, chosen_log, ℕ}
 use Rattle.law_copies.specs.GoodCopies.{Good}
 use Rattle.law_copies.specs.Visits.{with_stores}
 

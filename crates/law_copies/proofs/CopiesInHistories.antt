@@ -1,34 +1,12 @@
 -- Each step that is allowed keeps what is kept of two copies, by the stores that count, and so does every legal history.
-use Rattle.std.proofs.Common.{◌≡◌, ◌≤◌, ◌++◌, ℕ, false, if◌then◌else◌, List, [], ◌∷◌, Option, Some, refl, sym}
-use Rattle.std.proofs.Common.{ap, ◌∙◌, subst, inl, inr, arith}
-use Rattle.petal_base.specs.declared.cell.Cell.{Cell}
-use Rattle.petal_msg.specs.Kinds.{subject_of}
-use Rattle.script_lines.specs.declared.script.Script.{Script}
-use Rattle.spec_history.specs.Claims.{IsPrefix}
-use Rattle.spec_history.specs.Steps.{AreSteps, world_after}
-use Rattle.spec_history.specs.Sound.{IsSound}
-use Rattle.spec_history.specs.declared.record.Record.{Record}
-use Rattle.spec_rules.specs.Blanked.{BeforeBlank, kept_store}
-use Rattle.spec_rules.specs.Boots.{blanked, stays}
-use Rattle.spec_rules.specs.Clients.{Reaction, client_sender}
-use Rattle.spec_rules.specs.Lists.{In, put_at}
-use Rattle.spec_rules.specs.Server.{Post, letters_of}
-use Rattle.spec_rules.specs.State.{State}
-use Rattle.spec_rules.specs.Store.{Store}
-use Rattle.spec_rules.specs.World.{Setting, World, acts, blank_joins_in, chosen_log, chosen_state, counted, counted_by, kept}
-use Rattle.spec_rules.specs.World.{reacts, setting_of, stamped, start, with_store}
-use Rattle.spec_rules.specs.declared.step.Step.TheVariants.{Blank}
-use Rattle.spec_rules.proofs.ListLemmas.{in-append, put_apart, put_same}
-use Rattle.spec_rules.proofs.Tests.{by_bool, none_some, number_itself, same_or_apart, true_false}
-use Rattle.law_log.proofs.LogInHistories.{history_grows, history_is_firm}
-use Rattle.law_steps.specs.DidStep.{Happens, Serves, Blanks, Turns}
-use Rattle.law_steps.specs.DidStep.{is_between}
-use Rattle.law_steps.proofs.WorldsAreFirm.{always_firm}
-use Rattle.law_steps.proofs.Fronts.{below_itself, front_itself, front_on}
-use Rattle.law_steps.proofs.KindsInHistories.{last_happens}
-use Rattle.law_steps.proofs.Records.{split_last}
-use Rattle.law_steps.proofs.ClientLetters.{turned_asks}
-use Rattle.law_jobs.proofs.Runs.{before_part, by_run, run_of}
+use Rattle.law_copies.proofs.Imports.{[], if◌then◌else◌, ◌++◌, ◌∙◌, ◌∷◌, ◌≡◌, ◌≤◌, AreSteps, BeforeBlank, Blank, Blanks, Cell, Happens, In, IsPrefix, IsSound}
+use Rattle.law_copies.proofs.Imports.{List, Option, Post, Reaction, Record, Script, Serves, Setting, Some, State, Store, Turns, World, always_firm, ap, arith}
+use Rattle.law_copies.proofs.Imports.{before_part, below_itself, blank_joins_in, blanked, by_bool, by_run, chosen_log, chosen_state, client_sender, counted}
+use Rattle.law_copies.proofs.Imports.{counted_by, false, front_itself, front_on, history_grows, history_is_firm, in-append, inl, inr, is_between, kept}
+use Rattle.law_copies.proofs.Imports.{kept_store, last_happens, letters_of, none_some, number_itself, put_apart, put_at, put_same, reacts, refl, run_of}
+use Rattle.law_copies.proofs.Imports.{same_or_apart, setting_of, split_last, stamped, start, stays, subject_of, subst, sym, true_false, turned_asks}
+use Rattle.law_copies.proofs.Imports.{with_store, world_after, ℕ}
+use Rattle.spec_rules.specs.World.{acts}
 use Rattle.law_copies.proofs.StoreHistories.{join_empty, join_own}
 use Rattle.law_copies.specs.GoodCopies.{Good}
 use Rattle.law_copies.specs.Visits.{is_at}
@@ -37,11 +15,11 @@ use Rattle.law_copies.proofs.FramesKeepFronts.{store_itself}
 use Rattle.law_copies.proofs.KeptEntryByEntry.{IsFurther, grow}
 use Rattle.law_copies.proofs.AtNext.{IsAfter}
 use Rattle.law_copies.proofs.MuteLettersTellNothing.{asked_mute}
-use Rattle.law_copies.proofs.StepsLeaveCopies as quiet
 use Rattle.law_copies.proofs.StepsLeaveCopies.{posts_mute}
 use Rattle.law_copies.proofs.VisitsAfterSteps.{at_by, counted as reached_then, later, seen, stored}
 use Rattle.law_copies.proofs.CopiesKnownOfWorlds.{OneMore, before_of, in_begun, known_after}
 use Rattle.law_copies.proofs.ServerStepsKeepCopies.{GoesTo, server_goes, then_so}
+use Rattle.law_copies.proofs.StepsLeaveCopies as quiet
 pub use Rattle.law_copies.proofs.CopiesAtStart.{start_good, start_visits}
 
 module _ (it : OneMore) where

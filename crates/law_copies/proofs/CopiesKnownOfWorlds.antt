@@ -1,24 +1,8 @@
 -- What is known of each world of a legal history.
-use Rattle.std.proofs.Common.{◌≡◌, ◌≤◌, ◌+◌, ℕ, true, false, List}
-use Rattle.std.proofs.Common.{inl, inr, arith}
-use Rattle.petal_command.specs.declared.command.Command.{Command}
-use Rattle.script_lines.specs.declared.script.Script.{Script}
-use Rattle.spec_state.specs.Command.{state_after}
-use Rattle.spec_history.specs.Claims.{IsPrefix}
-use Rattle.spec_history.specs.Steps.{AreSteps, world_after}
-use Rattle.spec_history.specs.Sound.{IsSound}
-use Rattle.spec_history.specs.declared.record.Record.{Record}
-use Rattle.spec_rules.specs.State.{is_in}
-use Rattle.spec_rules.specs.World.{Setting, World, blank_joins_in, chosen_log, chosen_state, counted}
-use Rattle.spec_rules.specs.World.{server_state, setting_of, start}
-use Rattle.spec_rules.proofs.Tests.{by_bool}
-use Rattle.law_log.proofs.LogInHistories.{chosen_caught_was, history_is_firm, out_has_stopped, who_is_in_has_begun}
-use Rattle.law_state.specs.Firm.{Firm}
-use Rattle.law_steps.specs.Ready.{Rests}
-use Rattle.law_steps.specs.WakingServers.{AllMayWake}
-use Rattle.law_steps.proofs.WorldsAreFirm.{always_firm}
-use Rattle.law_steps.proofs.KindsInHistories.{rests_after, start_rests}
-use Rattle.law_steps.proofs.WakingGoesOn.{may_wake}
+use Rattle.law_copies.proofs.Imports.{◌+◌, ◌≡◌, ◌≤◌, AllMayWake, AreSteps, Command, Firm, IsPrefix, IsSound, List, Record, Rests, Script, Setting, World}
+use Rattle.law_copies.proofs.Imports.{always_firm, arith, blank_joins_in, by_bool, chosen_caught_was, chosen_log, chosen_state, counted, false}
+use Rattle.law_copies.proofs.Imports.{history_is_firm, inl, inr, is_in, may_wake, out_has_stopped, rests_after, server_state, setting_of, start, start_rests}
+use Rattle.law_copies.proofs.Imports.{state_after, true, who_is_in_has_begun, world_after, ℕ}
 use Rattle.law_copies.specs.WaitingStores.{IsOwn}
 use Rattle.law_copies.proofs.StoreHistories.{in_counts, in_own}
 use Rattle.law_copies.specs.GoodCopies.{Good}

@@ -1,23 +1,8 @@
 -- The epochs of a copy: what the other server has beyond them, and when its chain is the holder's.
-use Rattle.std.proofs.Common.{◌≡◌, ◌<◌, ℕ, true, false, not, List, [], length, Some, sym, ap, ◌∙◌, inl, inr}
-use Rattle.std.specs.Prelude.{filter, nat_eq, slice_get, option_map}
-use Rattle.std.specs.List.{list_any}
-use Rattle.std.specs.Cmp.{nat_cmp_total}
-use Rattle.std.specs.Ordering.{nat_cmp}
-use Rattle.std.proofs.lemmas.Option.{slice_get-map, slice_get_within}
-use Rattle.petal_base.specs.declared.cell.Cell.{Cell}
-use Rattle.petal_table.specs.Table.{at, put}
-use Rattle.petal_table.proofs.Rows.{at_apart}
-use Rattle.spec_rules.specs.Copies.{epochs_beyond}
-use Rattle.spec_rules.specs.Lists.{In}
-use Rattle.spec_rules.specs.Server.{PairState}
-use Rattle.spec_rules.specs.Store.{Chain, Stored, chain_in, epochs_of}
-use Rattle.spec_rules.proofs.Tests.{none_some, number_itself, same_numbers, same_or_apart, some_or_none}
-use Rattle.law_state.proofs.NewMapLinks.{in_map}
-use Rattle.law_state.proofs.ListLookups.{in_get}
-use Rattle.law_steps.specs.Ready.{IsRising}
-use Rattle.law_steps.proofs.InvertHolder.{untrue}
-use Rattle.law_steps.proofs.TablesOfPuts.{at_row}
+use Rattle.law_copies.proofs.Imports.{[], ◌<◌, ◌∙◌, ◌≡◌, Cell, Chain, In, IsRising, List, PairState, Some, Stored, ap, at, at_apart, at_row, chain_in}
+use Rattle.law_copies.proofs.Imports.{epochs_beyond, epochs_of, false, filter, in_get, in_map, inl, inr, length, list_any, nat_cmp, nat_cmp_total, nat_eq}
+use Rattle.law_copies.proofs.Imports.{none_some, not, number_itself, option_map, put, same_numbers, same_or_apart, slice_get, slice_get-map, slice_get_within}
+use Rattle.law_copies.proofs.Imports.{some_or_none, sym, true, untrue, ℕ}
 use Rattle.law_copies.proofs.ChainsRise.{all_left, any_in, at_in, in_any, in_mapped, none_left, place_of, same_tables}
 
 -- each entry of the chain is of one of these epochs

@@ -1,50 +1,23 @@
 -- What a job sends of copies: each letter is about the cell that the job works on, or tells of a page.
-use Rattle.std.proofs.Common.{◌≡◌, ◌⊎◌, ℕ, Bool, true, false, Option, Some, None, refl, sym, ap, ◌∙◌, inl, inr}
-use Rattle.std.specs.Prelude.{filter}
-use Rattle.busy_marks.specs.Marks.{above}
-use Rattle.global_tables.specs.declared.link.LinkRow.{LinkRow}
-use Rattle.petal_base.specs.declared.cell.Cell.{Cell}
-use Rattle.petal_base.specs.Cells.{cell_of, key_at}
-use Rattle.petal_base.specs.declared.cell.Key.{Key}
-use Rattle.petal_msg.specs.Kinds.{Subject, Answered, Copied, Filling, Paired, Refused, about, is_logged, subject_of}
-use Rattle.petal_msg.specs.declared.body.Body.{Body}
-use Rattle.petal_msg.specs.declared.body.Body.TheVariants as body
-use Rattle.petal_msg.specs.declared.copying.Copying.{Copying}
-use Rattle.petal_msg.specs.declared.copying.LastCopy.{LastCopy}
-use Rattle.petal_msg.specs.declared.copying.LinkId.{LinkId}
-use Rattle.petal_msg.specs.declared.operation.Action.{Action}
-use Rattle.petal_msg.specs.declared.operation.Action.TheVariants as action
-use Rattle.petal_msg.specs.declared.operation.Ending.{Ending}
-use Rattle.petal_msg.specs.declared.operation.Ending.TheVariants as ending
-use Rattle.petal_msg.specs.declared.operation.OpKind.{OpKind}
-use Rattle.petal_msg.specs.declared.operation.OpKind.TheVariants as kind
-use Rattle.petal_msg.specs.declared.operation.Pending.{Pending}
-use Rattle.spec_state.specs.CellState.{cell_link}
-use Rattle.spec_rules.specs.Copies.{begins_copy, least, marked_blocks, page_wanted}
-use Rattle.spec_rules.specs.Lists.{In}
-use Rattle.spec_rules.specs.Server.{PairState, JobContext, Post, JobResult}
-use Rattle.spec_rules.specs.State.{holder_of, link_named, live}
-use Rattle.spec_rules.specs.Store.{chain_in, epochs_of}
-use Rattle.spec_rules.specs.Writes.{acts, ended, ends, gives_back, moved_as, next_stage, without_pending}
-use Rattle.spec_rules.proofs.Tests.{none_some, same_some, true_false}
-use Rattle.law_steps.specs.DidLead.{DidLead, Asks, Of_the_log, Asks_for, Repeats, Is_full}
-use Rattle.law_steps.specs.DidLead.{Opens, Gives_up, Closes, Closes_alone}
-use Rattle.law_steps.specs.DidLead.{Opens_fill, Has_fill, Has_no_room, Goes_on_dead}
-use Rattle.law_steps.specs.DidHolder.{DidHolder, CopyStep, Asks_to_trim, Sends, Asks_page}
-use Rattle.law_steps.specs.DidHolder.{Begins_copy, Goes_on_copying, first_copy}
-use Rattle.law_steps.specs.DidOther.{Replies, DidOther, first_last, TrimStep, Is_trimmed, Drops_entry, Is_copied_to}
-use Rattle.law_steps.specs.DidOther.{Goes_on_trimming, Puts_entry}
-use Rattle.law_steps.specs.Did.{Did, Refuses}
-use Rattle.law_steps.proofs.Letters.{one_post, posted}
-use Rattle.law_steps.proofs.CopiesRest.{among_least}
-use Rattle.law_steps.proofs.Subjects.{HasData, HasNothing}
-use Rattle.law_jobs.specs.Sayings as says
-use Rattle.law_jobs.specs.Sayings.{Ends, Ends_fill, Moves, Moves_on, Says, Tells_page}
-use Rattle.law_jobs.proofs.JobsSay.{letters_of_job, none_in}
+use Rattle.law_copies.proofs.Imports.{◌∙◌, ◌≡◌, ◌⊎◌, Action, Answered, Asks, Asks_for, Asks_page, Asks_to_trim, Begins_copy, Body, Bool, Cell, Closes}
+use Rattle.law_copies.proofs.Imports.{Closes_alone, Copied, CopyStep, Copying, Did, DidHolder, DidLead, DidOther, Drops_entry, Ending, Ends_fill, Filling}
+use Rattle.law_copies.proofs.Imports.{Gives_up, Goes_on_copying, Goes_on_dead, Goes_on_trimming, HasData, HasNothing, Has_fill, Has_no_room, In, Is_copied_to}
+use Rattle.law_copies.proofs.Imports.{Is_full, Is_trimmed, JobContext, JobResult, Key, LastCopy, LinkId, LinkRow, Moves, Moves_on, None, Of_the_log, OpKind}
+use Rattle.law_copies.proofs.Imports.{Opens, Opens_fill, Option, PairState, Paired, Pending, Post, Puts_entry, Refused, Refuses, Repeats, Replies, Says}
+use Rattle.law_copies.proofs.Imports.{Sends, Some, Subject, Tells_page, TrimStep, about, above, acts, among_least, ap, begins_copy, cell_link, cell_of}
+use Rattle.law_copies.proofs.Imports.{chain_in, ended, ends, epochs_of, false, filter, first_copy, first_last, gives_back, holder_of, inl, inr, is_logged}
+use Rattle.law_copies.proofs.Imports.{key_at, least, letters_of_job, link_named, live, marked_blocks, moved_as, next_stage, none_in, none_some, one_post}
+use Rattle.law_copies.proofs.Imports.{page_wanted, posted, refl, same_some, subject_of, sym, true, true_false, without_pending, ℕ}
+use Rattle.law_jobs.specs.Sayings.{Ends}
 use Rattle.law_copies.specs.CopyProgress.{IsOfLink, IsTold}
 use Rattle.law_copies.proofs.LeftToCopy.{marked_on}
 use Rattle.law_copies.proofs.ChainsRise.{in_left}
 use Rattle.law_copies.proofs.WorkedCell.{Away, holder_cell, other_cell}
+use Rattle.petal_msg.specs.declared.body.Body.TheVariants as body
+use Rattle.petal_msg.specs.declared.operation.Action.TheVariants as action
+use Rattle.petal_msg.specs.declared.operation.Ending.TheVariants as ending
+use Rattle.petal_msg.specs.declared.operation.OpKind.TheVariants as kind
+use Rattle.law_jobs.specs.Sayings as says
 
 -- of what isn't about copies nothing need be known
 pub untold : (row : LinkRow) (holder other : Option PairState) (said : Body) → (subject_of said ≡ Copied → ⊥) → IsTold row holder other said

@@ -1,34 +1,16 @@
 -- The changes of a copy at its holder: it begins, the other server has trimmed, has put an entry; the block is unmarked; the copy ends.
-use Rattle.std.proofs.Common.{◌≡◌, ◌≢◌, ◌≤◌, ◌<◌, ◌+◌, ◌⊎◌, ℕ, true, false, [], length, Option, Some, None, refl, sym, ap, ◌∙◌, subst, inl, inr, arith}
-use Rattle.std.specs.Prelude.{is_some, slice_get}
-use Rattle.std.specs.Ordering.{nat_cmp}
-use Rattle.std.proofs.lemmas.Option.{slice_get_within}
-use Rattle.busy_marks.specs.Marks.{above}
-use Rattle.busy_marks.specs.declared.marks.MarkKind.{MarkKind}
-use Rattle.global_tables.specs.declared.link.LinkRow.{LinkRow}
-use Rattle.petal_base.specs.declared.cell.Cell.{Cell}
-use Rattle.petal_msg.specs.declared.body.Body.{Body}
-use Rattle.petal_msg.specs.declared.body.Body.TheVariants as body
-use Rattle.petal_msg.specs.declared.copying.Copying.{Copying}
-use Rattle.petal_msg.specs.declared.copying.LastCopy.{LastCopy}
-use Rattle.spec_history.specs.Claims.{IsMarked, IsToBeCopied}
-use Rattle.spec_rules.specs.Copies.{begins_copy, cell_at, epochs_beyond}
-use Rattle.spec_rules.specs.Progress.{copying_on, last_copy, progress_on, with_copying}
-use Rattle.spec_rules.specs.Server.{PairState, Pairs}
-use Rattle.spec_rules.specs.State.{id_of}
-use Rattle.spec_rules.specs.Store.{Chain, Store, Stored, chain_in, epochs_of, without_mark_on}
-use Rattle.spec_rules.specs.Writes.{pending_on}
-use Rattle.spec_rules.proofs.CellTables.{cell_apart, cell_same}
-use Rattle.spec_rules.proofs.Tests.{none_some, same_some, some_or_none, true_false}
-use Rattle.law_state.specs.StartedBallots.{is_flagged}
-use Rattle.law_steps.specs.DidHolder.{first_copy}
-use Rattle.law_steps.specs.Ready.{IsRising}
-use Rattle.law_copies.specs.CopyProgress.{AreCopying, AreInOrder, HasPut, HasSent, HasTrimmed, IsCopied, IsCopying, Is_equal, IsFollowed, IsLastCopy}
-use Rattle.law_copies.specs.CopyProgress.{IsLeft, IsPast, IsSent, IsTold, IsTrimming, number_above}
+use Rattle.law_copies.proofs.Imports.{[], ◌+◌, ◌<◌, ◌∙◌, ◌≡◌, ◌≢◌, ◌≤◌, ◌⊎◌, Body, Cell, Chain, Copying, IsMarked, IsRising, IsToBeCopied, LastCopy, LinkRow}
+use Rattle.law_copies.proofs.Imports.{MarkKind, None, Option, PairState, Pairs, Some, Store, Stored, above, ap, arith, begins_copy, cell_apart, cell_at}
+use Rattle.law_copies.proofs.Imports.{cell_same, chain_in, copying_on, epochs_beyond, epochs_of, false, first_copy, id_of, inl, inr, is_flagged, is_some}
+use Rattle.law_copies.proofs.Imports.{last_copy, length, nat_cmp, none_some, pending_on, progress_on, refl, same_some, slice_get, slice_get_within}
+use Rattle.law_copies.proofs.Imports.{some_or_none, subst, sym, true, true_false, with_copying, without_mark_on, ℕ}
+use Rattle.law_copies.specs.CopyProgress.{AreCopying, AreInOrder, HasPut, HasSent, HasTrimmed, IsCopied, IsCopying, Is_equal, IsFollowed, IsLastCopy, IsLeft}
+use Rattle.law_copies.specs.CopyProgress.{IsPast, IsSent, IsTold, IsTrimming, number_above}
 use Rattle.law_copies.specs.LoneSteps.{StaysTold}
 use Rattle.law_copies.proofs.AllPut.{all_put, copied_now, none_left_to_put}
 use Rattle.law_copies.proofs.CopyEpochs.{epoch_at}
 use Rattle.law_copies.proofs.HolderChanges.{HolderStep, alike_by, alike_still, below, holder_copying, holder_told, to_be_copied, trimmed_or}
+use Rattle.petal_msg.specs.declared.body.Body.TheVariants as body
 
 -- the last copy follows where the holder's entries stay, and no more of them is counted as put
 followed_on : (holder to other : PairState) (cell : Cell) (copy next : Copying) (g : IsFollowed holder other cell copy)

@@ -1,21 +1,9 @@
 -- A cell without entries has no chain, whatever a server does.
-use Rattle.std.proofs.Common.{◌≡◌, ◌≢◌, ℕ, true, [], ◌∷◌, Some, ap, sym, ◌∙◌, inl, inr}
-use Rattle.std.specs.Prelude.{is_some, unwrap_or}
-use Rattle.std.specs.Ordering.{nat_cmp}
-use Rattle.petal_base.specs.declared.cell.Cell.{Cell}
-use Rattle.petal_base.specs.declared.cell.Key.{Key}
-use Rattle.petal_base.specs.Cells.{cell_of}
-use Rattle.petal_table.specs.Table.{Table, at, put, without}
-use Rattle.petal_table.proofs.Rows.{at-empty, at_same}
-use Rattle.petal_msg.specs.declared.body.Body.{Body}
-use Rattle.spec_rules.specs.Server.{PairState, JobContext, JobResult}
-use Rattle.spec_rules.specs.Store.{Chain, Store, Stored, cell_cmp, chain_in, chains_at, without_entry}
-use Rattle.spec_rules.proofs.CellTables.{cell_apart, cell_gone, cell_gone_apart, cell_same}
-use Rattle.spec_rules.proofs.Tests.{none_some, same_some, some_or_none, true_false}
-use Rattle.law_steps.specs.Did.{Did}
-use Rattle.law_steps.proofs.OperationsRest.{same_cell_or_apart}
+use Rattle.law_copies.proofs.Imports.{[], ◌∙◌, ◌∷◌, ◌≡◌, ◌≢◌, Body, Cell, Chain, Did, JobContext, JobResult, Key, PairState, Some, Store, Stored, Table, ap}
+use Rattle.law_copies.proofs.Imports.{at, at-empty, at_same, cell_apart, cell_cmp, cell_gone, cell_gone_apart, cell_of, cell_same, chain_in, chains_at}
+use Rattle.law_copies.proofs.Imports.{chains_keep, inl, inr, is_some, nat_cmp, none_some, put, same_cell_or_apart, same_some, some_or_none, sym, true}
+use Rattle.law_copies.proofs.Imports.{true_false, unwrap_or, without, without_entry, ℕ}
 use Rattle.law_copies.specs.LoneSteps.{AreFilled}
-use Rattle.law_jobs.proofs.JobsKeepChains.{chains_keep}
 
 pub no_entries : {A : Type 0} (chain : Chain) (epoch : ℕ) (stored : Stored) → put nat_cmp chain epoch stored ≡ [] → A
 no_entries chain epoch stored none =

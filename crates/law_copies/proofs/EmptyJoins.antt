@@ -1,19 +1,8 @@
 -- Joins with an empty store between a front of the log and the whole of it.
-use Rattle.std.proofs.Common.{◌≡◌, ◌≢◌, ◌≤◌, ◌<◌, ◌++◌, ◌⊎◌, inl, inr, ℕ, Bool, true, List, [], ◌∷◌, length, length-append}
-use Rattle.std.proofs.Common.{refl, sym, ap, ◌∙◌, subst, append_assoc, arith}
-use Rattle.std.specs.Prelude.{drop, slice_get}
-use Rattle.std.proofs.lemmas.List.{append-nil}
-use Rattle.petal_command.specs.declared.command.Command.{Command}
-use Rattle.petal_command.specs.declared.command.Command.TheVariants.{Join}
-use Rattle.spec_history.specs.Claims.{IsPrefix}
+use Rattle.law_copies.proofs.Imports.{[], ◌++◌, ◌<◌, ◌∙◌, ◌∷◌, ◌≡◌, ◌≢◌, ◌≤◌, ◌⊎◌, Bool, Command, HasJoinedSince, In, IsPrefix, Join, List, ap, append-nil}
+use Rattle.law_copies.proofs.Imports.{append_assoc, arith, blank_joins_from, counts_joins, drop, front_itself, front_long, front_more, front_on, front_within}
+use Rattle.law_copies.proofs.Imports.{in_later, inl, inr, length, length-append, one_front, refl, same_some, slice_get, subst, sym, true, ℕ}
 use Rattle.spec_state.specs.State.{start}
-use Rattle.spec_rules.specs.Blanked.{blank_joins_from}
-use Rattle.spec_rules.specs.Lists.{In}
-use Rattle.spec_rules.proofs.ListLemmas.{in_later}
-use Rattle.spec_rules.proofs.Tests.{same_some}
-use Rattle.law_state.specs.Joins.{HasJoinedSince}
-use Rattle.law_state.proofs.BlankJoins.{counts_joins}
-use Rattle.law_steps.proofs.Fronts.{front_itself, front_long, front_more, front_on, front_within, one_front}
 
 -- where more are counted one has acted
 joined_by : (servers : ℕ) (n : ℕ) (front later : List Command) → blank_joins_from (start servers) (front ++ later) n ≢ blank_joins_from (start servers) front n

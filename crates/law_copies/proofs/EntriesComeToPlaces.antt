@@ -1,46 +1,12 @@
 -- An entry that a server applies: of each cell the server comes to a new place with nothing in memory of it, or it stays where it was.
-use Rattle.std.proofs.Common.{◌≡◌, ◌+◌, ◌≤◌, ◌++◌, ℕ, List, [], ◌∷◌, length, true, false}
-use Rattle.std.proofs.Common.{Some, None, refl, sym, ap, ◌∙◌, subst, ◌⊎◌, inl, inr, arith}
-use Rattle.std.specs.Prelude.{option_and_then, unwrap_or}
-use Rattle.global_tables.specs.Link.{other_of}
-use Rattle.global_tables.specs.declared.link.LinkRow.{LinkRow}
-use Rattle.global_tables.specs.declared.link.LinkState.TheVariants.{Both}
-use Rattle.petal_base.specs.declared.cell.Cell.{Cell}
-use Rattle.petal_command.specs.declared.command.Command.{Command}
-use Rattle.petal_command.specs.declared.command.Command.TheVariants.{Caught}
-use Rattle.petal_table.specs.Table.{at}
-use Rattle.petal_msg.specs.declared.copying.LastCopy.{LastCopy}
-use Rattle.petal_msg.specs.declared.operation.Pending.{Pending}
-use Rattle.spec_history.specs.Claims.{IsPrefix}
-use Rattle.spec_state.specs.CellState.{cell_link, row_lead}
-use Rattle.spec_state.specs.Command.{after, state_after}
-use Rattle.spec_state.specs.Place.{touches}
-use Rattle.spec_rules.specs.Crossing.{crossed}
-use Rattle.spec_rules.specs.Lists.{In}
-use Rattle.spec_rules.specs.Progress.{copying_on, last_copy, no_progress}
-use Rattle.spec_rules.specs.Server.{PairState, Pairs}
-use Rattle.spec_rules.specs.State.{State, id_of, is_in, link_cmp, live}
-use Rattle.spec_rules.specs.Store.{cell_cmp}
-use Rattle.spec_rules.specs.World.{chosen_log, server_state}
-use Rattle.spec_rules.specs.Writes.{pending_on}
-use Rattle.spec_rules.proofs.ListLemmas.{in_later}
-use Rattle.spec_rules.proofs.Tests.{by_bool, is_the_one, none_some, same_or_apart, same_some, some_or_none, true_false}
-use Rattle.law_state.specs.Homes.{stage_at}
-use Rattle.law_state.specs.LinkChanges.{IsCaughtBy, By_caught, By_join, By_leave, StaysSo}
-use Rattle.law_state.specs.Plain.{IsPlain, IsPlainLog}
-use Rattle.law_state.specs.StartedBallots.{HasStarted}
-use Rattle.law_state.specs.Steady.{IsSteady}
-use Rattle.law_state.proofs.CaughtsMadeBoth.{left_not_both, left_row}
-use Rattle.law_state.proofs.Ages.{in_once}
-use Rattle.law_state.proofs.CellsByLinkRows.{link_led_by}
-use Rattle.law_state.proofs.GrownStates.{alone_not_both}
-use Rattle.law_state.proofs.Joins.{both_before}
-use Rattle.law_state.proofs.Steady.{front_plain, log_steady}
-use Rattle.law_state.proofs.EntriesTouchLinks.{log_entry_stays, log_touched}
-use Rattle.law_steps.proofs.Fronts.{front_itself, front_more}
-use Rattle.law_steps.proofs.WhoLeads.{live_stage, stage_live}
-use Rattle.law_steps.proofs.HeldBackForCaughts.{held_as_flag}
-use Rattle.law_steps.proofs.CopiesRest.{row_named}
+use Rattle.law_copies.proofs.Imports.{[], ◌++◌, ◌+◌, ◌∙◌, ◌∷◌, ◌≡◌, ◌≤◌, ◌⊎◌, Both, By_caught, By_join, By_leave, Caught, Cell, Command, HasStarted, In}
+use Rattle.law_copies.proofs.Imports.{IsCaughtBy, IsPlain, IsPlainLog, IsPrefix, IsSteady, LastCopy, LinkRow, List, None, PairState, Pairs, Pending, Some}
+use Rattle.law_copies.proofs.Imports.{State, StaysSo, after, alone_not_both, ap, arith, at, both_before, by_bool, cell_cmp, cell_link, chosen_log, copying_on}
+use Rattle.law_copies.proofs.Imports.{crossed, false, front_itself, front_more, front_plain, held_as_flag, id_of, in_later, in_once, inl, inr, is_in}
+use Rattle.law_copies.proofs.Imports.{is_the_one, last_copy, left_not_both, left_row, length, link_cmp, link_led_by, live, live_stage, log_entry_stays}
+use Rattle.law_copies.proofs.Imports.{log_steady, log_touched, no_progress, none_some, option_and_then, other_of, pending_on, refl, row_lead, row_named}
+use Rattle.law_copies.proofs.Imports.{same_or_apart, same_some, server_state, some_or_none, stage_at, stage_live, state_after, subst, sym, touches, true}
+use Rattle.law_copies.proofs.Imports.{true_false, unwrap_or, ℕ}
 use Rattle.law_copies.specs.GoodCopies.{IsUnheard}
 use Rattle.law_copies.specs.Pair.{HaveMarks}
 use Rattle.law_copies.specs.Visits.{AliveIn, IsLinked, place_by, with_stores}
@@ -51,8 +17,8 @@ use Rattle.law_copies.proofs.LeadsFindMarks.{same_have}
 use Rattle.law_copies.proofs.PlacesByFronts.{below_at, linked_alive, place_of_later, place_touched, place_untouched, places_up, rows_later, state_next}
 use Rattle.law_copies.proofs.RolesOfWorkers.{cell_map}
 use Rattle.law_copies.proofs.WorkedCell.{above_none}
-use Rattle.law_copies.proofs.LeftByEntry.{KeepsAll, lives_on, cell_never, link_never}
-use Rattle.law_copies.proofs.LeftByEntry.{touched_fresh, untouched_keeps, left_fresh, left_keeps, left_copied, left_unheard}
+use Rattle.law_copies.proofs.LeftByEntry.{KeepsAll, lives_on, cell_never, link_never, touched_fresh, untouched_keeps, left_fresh, left_keeps, left_copied}
+use Rattle.law_copies.proofs.LeftByEntry.{left_unheard}
 
 -- ### At the server's own places
 

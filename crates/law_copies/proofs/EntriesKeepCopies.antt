@@ -1,61 +1,31 @@
 -- What is kept after an entry that a server applies.
-use Rattle.std.proofs.Common.{◌≡◌, ◌≢◌, ◌≤◌, ◌<◌, ◌+◌, ◌++◌, ◌==◌, ℕ, Bool, List, [], ◌∷◌, length, true, false, Option, Some, None}
-use Rattle.std.proofs.Common.{is_some, refl, sym, ap, ◌∙◌, subst, ◌⊎◌, inl, inr, arith}
-use Rattle.std.specs.Option.{option_map_or}
-use Rattle.std.specs.Ordering.{nat_cmp}
-use Rattle.busy_marks.specs.Marks.{has_mark}
-use Rattle.global_tables.specs.Link.{has_server, other_of}
-use Rattle.global_tables.specs.declared.link.LinkRow.{LinkRow}
-use Rattle.global_tables.specs.declared.link.LinkState.TheVariants.{Both, Only}
-use Rattle.petal_base.specs.declared.cell.Cell.{Cell}
-use Rattle.petal_command.specs.declared.command.Command.{Command}
-use Rattle.petal_table.specs.Table.{at}
-use Rattle.petal_table.proofs.Rows.{at-empty}
-use Rattle.petal_msg.specs.Kinds.{about}
-use Rattle.petal_msg.specs.declared.body.Body.{Body}
-use Rattle.petal_msg.specs.declared.copying.Progress.{Progress}
-use Rattle.petal_msg.specs.declared.letter.Letter.{Letter}
-use Rattle.petal_msg.specs.declared.operation.Pending.{Pending}
-use Rattle.spec_history.specs.Claims.{IsMarked, IsPrefix, IsToBeCopied}
-use Rattle.spec_history.specs.declared.record.Record.{Record}
-use Rattle.spec_state.specs.Command.{state_after}
-use Rattle.spec_state.specs.State.{inc_of}
-use Rattle.spec_rules.specs.Lists.{In}
-use Rattle.spec_rules.specs.Log.{state_in}
-use Rattle.spec_rules.specs.Server.{PairState, Pairs}
-use Rattle.spec_rules.specs.State.{id_of, is_in}
-use Rattle.spec_rules.specs.Store.{Store, cell_cmp, chain_in, mark_on}
-use Rattle.spec_rules.specs.World.{World, chosen_log, server_state}
-use Rattle.spec_rules.specs.Writes.{is_clients, pending_on}
-use Rattle.spec_rules.proofs.Tests.{none_some, same_or_apart, same_some, some_or_none}
-use Rattle.law_state.specs.LinkChanges.{StaysSo}
-use Rattle.law_state.specs.StartedBallots.{is_flagged}
-use Rattle.law_state.proofs.Leaves.{other_between}
-use Rattle.law_state.proofs.Roles.{primary_is_one, secondary_is_one}
-use Rattle.law_state.proofs.Steady.{front_plain, log_steady}
-use Rattle.law_steps.specs.Ready.{IsRising}
+use Rattle.law_copies.proofs.Imports.{[], ◌++◌, ◌+◌, ◌<◌, ◌==◌, ◌∙◌, ◌∷◌, ◌≡◌, ◌≢◌, ◌≤◌, ◌⊎◌, Body, Bool, Both, Cell, Command, In, IsMarked, IsPrefix}
+use Rattle.law_copies.proofs.Imports.{IsRising, IsToBeCopied, Letter, LinkRow, List, None, Only, Option, PairState, Pairs, Pending, Progress, Record, Some}
+use Rattle.law_copies.proofs.Imports.{StaysSo, Store, World, about, ap, arith, at, at-empty, cell_cmp, chain_in, chosen_log, false, front_plain, has_mark}
+use Rattle.law_copies.proofs.Imports.{has_server, id_of, inc_of, inl, inr, is_clients, is_flagged, is_in, is_some, length, log_steady, mark_on, nat_cmp}
+use Rattle.law_copies.proofs.Imports.{none_some, option_map_or, other_between, other_of, pending_on, primary_is_one, refl, same_or_apart, same_some}
+use Rattle.law_copies.proofs.Imports.{secondary_is_one, server_state, some_or_none, state_after, state_in, subst, sym, true, ℕ}
 use Rattle.law_copies.specs.CopyProgress.{AreAlike, AreCopying, IsPage, IsTold, links_of}
 use Rattle.law_copies.specs.GoodCopies.{AloneOk, AreTwins, BothOk, SaidOk, StaysLeft, pair_at}
 use Rattle.law_copies.specs.Pair.{IsRecalled, Known, PairOk, far, pair_of}
 use Rattle.law_copies.specs.LoneSteps.{AreFilled}
 use Rattle.law_copies.specs.Visits.{AliveIn, IsLinked, half, place_by, with_stores}
-use Rattle.law_copies.proofs.VisitsAfterSteps.{then_of}
+use Rattle.law_copies.proofs.VisitsAfterSteps.{then_of, IsAt, IsThen, KeepsFlags, counted_up, none_before, some_after, stored_by, visited_apart, visited_by}
 use Rattle.law_copies.proofs.AtEntry.{AtEntry, step_of}
 use Rattle.law_copies.proofs.BlankJoinsMakePlaces.{joins_at}
-use Rattle.law_copies.proofs.EntriesComeToPlaces as entering
 use Rattle.law_copies.proofs.LeftByEntry.{KeepsAll}
-use Rattle.law_copies.proofs.FramesKeepFronts.{LeavesStore, alike_same, filled_framed, marked_back, marked_on, other_is_one, pair_same, recalled_on, to_copy_on}
-use Rattle.law_copies.proofs.NewcomersRememberNothing.{IsFresh, fresh_alike, fresh_first, fresh_first_known, fresh_holder, fresh_holder_told}
-use Rattle.law_copies.proofs.NewcomersRememberNothing.{fresh_other, fresh_other_told, fresh_second}
+use Rattle.law_copies.proofs.FramesKeepFronts.{LeavesStore, alike_same, filled_framed, marked_back, marked_on, other_is_one, pair_same, recalled_on}
+use Rattle.law_copies.proofs.FramesKeepFronts.{to_copy_on}
+use Rattle.law_copies.proofs.NewcomersRememberNothing.{IsFresh, fresh_alike, fresh_first, fresh_first_known, fresh_holder, fresh_holder_told, fresh_other}
+use Rattle.law_copies.proofs.NewcomersRememberNothing.{fresh_other_told, fresh_second}
 use Rattle.law_copies.proofs.NewPlaces.{half_store}
 use Rattle.law_copies.proofs.ServedAtLaterFronts.{holder_is_one}
 use Rattle.law_copies.proofs.OtherIsNotHolder.{other_apart}
 use Rattle.law_copies.proofs.PlacesByFronts.{one_row}
 use Rattle.law_copies.proofs.StepsLeaveCopies.{stores_leave}
 use Rattle.law_copies.proofs.StepsKeepCopies.{GoesOn, IsSoundOwn, IsTrue, KeepsFronts, good_after}
-use Rattle.law_copies.proofs.VisitsAfterSteps.{IsAt, IsThen, KeepsFlags, counted_up, none_before, some_after}
-use Rattle.law_copies.proofs.VisitsAfterSteps.{stored_by, visited_apart, visited_by}
 use Rattle.law_copies.proofs.UnchangedCells.{holder_stays, other_stays, stays_alike, IsLacking, PairGoes, goes_same}
+use Rattle.law_copies.proofs.EntriesComeToPlaces as entering
 
 module _ (it : AtEntry) where
   open it use {setting, records, w, stores, v, k, server, good, step, left, inc, counts}

@@ -1,20 +1,7 @@
 -- The epochs of each chain rise, whatever a server does.
-use Rattle.std.proofs.Common.{ℕ, [], ◌∷◌, ap, sym, ◌∙◌, subst, inl, inr}
-use Rattle.std.specs.Cmp.{nat_cmp_total}
-use Rattle.std.specs.Ordering.{nat_cmp}
-use Rattle.petal_base.specs.declared.cell.Cell.{Cell}
-use Rattle.petal_base.specs.declared.cell.Key.{Key}
-use Rattle.petal_base.specs.Cells.{cell_of}
-use Rattle.petal_table.specs.Table.{Table, put, without}
-use Rattle.petal_msg.specs.declared.body.Body.{Body}
-use Rattle.spec_rules.specs.Server.{PairState, JobContext, JobResult}
-use Rattle.spec_rules.specs.Store.{Chain, Store, Stored, cell_cmp, chain_in, chains_at, without_entry}
-use Rattle.law_steps.specs.Ready.{IsRising}
-use Rattle.law_steps.specs.Did.{Did}
-use Rattle.law_steps.proofs.OperationsRest.{same_cell_or_apart}
-use Rattle.law_steps.proofs.TablesOfPuts.{put_rises, without_rises}
-use Rattle.law_jobs.proofs.ChainsApart.{chain_put, chain_apart, gone_chain, gone_apart}
-use Rattle.law_jobs.proofs.JobsKeepChains.{chains_keep}
+use Rattle.law_copies.proofs.Imports.{[], ◌∙◌, ◌∷◌, Body, Cell, Chain, Did, IsRising, JobContext, JobResult, Key, PairState, Store, Stored, Table, ap}
+use Rattle.law_copies.proofs.Imports.{cell_cmp, cell_of, chain_apart, chain_in, chain_put, chains_at, chains_keep, gone_apart, gone_chain, inl, inr, nat_cmp}
+use Rattle.law_copies.proofs.Imports.{nat_cmp_total, put, put_rises, same_cell_or_apart, subst, sym, without, without_entry, without_rises, ℕ}
 
 -- each chain rises
 abbrev pub AreRising : Table Cell Chain → Type 0

@@ -1,36 +1,17 @@
 -- A job leaves a cell whose link the server is not of, or that has no link.
-use Rattle.std.proofs.Common.{◌≡◌, ◌<◌, ◌⊎◌, ℕ, true, false, Option, Some, None, refl, sym, ap, ◌∙◌, subst, inl, inr, arith}
-use Rattle.std.specs.Prelude.{option_and_then}
-use Rattle.global_tables.specs.Link.{has_server, other_of}
-use Rattle.global_tables.specs.declared.link.LinkRow.{LinkRow}
-use Rattle.global_tables.specs.declared.link.LinkState.TheVariants.{Both, Lost}
-use Rattle.petal_base.specs.declared.cell.Cell.{Cell}
-use Rattle.petal_msg.specs.declared.body.Body.{Body}
-use Rattle.spec_state.specs.CellState.{cell_link, row_lead}
-use Rattle.spec_state.specs.Command.{is_alone}
-use Rattle.spec_rules.specs.Copies.{cell_holder}
-use Rattle.spec_rules.specs.Server.{PairState, JobContext, JobResult}
-use Rattle.spec_rules.specs.State.{holder_of, is_second, leads_link, live, second}
-use Rattle.spec_rules.proofs.Tests.{by_bool, is_the_one, none_some, same_some, true_false}
-use Rattle.law_state.specs.Homes.{stage_at}
-use Rattle.law_state.specs.LinkRows.{ByBoth, ByNone, ByOne}
-use Rattle.law_state.specs.Steady.{IsLinked, IsSteady}
-use Rattle.law_state.proofs.LoneHolders.{IsBothRow}
-use Rattle.law_state.proofs.CellsByLinkRows.{IsInBoth, IsHeldBy as IsHeld, dead_second, link_led_by, second_by}
-use Rattle.law_state.proofs.Roles.{primary_is_one, secondary_is_one}
-use Rattle.law_steps.specs.DidLead.{DidLead}
-use Rattle.law_steps.specs.DidOther.{DidOther}
-use Rattle.law_steps.specs.DidSecond.{DidSecond}
-use Rattle.law_steps.specs.DidHolder.{DidHolder, Asks_page, Turns_page, Begins_copy, Goes_on_copying, Finds_it_full, Tidies}
-use Rattle.law_steps.specs.Did.{Did, Ignores, Refuses, By_read, By_lead, By_second, By_holder, By_other, By_filler, By_sweep}
-use Rattle.law_steps.proofs.WhoLeads.{live_stage}
-use Rattle.law_steps.proofs.Subjects.{of_read}
+use Rattle.law_copies.proofs.Imports.{◌<◌, ◌∙◌, ◌≡◌, ◌⊎◌, Asks_page, Begins_copy, Body, Both, ByBoth, ByNone, ByOne, By_filler, By_holder, By_lead, By_other}
+use Rattle.law_copies.proofs.Imports.{By_read, By_second, By_sweep, Cell, Did, DidHolder, DidLead, DidOther, DidSecond, Finds_it_full, Goes_on_copying}
+use Rattle.law_copies.proofs.Imports.{Ignores, IsBothRow, IsHeld, IsInBoth, IsLinked, IsSteady, JobContext, JobResult, LinkRow, Lost, None, Option, PairState}
+use Rattle.law_copies.proofs.Imports.{Refuses, Some, Tidies, Turns_page, ap, arith, by_bool, cell_holder, cell_link, dead_second, false, has_server}
+use Rattle.law_copies.proofs.Imports.{holder_of, inl, inr, is_alone, is_second, is_the_one, leads_link, link_led_by, live, live_stage, none_some, of_read}
+use Rattle.law_copies.proofs.Imports.{option_and_then, other_of, primary_is_one, refl, row_lead, same_some, second, second_by, secondary_is_one, stage_at}
+use Rattle.law_copies.proofs.Imports.{subst, sym, true, true_false, ℕ}
 use Rattle.law_copies.specs.LoneSteps.{IsBare, IsFit, IsNotOf, KeepsCell, KeepsRest}
 use Rattle.law_copies.proofs.OwnPartFrames.{keeps_itself}
-use Rattle.law_copies.proofs.RolesOfWorkers.{IsHeldHere, alone_both, begun_held, copying_held, holder_lives, holder_works, not_both, only_alone}
-use Rattle.law_copies.proofs.RolesOfWorkers.{other_alone, other_lives, other_row, page_held, taken_held}
-use Rattle.law_copies.proofs.WorkedCell.{Away, IsHeldBy, IsLedHere, IsSo, filler_beside, holder_beside, holder_cell, lead_beside, lead_cell, lead_leads, led_alive}
-use Rattle.law_copies.proofs.WorkedCell.{other_beside, other_cell, other_held, page_cell, second_beside, second_cell, second_follows, sweep_beside}
+use Rattle.law_copies.proofs.RolesOfWorkers.{IsHeldHere, alone_both, begun_held, copying_held, holder_lives, holder_works, not_both, only_alone, other_alone}
+use Rattle.law_copies.proofs.RolesOfWorkers.{other_lives, other_row, page_held, taken_held}
+use Rattle.law_copies.proofs.WorkedCell.{Away, IsHeldBy, IsLedHere, IsSo, filler_beside, holder_beside, holder_cell, lead_beside, lead_cell, lead_leads}
+use Rattle.law_copies.proofs.WorkedCell.{led_alive, other_beside, other_cell, other_held, page_cell, second_beside, second_cell, second_follows, sweep_beside}
 
 pub away : (P : Cell → Type 0) (q : Cell) → (P q → ⊥) → (o : Option Cell) → IsSo P o → Away q o
 away P q not_so None so = tt

@@ -1,31 +1,17 @@
 -- What is kept at a front where a step leaves the cell as it is at both servers of the link: what they were at the place, and their
 -- stores' chain and marks.
-use Rattle.std.proofs.Common.{◌≡◌, ◌≤◌, ◌+◌, ◌==◌, ◌⊎◌, ℕ, Bool, List, [], true, Option, Some, None, is_some, refl, sym, ap, ◌∙◌, subst, inl, inr, arith}
-use Rattle.std.specs.Ordering.{nat_cmp}
-use Rattle.busy_marks.specs.declared.marks.MarkKind.{MarkKind}
-use Rattle.busy_marks.specs.declared.marks.MarkKind.TheVariants.{Busy, Stale}
-use Rattle.global_tables.specs.Link.{has_server, other_of}
-use Rattle.global_tables.specs.declared.link.LinkRow.{LinkRow}
-use Rattle.global_tables.specs.declared.link.LinkState.TheVariants.{Only}
-use Rattle.petal_base.specs.declared.cell.Cell.{Cell}
-use Rattle.petal_command.specs.declared.command.Command.{Command}
-use Rattle.petal_table.specs.Table.{at}
-use Rattle.petal_msg.specs.declared.body.Body.{Body}
-use Rattle.petal_msg.specs.declared.operation.Pending.{Pending}
-use Rattle.spec_history.specs.Claims.{IsMarked, IsToBeCopied}
-use Rattle.spec_state.specs.Command.{state_after}
-use Rattle.spec_rules.specs.Server.{PairState, no_pairs}
-use Rattle.spec_rules.specs.Store.{Store, cell_cmp, chain_in, is_marked}
-use Rattle.spec_rules.proofs.Tests.{by_test, none_some, some_or_none}
-use Rattle.law_state.proofs.Roles.{primary_is_one, secondary_is_one}
-use Rattle.law_copies.specs.CopyProgress.{AreAlike, AreCopying, IsCovered, IsPage, IsTold, links_of, Is_equal, Is_marked_here, Is_marked_there, Is_to_be_copied}
+use Rattle.law_copies.proofs.Imports.{[], ◌+◌, ◌==◌, ◌∙◌, ◌≡◌, ◌≤◌, ◌⊎◌, Body, Bool, Busy, Cell, Command, IsMarked, IsToBeCopied, LinkRow, List, MarkKind}
+use Rattle.law_copies.proofs.Imports.{None, Only, Option, PairState, Pending, Some, Stale, Store, ap, arith, at, by_test, cell_cmp, chain_in, has_server, inl}
+use Rattle.law_copies.proofs.Imports.{inr, is_marked, is_some, nat_cmp, no_pairs, none_some, other_of, primary_is_one, refl, secondary_is_one, some_or_none}
+use Rattle.law_copies.proofs.Imports.{state_after, subst, sym, true, ℕ}
+use Rattle.law_copies.specs.CopyProgress.{AreAlike, AreCopying, IsCovered, IsPage, IsTold, links_of, Is_equal, Is_marked_here, Is_marked_there}
+use Rattle.law_copies.specs.CopyProgress.{Is_to_be_copied}
 use Rattle.law_copies.specs.GoodCopies.{AloneOk, AreBeside, AreTwins, BothOk, SaidOk, pair_at}
 use Rattle.law_copies.specs.Pair.{IsRecalled, Known, PairOk, far, pair_of}
 use Rattle.law_copies.specs.Visits.{AliveIn, HasFilled, half, place_by}
 use Rattle.law_copies.proofs.PlacesByFronts.{has_filled_on}
-use Rattle.law_copies.proofs.VisitsAfterSteps.{then_of}
+use Rattle.law_copies.proofs.VisitsAfterSteps.{then_of, counted_up, none_before}
 use Rattle.law_copies.proofs.AtStep.{AtStep}
-use Rattle.law_copies.proofs.VisitsAfterSteps.{counted_up, none_before}
 
 -- ### Stores
 

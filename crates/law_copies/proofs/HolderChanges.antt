@@ -1,28 +1,14 @@
 -- What each change at the holder of a link keeps of one of the link's cells.
-use Rattle.std.proofs.Common.{◌≡◌, ◌≢◌, ◌≤◌, ◌<◌, ◌+◌, ◌⊎◌, ℕ, true, false, List, [], length, Option, Some, None, refl, sym, ap, ◌∙◌, subst, inl, inr, arith}
-use Rattle.std.specs.Prelude.{is_some, slice_get}
-use Rattle.std.specs.Ordering.{nat_cmp}
-use Rattle.busy_marks.specs.Marks.{above}
-use Rattle.global_tables.specs.declared.link.LinkRow.{LinkRow}
-use Rattle.petal_base.specs.declared.cell.Cell.{Cell}
-use Rattle.petal_msg.specs.declared.body.Body.{Body}
-use Rattle.petal_msg.specs.declared.body.Body.TheVariants as body
-use Rattle.petal_msg.specs.declared.copying.Copying.{Copying}
-use Rattle.petal_msg.specs.declared.copying.LastCopy.{LastCopy}
-use Rattle.spec_history.specs.Claims.{IsMarked, IsToBeCopied}
-use Rattle.spec_rules.specs.Copies.{epochs_beyond}
-use Rattle.spec_rules.specs.Progress.{copying_on, last_copy, progress_on}
-use Rattle.spec_rules.specs.Server.{PairState}
-use Rattle.spec_rules.specs.State.{id_of}
-use Rattle.spec_rules.specs.Store.{Chain, Store, Stored, chain_in, epochs_of}
-use Rattle.spec_rules.specs.Writes.{pending_on}
-use Rattle.spec_rules.proofs.Tests.{same_some}
-use Rattle.law_state.specs.StartedBallots.{is_flagged}
-use Rattle.law_steps.specs.Ready.{IsRising}
-use Rattle.law_copies.specs.CopyProgress.{AreAlike, AreCopying, AreInOrder, HasPage, HasSent, IsCaught, IsCopied, IsCopying, IsCovered, Is_equal, Is_marked_here}
-use Rattle.law_copies.specs.CopyProgress.{Is_marked_there, Is_to_be_copied, IsLastCopy, IsLeft, IsPast, IsSent, IsTold, IsTrimming, NotCopied, number_above}
+use Rattle.law_copies.proofs.Imports.{[], ◌+◌, ◌<◌, ◌∙◌, ◌≡◌, ◌≢◌, ◌≤◌, ◌⊎◌, Body, Cell, Chain, Copying, IsMarked, IsRising, IsToBeCopied, LastCopy, LinkRow}
+use Rattle.law_copies.proofs.Imports.{List, None, Option, PairState, Some, Store, Stored, above, ap, arith, chain_in, copying_on, epochs_beyond, epochs_of}
+use Rattle.law_copies.proofs.Imports.{false, id_of, inl, inr, is_flagged, is_some, last_copy, length, nat_cmp, pending_on, progress_on, refl, same_some}
+use Rattle.law_copies.proofs.Imports.{slice_get, subst, sym, true, ℕ}
+use Rattle.law_copies.specs.CopyProgress.{AreAlike, AreCopying, AreInOrder, HasPage, HasSent, IsCaught, IsCopied, IsCopying, IsCovered, Is_equal}
+use Rattle.law_copies.specs.CopyProgress.{Is_marked_here, Is_marked_there, Is_to_be_copied, IsLastCopy, IsLeft, IsPast, IsSent, IsTold, IsTrimming, NotCopied}
+use Rattle.law_copies.specs.CopyProgress.{number_above}
 use Rattle.law_copies.specs.LoneSteps.{IsStill, PagesOf, StaysTold}
 use Rattle.law_copies.proofs.AllPut.{all_put, none_left_to_put}
+use Rattle.petal_msg.specs.declared.body.Body.TheVariants as body
 
 -- ### What is to show
 

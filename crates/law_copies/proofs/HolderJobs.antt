@@ -1,60 +1,32 @@
 -- Each job of the holder of a link keeps a cell of it.
-use Rattle.std.proofs.Common.{◌≡◌, ◌≢◌, ◌≤◌, ◌<◌, ◌+◌, ℕ, true, false, length, Option, Some, None, refl, sym, ap, ◌∙◌, subst, inl, inr, arith}
-use Rattle.std.specs.Ordering.{eq_by_cmp}
-use Rattle.busy_marks.specs.Marks.{above}
-use Rattle.busy_marks.specs.declared.marks.MarkKind.TheVariants.{Stale}
-use Rattle.global_tables.specs.Region.{link_of}
-use Rattle.global_tables.specs.declared.link.LinkRow.{LinkRow}
-use Rattle.global_tables.specs.declared.link.LinkState.TheVariants.{Both}
-use Rattle.petal_base.specs.declared.cell.Cell.{Cell}
-use Rattle.petal_base.specs.Cells.{key_at}
-use Rattle.petal_table.specs.Table.{at}
-use Rattle.petal_msg.specs.Kinds.{about, subject_of}
-use Rattle.petal_msg.specs.declared.body.Body.{Body}
-use Rattle.petal_msg.specs.declared.body.Body.TheVariants as body
-use Rattle.petal_msg.specs.declared.copying.Copying.{Copying}
-use Rattle.petal_msg.specs.declared.copying.LastCopy.{LastCopy}
-use Rattle.petal_msg.specs.declared.copying.LinkId.{LinkId}
-use Rattle.petal_msg.specs.declared.copying.Progress.{Progress}
-use Rattle.spec_state.specs.CellState.{cell_link}
-use Rattle.spec_rules.specs.Copies.{begins_copy, cell_at, closes, idle_mark, same_block, turns_page as turned, with_copied, with_page}
-use Rattle.spec_rules.specs.Lists.{In}
-use Rattle.spec_rules.specs.Progress.{copying_on, progress_on, with_copying, with_full, with_last_copy, without_copying}
-use Rattle.spec_rules.specs.Server.{PairState, Copies, Pairs, JobContext, Post, JobResult, silent}
-use Rattle.spec_rules.specs.State.{id_of, is_second, link_cmp, link_named}
-use Rattle.spec_rules.specs.Store.{cell_cmp, chain_in, epochs_of, with_mark_on}
-use Rattle.spec_rules.proofs.CellTables.{cell_gone, cell_gone_apart, cell_same}
-use Rattle.spec_rules.proofs.Tests.{by_bool, same_some, some_or_none, true_false}
-use Rattle.law_log.proofs.BallotFlags.{progress_beside, same_id}
-use Rattle.law_steps.specs.DidHolder.{DidHolder, CopyStep, Asks_to_trim, Sends, Unmarks_copied, Closes_copy, TakenCopy, Copy_as_is, Copy_trimmed, Copy_synced}
-use Rattle.law_steps.specs.DidHolder.{Asks_page, Turns_page, Begins_copy, Goes_on_copying, Finds_it_full, Tidies, IsHeldWith, first_copy}
-use Rattle.law_steps.specs.DidOther.{DidOther, first_last, TrimStep, Is_trimmed, Drops_entry, Is_copied_to}
-use Rattle.law_steps.specs.DidOther.{Goes_on_trimming}
-use Rattle.law_steps.specs.DidSecond.{DidSecond}
-use Rattle.law_steps.specs.Did.{Did, Ignores, Refuses, By_read, By_lead, By_second, By_holder, By_other, By_filler, By_sweep}
-use Rattle.law_steps.proofs.CopyFrames.{of_holder, of_other}
-use Rattle.law_steps.proofs.Letters.{one_post, posted}
-use Rattle.law_steps.proofs.OperationsRest.{same_cell_or_apart}
-use Rattle.law_steps.proofs.Subjects.{of_filler, of_read, of_second, of_sweep}
+use Rattle.law_copies.proofs.Imports.{◌+◌, ◌<◌, ◌∙◌, ◌≡◌, ◌≢◌, ◌≤◌, Asks_page, Asks_to_trim, Begins_copy, Body, Both, By_filler, By_holder, By_lead, By_other}
+use Rattle.law_copies.proofs.Imports.{By_read, By_second, By_sweep, Cell, Closes_copy, Copies, CopyStep, Copy_as_is, Copy_synced, Copy_trimmed, Copying, Did}
+use Rattle.law_copies.proofs.Imports.{DidHolder, DidOther, DidSecond, Drops_entry, Finds_it_full, Goes_on_copying, Goes_on_trimming, Ignores, In, IsHeldWith}
+use Rattle.law_copies.proofs.Imports.{Is_copied_to, Is_trimmed, JobContext, JobResult, LastCopy, LinkId, LinkRow, None, Option, PairState, Pairs, Post}
+use Rattle.law_copies.proofs.Imports.{Progress, Refuses, Sends, Some, Stale, TakenCopy, Tidies, TrimStep, Turns_page, Unmarks_copied, about, above, ap, arith}
+use Rattle.law_copies.proofs.Imports.{at, begins_copy, by_bool, cell_at, cell_cmp, cell_gone, cell_gone_apart, cell_link, cell_same, chain_in, closed_pairs}
+use Rattle.law_copies.proofs.Imports.{closed_store, closes, copying_on, epochs_of, eq_by_cmp, false, first_copy, first_last, id_of, idle_mark, inl, inr}
+use Rattle.law_copies.proofs.Imports.{is_second, key_at, length, link_cmp, link_named, link_of, none_in, of_filler, of_holder, of_other, of_read, of_second}
+use Rattle.law_copies.proofs.Imports.{of_sweep, one_post, posted, progress_beside, progress_on, refl, same_block, same_cell_or_apart, same_id, same_some}
+use Rattle.law_copies.proofs.Imports.{silent, some_or_none, subject_of, subst, sym, true, true_false, turned, with_copied, with_copying, with_full}
+use Rattle.law_copies.proofs.Imports.{with_last_copy, with_mark_on, with_page, without_copying, ℕ}
 use Rattle.law_copies.specs.CopyProgress.{AreCopying, IsLeft, IsTold}
 use Rattle.law_copies.specs.LoneSteps.{HolderKeeps, IsHolding, KeepsCell}
 use Rattle.law_copies.proofs.ForeignCellsStay.{away}
 use Rattle.law_copies.proofs.BlocksOnLinks.{on_block}
-use Rattle.law_jobs.proofs.ChainsApart.{closed_pairs, closed_store}
-use Rattle.law_copies.proofs.CopyMoves as moves
 use Rattle.law_copies.proofs.EmptyCellsHaveNoChain.{has_entry}
 use Rattle.law_copies.proofs.OwnPartFrames.{copied_alike, copying_beside, keeps_itself}
-use Rattle.law_copies.proofs.HolderSteps as steps
 use Rattle.law_copies.proofs.HolderChanges.{HolderStep, step_on}
 use Rattle.law_copies.proofs.LeftToCopy.{IsNext, next_is}
 use Rattle.law_copies.proofs.CopiesGoOn.{IsOnward, begun_onward, closed_onward, copied_itself, ended_onward, going_onward, onward_by, onward_tables}
 use Rattle.law_copies.proofs.HolderPace.{IsPaced, link_itself, paced_beside, paced_copied}
-use Rattle.law_jobs.proofs.JobsSay.{none_in}
 use Rattle.law_copies.proofs.CopyLetters.{at_away, filling_not, holder_says, other_says, paired_not, read_not, refused_not, untold}
-use Rattle.law_copies.proofs.RolesOfWorkers.{alone_not_row, alone_not_second, cell_map, holder_not_other, idle_on}
-use Rattle.law_copies.proofs.RolesOfWorkers.{kept_lives, named_id, one_named, page_on}
-use Rattle.law_copies.proofs.WorkedCell.{Away, IsHeldBy, copy_step_beside, filler_beside, holder_beside, holder_cell, other_beside}
-use Rattle.law_copies.proofs.WorkedCell.{other_cell, other_held, page_cell, second_beside, second_follows, sweep_beside}
+use Rattle.law_copies.proofs.RolesOfWorkers.{alone_not_row, alone_not_second, cell_map, holder_not_other, idle_on, kept_lives, named_id, one_named, page_on}
+use Rattle.law_copies.proofs.WorkedCell.{Away, IsHeldBy, copy_step_beside, filler_beside, holder_beside, holder_cell, other_beside, other_cell, other_held}
+use Rattle.law_copies.proofs.WorkedCell.{page_cell, second_beside, second_follows, sweep_beside}
+use Rattle.petal_msg.specs.declared.body.Body.TheVariants as body
+use Rattle.law_copies.proofs.CopyMoves as moves
+use Rattle.law_copies.proofs.HolderSteps as steps
 use Rattle.law_copies.proofs.HolderWrites as writes
 
 module _ (heard : Body → Type 0) (here : JobContext) (links : ℕ) (row : LinkRow) (vo : Option PairState) (own : PairState) where

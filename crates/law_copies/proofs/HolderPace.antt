@@ -1,26 +1,9 @@
 -- How far a holder is with a link: what stays so, and what a page changes.
-use Rattle.std.proofs.Common.{◌≡◌, ℕ, true, false, Option, Some, None, refl, sym, ap, ◌∙◌, inl, inr}
-use Rattle.std.specs.Prelude.{unwrap_or}
-use Rattle.std.specs.Option.{option_map_or}
-use Rattle.std.specs.Cmp.{nat_cmp_total, tied_itself}
-use Rattle.std.specs.Ordering.{eq_by_cmp, is_eq, nat_cmp, ordering_then}
-use Rattle.busy_marks.specs.Marks.{above}
-use Rattle.busy_marks.specs.declared.marks.MarkKind.TheVariants.{Busy, Stale}
-use Rattle.global_tables.specs.declared.link.LinkRow.{LinkRow}
-use Rattle.petal_base.specs.declared.cell.Cell.{Cell}
-use Rattle.petal_msg.specs.declared.copying.LinkId.{LinkId}
-use Rattle.petal_msg.specs.declared.copying.Progress.{Progress}
-use Rattle.petal_table.specs.Table.{Table, at}
-use Rattle.spec_history.specs.Claims.{IsMarked}
-use Rattle.spec_rules.specs.Copies.{cell_at, same_block, with_copied, with_page}
-use Rattle.spec_rules.specs.Progress.{no_progress, progress_on, with_progress}
-use Rattle.spec_rules.specs.Server.{PairState}
-use Rattle.spec_rules.specs.State.{id_of, link_cmp}
-use Rattle.spec_rules.specs.Store.{with_mark_on}
-use Rattle.spec_rules.proofs.Tests.{by_bool, by_test, same_numbers, true_false}
-use Rattle.law_state.specs.StartedBallots.{is_flagged}
-use Rattle.law_log.proofs.BallotFlags.{progress_beside, progress_here, same_caught, same_id}
-use Rattle.law_jobs.proofs.MarksApart.{mark_kept}
+use Rattle.law_copies.proofs.Imports.{◌∙◌, ◌≡◌, Busy, Cell, IsMarked, LinkId, LinkRow, None, Option, PairState, Progress, Some, Stale, Table, above, ap, at}
+use Rattle.law_copies.proofs.Imports.{by_bool, by_test, cell_at, eq_by_cmp, false, id_of, inl, inr, is_eq, is_flagged, link_cmp, mark_kept, nat_cmp}
+use Rattle.law_copies.proofs.Imports.{nat_cmp_total, no_progress, option_map_or, ordering_then, progress_beside, progress_here, progress_on, refl, same_block}
+use Rattle.law_copies.proofs.Imports.{same_caught, same_id, same_numbers, sym, tied_itself, true, true_false, unwrap_or, with_copied, with_mark_on, with_page}
+use Rattle.law_copies.proofs.Imports.{with_progress, ℕ}
 
 -- pages and the ballot are as they were
 pub record IsPaced (row : LinkRow) (own to : PairState) : Type 0 where

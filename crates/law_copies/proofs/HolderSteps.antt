@@ -1,38 +1,17 @@
 -- The changes of a holder that are of no copy: of other cells, of a write of its own on the cell, of a page, and of a ballot.
-use Rattle.std.proofs.Common.{◌≡◌, ◌≢◌, ◌≤◌, ◌<◌, ◌⊎◌, ℕ, true, false, [], length, Option, Some, None, refl, sym, ap, ◌∙◌, subst, inl, inr, arith}
-use Rattle.std.specs.Prelude.{is_some, nat_lt, unwrap_or}
-use Rattle.std.specs.Ordering.{nat_cmp}
-use Rattle.std.proofs.lemmas.Bool.Decides.{nat_tests}
-use Rattle.busy_marks.specs.Marks.{above}
-use Rattle.busy_marks.specs.declared.marks.MarkKind.{MarkKind}
-use Rattle.busy_marks.specs.declared.marks.MarkKind.TheVariants.{Busy, Stale}
-use Rattle.global_tables.specs.Region.{link_of}
-use Rattle.global_tables.specs.declared.link.LinkRow.{LinkRow}
-use Rattle.petal_base.specs.declared.cell.Cell.{Cell}
-use Rattle.petal_msg.specs.declared.body.Body.{Body}
-use Rattle.petal_msg.specs.declared.body.Body.TheVariants as body
-use Rattle.petal_msg.specs.declared.operation.Pending.{Pending}
-use Rattle.petal_msg.specs.declared.copying.Progress.{Progress}
-use Rattle.petal_table.specs.Table.{at}
-use Rattle.spec_history.specs.Claims.{IsMarked}
-use Rattle.spec_rules.specs.Copies.{cell_at, same_block, with_page}
-use Rattle.spec_rules.specs.Progress.{copying_on, no_progress, progress_on}
-use Rattle.spec_rules.specs.Server.{PairState, Copies}
-use Rattle.spec_rules.specs.State.{id_of, link_cmp}
-use Rattle.spec_rules.specs.Store.{Chain, Store, cell_cmp, chain_in, is_marked, with_mark_on}
-use Rattle.spec_rules.specs.Writes.{pending_on}
-use Rattle.spec_rules.proofs.Tests.{by_bool, none_some, same_or_apart, some_or_none, true_false}
-use Rattle.law_state.specs.StartedBallots.{is_flagged}
-use Rattle.law_steps.specs.Ready.{IsRising}
-use Rattle.law_copies.specs.CopyProgress.{AreCopying, AreInOrder, IsCopied, IsCovered, Is_equal, Is_marked_here, Is_marked_there}
-use Rattle.law_copies.specs.CopyProgress.{Is_to_be_copied, IsLeft, IsPage, NotCopied}
+use Rattle.law_copies.proofs.Imports.{[], ◌<◌, ◌∙◌, ◌≡◌, ◌≢◌, ◌≤◌, ◌⊎◌, Body, Busy, Cell, Chain, Copies, IsMarked, IsRising, LinkRow, MarkKind, None, Option}
+use Rattle.law_copies.proofs.Imports.{PairState, Pending, Progress, Some, Stale, Store, above, ap, arith, at, by_bool, cell_at, cell_cmp, chain_in}
+use Rattle.law_copies.proofs.Imports.{copying_on, false, id_of, inl, inr, is_flagged, is_marked, is_some, length, link_cmp, link_of, mark_there, nat_cmp}
+use Rattle.law_copies.proofs.Imports.{nat_lt, nat_tests, no_progress, none_some, page_chains, pending_on, progress_on, refl, same_block, same_or_apart}
+use Rattle.law_copies.proofs.Imports.{some_or_none, subst, sym, true, true_false, unwrap_or, with_mark_on, with_page, ℕ}
+use Rattle.law_copies.specs.CopyProgress.{AreCopying, AreInOrder, IsCopied, IsCovered, Is_equal, Is_marked_here, Is_marked_there, Is_to_be_copied, IsLeft}
+use Rattle.law_copies.specs.CopyProgress.{IsPage, NotCopied}
 use Rattle.law_copies.specs.LoneSteps.{IsStill, KeepsCell}
 use Rattle.law_copies.proofs.AllPut.{copied_now}
-use Rattle.law_jobs.proofs.ChainsApart.{page_chains}
 use Rattle.law_copies.proofs.HolderChanges.{HolderStep, IsUntouched, calm_step, covers, to_be_copied}
-use Rattle.law_jobs.proofs.MarksApart.{mark_there}
 use Rattle.law_copies.proofs.CopiesGoOn.{IsOnward, onward_tables}
 use Rattle.law_copies.proofs.HolderPace.{IsPaced, paced_table, page_flag, page_marks, progress_itself, same_block_is}
+use Rattle.petal_msg.specs.declared.body.Body.TheVariants as body
 
 module _ (heard : Body → Type 0) {links : ℕ} {row : LinkRow} {cell : Cell} {vo : Option PairState} {own : PairState}
     (old : AreCopying links row cell (Some own) vo) where

@@ -1,55 +1,28 @@
 -- Each write of the holder of a link keeps a cell of it.
-use Rattle.std.proofs.Common.{◌≡◌, ◌≢◌, ◌≤◌, ◌+◌, ◌⊎◌, ℕ, true, false, [], Option, Some, None, refl, sym, ap, ◌∙◌, subst, inl, inr, arith}
-use Rattle.std.specs.Prelude.{slice_get}
-use Rattle.std.specs.Ordering.{nat_cmp}
-use Rattle.busy_marks.specs.declared.marks.MarkKind.TheVariants.{Busy, Stale}
-use Rattle.global_tables.specs.declared.link.LinkRow.{LinkRow}
-use Rattle.petal_base.specs.declared.cell.Cell.{Cell}
-use Rattle.petal_base.specs.Cells.{cell_of, key_at}
-use Rattle.petal_table.specs.Table.{at}
-use Rattle.petal_msg.specs.Kinds.{about, subject_of}
-use Rattle.petal_msg.specs.declared.body.Body.{Body}
-use Rattle.petal_msg.specs.declared.body.Body.TheVariants as body
-use Rattle.petal_msg.specs.declared.operation.Action.TheVariants as action
-use Rattle.petal_msg.specs.declared.operation.Ending.TheVariants as ending
-use Rattle.petal_msg.specs.declared.operation.Pending.{Pending}
-use Rattle.spec_state.specs.Command.{is_alone}
-use Rattle.spec_history.specs.Claims.{IsMarked}
-use Rattle.spec_rules.specs.Fills.{fill_operation}
-use Rattle.spec_rules.specs.Lists.{In}
-use Rattle.spec_rules.specs.Progress.{copying_on, has_proposed}
-use Rattle.spec_rules.specs.Server.{PairState, Copies, JobContext, Post, JobResult}
-use Rattle.spec_rules.specs.State.{id_of, in_both, live}
-use Rattle.spec_rules.specs.Store.{Store, chain_in, epochs_of, is_marked, version_of, with_ticket}
-use Rattle.spec_rules.specs.Writes.{ends, gives_back, marks, operation, pending_on, puts, unmarks, with_opened, without_pending}
-use Rattle.spec_rules.proofs.Tests.{same_some, true_false}
-use Rattle.law_state.specs.StartedBallots.{is_flagged}
-use Rattle.law_steps.specs.Ready.{IsRising}
-use Rattle.law_steps.specs.DidLead.{DidLead, Asks, A_trim, A_copied_entry, An_entry_to_move, Of_the_log, Asks_for, Repeats, Is_full}
-use Rattle.law_steps.specs.DidLead.{Opens, Marks, Puts, Gives_up, Unmarks, Closes, Opens_alone, Marks_alone, Puts_alone, Unmarks_alone, Closes_alone}
-use Rattle.law_steps.specs.DidLead.{Opens_fill, Opens_fill_alone, Has_fill, Has_no_room, Goes_on_dead, Taken}
-use Rattle.law_steps.specs.Did.{By_lead}
-use Rattle.law_steps.proofs.WhoLeads.{stage_live}
-use Rattle.law_steps.proofs.HeldBackForCaughts.{held_as_flag}
-use Rattle.law_steps.proofs.OperationsRest.{same_cell_or_apart}
-use Rattle.law_steps.proofs.Subjects.{of_ending, of_lead}
-use Rattle.law_steps.proofs.TakenUpAlone.{IsTaken, taking}
+use Rattle.law_copies.proofs.Imports.{[], ◌+◌, ◌∙◌, ◌≡◌, ◌≢◌, ◌≤◌, ◌⊎◌, A_copied_entry, A_trim, An_entry_to_move, Asks, Asks_for, Body, Busy, By_lead, Cell}
+use Rattle.law_copies.proofs.Imports.{Closes, Closes_alone, Copies, DidLead, Gives_up, Goes_on_dead, Has_fill, Has_no_room, In, IsMarked, IsRising, IsTaken}
+use Rattle.law_copies.proofs.Imports.{Is_full, JobContext, JobResult, LinkRow, Marks, Marks_alone, None, Of_the_log, Opens, Opens_alone, Opens_fill}
+use Rattle.law_copies.proofs.Imports.{Opens_fill_alone, Option, PairState, Pending, Post, Puts, Puts_alone, Repeats, Some, Stale, Store, Taken, Unmarks}
+use Rattle.law_copies.proofs.Imports.{Unmarks_alone, about, ap, arith, at, cell_of, chain_in, chain_put, copying_on, did_count, ends, epochs_of, false}
+use Rattle.law_copies.proofs.Imports.{fill_operation, gives_back, has_proposed, held_as_flag, id_of, in_both, inl, inr, is_alone, is_flagged, is_marked}
+use Rattle.law_copies.proofs.Imports.{key_at, live, mark_kept, marks, nat_cmp, of_ending, of_lead, operation, pending_on, puts, refl, same_cell_or_apart}
+use Rattle.law_copies.proofs.Imports.{same_some, slice_get, stage_live, stale_kept, subject_of, subst, sym, taking, true, true_false, unmarks, version_of}
+use Rattle.law_copies.proofs.Imports.{with_opened, with_ticket, without_pending, ℕ}
 use Rattle.law_copies.specs.CopyProgress.{IsTold}
 use Rattle.law_copies.specs.LoneSteps.{IsHolding, KeepsCell}
-use Rattle.law_jobs.proofs.ChainsApart.{chain_put}
-use Rattle.law_jobs.proofs.CountsGrow.{did_count}
-use Rattle.law_copies.proofs.CopyMoves as moves
 use Rattle.law_copies.proofs.EmptyCellsHaveNoChain.{no_entries}
-use Rattle.law_copies.proofs.HolderSteps as steps
 use Rattle.law_copies.proofs.HolderChanges.{HolderStep}
-use Rattle.law_jobs.proofs.MarksApart.{mark_kept, stale_kept}
 use Rattle.law_copies.proofs.CopiesGoOn.{IsOnward, onward_tables}
 use Rattle.law_copies.proofs.HolderPace.{IsPaced, paced_table}
 use Rattle.law_copies.proofs.EpochsRise.{did_rising}
 use Rattle.law_copies.proofs.CopyLetters.{filling_not, lead_sends, logged_not, untold}
-use Rattle.law_copies.proofs.RolesOfWorkers.{alone_not_in_both}
-use Rattle.law_copies.proofs.RolesOfWorkers.{only_alone}
+use Rattle.law_copies.proofs.RolesOfWorkers.{alone_not_in_both, only_alone}
 use Rattle.law_copies.proofs.WorkedCell.{Away, lead_beside, lead_cell}
+use Rattle.petal_msg.specs.declared.body.Body.TheVariants as body
+use Rattle.petal_msg.specs.declared.operation.Action.TheVariants as action
+use Rattle.petal_msg.specs.declared.operation.Ending.TheVariants as ending
+use Rattle.law_copies.proofs.CopyMoves as moves
+use Rattle.law_copies.proofs.HolderSteps as steps
 
 module _ (heard : Body → Type 0) (here : JobContext) (links : ℕ) (row : LinkRow) (vo : Option PairState) (own : PairState) where
   -- ### A write on the cell

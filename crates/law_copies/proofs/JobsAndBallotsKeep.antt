@@ -1,36 +1,10 @@
 -- What a job, and a ballot that is started, keeps by itself.
-use Rattle.global_tables.specs.declared.link.LinkState.TheVariants.{Both}
-use Rattle.law_jobs.proofs.CountsGrow.{did_count}
+use Rattle.law_copies.proofs.Imports.{[], ◌+◌, ◌∙◌, ◌≡◌, ◌≢◌, ◌≤◌, Both, Caught, Cell, Command, Did, Handled, In, IsMarked, IsPlainState, IsRising}
+use Rattle.law_copies.proofs.Imports.{JobContext, JobResult, LinkId, LinkRow, List, None, Option, PairState, Pairs, Post, Some, Starts, Store, ap, arith, at}
+use Rattle.law_copies.proofs.Imports.{both, cell_cmp, cell_link, chain_in, chosen_log, did_count, eq_by_cmp, false, front_plain, holder_of, holds_link, id_of}
+use Rattle.law_copies.proofs.Imports.{inl, is_between, is_logged, is_marked, link_cmp, link_named, log_plain, nat_cmp, own_place, progress, progress_beside}
+use Rattle.law_copies.proofs.Imports.{progress_on, proposed, refl, server_state, so_both, stage_live, subject_of, subst, sym, true, true_false, ℕ}
 use Rattle.law_copies.specs.Visits.{AliveIn}
-use Rattle.spec_state.specs.CellState.{cell_link}
-use Rattle.std.proofs.Common.{◌≡◌, ◌≢◌, ◌≤◌, ◌+◌, ℕ, true, false, List, [], Option, Some, None, refl, sym, ap, ◌∙◌, subst, inl, arith}
-use Rattle.std.specs.Ordering.{eq_by_cmp, nat_cmp}
-use Rattle.global_tables.specs.declared.link.LinkRow.{LinkRow}
-use Rattle.petal_base.specs.declared.cell.Cell.{Cell}
-use Rattle.petal_command.specs.declared.command.Command.{Command}
-use Rattle.petal_command.specs.declared.command.Command.TheVariants.{Caught}
-use Rattle.petal_table.specs.Table.{at}
-use Rattle.petal_msg.specs.Kinds.{is_logged, subject_of}
-use Rattle.petal_msg.specs.declared.copying.LinkId.{LinkId}
-use Rattle.spec_history.specs.Claims.{IsMarked}
-use Rattle.spec_rules.specs.Lists.{In}
-use Rattle.spec_rules.specs.Progress.{progress_on}
-use Rattle.spec_rules.specs.Returns.{holds_link, proposed}
-use Rattle.spec_rules.specs.Server.{PairState, Pairs, JobContext, Post, JobResult}
-use Rattle.spec_rules.specs.State.{holder_of, id_of, link_cmp, link_named, both}
-use Rattle.spec_rules.specs.Store.{Store, cell_cmp, chain_in, is_marked}
-use Rattle.spec_rules.proofs.Tests.{true_false}
-use Rattle.spec_rules.specs.World.{chosen_log, server_state}
-use Rattle.law_state.specs.Tables.{IsPlainState}
-use Rattle.law_state.proofs.LoneHolders.{so_both}
-use Rattle.law_state.proofs.EntriesOnlyAdd.{log_plain}
-use Rattle.law_state.proofs.Steady.{front_plain}
-use Rattle.law_log.proofs.BallotFlags.{progress_beside}
-use Rattle.law_steps.specs.Did.{Did}
-use Rattle.law_steps.specs.DidStep.{Handled, Starts, is_between, own_place}
-use Rattle.law_steps.specs.Operations.{progress}
-use Rattle.law_steps.specs.Ready.{IsRising}
-use Rattle.law_steps.proofs.WhoLeads.{stage_live}
 use Rattle.law_copies.specs.CopyProgress.{links_of}
 use Rattle.law_copies.specs.Pair.{HaveMarks, IsRecalled, Keeps, PairOk, pair_of}
 use Rattle.law_copies.specs.LoneSteps.{AreFilled, HolderKeeps, IsFollowing, IsHolding, OtherKeeps}
@@ -41,19 +15,19 @@ use Rattle.law_copies.proofs.BallotsFindAllCopied.{IsBallot, ballot_alike, ballo
 use Rattle.law_copies.proofs.EmptyCellsHaveNoChain.{did_filled}
 use Rattle.law_copies.proofs.OtherServerChanges.{kept_copying, kept_told}
 use Rattle.law_copies.proofs.OwnPartFrames.{keeps_alike}
-use Rattle.law_copies.proofs.HolderJobs as holders
 use Rattle.law_copies.proofs.LeadsFindMarks.{job_marked}
-use Rattle.law_copies.proofs.CellChangesKeepCopies as moves
 use Rattle.law_copies.proofs.MuteLettersTellNothing.{known_mute, logged_mute, no_page, told_mute}
-use Rattle.law_copies.proofs.OtherJobs as others
 use Rattle.law_copies.proofs.EpochsRise.{did_rising}
-use Rattle.law_copies.proofs.PlacesBeforeJobs as seated
 use Rattle.law_copies.proofs.CopyLetters.{page_link, page_map, page_sent, pages_sent}
 use Rattle.law_copies.proofs.LettersOfServedCells.{did_copied, did_lives, idle_silent}
 use Rattle.law_copies.proofs.RolesOfWorkers.{kept_lives, named_id, one_named}
 use Rattle.law_copies.proofs.TwinsAgree.{lead_step, second_step}
 use Rattle.law_copies.proofs.CellsWithoutLink.{did_pages, unlinked_apart}
 use Rattle.law_copies.proofs.AtJob.{IsKeeping}
+use Rattle.law_copies.proofs.HolderJobs as holders
+use Rattle.law_copies.proofs.CellChangesKeepCopies as moves
+use Rattle.law_copies.proofs.OtherJobs as others
+use Rattle.law_copies.proofs.PlacesBeforeJobs as seated
 
 module _ (it : AtSeat) where
   open it use {setting, w, k, firm, rests}

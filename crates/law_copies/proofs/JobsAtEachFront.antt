@@ -1,48 +1,27 @@
 -- A job of a server, seen from each front of the log: at another place than the server's own it changes nothing that counts, and at its own
 -- place a cell is kept as by its own entries.
-use Rattle.std.proofs.Common.{◌≡◌, ◌≢◌, ◌≤◌, ◌<◌, ℕ, List, [], Bool, true, false, Option, Some, None, is_some}
-use Rattle.std.proofs.Common.{refl, sym, ap, ◌∙◌, subst, ◌⊎◌, inl, inr, arith}
-use Rattle.global_tables.specs.Link.{has_server, other_of}
-use Rattle.global_tables.specs.declared.link.LinkRow.{LinkRow}
-use Rattle.global_tables.specs.declared.link.LinkState.TheVariants.{Both, Lost, Only}
-use Rattle.petal_base.specs.declared.cell.Cell.{Cell}
-use Rattle.petal_command.specs.declared.command.Command.{Command}
-use Rattle.petal_msg.specs.Kinds.{about}
-use Rattle.petal_msg.specs.declared.body.Body.{Body}
-use Rattle.spec_history.specs.Claims.{IsMarked, IsPrefix, IsToBeCopied}
-use Rattle.spec_state.specs.CellState.{cell_link}
-use Rattle.spec_state.specs.Command.{state_after}
-use Rattle.spec_rules.specs.Server.{PairState}
-use Rattle.spec_rules.specs.State.{is_whole}
-use Rattle.spec_rules.specs.Store.{Store, chain_in}
-use Rattle.spec_rules.specs.World.{blank_joins_in, chosen_log, server_state}
-use Rattle.spec_rules.proofs.Tests.{by_bool, none_some, same_or_apart, same_some, some_or_none, true_false}
-use Rattle.law_state.specs.LinkRows.{IsLater, ByBoth, ByNone, ByOne}
-use Rattle.law_state.specs.Homes.{stage_at}
-use Rattle.law_state.specs.Steady.{IsSteady}
-use Rattle.law_state.proofs.GrownStates.{alone_not_both, lost_not_both, one_before}
-use Rattle.law_state.proofs.BlankJoins.{joins_grow}
-use Rattle.law_state.proofs.Roles.{primary_is_one, secondary_is_one}
-use Rattle.law_steps.proofs.Fronts.{front_on}
-use Rattle.law_steps.proofs.Letters.{said}
+use Rattle.law_copies.proofs.Imports.{[], ◌<◌, ◌∙◌, ◌≡◌, ◌≢◌, ◌≤◌, ◌⊎◌, Body, Bool, Both, ByBoth, ByNone, ByOne, Cell, Command, IsLater, IsMarked, IsPrefix}
+use Rattle.law_copies.proofs.Imports.{IsSteady, IsToBeCopied, LinkRow, List, Lost, None, Only, Option, PairState, Some, Store, about, alone_not_both, ap}
+use Rattle.law_copies.proofs.Imports.{arith, blank_joins_in, by_bool, cell_link, chain_in, chosen_log, false, front_on, has_server, inl, inr, is_some}
+use Rattle.law_copies.proofs.Imports.{is_whole, joins_grow, lost_not_both, none_some, one_before, other_of, primary_is_one, refl, said, same_or_apart}
+use Rattle.law_copies.proofs.Imports.{same_some, secondary_is_one, server_state, some_or_none, stage_at, state_after, subst, sym, true, true_false, ℕ}
 use Rattle.law_copies.specs.CopyProgress.{AreCopying, IsCovered, IsPage, IsTold, Is_marked_here, Is_to_be_copied, NotCopied, links_of}
 use Rattle.law_copies.specs.GoodCopies.{AloneOk, AreBeside, AreTwins, BothOk, StaysLeft}
 use Rattle.law_copies.specs.Visits.{AliveIn, HasBeen, HasFilled, IsLinked, place_by}
-use Rattle.law_copies.proofs.VisitsAfterSteps.{counted_up, none_before}
-use Rattle.law_copies.proofs.VisitsAfterSteps.{then_of}
+use Rattle.law_copies.proofs.VisitsAfterSteps.{counted_up, none_before, then_of, IsAt, stored_frozen, visited_beside}
 use Rattle.law_copies.proofs.AtJob.{AtJob, step_at}
 use Rattle.law_copies.proofs.BlankJoinsMakePlaces.{joins_at}
-use Rattle.law_copies.proofs.FramesKeepFronts.{LeavesAt, LeavesBoth, LeavesStore, alone_framed, both_framed, filled_framed, filled_on, marked_on}
-use Rattle.law_copies.proofs.FramesKeepFronts.{marks_back, other_is_one, store_same, to_copy_on}
+use Rattle.law_copies.proofs.FramesKeepFronts.{LeavesAt, LeavesBoth, LeavesStore, alone_framed, both_framed, filled_framed, filled_on, marked_on, marks_back}
+use Rattle.law_copies.proofs.FramesKeepFronts.{other_is_one, store_same, to_copy_on}
 use Rattle.law_copies.proofs.NewPlaces.{beside_same, twins_same}
-use Rattle.law_copies.proofs.ServedAtLaterFronts.{IsCaughtUp, alone_not_lost, alone_or_flagged, alone_since, both_since, holder_is_one, holds_since, same_only}
+use Rattle.law_copies.proofs.ServedAtLaterFronts.{IsCaughtUp, alone_not_lost, alone_or_flagged, alone_since, both_since, holder_is_one, holds_since}
+use Rattle.law_copies.proofs.ServedAtLaterFronts.{same_only}
 use Rattle.law_copies.proofs.OtherIsNotHolder.{other_apart}
 use Rattle.law_copies.proofs.PlacesByFronts.{at_most_or_above, fronts_meet, linked_alive, links_same, one_row, other_later, places_up, rows_later}
 use Rattle.law_copies.proofs.PlacesBeforeJobs.{other_back}
-use Rattle.law_copies.proofs.VisitsAfterSteps.{IsAt, stored_frozen, visited_beside}
+use Rattle.law_copies.proofs.JobsLeaveOtherFronts.{below, Same_store, Covers, Gone, Left_by}
 use Rattle.law_copies.proofs.JobsKeepOwnPlaces as worked
 use Rattle.law_copies.proofs.JobsLeaveOtherFronts as leaving
-use Rattle.law_copies.proofs.JobsLeaveOtherFronts.{below, Same_store, Covers, Gone, Left_by}
 
 module _ (it : AtJob) where
   open it use {setting, records, w, stores, k, server, good, firm, done, job, started}

@@ -1,55 +1,28 @@
 -- What a job of a server that is In as itself keeps at each front, and of what it sends.
-use Rattle.std.proofs.Common.{◌≡◌, ◌≢◌, ◌≤◌, ◌++◌, ℕ, List, [], ◌∷◌, length, true, false, Option, Some, is_some}
-use Rattle.std.proofs.Common.{refl, sym, ap, ◌∙◌, subst, ◌⊎◌, inr, arith}
-use Rattle.std.specs.Ordering.{nat_cmp}
-use Rattle.global_tables.specs.Link.{has_server, other_of}
-use Rattle.global_tables.specs.declared.link.LinkRow.{LinkRow}
-use Rattle.global_tables.specs.declared.link.LinkState.TheVariants.{Both}
-use Rattle.petal_base.specs.declared.cell.Cell.{Cell}
-use Rattle.petal_command.specs.declared.command.Command.{Command}
-use Rattle.petal_msg.specs.Kinds.{about, subject_of}
-use Rattle.petal_msg.specs.declared.body.Body.{Body}
-use Rattle.petal_msg.specs.declared.body.Body.TheVariants as body
-use Rattle.petal_msg.specs.declared.letter.Letter.{Letter}
-use Rattle.spec_history.specs.Claims.{IsPrefix}
-use Rattle.spec_history.specs.declared.record.Record.{Record}
-use Rattle.spec_state.specs.Command.{state_after}
-use Rattle.spec_rules.specs.Lists.{In}
-use Rattle.spec_rules.specs.Log.{state_in}
-use Rattle.spec_rules.specs.Progress.{last_copy}
-use Rattle.spec_rules.specs.Server.{PairState, Post, letters_of, sender}
-use Rattle.spec_rules.specs.State.{State, id_of, live}
-use Rattle.spec_rules.specs.Store.{chain_in}
-use Rattle.spec_rules.specs.World.{chosen_log, server_state, stamped}
-use Rattle.spec_rules.proofs.Applied.{rev_after}
-use Rattle.spec_rules.proofs.Tests.{by_bool, same_some, true_false}
-use Rattle.law_state.specs.Homes.{stage_at}
-use Rattle.law_state.specs.StartedBallots.{is_flagged}
-use Rattle.law_state.proofs.GrownStates.{alone_not_both, lost_not_both}
-use Rattle.law_state.proofs.Roles.{primary_is_one, secondary_is_one}
-use Rattle.law_steps.specs.DidStep.{is_between, own_place}
-use Rattle.law_steps.specs.Ready.{IsRising}
-use Rattle.law_steps.proofs.Fronts.{front_long, one_front}
-use Rattle.law_steps.proofs.Letters.{said}
+use Rattle.law_copies.proofs.Imports.{[], ◌++◌, ◌∙◌, ◌∷◌, ◌≡◌, ◌≢◌, ◌≤◌, ◌⊎◌, Body, Both, Cell, Command, In, IsPrefix, IsRising, Letter, LinkRow, List}
+use Rattle.law_copies.proofs.Imports.{Option, PairState, Post, Record, Some, State, about, alone_not_both, ap, arith, by_bool, chain_in, chosen_log, false}
+use Rattle.law_copies.proofs.Imports.{front_long, has_server, id_of, inr, is_between, is_flagged, is_some, last_copy, length, letters_of, live, lost_not_both}
+use Rattle.law_copies.proofs.Imports.{nat_cmp, one_front, other_of, own_place, primary_is_one, refl, rev_after, said, same_some, secondary_is_one, sender}
+use Rattle.law_copies.proofs.Imports.{server_state, stage_at, stamped, state_after, state_in, subject_of, subst, sym, true, true_false, ℕ}
 use Rattle.law_copies.specs.CopyProgress.{IsOfLink, IsTold}
 use Rattle.law_copies.specs.GoodCopies.{IsUnheard, SaidOk, pair_at}
 use Rattle.law_copies.specs.Pair.{HaveMarks, Known, pair_of}
 use Rattle.law_copies.specs.LoneSteps.{AreFilled}
 use Rattle.law_copies.specs.Visits.{AliveIn, IsLinked, half, place_by, with_stores}
 use Rattle.law_copies.proofs.AtJob.{AtJob, seat_at, step_at}
-use Rattle.law_copies.proofs.FramesKeepFronts.{LeavesBoth}
-use Rattle.law_copies.proofs.FramesKeepFronts.{said_framed}
+use Rattle.law_copies.proofs.FramesKeepFronts.{LeavesBoth, said_framed}
 use Rattle.law_copies.proofs.MuteLettersTellNothing.{known_mute, told_mute}
-use Rattle.law_copies.proofs.PlacesBeforeJobs as seated
 use Rattle.law_copies.proofs.RolesOfWorkers.{other_row}
 use Rattle.law_copies.proofs.StepsKeepCopies.{GoesOn, IsSoundOwn, IsTrue, good_after}
 use Rattle.law_copies.proofs.VisitsAfterSteps.{then_of, IsThen, KeepsFlags}
+use Rattle.law_copies.proofs.JobsLeaveOtherFronts.{Same_store, Covers, Gone, Left_by}
+use Rattle.law_copies.proofs.JobsAtEachFront.{at_or_else, else_leaves, last_old, left_else, stranger_leaves, visits_else, both_kept, holds, news_here}
+use Rattle.law_copies.proofs.JobsAtEachFront.{olds_here}
+use Rattle.petal_msg.specs.declared.body.Body.TheVariants as body
+use Rattle.law_copies.proofs.PlacesBeforeJobs as seated
 use Rattle.law_copies.proofs.JobsKeepOwnPlaces as worked
 use Rattle.law_copies.proofs.JobsLeaveOtherFronts as leaving
-use Rattle.law_copies.proofs.JobsLeaveOtherFronts.{Same_store, Covers, Gone, Left_by}
 use Rattle.law_copies.proofs.JobsAtEachFront as fronts
-use Rattle.law_copies.proofs.JobsAtEachFront.{at_or_else, else_leaves, last_old, left_else, stranger_leaves, visits_else}
-use Rattle.law_copies.proofs.JobsAtEachFront.{both_kept, holds, news_here, olds_here}
 
 module _ (it : AtJob) where
   open it use {setting, records, w, stores, v, k, server, good, firm, done, job}

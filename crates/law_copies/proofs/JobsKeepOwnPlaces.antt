@@ -1,29 +1,9 @@
 -- What a job of a server that is In as itself keeps at the places of its own entries.
-use Rattle.std.proofs.Common.{◌≡◌, ◌≢◌, ◌≤◌, ◌<◌, ◌+◌, ◌⊎◌, ℕ, List, [], Bool, true, Option, Some, None, is_some, refl, sym, ap, ◌∙◌, subst, inl, inr}
-use Rattle.std.specs.Ordering.{nat_cmp}
-use Rattle.global_tables.specs.Link.{has_server, other_of}
-use Rattle.global_tables.specs.declared.link.LinkRow.{LinkRow}
-use Rattle.global_tables.specs.declared.link.LinkState.TheVariants.{Both, Only}
-use Rattle.petal_base.specs.declared.cell.Cell.{Cell}
-use Rattle.petal_command.specs.declared.command.Command.{Command}
-use Rattle.petal_table.specs.Table.{at}
-use Rattle.petal_msg.specs.Kinds.{about}
-use Rattle.petal_msg.specs.declared.body.Body.{Body}
-use Rattle.petal_msg.specs.declared.body.Body.TheVariants as body
-use Rattle.spec_history.specs.Claims.{IsMarked, IsToBeCopied}
-use Rattle.spec_state.specs.Command.{is_alone, state_after}
-use Rattle.spec_rules.specs.Lists.{In}
-use Rattle.spec_rules.specs.Log.{state_in}
-use Rattle.spec_rules.specs.Server.{PairState, Pairs, Post, Server}
-use Rattle.spec_rules.specs.State.{id_of, is_in, is_whole}
-use Rattle.spec_rules.specs.Store.{Store, cell_cmp, chain_in}
-use Rattle.spec_rules.specs.World.{blank_joins_in, chosen_log, server_state}
-use Rattle.spec_rules.proofs.Tests.{none_some, same_numbers, same_or_apart, same_some, some_or_none}
-use Rattle.petal_table.proofs.Rows.{at-empty}
-use Rattle.law_state.specs.StartedBallots.{is_flagged}
-use Rattle.law_state.proofs.Leaves.{other_between}
-use Rattle.law_state.proofs.Roles.{primary_is_one, secondary_is_one}
-use Rattle.law_steps.specs.DidStep.{Handled}
+use Rattle.law_copies.proofs.Imports.{[], ◌+◌, ◌<◌, ◌∙◌, ◌≡◌, ◌≢◌, ◌≤◌, ◌⊎◌, Body, Bool, Both, Cell, Command, Handled, In, IsMarked, IsToBeCopied, LinkRow}
+use Rattle.law_copies.proofs.Imports.{List, None, Only, Option, PairState, Pairs, Post, Server, Some, Store, about, ap, at, at-empty, blank_joins_in}
+use Rattle.law_copies.proofs.Imports.{cell_cmp, chain_in, chosen_log, has_server, id_of, inl, inr, is_alone, is_flagged, is_in, is_some, is_whole, nat_cmp}
+use Rattle.law_copies.proofs.Imports.{none_some, other_between, other_of, primary_is_one, refl, same_numbers, same_or_apart, same_some, secondary_is_one}
+use Rattle.law_copies.proofs.Imports.{server_state, some_or_none, state_after, state_in, subst, sym, true, ℕ}
 use Rattle.law_copies.specs.BothSteps.{LacksFill}
 use Rattle.law_copies.specs.CopyProgress.{AreAlike, AreCopying, IsCovered, IsLeft, IsPage, IsTold, Is_marked_here, Is_to_be_copied, NotCopied, links_of}
 use Rattle.law_copies.specs.GoodCopies.{AreBeside, AreTwins, StaysLeft, pair_at}
@@ -37,10 +17,11 @@ use Rattle.law_copies.proofs.FramesKeepFronts.{LeavesStore, alike_same, marks_ba
 use Rattle.law_copies.proofs.ServedAtLaterFronts.{holder_is_one, unseen_beyond}
 use Rattle.law_copies.proofs.CellChangesKeepCopies.{known_later}
 use Rattle.law_copies.proofs.OtherIsNotHolder.{other_apart}
-use Rattle.law_copies.proofs.PlacesBeforeJobs as seated
 use Rattle.law_copies.proofs.PlacesBeforeJobs.{other_back}
 use Rattle.law_copies.proofs.RolesOfWorkers.{other_row}
 use Rattle.law_copies.proofs.VisitsAfterSteps.{counted, counted_up, later, none_before, stored, stored_apart, stored_by, visited_apart, visited_here}
+use Rattle.petal_msg.specs.declared.body.Body.TheVariants as body
+use Rattle.law_copies.proofs.PlacesBeforeJobs as seated
 
 module _ (it : AtJob) where
   open it use {setting, records, w, stores, v, k, server, good, firm, done, job}

@@ -1,45 +1,24 @@
 -- What a job of a server that is In as itself leaves of its store, as other fronts than those at its own place see it.
-use Rattle.std.proofs.Common.{◌≡◌, ◌≢◌, ◌≤◌, ◌<◌, ◌==◌, ℕ, List, Bool, true, false, Option, Some, None, is_some, refl}
-use Rattle.std.proofs.Common.{sym, ap, ◌∙◌, subst, ◌⊎◌, inl, inr, arith}
-use Rattle.busy_marks.specs.Marks.{above}
-use Rattle.busy_marks.specs.declared.marks.MarkKind.{MarkKind}
-use Rattle.busy_marks.specs.declared.marks.MarkKind.TheVariants.{Busy, Stale}
-use Rattle.global_tables.specs.Link.{has_server, other_of}
-use Rattle.global_tables.specs.declared.link.LinkRow.{LinkRow}
-use Rattle.global_tables.specs.declared.link.LinkState.TheVariants.{Both, Lost, Only}
-use Rattle.petal_base.specs.declared.cell.Cell.{Cell}
-use Rattle.petal_command.specs.declared.command.Command.{Command}
-use Rattle.spec_history.specs.Claims.{IsMarked, IsPrefix, IsToBeCopied}
-use Rattle.spec_state.specs.CellState.{serves}
-use Rattle.spec_state.specs.Command.{state_after}
-use Rattle.spec_rules.specs.Progress.{progress_on}
-use Rattle.spec_rules.specs.Server.{PairState}
-use Rattle.spec_rules.specs.State.{id_of, is_whole}
-use Rattle.spec_rules.specs.Store.{Store, chain_in, is_marked}
-use Rattle.spec_rules.specs.World.{blank_joins_in, chosen_log, server_state}
-use Rattle.spec_rules.proofs.Tests.{none_some, number_itself, same_or_apart, some_or_none, true_false}
-use Rattle.law_state.specs.LinkRows.{IsLater, ByBoth, ByNone, ByOne}
-use Rattle.law_state.specs.StartedBallots.{is_flagged}
-use Rattle.law_state.specs.Steady.{IsSteady}
-use Rattle.law_state.proofs.BlankJoins.{joins_grow}
-use Rattle.law_state.proofs.Steady.{front_plain, log_steady}
-use Rattle.law_steps.proofs.Fronts.{front_itself}
+use Rattle.law_copies.proofs.Imports.{◌<◌, ◌==◌, ◌∙◌, ◌≡◌, ◌≢◌, ◌≤◌, ◌⊎◌, Bool, Both, Busy, ByBoth, ByNone, ByOne, Cell, Command, IsLater, IsMarked, IsPrefix}
+use Rattle.law_copies.proofs.Imports.{IsSteady, IsToBeCopied, LinkRow, List, Lost, MarkKind, None, Only, Option, PairState, Some, Stale, Store, above, ap}
+use Rattle.law_copies.proofs.Imports.{arith, blank_joins_in, chain_in, chosen_log, false, front_itself, front_plain, has_server, id_of, inl, inr, is_flagged}
+use Rattle.law_copies.proofs.Imports.{is_marked, is_some, is_whole, joins_grow, log_steady, none_some, number_itself, other_of, progress_on, refl}
+use Rattle.law_copies.proofs.Imports.{same_or_apart, server_state, serves, some_or_none, state_after, subst, sym, true, true_false, ℕ}
 use Rattle.law_copies.specs.CopyProgress.{IsCovered, NotCopied, links_of}
 use Rattle.law_copies.specs.LoneSteps.{IsLeftBy, OtherKeeps}
 use Rattle.law_copies.specs.Visits.{AliveIn, IsLinked, place_by}
-use Rattle.law_copies.proofs.VisitsAfterSteps.{then_of}
+use Rattle.law_copies.proofs.VisitsAfterSteps.{then_of, stored_apart, stored_by, was_stored}
 use Rattle.law_copies.proofs.AtJob.{AtJob, seat_at, step_at}
 use Rattle.law_copies.proofs.JoinsBetweenFronts.{held_same, to_fill}
 use Rattle.law_copies.proofs.FramesKeepFronts.{LeavesStore}
 use Rattle.law_copies.proofs.NewPlaces.{both_cover, cover_again}
-use Rattle.law_copies.proofs.ServedAtLaterFronts.{alone_last, alone_or_flagged, both_since, holder_is_one, holds_since}
-use Rattle.law_copies.proofs.ServedAtLaterFronts.{not_reached, not_serving, serves_its, unseen_beyond}
+use Rattle.law_copies.proofs.ServedAtLaterFronts.{alone_last, alone_or_flagged, both_since, holder_is_one, holds_since, not_reached, not_serving, serves_its}
+use Rattle.law_copies.proofs.ServedAtLaterFronts.{unseen_beyond}
 use Rattle.law_copies.proofs.OtherIsNotHolder.{other_apart}
 use Rattle.law_copies.proofs.PlacesByFronts.{alive_on, at_most_or_above, fronts_meet, other_later, places_up, rows_later}
 use Rattle.law_copies.proofs.BlankJoinsRenewLinks.{filled_cover}
-use Rattle.law_copies.proofs.PlacesBeforeJobs as seated
 use Rattle.law_copies.proofs.PlacesBeforeJobs.{other_back}
-use Rattle.law_copies.proofs.VisitsAfterSteps.{stored_apart, stored_by, was_stored}
+use Rattle.law_copies.proofs.PlacesBeforeJobs as seated
 use Rattle.law_copies.proofs.JobsKeepOwnPlaces as worked
 
 both_off : (a b : Bool) → (a ≡ true → ⊥) → (b ≡ true → ⊥) → a ≡ b

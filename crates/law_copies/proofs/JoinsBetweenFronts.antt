@@ -1,36 +1,10 @@
 -- Joins with an empty store between two fronts of the log, as they concern a link that one server holds alone.
-use Rattle.std.proofs.Common.{◌≡◌, ◌≢◌, ◌<◌, ◌++◌, ◌&&◌, ◌||◌, ℕ, Bool, List, [], ◌∷◌, true, if◌then◌else◌, Some, None, refl, sym}
-use Rattle.std.proofs.Common.{ap, ◌∙◌, subst, ◌⊎◌, inl, inr, arith, append_assoc}
-use Rattle.std.proofs.lemmas.List.{append-nil}
-use Rattle.global_tables.specs.Link.{blanked_state, has_server, other_of, row_blanked}
-use Rattle.global_tables.specs.declared.link.LinkRow.{LinkRow}
-use Rattle.global_tables.specs.declared.link.LinkState.TheVariants.{Both, Lost, Only}
-use Rattle.petal_base.specs.declared.cell.Cell.{Cell}
-use Rattle.petal_command.specs.declared.command.Command.{Command}
-use Rattle.petal_command.specs.declared.command.Command.TheVariants.{Caught, Join, Leave}
-use Rattle.spec_history.specs.Claims.{IsPrefix}
-use Rattle.spec_history.specs.declared.record.Record.{Record}
-use Rattle.spec_state.specs.CellState.{cell_link}
-use Rattle.spec_state.specs.Command.{state_after}
-use Rattle.spec_rules.specs.Blanked.{joins_blank}
-use Rattle.spec_rules.specs.Lists.{In}
-use Rattle.spec_rules.specs.Server.{PairState}
-use Rattle.spec_rules.specs.State.{State, id_of, is_whole}
-use Rattle.spec_rules.specs.Store.{Store, chain_in}
-use Rattle.spec_rules.specs.World.{Setting, World, blank_joins_in, chosen_log}
-use Rattle.spec_rules.proofs.ListLemmas.{in_later}
-use Rattle.spec_rules.proofs.Tests.{by_bool, number_itself}
-use Rattle.law_state.specs.Firm.{Firm}
-use Rattle.law_state.specs.Joins.{HasJoinedSince}
-use Rattle.law_state.specs.LinkChanges.{By_caught, By_join, By_leave, row_joined}
-use Rattle.law_state.specs.Plain.{IsPlain, IsPlainLog}
-use Rattle.law_state.specs.StartedBallots.{is_flagged}
-use Rattle.law_state.proofs.CaughtsMadeBoth.{log_lost}
-use Rattle.law_state.proofs.BlankJoins.{joined_counts, joins_grow}
-use Rattle.law_state.proofs.GrownStates.{one_before}
-use Rattle.law_state.proofs.Steady.{front_plain, log_steady}
-use Rattle.law_state.proofs.EntriesTouchLinks.{log_touched}
-use Rattle.law_steps.proofs.Fronts.{front_itself, front_more, front_on}
+use Rattle.law_copies.proofs.Imports.{[], if◌then◌else◌, ◌&&◌, ◌++◌, ◌<◌, ◌||◌, ◌∙◌, ◌∷◌, ◌≡◌, ◌≢◌, ◌⊎◌, Bool, Both, By_caught, By_join, By_leave, Caught}
+use Rattle.law_copies.proofs.Imports.{Cell, Command, Firm, HasJoinedSince, In, IsPlain, IsPlainLog, IsPrefix, Join, Leave, LinkRow, List, Lost, None, Only}
+use Rattle.law_copies.proofs.Imports.{PairState, Record, Setting, Some, State, Store, World, ap, append-nil, append_assoc, arith, blank_joins_in}
+use Rattle.law_copies.proofs.Imports.{blanked_state, by_bool, cell_link, chain_in, chosen_log, front_itself, front_more, front_on, front_plain, has_server}
+use Rattle.law_copies.proofs.Imports.{id_of, in_later, inl, inr, is_flagged, is_whole, joined_counts, joins_blank, joins_grow, log_lost, log_steady}
+use Rattle.law_copies.proofs.Imports.{log_touched, number_itself, one_before, other_of, refl, row_blanked, row_joined, state_after, subst, sym, true, ℕ}
 use Rattle.law_copies.specs.GoodCopies.{Good}
 use Rattle.law_copies.specs.Visits.{AliveIn, IsLinked, place_by, store_by, with_stores}
 use Rattle.law_copies.proofs.BlankJoinsMakePlaces.{joins_earlier}

@@ -1,25 +1,10 @@
 -- What is kept of a front of the chosen log that no server was beyond is kept of the whole, entry by entry, by the stores that count then.
-use Rattle.std.proofs.Common.{◌≡◌, ◌≢◌, ◌≤◌, ◌<◌, ◌++◌, ◌==◌, ◌⊎◌, ℕ, Bool, List, [], ◌∷◌, true, false, if◌then◌else◌, None, refl}
-use Rattle.std.proofs.Common.{sym, ap, ◌∙◌, subst, inl, inr, arith, append_assoc}
-use Rattle.std.proofs.lemmas.List.{append-nil}
-use Rattle.petal_base.specs.declared.cell.Cell.{Cell}
-use Rattle.petal_command.specs.declared.command.Command.{Command}
-use Rattle.petal_command.specs.declared.command.Command.TheVariants.{Join}
-use Rattle.spec_history.specs.Claims.{IsPrefix}
-use Rattle.spec_history.specs.declared.record.Record.{Record}
-use Rattle.spec_state.specs.Command.{state_after}
-use Rattle.spec_rules.specs.Blanked.{joins_blank, kept_store}
-use Rattle.spec_rules.specs.State.{State, is_in}
-use Rattle.spec_rules.specs.Store.{Store}
-use Rattle.spec_rules.specs.World.{Setting, World, blank_joins_in, chosen_log, counted, counted_by, kept_by, server_state}
-use Rattle.spec_rules.proofs.Tests.{by_bool, number_itself, same_numbers, true_false}
-use Rattle.law_state.specs.Firm.{Firm}
-use Rattle.law_state.proofs.BlankJoins.{joins_grow}
-use Rattle.law_state.proofs.Incarnations.{joined_in, joined_once}
-use Rattle.law_state.proofs.Steady.{front_plain}
-use Rattle.law_steps.specs.Ready.{Rests}
+use Rattle.law_copies.proofs.Imports.{[], if◌then◌else◌, ◌++◌, ◌<◌, ◌==◌, ◌∙◌, ◌∷◌, ◌≡◌, ◌≢◌, ◌≤◌, ◌⊎◌, Bool, Cell, Command, Firm, IsPrefix, Join, List, None}
+use Rattle.law_copies.proofs.Imports.{Record, Rests, Setting, State, Store, World, ap, append-nil, append_assoc, arith, blank_joins_in, by_bool, chosen_log}
+use Rattle.law_copies.proofs.Imports.{counted, counted_by, false, front_itself, front_more, front_on, front_plain, inl, inr, is_in, joined_in, joined_once}
+use Rattle.law_copies.proofs.Imports.{joins_blank, joins_grow, kept_by, kept_store, number_itself, refl, same_numbers, server_state, state_after, subst, sym}
+use Rattle.law_copies.proofs.Imports.{true, true_false, ℕ}
 use Rattle.law_copies.specs.WaitingStores.{IsEmpty, IsOwn}
-use Rattle.law_steps.proofs.Fronts.{front_itself, front_more, front_on}
 use Rattle.law_copies.specs.GoodCopies.{Good, store_of}
 use Rattle.law_copies.specs.Pair.{HaveMarks}
 use Rattle.law_copies.specs.Visits.{Visits, with_stores}

@@ -1,18 +1,10 @@
 -- The last copy of a cell at the other server, and what letters tell of it: what was known stays known while the copy goes on, and once a
 -- newer one has come.
-use Rattle.std.proofs.Common.{◌≡◌, ◌≤◌, ◌<◌, ◌⊎◌, ℕ, [], Option, Some, refl, sym, ap, ◌∙◌, subst, inl, inr, arith}
-use Rattle.std.specs.Prelude.{slice_get}
-use Rattle.global_tables.specs.declared.link.LinkRow.{LinkRow}
-use Rattle.petal_base.specs.declared.cell.Cell.{Cell}
-use Rattle.petal_msg.specs.declared.body.Body.TheVariants as body
-use Rattle.petal_msg.specs.declared.copying.LastCopy.{LastCopy}
-use Rattle.spec_rules.specs.Copies.{epochs_beyond}
-use Rattle.spec_rules.specs.Progress.{last_copy}
-use Rattle.spec_rules.specs.Server.{PairState}
-use Rattle.spec_rules.specs.Store.{Stored}
-use Rattle.spec_rules.proofs.Tests.{same_some}
+use Rattle.law_copies.proofs.Imports.{[], ◌<◌, ◌∙◌, ◌≡◌, ◌≤◌, ◌⊎◌, Cell, LastCopy, LinkRow, Option, PairState, Some, Stored, ap, arith, epochs_beyond, inl}
+use Rattle.law_copies.proofs.Imports.{inr, last_copy, refl, same_some, slice_get, subst, sym, ℕ}
 use Rattle.law_copies.specs.CopyProgress.{HasPut, HasSent, HasTrimmed, IsOfLast, IsPast, IsTold}
 use Rattle.law_copies.specs.LoneSteps.{StaysTold}
+use Rattle.petal_msg.specs.declared.body.Body.TheVariants as body
 
 -- ### Letters, by the last copy
 

@@ -1,52 +1,26 @@
 -- What a step of the first server of a cell in Both keeps of its two copies.
-use Rattle.std.proofs.Common.{◌≡◌, ◌≢◌, ℕ, ◌+◌, ◌≤◌, List, [], ◌∷◌, true, false, Some, None, refl, ap, sym, ◌∙◌, subst, inl, inr, arith}
-use Rattle.std.specs.Ordering.{nat_cmp}
-use Rattle.busy_marks.specs.declared.marks.MarkKind.TheVariants.{Busy, Stale}
-use Rattle.petal_base.specs.declared.cell.Cell.{Cell}
-use Rattle.petal_base.specs.Cells.{cell_of}
-use Rattle.petal_table.specs.Table.{at, put, without}
-use Rattle.petal_msg.specs.Kinds.{Filling, about, subject_of}
-use Rattle.petal_msg.specs.declared.body.Body.{Body}
-use Rattle.petal_msg.specs.declared.body.Body.TheVariants as body
-use Rattle.petal_msg.specs.declared.letter.Actor.TheVariants as actor
-use Rattle.petal_msg.specs.declared.operation.Action.{Action}
-use Rattle.petal_msg.specs.declared.operation.Action.TheVariants as action
-use Rattle.petal_msg.specs.declared.operation.Ending.{Ending}
-use Rattle.petal_msg.specs.declared.operation.Ending.TheVariants as ending
-use Rattle.petal_msg.specs.declared.operation.OpKind.{OpKind}
-use Rattle.petal_msg.specs.declared.operation.OpKind.TheVariants as kind
-use Rattle.petal_msg.specs.declared.operation.Pending.{Pending}
-use Rattle.petal_msg.specs.declared.operation.Stage.{Stage}
-use Rattle.spec_rules.specs.Fills.{fill_operation}
-use Rattle.spec_rules.specs.Lists.{In}
-use Rattle.spec_rules.specs.Progress.{has_proposed}
-use Rattle.spec_rules.specs.State.{in_both, is_alone_on, live, second}
-use Rattle.spec_rules.specs.Store.{Chain, Store, cell_cmp, chain_in, version_of}
-use Rattle.spec_rules.specs.Server.{PairState, JobContext, Post, JobResult, post_to}
-use Rattle.spec_rules.specs.Writes.{acts, ends, moved_as, next_stage, old_lead, operation, with_opened, with_reserved, with_paired, with_mark_at, ended}
-use Rattle.spec_rules.specs.Writes.{finishes, gives_back, marks, puts, unmarks, with_pending, without_pending}
-use Rattle.spec_rules.proofs.CellTables.{cell_same, cell_apart, cell_gone, cell_gone_apart}
-use Rattle.spec_rules.proofs.Tests.{by_test, same_some, true_false}
-use Rattle.law_state.proofs.LoneHolders.{both_not_alone, so_both}
-use Rattle.law_steps.specs.Operations.{waiting, putting, copying}
-use Rattle.law_steps.specs.DidLead.{DidLead, Asks_for, Repeats, Is_full, Opens, Marks, Puts, Gives_up, Unmarks, Closes, Opens_alone, Marks_alone, Puts_alone}
-use Rattle.law_steps.specs.DidLead.{Unmarks_alone, Closes_alone, Opens_fill, Opens_fill_alone, Has_fill, Has_no_room, Goes_on_dead, Asks, A_slot, A_copy}
-use Rattle.law_steps.specs.DidLead.{An_entry_to_move, Of_the_log, Taken}
-use Rattle.law_steps.specs.Ready.{IsReady}
-use Rattle.law_steps.proofs.WhoLeads.{stage_live}
-use Rattle.law_steps.proofs.Letters.{one_post, posted}
-use Rattle.law_steps.proofs.OperationsRest.{same_cell_or_apart, put_put}
-use Rattle.law_steps.proofs.Subjects.{of_ending}
-use Rattle.law_steps.proofs.TakenUpAlone.{taking}
+use Rattle.law_copies.proofs.Imports.{[], ◌+◌, ◌∙◌, ◌∷◌, ◌≡◌, ◌≢◌, ◌≤◌, A_copy, A_slot, Action, An_entry_to_move, Asks, Asks_for, Body, Busy, Cell, Chain}
+use Rattle.law_copies.proofs.Imports.{Closes, Closes_alone, DidLead, Ending, Filling, Gives_up, Goes_on_dead, Has_fill, Has_no_room, In, IsReady, Is_full}
+use Rattle.law_copies.proofs.Imports.{JobContext, JobResult, List, Marks, Marks_alone, None, Of_the_log, OpKind, Opens, Opens_alone, Opens_fill}
+use Rattle.law_copies.proofs.Imports.{Opens_fill_alone, PairState, Pending, Post, Puts, Puts_alone, Repeats, Some, Stage, Stale, Store, Taken, Unmarks}
+use Rattle.law_copies.proofs.Imports.{Unmarks_alone, about, acts, ap, arith, at, both_not_alone, by_test, cell_apart, cell_cmp, cell_gone, cell_gone_apart}
+use Rattle.law_copies.proofs.Imports.{cell_of, cell_same, chain_apart, chain_in, chain_put, copying, ended, ends, false, fill_operation, finishes, gives_back}
+use Rattle.law_copies.proofs.Imports.{has_proposed, in_both, inl, inr, is_alone_on, is_paired, live, marks, moved_as, nat_cmp, next_stage, of_ending}
+use Rattle.law_copies.proofs.Imports.{old_lead, one_post, operation, post_to, posted, put, put_put, puts, putting, refl, same_cell_or_apart, same_some}
+use Rattle.law_copies.proofs.Imports.{second, so_both, stage_live, subject_of, subst, sym, taking, true, true_false, unmarks, version_of, waiting}
+use Rattle.law_copies.proofs.Imports.{with_mark_at, with_opened, with_paired, with_pending, with_reserved, without, without_pending, ℕ}
 use Rattle.law_copies.specs.BothSteps.{SaysKnown}
 use Rattle.law_copies.specs.Pair.{Pair, pair_of, PairOk, Keeps, Known, ceiling_of}
 use Rattle.law_copies.specs.Visits.{AliveIn}
-use Rattle.petal_msg.specs.Kinds.{is_paired}
 use Rattle.law_copies.proofs.CellInBoth.{CellInBoth}
 use Rattle.law_copies.proofs.MuteLettersTellNothing.{logged_known, unpaired_known}
-use Rattle.law_jobs.proofs.ChainsApart.{chain_put, chain_apart}
-use Rattle.law_copies.proofs.CellChangesKeepCopies as moves
 use Rattle.law_copies.proofs.WorkedCell.{lead_beside}
+use Rattle.petal_msg.specs.declared.body.Body.TheVariants as body
+use Rattle.petal_msg.specs.declared.letter.Actor.TheVariants as actor
+use Rattle.petal_msg.specs.declared.operation.Action.TheVariants as action
+use Rattle.petal_msg.specs.declared.operation.Ending.TheVariants as ending
+use Rattle.petal_msg.specs.declared.operation.OpKind.TheVariants as kind
+use Rattle.law_copies.proofs.CellChangesKeepCopies as moves
 
 -- an ending tells nothing of a pair
 pub ended_known : (pair : Pair) (seq : ℕ) (how : Ending) → Known pair (ended seq how)

@@ -1,57 +1,26 @@
 -- A lead puts only on a block that is marked on its device, and its operations find the marks that their stages tell of.
-use Rattle.std.proofs.Common.{◌≡◌, ◌≢◌, ◌+◌, ℕ, List, [], ◌∷◌, true, false, Option, Some, None, refl, ap, sym, ◌∙◌, subst, inl, inr}
-use Rattle.std.specs.Ordering.{nat_cmp}
-use Rattle.std.specs.Prelude.{◌||◌, Bool, filter, is_some, not}
-use Rattle.busy_marks.specs.Marks.{has_mark}
-use Rattle.busy_marks.specs.declared.marks.MarkKind.{MarkKind}
-use Rattle.busy_marks.specs.declared.marks.MarkKind.TheVariants.{Busy, Stale}
-use Rattle.global_tables.specs.declared.link.LinkRow.{LinkRow}
-use Rattle.petal_base.specs.declared.cell.Cell.{Cell}
-use Rattle.petal_base.specs.declared.cell.Key.{Key}
-use Rattle.petal_base.specs.Cells.{cell_of}
-use Rattle.petal_table.specs.Table.{Table, at, put, without}
-use Rattle.petal_msg.specs.declared.body.Body.{Body}
-use Rattle.petal_msg.specs.declared.copying.Copying.{Copying}
-use Rattle.petal_msg.specs.declared.copying.LastCopy.{LastCopy}
-use Rattle.petal_msg.specs.declared.operation.Ending.{Ending}
-use Rattle.petal_msg.specs.declared.operation.Ending.TheVariants as ending
-use Rattle.petal_msg.specs.declared.operation.OpKind.TheVariants as kind
-use Rattle.petal_msg.specs.declared.operation.Pending.{Pending}
-use Rattle.petal_msg.specs.declared.operation.Stage.{Stage}
-use Rattle.spec_rules.specs.Copies.{begins_copy, cell_at, cell_holder, closes, idle_mark, marked_blocks, with_page}
-use Rattle.spec_rules.specs.Fills.{fill_operation}
-use Rattle.spec_rules.specs.Lists.{In}
-use Rattle.spec_rules.specs.Progress.{copying_on, has_proposed, progress_on}
-use Rattle.spec_rules.specs.State.{State, is_second, leads_link, live}
-use Rattle.spec_rules.specs.Store.{Chain, Store, cell_cmp, chain_in, version_of, is_marked, mark_on, with_mark_on, without_mark_on}
-use Rattle.spec_rules.specs.Server.{PairState, JobContext, JobResult}
-use Rattle.spec_rules.specs.Writes.{ends, gives_back, is_clients, is_under_way, operation, marks, pending_on, puts, tells, unmarks, with_mark_at}
-use Rattle.spec_rules.specs.Writes.{with_opened, with_pending, with_reserved, with_paired, without_pending}
-use Rattle.spec_rules.proofs.CellTables.{cell_same, cell_apart, cell_gone, cell_gone_apart}
-use Rattle.spec_rules.proofs.Tests.{by_test, not_true, same_some, none_some, some_or_none, true_false}
-use Rattle.spec_history.specs.Claims.{IsMarked}
-use Rattle.law_state.specs.Steady.{IsSteady}
-use Rattle.law_steps.specs.DidLead.{DidLead, Is_full, Opens, Marks, Puts, Gives_up, Unmarks, Closes, Opens_alone, Marks_alone, Puts_alone}
-use Rattle.law_steps.specs.DidLead.{Unmarks_alone, Closes_alone, Opens_fill, Opens_fill_alone, Goes_on_dead, Taken}
-use Rattle.law_steps.specs.DidSecond.{DidSecond, Promises, Follows}
-use Rattle.law_steps.specs.DidHolder.{DidHolder, CopyStep, Asks_to_trim, Sends, Unmarks_copied, Closes_copy, TakenCopy, Copy_as_is, Copy_trimmed, Copy_synced}
-use Rattle.law_steps.specs.DidHolder.{first_copy, Turns_page, Begins_copy, Goes_on_copying, Tidies}
-use Rattle.law_steps.specs.DidOther.{DidOther, TrimStep, Is_trimmed, Drops_entry, Is_copied_to}
-use Rattle.law_steps.specs.DidOther.{Goes_on_trimming, Puts_entry}
-use Rattle.law_steps.specs.Did.{Did, Ignores, Refuses, By_read, By_lead, By_second, By_holder, By_other, By_filler, By_sweep}
-use Rattle.law_steps.specs.Ready.{IsReady}
-use Rattle.law_steps.proofs.WhoLeads.{led_by_link}
-use Rattle.law_steps.proofs.CopiesRest.{among_least}
-use Rattle.law_steps.proofs.OperationsRest.{same_cell_or_apart}
-use Rattle.law_steps.proofs.Subjects.{of_ending, of_read, told_own}
-use Rattle.law_steps.proofs.TakenUpAlone.{taking}
+use Rattle.law_copies.proofs.Imports.{[], ◌+◌, ◌||◌, ◌∙◌, ◌∷◌, ◌≡◌, ◌≢◌, Asks_to_trim, Begins_copy, Body, Bool, Busy, By_filler, By_holder, By_lead, By_other}
+use Rattle.law_copies.proofs.Imports.{By_read, By_second, By_sweep, Cell, Chain, Closes, Closes_alone, Closes_copy, CopyStep, Copy_as_is, Copy_synced}
+use Rattle.law_copies.proofs.Imports.{Copy_trimmed, Copying, Did, DidHolder, DidLead, DidOther, DidSecond, Drops_entry, Ending, Follows, Gives_up}
+use Rattle.law_copies.proofs.Imports.{Goes_on_copying, Goes_on_dead, Goes_on_trimming, Ignores, In, IsMarked, IsReady, IsSteady, Is_copied_to, Is_full}
+use Rattle.law_copies.proofs.Imports.{Is_trimmed, JobContext, JobResult, Key, LastCopy, LinkRow, List, MarkKind, Marks, Marks_alone, None, Opens, Opens_alone}
+use Rattle.law_copies.proofs.Imports.{Opens_fill, Opens_fill_alone, Option, PairState, Pending, Promises, Puts, Puts_alone, Puts_entry, Refuses, Sends, Some}
+use Rattle.law_copies.proofs.Imports.{Stage, Stale, State, Store, Table, Taken, TakenCopy, Tidies, TrimStep, Turns_page, Unmarks, Unmarks_alone}
+use Rattle.law_copies.proofs.Imports.{Unmarks_copied, among_least, ap, at, begins_copy, by_test, cell_apart, cell_at, cell_cmp, cell_gone, cell_gone_apart}
+use Rattle.law_copies.proofs.Imports.{cell_holder, cell_of, cell_same, chain_apart, chain_in, closed_pairs, closed_store, closes, copying_on, ends, false}
+use Rattle.law_copies.proofs.Imports.{fill_operation, filter, first_copy, gives_back, has_mark, has_proposed, idle_mark, inl, inr, is_clients, is_marked}
+use Rattle.law_copies.proofs.Imports.{is_second, is_some, is_under_way, leads_link, led_by_link, live, mark_kept, mark_on, mark_there, marked_blocks, marks}
+use Rattle.law_copies.proofs.Imports.{nat_cmp, none_some, not, not_true, of_ending, of_read, operation, pending_on, progress_on, put, puts, refl}
+use Rattle.law_copies.proofs.Imports.{same_cell_or_apart, same_some, some_or_none, stale_kept, subst, sym, taking, tells, told_own, true, true_false}
+use Rattle.law_copies.proofs.Imports.{unmark_apart, unmark_beside, unmarks, version_of, with_mark_at, with_mark_on, with_opened, with_page, with_paired}
+use Rattle.law_copies.proofs.Imports.{with_pending, with_reserved, without, without_mark_on, without_pending, ℕ}
 use Rattle.law_copies.specs.Pair.{HasMarks, HaveMarks}
 use Rattle.law_copies.specs.LoneSteps.{KeepsCell}
-use Rattle.law_jobs.proofs.ChainsApart.{chain_apart, closed_pairs, closed_store}
-use Rattle.law_jobs.proofs.MarksApart.{mark_there, mark_kept, unmark_apart, unmark_beside, stale_kept}
 use Rattle.law_copies.proofs.OtherIsNotHolder.{held_not_leading}
 use Rattle.law_copies.proofs.RolesOfWorkers.{leads_not_second}
 use Rattle.law_copies.proofs.WorkedCell.{filler_beside, lead_beside, live_beside, other_beside, second_beside}
+use Rattle.petal_msg.specs.declared.operation.Ending.TheVariants as ending
+use Rattle.petal_msg.specs.declared.operation.OpKind.TheVariants as kind
 
 -- ### Old marks
 

@@ -1,35 +1,10 @@
 -- What an entry that a server applies leaves of the server's own part: nothing of a cell that it touches or ends, all of another one.
-use Rattle.std.proofs.Common.{◌≡◌, ◌≤◌, ◌<◌, ◌&&◌, ◌||◌, not, cond, ℕ, Bool, true, false, Option}
-use Rattle.std.proofs.Common.{Some, None, refl, sym, ap, ◌∙◌, inl, arith}
-use Rattle.std.specs.Prelude.{filter, is_none, unwrap_or}
-use Rattle.std.specs.Option.{option_map_or}
-use Rattle.std.specs.Ordering.{is_eq}
-use Rattle.busy_marks.specs.Marks.{has_mark}
-use Rattle.global_tables.specs.declared.link.LinkRow.{LinkRow}
-use Rattle.petal_base.specs.declared.cell.Cell.{Cell}
-use Rattle.petal_command.specs.declared.command.Command.{Command}
-use Rattle.petal_table.specs.Table.{Table, at}
-use Rattle.petal_table.proofs.Rows.{at-where}
-use Rattle.petal_msg.specs.declared.copying.Copying.{Copying}
-use Rattle.petal_msg.specs.declared.copying.LastCopy.{LastCopy}
-use Rattle.petal_msg.specs.declared.copying.LinkId.{LinkId}
-use Rattle.petal_msg.specs.declared.copying.Progress.{Progress}
-use Rattle.spec_state.specs.CellState.{cell_link}
-use Rattle.spec_state.specs.Command.{after}
-use Rattle.spec_state.specs.Place.{touches, touches_cell}
-use Rattle.spec_rules.specs.Copies.{cell_at}
-use Rattle.spec_rules.specs.Crossing.{crossed, dies, ends_cell, ends_link, touches_link}
-use Rattle.spec_rules.specs.Progress.{copying_on, last_copy, no_progress, progress_on}
-use Rattle.spec_rules.specs.Server.{Copies, PairState, Pairs}
-use Rattle.spec_rules.specs.State.{State, id_of, link_cmp, link_named, live}
-use Rattle.spec_rules.specs.Store.{cell_cmp, chain_in, mark_on}
-use Rattle.spec_rules.proofs.CellTables.{cell_cmp_same}
-use Rattle.spec_rules.proofs.Tests.{by_bool, none_some, true_false}
-use Rattle.law_log.proofs.BallotFlags.{same_id}
-use Rattle.law_state.specs.Homes.{stage_at}
-use Rattle.law_state.proofs.NewMapLinks.{either_false}
-use Rattle.law_steps.proofs.WhoLeads.{live_stage, stage_live}
-use Rattle.law_steps.proofs.CopiesRest.{row_named}
+use Rattle.law_copies.proofs.Imports.{◌&&◌, ◌<◌, ◌||◌, ◌∙◌, ◌≡◌, ◌≤◌, Bool, Cell, Command, Copies, Copying, LastCopy, LinkId, LinkRow, None, Option}
+use Rattle.law_copies.proofs.Imports.{PairState, Pairs, Progress, Some, State, Table, after, ap, arith, at, at-where, by_bool, cell_at, cell_cmp}
+use Rattle.law_copies.proofs.Imports.{cell_cmp_same, cell_link, chain_in, cond, copying_on, crossed, dies, either_false, ends_cell, ends_link, false, filter}
+use Rattle.law_copies.proofs.Imports.{has_mark, id_of, inl, is_eq, is_none, last_copy, link_cmp, link_named, live, live_stage, mark_on, no_progress}
+use Rattle.law_copies.proofs.Imports.{none_some, not, option_map_or, progress_on, refl, row_named, same_id, stage_at, stage_live, sym, touches, touches_cell}
+use Rattle.law_copies.proofs.Imports.{touches_link, true, true_false, unwrap_or, ℕ}
 use Rattle.law_copies.specs.GoodCopies.{IsUnheard}
 use Rattle.law_copies.specs.LoneSteps.{IsBare, KeepsCell}
 use Rattle.law_copies.proofs.NewcomersRememberNothing.{IsFresh}

@@ -1,44 +1,13 @@
 -- What is left to copy of a link, by what the holder has marked and under way.
-use Rattle.std.proofs.Common.{cond, ◌≡◌, ◌≢◌, ◌≤◌, ◌⊎◌, ◌==◌, ◌&&◌, ℕ, true, false, List, [], ◌∷◌, Option, Some, None}
-use Rattle.std.proofs.Common.{refl, sym, ap, ◌∙◌, subst, inl, inr, arith}
-use Rattle.std.specs.Prelude.{filter, is_some, nat_lt, unwrap_or, if◌then◌else◌}
-use Rattle.std.specs.List.{list_any}
-use Rattle.std.specs.Option.{option_map_or}
-use Rattle.std.specs.Map.{lookup}
-use Rattle.std.specs.BTreeMap.{is_at}
-use Rattle.std.specs.Cmp.{tied_itself}
-use Rattle.std.specs.Ordering.{is_eq}
-use Rattle.std.specs.declared.cmp.Ordering.{Ordering}
-use Rattle.std.specs.declared.cmp.Ordering.TheVariants.{Less, Equal, Greater}
-use Rattle.std.proofs.lemmas.Bool.Decides.{nat_tests}
-use Rattle.busy_marks.specs.Marks.{above, lesser, same_mark}
-use Rattle.busy_marks.specs.declared.marks.Mark.{Mark}
-use Rattle.busy_marks.specs.declared.marks.MarkKind.{MarkKind}
-use Rattle.busy_marks.specs.declared.marks.MarkKind.TheVariants.{Busy, Stale}
-use Rattle.global_tables.specs.Link.{is_link}
-use Rattle.global_tables.specs.declared.link.LinkRow.{LinkRow}
-use Rattle.petal_base.specs.declared.cell.Cell.{Cell}
-use Rattle.petal_msg.specs.declared.copying.Copying.{Copying}
-use Rattle.petal_msg.specs.declared.copying.LinkId.{LinkId}
-use Rattle.petal_msg.specs.declared.copying.NextCopy.{NextCopy}
-use Rattle.petal_msg.specs.declared.copying.NextCopy.TheVariants.{Ask, Block, Wait, Nothing}
-use Rattle.petal_msg.specs.declared.operation.Pending.{Pending}
-use Rattle.spec_state.specs.CellState.{cell_link}
-use Rattle.petal_table.specs.Table.{Table, at}
-use Rattle.spec_history.specs.Claims.{IsMarked, IsToBeCopied}
-use Rattle.spec_rules.specs.Copies.{blocks_left, cell_at, is_kept_on, is_link_under_way, least, marked_blocks, next_block, next_copy, stored_blocks}
-use Rattle.spec_rules.specs.Lists.{In}
-use Rattle.spec_rules.specs.Progress.{copying_on, progress_on}
-use Rattle.spec_rules.specs.Server.{PairState}
-use Rattle.spec_rules.specs.State.{State, is_on, is_whole, link_named, live}
-use Rattle.spec_rules.specs.Store.{Chain, Store, cell_cmp, chain_in, is_marked, mark_on}
-use Rattle.spec_rules.specs.Writes.{is_under_way, pending_on}
-use Rattle.spec_rules.proofs.CellTables.{cell_cmp_same, cell_cmp_total}
-use Rattle.spec_rules.proofs.ListLemmas.{in-append, in_former, in_later}
-use Rattle.spec_rules.proofs.Tests.{both_true, by_bool, by_test, none_some, number_itself, same_some, some_or_none, true_false}
-use Rattle.law_state.proofs.NewMapLinks.{either_false, in_map}
-use Rattle.law_steps.proofs.CopiesRest.{among_least, cell_left, in_none, on_row, same_cell}
-use Rattle.busy_marks.proofs.Orders.{is_mark, same_itself}
+use Rattle.law_copies.proofs.Imports.{[], if◌then◌else◌, ◌&&◌, ◌==◌, ◌∙◌, ◌∷◌, ◌≡◌, ◌≢◌, ◌≤◌, ◌⊎◌, Ask, Block, Busy, Cell, Chain, Copying, Equal, Greater, In}
+use Rattle.law_copies.proofs.Imports.{IsMarked, IsToBeCopied, Less, LinkId, LinkRow, List, Mark, MarkKind, NextCopy, None, Nothing, Option, Ordering}
+use Rattle.law_copies.proofs.Imports.{PairState, Pending, Some, Stale, State, Store, Table, Wait, above, among_least, ap, arith, at, blocks_left, both_true}
+use Rattle.law_copies.proofs.Imports.{by_bool, by_test, cell_at, cell_cmp, cell_cmp_same, cell_cmp_total, cell_left, cell_link, chain_in, cond, copying_on}
+use Rattle.law_copies.proofs.Imports.{either_false, false, filter, in-append, in_former, in_later, in_map, in_none, inl, inr, is_at, is_eq, is_kept_on}
+use Rattle.law_copies.proofs.Imports.{is_link, is_link_under_way, is_mark, is_marked, is_on, is_some, is_under_way, is_whole, least, lesser, link_named}
+use Rattle.law_copies.proofs.Imports.{list_any, live, lookup, mark_on, marked_blocks, nat_lt, nat_tests, next_block, next_copy, none_some, number_itself}
+use Rattle.law_copies.proofs.Imports.{on_row, option_map_or, pending_on, progress_on, refl, same_cell, same_itself, same_mark, same_some, some_or_none}
+use Rattle.law_copies.proofs.Imports.{stored_blocks, subst, sym, tied_itself, true, true_false, unwrap_or, ℕ}
 use Rattle.law_copies.proofs.ChainsRise.{any_in, in_any, in_kept, in_left, in_mapped}
 
 -- ### The least of some numbers

@@ -1,38 +1,11 @@
 -- A server speaks of pairs and copies only of live cells whose link it is of.
-use Rattle.std.proofs.Common.{◌≡◌, ℕ, true, false, Some, refl, sym, ap, ◌∙◌, subst, ◌⊎◌, inl, inr}
-use Rattle.petal_base.specs.declared.cell.Cell.{Cell}
-use Rattle.petal_base.specs.Cells.{cell_of}
-use Rattle.petal_msg.specs.Kinds.{about, subject_of}
-use Rattle.petal_msg.specs.declared.body.Body.{Body}
-use Rattle.petal_msg.specs.declared.body.Body.TheVariants as body
-use Rattle.petal_msg.specs.declared.copying.Copying.{Copying}
-use Rattle.petal_msg.specs.declared.copying.LastCopy.{LastCopy}
-use Rattle.petal_msg.specs.declared.operation.Ending.{Ending}
-use Rattle.petal_msg.specs.declared.operation.Ending.TheVariants as ending
-use Rattle.petal_msg.specs.declared.operation.Pending.{Pending}
-use Rattle.spec_rules.specs.Copies.{Entry}
-use Rattle.spec_rules.specs.Lists.{In}
-use Rattle.spec_rules.specs.Progress.{last_copy}
-use Rattle.spec_rules.specs.Server.{PairState, JobContext, Post, JobResult}
-use Rattle.spec_rules.specs.State.{is_lead, is_second, leads_link, live, second}
-use Rattle.spec_rules.specs.Writes.{ended, follows, pending_on}
-use Rattle.spec_rules.proofs.CellTables.{cell_apart}
-use Rattle.spec_rules.proofs.Tests.{by_bool, none_some, same_some, true_false}
-use Rattle.law_state.proofs.CellsByLinkRows.{dead_second}
-use Rattle.law_steps.specs.Did.{Did, Refuses}
-use Rattle.law_steps.specs.DidLead.{Repeats, Opens}
-use Rattle.law_steps.specs.DidLead.{Of_the_log}
-use Rattle.law_steps.specs.DidHolder.{Asks_page}
-use Rattle.law_steps.specs.DidOther.{IsOfCopy}
-use Rattle.law_steps.specs.DidStep.{is_between}
-use Rattle.law_steps.proofs.WhoLeads.{lead_links}
-use Rattle.law_steps.proofs.OperationsRest.{same_cell_or_apart}
-use Rattle.law_jobs.specs.Effects.{Effect, Is_begun, Is_copied, Is_further, IsCopiedFor, May, applied}
-use Rattle.law_jobs.proofs.JobsAreEffects.{job_keeps}
-use Rattle.law_jobs.specs.Sayings as says
-use Rattle.law_jobs.specs.Sayings.{Asks_copy, Asks_slot, Begins, Ends, Ends_fill, Goes_on, Has_copy, Has_slot, Is_sync_full, Is_synced, IsCopying}
-use Rattle.law_jobs.specs.Sayings.{Moves, Moves_on, Says, Syncs, Tells_page, Trims}
-use Rattle.law_jobs.proofs.JobsSay.{letters_of_job}
+use Rattle.law_copies.proofs.Imports.{◌∙◌, ◌≡◌, ◌⊎◌, Asks_copy, Asks_page, Asks_slot, Begins, Body, Cell, Copying, Did, Effect, Ending, Ends_fill, Entry}
+use Rattle.law_copies.proofs.Imports.{Goes_on, Has_copy, Has_slot, In, IsCopiedFor, IsCopying, IsOfCopy, Is_begun, Is_copied, Is_further, Is_sync_full}
+use Rattle.law_copies.proofs.Imports.{Is_synced, JobContext, JobResult, LastCopy, May, Moves, Moves_on, Of_the_log, Opens, PairState, Pending, Post, Refuses}
+use Rattle.law_copies.proofs.Imports.{Repeats, Says, Some, Syncs, Tells_page, Trims, about, ap, applied, by_bool, cell_apart, cell_of, dead_second, ended}
+use Rattle.law_copies.proofs.Imports.{false, follows, inl, inr, is_between, is_lead, is_second, job_keeps, last_copy, lead_links, leads_link, letters_of_job}
+use Rattle.law_copies.proofs.Imports.{live, none_some, pending_on, refl, same_cell_or_apart, same_some, second, subject_of, subst, sym, true, true_false, ℕ}
+use Rattle.law_jobs.specs.Sayings.{Ends}
 use Rattle.law_copies.specs.LoneSteps.{IsFit}
 use Rattle.law_copies.proofs.ForeignCellsStay.{IsIdleAt, second_live}
 use Rattle.law_copies.proofs.LeftToCopy.{next_is}
@@ -40,6 +13,9 @@ use Rattle.law_copies.proofs.MuteLettersTellNothing.{logged_mute}
 use Rattle.law_copies.proofs.CopyLetters.{moved_fills}
 use Rattle.law_copies.proofs.RolesOfWorkers.{IsHeldHere, begun_held, entry_lives, taken_held, taken_lives}
 use Rattle.law_copies.proofs.WorkedCell.{IsHeldBy}
+use Rattle.petal_msg.specs.declared.body.Body.TheVariants as body
+use Rattle.petal_msg.specs.declared.operation.Ending.TheVariants as ending
+use Rattle.law_jobs.specs.Sayings as says
 
 ended_mute : (seq : ℕ) (how : Ending) → is_between (subject_of (ended seq how)) ≡ false
 ended_mute seq ending.Written = refl

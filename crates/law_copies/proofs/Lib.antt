@@ -1,3 +1,4 @@
+pub mod Imports
 pub mod ChainsRise
 pub mod EpochsRise
 pub mod EmptyCellsHaveNoChain

@@ -1,41 +1,18 @@
 -- In every legal history each put of a lead fell on a block that was marked on its device.
-use Rattle.std.proofs.Common.{◌≡◌, ◌≢◌, ◌++◌, ◌∷◌, ℕ, List, [], true, refl, ap, sym, ◌∙◌, subst, inl, inr, append_assoc}
-use Rattle.petal_base.specs.declared.cell.Cell.{Cell}
-use Rattle.script_lines.specs.declared.script.Script.{Script}
-use Rattle.spec_history.specs.Claims.{IsMarked, MarksFirst}
-use Rattle.spec_history.specs.Steps.{AreSteps, world_after}
-use Rattle.spec_history.specs.Sound.{IsSound}
-use Rattle.spec_history.specs.declared.record.Record.{Record}
-use Rattle.spec_rules.specs.Boots.{blanked, stays}
-use Rattle.spec_rules.specs.Crossing.{crossed}
-use Rattle.spec_rules.specs.Jobs.{Acted}
-use Rattle.spec_rules.specs.Lists.{put_at}
-use Rattle.spec_rules.specs.State.{State, is_in, leads_link, live}
-use Rattle.spec_rules.specs.Store.{Store, chain_in}
-use Rattle.spec_rules.specs.Server.{Server, JobResult}
-use Rattle.spec_rules.specs.World.{Setting, World, chosen_log, chosen_state, counted, kept, server_state, setting_of, start}
-use Rattle.spec_rules.specs.declared.step.Step.{Step}
-use Rattle.spec_rules.proofs.ListLemmas.{put_apart, put_same}
-use Rattle.spec_rules.proofs.Settled.{settling}
-use Rattle.spec_rules.proofs.Tests.{same_or_apart, true_false}
-use Rattle.law_log.proofs.LogInHistories.{history_is_firm}
-use Rattle.law_state.specs.Firm.{Firm}
-use Rattle.law_steps.specs.Did.{Did}
-use Rattle.law_steps.specs.DidStep.{Happens, Handled, IsSeated, Serves, Blanks, Turns, Serving, Goes, Ends, Stays, Wakes}
-use Rattle.law_steps.specs.DidStep.{Fails, By_job, By_ballot, By_entry, own_place}
-use Rattle.law_steps.specs.Ready.{Rests}
-use Rattle.law_steps.proofs.WorldsAreFirm.{always_firm}
-use Rattle.law_steps.proofs.Fronts.{below_itself}
-use Rattle.law_steps.proofs.KindsInHistories.{last_happens, own_steady, rests_after, start_rests, world_more}
-use Rattle.law_jobs.proofs.Runs.{before_part}
+use Rattle.law_copies.proofs.Imports.{[], ◌++◌, ◌∙◌, ◌∷◌, ◌≡◌, ◌≢◌, Acted, AreSteps, Blanks, By_ballot, By_entry, By_job, Cell, Did, Ends, Fails, Firm, Goes}
+use Rattle.law_copies.proofs.Imports.{Handled, Happens, IsMarked, IsSeated, IsSound, JobResult, List, MarksFirst, Record, Rests, Script, Server, Serves}
+use Rattle.law_copies.proofs.Imports.{Serving, Setting, State, Stays, Step, Store, Turns, Wakes, World, always_firm, ap, append_assoc, before_part}
+use Rattle.law_copies.proofs.Imports.{below_itself, blanked, chain_in, chosen_log, chosen_state, counted, crossed, history_is_firm, inl, inr, is_in, kept}
+use Rattle.law_copies.proofs.Imports.{last_happens, leads_link, live, own_place, own_steady, put_apart, put_at, put_same, refl, rests_after, same_or_apart}
+use Rattle.law_copies.proofs.Imports.{server_state, setting_of, settling, start, start_rests, stays, subst, sym, true, true_false, world_after, world_more, ℕ}
 use Rattle.law_copies.specs.GoodCopies.{Good}
 use Rattle.law_copies.proofs.AtSeat.{AtSeat, IsAtWork}
 use Rattle.law_copies.proofs.AtWork.{at_work}
 use Rattle.law_copies.proofs.BallotsFindAllCopied.{ballot_alike}
 use Rattle.law_copies.proofs.CopiesInHistories.{good_after}
 use Rattle.law_copies.proofs.LeadsFindMarks.{job_marked}
-use Rattle.law_copies.proofs.PlacesBeforeJobs as seated
 use Rattle.law_copies.proofs.PlacesBeforeJobs.{idle_copies}
+use Rattle.law_copies.proofs.PlacesBeforeJobs as seated
 
 module _ (setting : Setting) (records : List Record) (w : World) (firm : Firm setting w) (rests : Rests setting w)
     (good : Good setting records (chosen_log setting w) (counted setting w))

@@ -1,21 +1,11 @@
 -- Letters that speak neither of pairs nor of copies tell nothing of two copies.
-use Rattle.std.proofs.Common.{◌≡◌, ◌||◌, ℕ, List, true, false, Option, refl, ap}
-use Rattle.global_tables.specs.Link.{other_of}
-use Rattle.global_tables.specs.declared.link.LinkRow.{LinkRow}
-use Rattle.petal_base.specs.declared.cell.Cell.{Cell}
-use Rattle.petal_command.specs.declared.command.Command.{Command}
-use Rattle.petal_msg.specs.Kinds.{Subject, is_asked, is_logged, is_paired, subject_of, Logged, Paired, Read_asked, Write_asked}
-use Rattle.petal_msg.specs.declared.body.Body.{Body}
-use Rattle.petal_msg.specs.declared.body.Body.TheVariants as body
-use Rattle.spec_rules.specs.Server.{PairState}
-use Rattle.spec_rules.specs.Store.{Store}
-use Rattle.spec_rules.specs.World.{Setting}
-use Rattle.spec_rules.proofs.Tests.{true_false}
-use Rattle.law_steps.specs.DidStep.{is_between}
+use Rattle.law_copies.proofs.Imports.{◌||◌, ◌≡◌, Body, Cell, Command, LinkRow, List, Logged, Option, PairState, Paired, Read_asked, Setting, Store, Subject}
+use Rattle.law_copies.proofs.Imports.{Write_asked, ap, false, is_asked, is_between, is_logged, is_paired, other_of, refl, subject_of, true, true_false, ℕ}
 use Rattle.law_copies.specs.CopyProgress.{IsTold}
 use Rattle.law_copies.specs.GoodCopies.{SaidOk, pair_at}
 use Rattle.law_copies.specs.Pair.{Known, Pair}
 use Rattle.law_copies.specs.Visits.{Visits, place_by, store_by}
+use Rattle.petal_msg.specs.declared.body.Body.TheVariants as body
 
 -- a letter that is of no pair tells nothing of it
 pub unpaired_known : (pair : Pair) (said : Body) → is_paired (subject_of said) ≡ false → Known pair said

@@ -1,61 +1,29 @@
 -- The chosen log grows by an entry that no server has applied: what was kept at the fronts so far is kept at the new one. Where the
 -- entry touches a link, no server has been at the link's new place. Where it is a Join of a server with an empty store, that store is the
 -- server's from the new front on.
-use Rattle.std.proofs.Common.{◌≡◌, ◌≢◌, ◌≤◌, ◌==◌, ◌⊎◌, ℕ, Bool, List, [], ◌∷◌, length, length-append, true, false}
-use Rattle.std.proofs.Common.{Some, None, refl, sym, ap, ◌∙◌, subst, inl, inr, arith}
-use Rattle.std.specs.Prelude.{slice_get}
-use Rattle.std.specs.Ordering.{nat_cmp}
-use Rattle.busy_marks.specs.Marks.{has_mark}
-use Rattle.global_tables.specs.Link.{has_server, left_state, other_of, row_blanked, row_left}
-use Rattle.global_tables.specs.declared.link.LinkRow.{LinkRow}
-use Rattle.global_tables.specs.declared.link.LinkState.TheVariants.{Both, Only}
-use Rattle.petal_base.specs.declared.cell.Cell.{Cell}
-use Rattle.petal_command.specs.declared.command.Command.{Command}
-use Rattle.petal_command.specs.declared.command.Command.TheVariants.{Join, Leave}
-use Rattle.spec_history.specs.Claims.{IsPrefix}
-use Rattle.petal_msg.specs.Kinds.{subject_of}
-use Rattle.petal_msg.specs.declared.body.Body.{Body}
-use Rattle.petal_msg.specs.declared.copying.LinkId.{LinkId}
-use Rattle.spec_state.specs.CellState.{cell_link, serves}
-use Rattle.spec_state.specs.Command.{after, may_join, state_after}
-use Rattle.spec_state.specs.Place.{touches}
-use Rattle.spec_rules.specs.Blanked.{joins_blank}
-use Rattle.spec_rules.specs.Server.{PairState}
-use Rattle.spec_rules.specs.State.{id_of, is_in, is_whole}
-use Rattle.spec_rules.specs.Store.{Store, cell_cmp, chain_in, is_marked, mark_on}
-use Rattle.spec_rules.specs.World.{blank_joins_in, server_state, with_store}
-use Rattle.spec_rules.proofs.Tests.{by_bool, none_some, same_some, true_false}
-use Rattle.petal_table.proofs.Rows.{at-empty}
-use Rattle.law_log.specs.ProposedCommands.{WasStarted}
-use Rattle.law_state.specs.Homes.{stage_at}
-use Rattle.law_state.specs.LinkChanges.{IsCaughtBy, By_caught, By_join, By_leave, row_joined}
-use Rattle.law_state.specs.LinkRows.{ByBoth, ByNone, ByOne}
-use Rattle.law_state.specs.StartedBallots.{is_flagged}
-use Rattle.law_state.proofs.CaughtsMadeBoth.{left_not_both, left_row, stays_row}
-use Rattle.law_state.proofs.GrownStates.{alone_not_both, one_before}
-use Rattle.law_state.proofs.Roles.{primary_is_one, secondary_is_one}
-use Rattle.law_state.proofs.Steady.{log_steady}
-use Rattle.law_state.proofs.EntriesTouchLinks.{log_touched}
-use Rattle.law_steps.specs.DidStep.{is_between}
-use Rattle.law_steps.specs.Ready.{IsRising}
-use Rattle.law_steps.proofs.Fronts.{front_itself, front_long, front_more, front_on}
+use Rattle.law_copies.proofs.Imports.{[], ◌==◌, ◌∙◌, ◌∷◌, ◌≡◌, ◌≢◌, ◌≤◌, ◌⊎◌, Body, Bool, Both, ByBoth, ByNone, ByOne, By_caught, By_join, By_leave, Cell}
+use Rattle.law_copies.proofs.Imports.{Command, IsCaughtBy, IsPrefix, IsRising, Join, Leave, LinkId, LinkRow, List, None, Only, PairState, Some, Store}
+use Rattle.law_copies.proofs.Imports.{WasStarted, after, alone_not_both, ap, arith, at-empty, blank_joins_in, by_bool, cell_cmp, cell_link, chain_in, false}
+use Rattle.law_copies.proofs.Imports.{front_itself, front_long, front_more, front_on, has_mark, has_server, id_of, inl, inr, is_between, is_flagged, is_in}
+use Rattle.law_copies.proofs.Imports.{is_marked, is_whole, joins_blank, left_not_both, left_row, left_state, length, length-append, log_steady, log_touched}
+use Rattle.law_copies.proofs.Imports.{mark_on, may_join, nat_cmp, none_some, one_before, other_of, primary_is_one, refl, row_blanked, row_joined, row_left}
+use Rattle.law_copies.proofs.Imports.{same_some, secondary_is_one, server_state, serves, slice_get, stage_at, state_after, stays_row, subject_of, subst, sym}
+use Rattle.law_copies.proofs.Imports.{touches, true, true_false, with_store, ℕ}
 use Rattle.law_copies.specs.CopyProgress.{AreCopying, IsCovered, IsPage, Is_equal, links_of}
 use Rattle.law_copies.specs.GoodCopies.{AloneOk, AreBeside, AreTwins, BothOk, Good, IsUnheard, SaidOk, StaysLeft, pair_at}
 use Rattle.law_copies.specs.Pair.{HaveMarks, Known}
 use Rattle.law_copies.specs.LoneSteps.{AreFilled, IsBare}
 use Rattle.law_copies.specs.Visits.{AliveIn, AreReached, HasFilled, IsHere, IsLinked, Visits, place_by, store_by}
-use Rattle.law_copies.proofs.PlacesByFronts.{has_filled_on, reached_on}
+use Rattle.law_copies.proofs.PlacesByFronts.{has_filled_on, reached_on, below_at, front_or_all, links_up, other_later}
 use Rattle.law_copies.proofs.BlankJoinsMakePlaces.{joins_at, store_at}
 use Rattle.law_copies.proofs.FramesKeepFronts.{other_is_one}
 use Rattle.law_copies.proofs.ServedAtLaterFronts.{alone_not_lost, holder_is_one, other_than}
 use Rattle.law_copies.proofs.MuteLettersTellNothing.{said_mute}
 use Rattle.law_copies.proofs.NewPlaces.{beside_same, both_cover, cover_again, in_common, new_alone, new_twins, twins_same}
-use Rattle.law_copies.proofs.PlacesByFronts.{below_at, front_or_all, links_up, other_later}
 use Rattle.law_copies.proofs.BlankJoinsRenewLinks.{blanked_alone, counts_same, filled_cover, joined_not_both, joins_so, no_blank_join, no_chains}
 use Rattle.law_copies.proofs.AtNext.{AtNext, next_of, IsGrownTo}
-use Rattle.law_copies.proofs.NextEntry.{alive_before, born_then, by_next, front_stores, later_then, next_store, next_stores}
-use Rattle.law_copies.proofs.NextEntry.{no_blank, no_caught, no_leave, old_stores, plain_entry, plain_top, reached_below}
-use Rattle.law_copies.proofs.NextEntry.{row_then, steady_top, still_empty, stores_so}
+use Rattle.law_copies.proofs.NextEntry.{alive_before, born_then, by_next, front_stores, later_then, next_store, next_stores, no_blank, no_caught, no_leave}
+use Rattle.law_copies.proofs.NextEntry.{old_stores, plain_entry, plain_top, reached_below, row_then, steady_top, still_empty, stores_so}
 
 module _ (it : AtNext) where
   open it use {setting, records, top, entry, u, old, new, good, following, all, started, recounts}

@@ -1,20 +1,7 @@
 -- Two copies at a new place of their link, and by other stores that have the same of the cell.
-use Rattle.std.proofs.Common.{◌≡◌, ◌≤◌, ◌+◌, ◌⊎◌, ℕ, List, [], true, Option, Some, None, refl, sym, ap, ◌∙◌, subst, inl, inr, arith}
-use Rattle.std.specs.Ordering.{nat_cmp}
-use Rattle.global_tables.specs.Link.{has_server, other_of}
-use Rattle.global_tables.specs.declared.link.LinkRow.{LinkRow}
-use Rattle.petal_base.specs.declared.cell.Cell.{Cell}
-use Rattle.petal_command.specs.declared.command.Command.{Command}
-use Rattle.petal_msg.specs.declared.operation.Pending.{Pending}
-use Rattle.spec_state.specs.Command.{state_after}
-use Rattle.spec_rules.specs.Server.{PairState}
-use Rattle.spec_rules.specs.State.{is_whole}
-use Rattle.spec_rules.specs.Store.{Store, cell_cmp, chain_in}
-use Rattle.spec_rules.specs.World.{Setting}
-use Rattle.spec_rules.proofs.Tests.{none_some}
-use Rattle.petal_table.specs.Table.{at}
-use Rattle.petal_table.proofs.Rows.{at-empty}
-use Rattle.law_state.proofs.Leaves.{other_between}
+use Rattle.law_copies.proofs.Imports.{[], ◌+◌, ◌∙◌, ◌≡◌, ◌≤◌, ◌⊎◌, Cell, Command, LinkRow, List, None, Option, PairState, Pending, Setting, Some, Store, ap}
+use Rattle.law_copies.proofs.Imports.{arith, at, at-empty, cell_cmp, chain_in, has_server, inl, inr, is_whole, nat_cmp, none_some, other_between, other_of}
+use Rattle.law_copies.proofs.Imports.{refl, state_after, subst, sym, true, ℕ}
 use Rattle.law_copies.specs.CopyProgress.{AreAlike, IsCovered, Is_equal, Is_marked_here, Is_marked_there, Is_to_be_copied}
 use Rattle.law_copies.specs.GoodCopies.{AloneOk, AreBeside, AreTwins}
 use Rattle.law_copies.specs.Pair.{IsRecalled, PairOk, far, pair_of}

@@ -1,26 +1,13 @@
 -- A server that comes to a place with nothing in memory of the cell: what was so where it had not been there is so then.
-use Rattle.std.proofs.Common.{◌≡◌, ◌≤◌, ℕ, false, Option, Some, None, is_some, refl, sym, ap, ◌∙◌, subst, inl, inr, arith}
-use Rattle.std.specs.Ordering.{nat_cmp}
-use Rattle.busy_marks.specs.Marks.{above}
-use Rattle.global_tables.specs.declared.link.LinkRow.{LinkRow}
-use Rattle.petal_base.specs.declared.cell.Cell.{Cell}
-use Rattle.petal_table.specs.Table.{at}
-use Rattle.petal_msg.specs.Kinds.{about}
-use Rattle.petal_msg.specs.declared.body.Body.{Body}
-use Rattle.petal_msg.specs.declared.body.Body.TheVariants as body
-use Rattle.petal_msg.specs.declared.copying.Progress.{Progress}
-use Rattle.spec_rules.specs.Progress.{copying_on, last_copy, no_progress, progress_on}
-use Rattle.spec_rules.specs.Server.{PairState}
-use Rattle.spec_rules.specs.State.{id_of}
-use Rattle.spec_rules.specs.Store.{Store, Stored, cell_cmp, chain_in}
-use Rattle.spec_rules.proofs.Tests.{none_some, same_some, true_false}
-use Rattle.law_log.proofs.BallotFlags.{same_caught}
-use Rattle.law_state.specs.StartedBallots.{is_flagged}
-use Rattle.law_steps.specs.Ready.{IsRising}
-use Rattle.law_copies.specs.CopyProgress.{AreAlike, AreCopying, HasPage, HasSent, IsCovered, IsTold, Is_equal, Is_marked_here, Is_marked_there, Is_to_be_copied}
+use Rattle.law_copies.proofs.Imports.{◌∙◌, ◌≡◌, ◌≤◌, Body, Cell, IsRising, LinkRow, None, Option, PairState, Progress, Some, Store, Stored, about, above, ap}
+use Rattle.law_copies.proofs.Imports.{arith, at, cell_cmp, chain_in, copying_on, false, id_of, inl, inr, is_flagged, is_some, last_copy, nat_cmp, no_progress}
+use Rattle.law_copies.proofs.Imports.{none_some, progress_on, refl, same_caught, same_some, subst, sym, true_false, ℕ}
+use Rattle.law_copies.specs.CopyProgress.{AreAlike, AreCopying, HasPage, HasSent, IsCovered, IsTold, Is_equal, Is_marked_here, Is_marked_there}
+use Rattle.law_copies.specs.CopyProgress.{Is_to_be_copied}
 use Rattle.law_copies.specs.Pair.{Grows, Known, PairOk, pair_of}
 use Rattle.law_copies.specs.Visits.{half}
 use Rattle.law_copies.proofs.CellChangesKeepCopies.{known_later}
+use Rattle.petal_msg.specs.declared.body.Body.TheVariants as body
 
 -- nothing that others asked for, and nothing of copies, is in memory of the cell and its link
 pub record IsFresh (own : PairState) (row : LinkRow) (cell : Cell) : Type 0 where

@@ -1,34 +1,13 @@
 -- The chosen log has one entry more: what is known of the log then, how far cells are in it, and the stores that count by it.
-use Rattle.std.proofs.Common.{◌≡◌, ◌≤◌, ◌==◌, ℕ, Bool, List, [], ◌∷◌, true, false, if◌then◌else◌}
-use Rattle.std.proofs.Common.{Some, None, refl, sym, ap, ◌∙◌, subst, inl, inr, arith}
-use Rattle.global_tables.specs.declared.link.LinkRow.{LinkRow}
-use Rattle.petal_base.specs.declared.cell.Cell.{Cell}
-use Rattle.petal_command.specs.declared.command.Command.{Command}
-use Rattle.petal_command.specs.declared.command.Command.TheVariants.{Caught, Join, Leave}
-use Rattle.spec_history.specs.Claims.{IsPrefix}
-use Rattle.spec_state.specs.CellState.{cell_link}
-use Rattle.spec_state.specs.Command.{after}
-use Rattle.spec_state.specs.Place.{touches}
-use Rattle.spec_rules.specs.Blanked.{joins_blank}
-use Rattle.spec_rules.specs.Lists.{In}
-use Rattle.spec_rules.specs.Server.{PairState}
-use Rattle.spec_rules.specs.State.{State}
-use Rattle.spec_rules.specs.Store.{Store, chain_in}
-use Rattle.spec_rules.specs.World.{blank_joins_in}
-use Rattle.spec_rules.proofs.ListLemmas.{in_later}
-use Rattle.spec_rules.proofs.Tests.{by_bool, none_some, number_itself, same_numbers, same_some, some_or_none}
-use Rattle.law_state.specs.Homes.{stage_at}
-use Rattle.law_state.specs.Plain.{IsPlain, IsPlainLog}
-use Rattle.law_state.specs.LinkRows.{IsLater}
-use Rattle.law_state.specs.Steady.{IsSteady}
-use Rattle.law_state.proofs.BlankJoins.{joins_grow}
-use Rattle.law_state.proofs.Steady.{front_plain, log_steady}
-use Rattle.law_state.proofs.EntriesTouchLinks.{log_entry_stays}
-use Rattle.law_steps.proofs.Fronts.{front_itself, front_more, front_on}
+use Rattle.law_copies.proofs.Imports.{[], if◌then◌else◌, ◌==◌, ◌∙◌, ◌∷◌, ◌≡◌, ◌≤◌, Bool, Caught, Cell, Command, In, IsLater, IsPlain, IsPlainLog, IsPrefix}
+use Rattle.law_copies.proofs.Imports.{IsSteady, Join, Leave, LinkRow, List, None, PairState, Some, State, Store, after, ap, arith, blank_joins_in, by_bool}
+use Rattle.law_copies.proofs.Imports.{cell_link, chain_in, false, front_itself, front_more, front_on, front_plain, in_later, inl, inr, joins_blank}
+use Rattle.law_copies.proofs.Imports.{joins_grow, log_entry_stays, log_steady, none_some, number_itself, refl, same_numbers, same_some, some_or_none}
+use Rattle.law_copies.proofs.Imports.{stage_at, subst, sym, touches, true, ℕ}
 use Rattle.law_copies.specs.Visits.{AliveIn, IsLinked, place_by, store_by}
 use Rattle.law_copies.proofs.AtNext.{AtNext, next_of}
-use Rattle.law_copies.proofs.PlacesByFronts.{alive_on, linked_between, place_of_later, place_touched}
-use Rattle.law_copies.proofs.PlacesByFronts.{place_untouched, places_up, rows_later, state_next, unborn}
+use Rattle.law_copies.proofs.PlacesByFronts.{alive_on, linked_between, place_of_later, place_touched, place_untouched, places_up, rows_later, state_next}
+use Rattle.law_copies.proofs.PlacesByFronts.{unborn}
 use Rattle.law_copies.proofs.BlankJoinsRenewLinks.{counts_more, no_blank_join, no_chains}
 
 module _ (it : AtNext) where

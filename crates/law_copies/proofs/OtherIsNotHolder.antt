@@ -1,21 +1,8 @@
 -- The other server of a link that one server holds alone is another one than the holder, and leads none of the link's cells.
-use Rattle.std.proofs.Common.{◌≡◌, ◌≢◌, ◌==◌, ◌&&◌, ℕ, Bool, true, false, Option, Some, None, refl, sym, ap, ◌∙◌, inl, inr}
-use Rattle.std.specs.Prelude.{option_and_then}
-use Rattle.global_tables.specs.Link.{has_server, other_of}
-use Rattle.global_tables.specs.declared.link.LinkRow.{LinkRow}
-use Rattle.global_tables.specs.declared.link.LinkState.{LinkState}
-use Rattle.global_tables.specs.declared.link.LinkState.TheVariants.{Both, Only, Lost}
-use Rattle.petal_base.specs.declared.cell.Cell.{Cell}
-use Rattle.spec_state.specs.CellState.{cell_link, row_lead}
-use Rattle.spec_rules.specs.Copies.{cell_holder}
-use Rattle.spec_rules.specs.Server.{JobContext}
-use Rattle.spec_state.specs.Command.{is_alone}
-use Rattle.spec_rules.specs.State.{holder_of, is_lead, leads_link}
-use Rattle.spec_rules.proofs.Tests.{both_true, by_test, none_some, number_itself, same_numbers, same_some, some_or_none, true_false}
-use Rattle.law_state.specs.Steady.{IsSteady}
-use Rattle.law_state.proofs.CellsByLinkRows.{link_led_by}
-use Rattle.law_steps.proofs.WhoLeads.{lead_links}
-use Rattle.spec_rules.proofs.Tests.{is_the_one}
+use Rattle.law_copies.proofs.Imports.{◌&&◌, ◌==◌, ◌∙◌, ◌≡◌, ◌≢◌, Bool, Both, Cell, IsSteady, JobContext, LinkRow, LinkState, Lost, None, Only, Option, Some}
+use Rattle.law_copies.proofs.Imports.{ap, both_true, by_test, cell_holder, cell_link, false, has_server, holder_of, inl, inr, is_alone, is_lead, is_the_one}
+use Rattle.law_copies.proofs.Imports.{lead_links, leads_link, link_led_by, none_some, number_itself, option_and_then, other_of, refl, row_lead, same_numbers}
+use Rattle.law_copies.proofs.Imports.{same_some, some_or_none, sym, true, true_false, ℕ}
 
 -- a link's two servers are two
 pub other_apart : (row : LinkRow) (n : ℕ) → row.primary ≢ row.secondary → other_of n row ≢ n

@@ -1,51 +1,28 @@
 -- Each job of the other server of a link that one server holds alone keeps a cell of it.
-use Rattle.std.proofs.Common.{◌≡◌, ◌<◌, ◌⊎◌, ℕ, true, List, Option, Some, refl, sym, ap, ◌∙◌, subst, inl, inr, arith}
-use Rattle.std.specs.Prelude.{filter}
-use Rattle.busy_marks.specs.Marks.{above}
-use Rattle.global_tables.specs.Link.{other_of}
-use Rattle.global_tables.specs.declared.link.LinkRow.{LinkRow}
-use Rattle.petal_base.specs.declared.cell.Cell.{Cell}
-use Rattle.petal_base.specs.Cells.{cell_of}
-use Rattle.petal_msg.specs.Kinds.{about, subject_of}
-use Rattle.petal_msg.specs.declared.body.Body.{Body}
-use Rattle.petal_msg.specs.declared.body.Body.TheVariants as body
-use Rattle.petal_msg.specs.declared.copying.LastCopy.{LastCopy}
-use Rattle.spec_state.specs.Command.{is_alone}
-use Rattle.spec_history.specs.Claims.{IsMarked}
-use Rattle.spec_rules.specs.Copies.{Entry, marked_blocks, puts_entry}
-use Rattle.spec_rules.specs.Lists.{In}
-use Rattle.spec_rules.specs.Progress.{last_copy, with_last_copy}
-use Rattle.spec_rules.specs.Server.{PairState, JobContext, Post, JobResult, says_to}
-use Rattle.spec_rules.specs.State.{is_on, is_second}
-use Rattle.spec_rules.specs.Store.{Store, chain_in, is_marked}
-use Rattle.spec_rules.proofs.Tests.{same_some}
-use Rattle.law_state.proofs.LoneHolders.{IsBothRow}
-use Rattle.law_steps.specs.DidLead.{DidLead, Asks, A_trim, A_copied_entry, An_entry_to_move, Of_the_log}
-use Rattle.law_steps.specs.DidHolder.{DidHolder}
-use Rattle.law_steps.specs.DidOther.{OtherReply, Replies, DidOther, IsOfCopy, first_last, TrimStep, Is_trimmed, Drops_entry, Is_copied_to}
-use Rattle.law_steps.specs.DidOther.{Goes_on_trimming, Puts_entry, Has_entry, Has_no_slot}
-use Rattle.law_steps.specs.DidSecond.{DidSecond}
-use Rattle.law_steps.specs.Did.{Did, Ignores, Refuses, By_read, By_lead, By_second, By_holder, By_other, By_filler, By_sweep}
-use Rattle.law_steps.proofs.Letters.{one_post, posted}
-use Rattle.law_steps.proofs.OperationsRest.{same_cell_or_apart}
-use Rattle.law_steps.proofs.Subjects.{of_filler, of_read, of_second, of_sweep}
+use Rattle.law_copies.proofs.Imports.{◌<◌, ◌∙◌, ◌≡◌, ◌⊎◌, A_copied_entry, A_trim, An_entry_to_move, Asks, Body, By_filler, By_holder, By_lead, By_other}
+use Rattle.law_copies.proofs.Imports.{By_read, By_second, By_sweep, Cell, Did, DidHolder, DidLead, DidOther, DidSecond, Drops_entry, Entry, Goes_on_trimming}
+use Rattle.law_copies.proofs.Imports.{Has_entry, Has_no_slot, Ignores, In, IsBothRow, IsMarked, IsOfCopy, Is_copied_to, Is_trimmed, JobContext, JobResult}
+use Rattle.law_copies.proofs.Imports.{LastCopy, LinkRow, List, Of_the_log, Option, OtherReply, PairState, Post, Puts_entry, Refuses, Replies, Some, Store}
+use Rattle.law_copies.proofs.Imports.{TrimStep, about, above, ap, arith, cell_of, chain_in, filter, first_last, inl, inr, is_alone, is_marked, is_on}
+use Rattle.law_copies.proofs.Imports.{is_second, last_copy, marked_blocks, none_in, of_filler, of_read, of_second, of_sweep, one_post, other_of, posted}
+use Rattle.law_copies.proofs.Imports.{puts_entry, refl, same_cell_or_apart, same_some, says_to, subject_of, subst, sym, true, with_last_copy, ℕ}
 use Rattle.law_copies.specs.CopyProgress.{AreCopying, IsPage, IsTold, IsUpTo}
 use Rattle.law_copies.specs.LoneSteps.{IsFollowing, KeepsCell, KeepsHere, OtherKeeps, StaysTold}
 use Rattle.law_copies.proofs.ForeignCellsStay.{away}
-use Rattle.law_copies.proofs.OtherServerChanges as following
 use Rattle.law_copies.proofs.OtherServerChanges.{CopiedEntry}
 use Rattle.law_copies.proofs.OwnPartFrames.{keeps_itself}
 use Rattle.law_copies.proofs.LastCopies.{past_last, past_of, stays_told, to_put, to_trimmed}
 use Rattle.law_copies.proofs.LeftToCopy.{among_marked, least_below, on_itself}
 use Rattle.law_copies.proofs.EpochsRise.{did_rising}
 use Rattle.law_copies.proofs.ChainsRise.{in_kept}
-use Rattle.law_jobs.proofs.JobsSay.{none_in}
-use Rattle.law_copies.proofs.CopyLetters.{at_away, filling_not, holder_says, lead_sends, logged_not, other_says, page_after, page_block, page_link}
-use Rattle.law_copies.proofs.CopyLetters.{page_map, page_sent, paired_not, read_not, refused_not, untold}
+use Rattle.law_copies.proofs.CopyLetters.{at_away, filling_not, holder_says, lead_sends, logged_not, other_says, page_after, page_block, page_link, page_map}
+use Rattle.law_copies.proofs.CopyLetters.{page_sent, paired_not, read_not, refused_not, untold}
 use Rattle.law_copies.proofs.RolesOfWorkers.{IsHeldHere, IsOtherOf, alone_not_row, alone_not_second, copying_held, holder_works, kept_lives, named_id}
 use Rattle.law_copies.proofs.RolesOfWorkers.{one_named, other_alone, other_not_alone, other_not_leading, other_row}
 use Rattle.law_copies.proofs.WorkedCell.{Away, IsLedHere, filler_beside, holder_beside, holder_cell, lead_beside, lead_cell, lead_leads, led_alive}
 use Rattle.law_copies.proofs.WorkedCell.{other_beside, other_cell, second_beside, second_follows, sweep_beside}
+use Rattle.petal_msg.specs.declared.body.Body.TheVariants as body
+use Rattle.law_copies.proofs.OtherServerChanges as following
 
 kept_here : (links : ℕ) (row : LinkRow) (cell : Cell) (vh : Option PairState) (own : PairState) (old : AreCopying links row cell vh (Some own)) (done : JobResult)
     → KeepsCell cell own done.own

@@ -1,27 +1,10 @@
 -- What a job of the other server of a link that one server holds alone keeps of one of the link's cells.
-use Rattle.std.proofs.Common.{◌≡◌, ◌≤◌, ◌<◌, ◌+◌, ℕ, true, false, List, [], ◌∷◌, Option, Some, refl, sym, ap, ◌∙◌, subst, inl, inr, arith}
-use Rattle.std.specs.Prelude.{slice_get}
-use Rattle.std.specs.Cmp.{nat_cmp_total}
-use Rattle.std.specs.Ordering.{nat_cmp}
-use Rattle.global_tables.specs.declared.link.LinkRow.{LinkRow}
-use Rattle.petal_base.specs.declared.cell.Cell.{Cell}
-use Rattle.petal_base.specs.Cells.{cell_of, key_at}
-use Rattle.petal_table.specs.Table.{at, put}
-use Rattle.petal_table.proofs.Rows.{at_apart, at_same}
-use Rattle.petal_msg.specs.declared.copying.Copying.{Copying}
-use Rattle.petal_msg.specs.declared.copying.LastCopy.{LastCopy}
-use Rattle.spec_rules.specs.Copies.{Entry, epochs_beyond, puts_entry}
-use Rattle.spec_rules.specs.Progress.{copying_on, last_copy, with_last_copy}
-use Rattle.spec_rules.specs.Server.{PairState}
-use Rattle.spec_rules.specs.Store.{Chain, Stored, chain_in, epochs_of, without_entry}
-use Rattle.spec_rules.proofs.CellTables.{cell_same}
-use Rattle.spec_rules.proofs.Tests.{same_or_apart, same_some, true_false}
-use Rattle.law_steps.specs.Ready.{IsRising}
-use Rattle.law_steps.specs.DidOther.{first_last}
-use Rattle.law_steps.proofs.TablesOfPuts.{put_rises}
+use Rattle.law_copies.proofs.Imports.{[], ◌+◌, ◌<◌, ◌∙◌, ◌∷◌, ◌≡◌, ◌≤◌, Cell, Chain, Copying, Entry, IsRising, LastCopy, LinkRow, List, Option, PairState}
+use Rattle.law_copies.proofs.Imports.{Some, Stored, ap, arith, at, at_apart, at_same, cell_of, cell_same, chain_in, chain_put, copying_on, epochs_beyond}
+use Rattle.law_copies.proofs.Imports.{epochs_of, false, first_last, inl, inr, key_at, last_copy, nat_cmp, nat_cmp_total, put, put_rises, puts_entry, refl}
+use Rattle.law_copies.proofs.Imports.{same_or_apart, same_some, slice_get, subst, sym, true, true_false, with_last_copy, without_entry, ℕ}
 use Rattle.law_copies.specs.CopyProgress.{AreCopying, HasPut, HasSent, IsFollowed, IsLastCopy, IsOfLast, IsSent, IsTrimming, number_above}
 use Rattle.law_copies.specs.LoneSteps.{IsLeftBy, KeepsRest, StaysTold}
-use Rattle.law_jobs.proofs.ChainsApart.{chain_put}
 use Rattle.law_copies.proofs.CopyEpochs.{IsWithin, among, beyond, same_beyond, within, within_put}
 use Rattle.law_copies.proofs.LastCopies.{GoesOn, GoesOnward, of_last, stays_told, to_put, trimmed_of}
 use Rattle.law_copies.proofs.ChainsRise.{row_at}

@@ -1,27 +1,10 @@
 -- Small changes of a server's own part, and what each leaves of other cells.
-use Rattle.std.proofs.Common.{◌≡◌, ◌≢◌, ℕ, List, Option, Some, None, refl, ap, ◌∙◌}
-use Rattle.busy_marks.specs.Marks.{above, has_mark}
-use Rattle.busy_marks.specs.declared.marks.Mark.{Mark}
-use Rattle.busy_marks.specs.declared.marks.MarkKind.{MarkKind}
-use Rattle.global_tables.specs.declared.link.LinkRow.{LinkRow}
-use Rattle.petal_base.specs.declared.cell.Cell.{Cell}
-use Rattle.petal_base.specs.declared.cell.Key.{Key}
-use Rattle.petal_base.specs.Cells.{cell_of}
-use Rattle.petal_table.specs.Table.{at}
-use Rattle.petal_msg.specs.declared.copying.Copying.{Copying}
-use Rattle.petal_msg.specs.declared.copying.LastCopy.{LastCopy}
-use Rattle.petal_msg.specs.declared.operation.Far.{Far}
-use Rattle.petal_msg.specs.declared.operation.Pending.{Pending}
-use Rattle.spec_rules.specs.Copies.{with_copied}
-use Rattle.spec_rules.specs.Progress.{progress_on, with_copying, with_last_copy, with_progress, without_copying}
-use Rattle.spec_rules.specs.Server.{PairState}
-use Rattle.spec_rules.specs.Store.{Stored, cell_cmp, chain_in, mark_on, with_entry, without_entry, with_mark_on, without_mark_on}
-use Rattle.spec_rules.specs.Writes.{with_last, with_pending, without_pending}
-use Rattle.spec_rules.proofs.CellTables.{cell_apart, cell_gone_apart}
-use Rattle.spec_rules.proofs.Tests.{by_test}
+use Rattle.law_copies.proofs.Imports.{◌∙◌, ◌≡◌, ◌≢◌, Cell, Copying, Far, Key, LastCopy, LinkRow, List, Mark, MarkKind, None, Option, PairState, Pending, Some}
+use Rattle.law_copies.proofs.Imports.{Stored, above, ap, at, by_test, cell_apart, cell_cmp, cell_gone_apart, cell_of, chain_apart, chain_in, drop_apart}
+use Rattle.law_copies.proofs.Imports.{has_mark, mark_beside, mark_on, progress_on, refl, unmark_beside, with_copied, with_copying, with_entry, with_last}
+use Rattle.law_copies.proofs.Imports.{with_last_copy, with_mark_on, with_pending, with_progress, without_copying, without_entry, without_mark_on}
+use Rattle.law_copies.proofs.Imports.{without_pending, ℕ}
 use Rattle.law_copies.specs.LoneSteps.{KeepsCell}
-use Rattle.law_jobs.proofs.ChainsApart.{chain_apart, drop_apart}
-use Rattle.law_jobs.proofs.MarksApart.{mark_beside, unmark_beside}
 
 -- the same pairs, copies, chains and marks
 pub record IsAlikeOwn (one other : PairState) : Type 0 where

@@ -1,31 +1,9 @@
 -- What a server that is In as itself has before a job, at the place of each cell's link by its own entries.
-use Rattle.std.proofs.Common.{◌≡◌, ◌≢◌, ◌≤◌, ◌&&◌, ℕ, List, Bool, true, if◌then◌else◌, Option, Some, None, refl, sym, ap, ◌∙◌, subst, inl, inr}
-use Rattle.std.specs.Ordering.{nat_cmp}
-use Rattle.global_tables.specs.Link.{has_server, other_of}
-use Rattle.global_tables.specs.declared.link.LinkRow.{LinkRow}
-use Rattle.global_tables.specs.declared.link.LinkState.TheVariants.{Both, Only}
-use Rattle.petal_base.specs.declared.cell.Cell.{Cell}
-use Rattle.petal_command.specs.declared.command.Command.{Command}
-use Rattle.petal_msg.specs.Kinds.{about, subject_of}
-use Rattle.petal_msg.specs.declared.body.Body.{Body}
-use Rattle.petal_msg.specs.declared.body.Body.TheVariants as body
-use Rattle.petal_msg.specs.declared.copying.Copying.{Copying}
-use Rattle.spec_state.specs.Command.{is_alone, state_after}
-use Rattle.spec_rules.specs.Progress.{copying_on}
-use Rattle.spec_rules.specs.Server.{PairState, JobContext}
-use Rattle.spec_rules.specs.State.{holder_of}
-use Rattle.spec_rules.specs.Store.{Store, chain_in}
-use Rattle.spec_rules.specs.World.{chosen_log, server_state}
-use Rattle.spec_rules.specs.Writes.{pending_on}
-use Rattle.spec_rules.proofs.Tests.{number_itself, same_numbers, true_false}
-use Rattle.law_state.specs.LinkRows.{ByBoth, ByNone, ByOne}
-use Rattle.law_state.specs.Steady.{IsSteady}
-use Rattle.law_state.proofs.Leaves.{other_between}
-use Rattle.law_state.proofs.Roles.{primary_is_one, secondary_is_one}
-use Rattle.law_state.proofs.Steady.{front_plain, log_steady}
-use Rattle.law_steps.specs.DidStep.{Handled, is_between, own_place}
-use Rattle.law_steps.specs.Ready.{IsRising}
-use Rattle.law_steps.proofs.WhoLeads.{live_stage}
+use Rattle.law_copies.proofs.Imports.{if◌then◌else◌, ◌&&◌, ◌∙◌, ◌≡◌, ◌≢◌, ◌≤◌, Body, Bool, Both, ByBoth, ByNone, ByOne, Cell, Command, Copying, Handled}
+use Rattle.law_copies.proofs.Imports.{IsRising, IsSteady, JobContext, LinkRow, List, None, Only, Option, PairState, Some, Store, about, ap, chain_in}
+use Rattle.law_copies.proofs.Imports.{chosen_log, copying_on, front_plain, has_server, holder_of, inl, inr, is_alone, is_between, live_stage, log_steady}
+use Rattle.law_copies.proofs.Imports.{nat_cmp, number_itself, other_between, other_of, own_place, pending_on, primary_is_one, refl, same_numbers}
+use Rattle.law_copies.proofs.Imports.{secondary_is_one, server_state, state_after, subject_of, subst, sym, true, true_false, ℕ}
 use Rattle.law_copies.specs.CopyProgress.{AreCopying, IsTold, links_of}
 use Rattle.law_copies.specs.GoodCopies.{AloneOk, AreTwins, SaidOk, pair_at}
 use Rattle.law_copies.specs.Pair.{HaveMarks, Known, PairOk, pair_of}
@@ -34,6 +12,7 @@ use Rattle.law_copies.specs.Visits.{AliveIn, IsLinked, half, place_by, store_by,
 use Rattle.law_copies.proofs.AtSeat.{AtSeat}
 use Rattle.law_copies.proofs.ServedAtLaterFronts.{both_last}
 use Rattle.law_copies.proofs.RolesOfWorkers.{copying_held, other_alone}
+use Rattle.petal_msg.specs.declared.body.Body.TheVariants as body
 
 -- ### The other one of a link's two servers
 

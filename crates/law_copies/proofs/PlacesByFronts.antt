@@ -1,36 +1,11 @@
 -- Fronts of one log, and the places of a link by them.
-use Rattle.spec_rules.specs.Server.{PairState}
-use Rattle.std.proofs.Common.{◌≡◌, ◌+◌, ◌≤◌, ◌<◌, ◌++◌, ◌==◌, ℕ, List, [], ◌∷◌, length, length-append, true, false, if◌then◌else◌}
-use Rattle.std.proofs.Common.{Some, None, sym, ap, ◌∙◌, subst, ◌⊎◌, inl, inr, arith}
-use Rattle.std.proofs.lemmas.Grind.{fold-append}
-use Rattle.std.specs.Prelude.{option_and_then}
-use Rattle.std.specs.Option.{option_map_or}
-use Rattle.global_tables.specs.Link.{link_at, other_of}
-use Rattle.global_tables.specs.Map.{tuple_of}
-use Rattle.global_tables.specs.Region.{link_of}
-use Rattle.global_tables.specs.declared.link.LinkRow.{LinkRow}
-use Rattle.petal_base.specs.declared.cell.Cell.{Cell}
-use Rattle.petal_command.specs.declared.command.Command.{Command}
-use Rattle.spec_history.specs.Claims.{IsPrefix}
-use Rattle.spec_state.specs.CellState.{cell_link}
-use Rattle.spec_state.specs.Command.{after, state_after}
-use Rattle.spec_state.specs.Place.{touches}
+use Rattle.law_copies.proofs.Imports.{[], if◌then◌else◌, ◌++◌, ◌+◌, ◌<◌, ◌==◌, ◌∙◌, ◌∷◌, ◌≡◌, ◌≤◌, ◌⊎◌, Cell, Command, HasDied, IsBelow, IsLater, IsPlainLog}
+use Rattle.law_copies.proofs.Imports.{IsPrefix, LinkRow, List, None, PairState, Setting, Some, State, StaysSo, after, ap, arith, blank_joins_in, cell_link}
+use Rattle.law_copies.proofs.Imports.{false, fold-append, front_itself, front_long, front_more, front_on, front_plain, front_within, inl, inr, length}
+use Rattle.law_copies.proofs.Imports.{length-append, link_at, link_of, log_below, log_grown, log_plain, log_steady, none_some, one_front, option_and_then}
+use Rattle.law_copies.proofs.Imports.{option_map_or, other_of, places_grow, places_later, places_on, same_place, same_some, some_or_none, stage_at}
+use Rattle.law_copies.proofs.Imports.{stage_live, stage_most, state_after, subst, sym, touches, true, true_false, tuple_of, tuple_on, ℕ}
 use Rattle.spec_state.specs.State.{start}
-use Rattle.spec_rules.specs.State.{State}
-use Rattle.spec_rules.specs.World.{Setting, blank_joins_in}
-use Rattle.spec_rules.proofs.Tests.{none_some, same_some, some_or_none, true_false}
-use Rattle.law_state.specs.LaterStates.{IsBelow}
-use Rattle.law_state.specs.Homes.{HasDied, stage_at}
-use Rattle.law_state.specs.LinkChanges.{StaysSo}
-use Rattle.law_state.specs.Plain.{IsPlainLog}
-use Rattle.law_state.specs.LinkRows.{IsLater}
-use Rattle.law_state.proofs.CaughtsMadeBoth.{places_later}
-use Rattle.law_state.proofs.EntriesOnlyAdd.{log_plain}
-use Rattle.law_state.proofs.Stages.{stage_most}
-use Rattle.law_state.proofs.Steady.{front_plain, log_below, log_grown, log_steady, tuple_on}
-use Rattle.law_state.proofs.EntriesTouchLinks.{places_grow, places_on, same_place}
-use Rattle.law_steps.proofs.Fronts.{front_itself, front_long, front_more, front_on, front_within, one_front}
-use Rattle.law_steps.proofs.WhoLeads.{stage_live}
 use Rattle.law_copies.specs.CopyProgress.{links_of}
 use Rattle.law_copies.specs.Visits.{AliveIn, IsLinked, place_by, Visits, Visits, HasReached, HasFilled}
 

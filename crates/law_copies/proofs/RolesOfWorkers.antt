@@ -1,44 +1,20 @@
 -- What a server that works on a cell is to the cell's link: it can't be what else it is not.
-use Rattle.std.proofs.Common.{◌≡◌, ◌==◌, ◌&&◌, ◌<◌, ◌⊎◌, ℕ, true, Option, Some, None, refl, sym, ap, ◌∙◌, subst, inl, inr}
-use Rattle.std.specs.Prelude.{filter, not, option_and_then}
-use Rattle.busy_marks.specs.declared.marks.MarkKind.TheVariants.{Busy, Stale}
-use Rattle.global_tables.specs.Link.{is_link, other_of}
-use Rattle.global_tables.specs.declared.link.LinkRow.{LinkRow}
-use Rattle.global_tables.specs.declared.link.LinkState.TheVariants.{Both, Only}
-use Rattle.petal_base.specs.declared.cell.Cell.{Cell}
-use Rattle.petal_base.specs.Cells.{cell_of}
-use Rattle.petal_msg.specs.declared.body.Body.{Body}
-use Rattle.petal_msg.specs.declared.body.Body.TheVariants as body
-use Rattle.petal_msg.specs.declared.copying.Copying.{Copying}
-use Rattle.petal_msg.specs.declared.copying.LastCopy.{LastCopy}
-use Rattle.petal_msg.specs.declared.copying.LinkId.{LinkId}
-use Rattle.petal_msg.specs.declared.copying.NextCopy.TheVariants.{Block}
-use Rattle.spec_state.specs.CellState.{cell_link, row_lead}
-use Rattle.spec_state.specs.Command.{is_alone}
-use Rattle.spec_state.specs.State.{is_up}
-use Rattle.spec_rules.specs.Copies.{Entry, cell_at, cell_holder, idle_mark, marked_blocks, next_copy}
-use Rattle.spec_rules.specs.Writes.{is_under_way}
-use Rattle.spec_rules.specs.Progress.{copying_on}
-use Rattle.petal_msg.specs.Kinds.{about}
-use Rattle.spec_rules.specs.Server.{PairState, JobContext, JobResult}
-use Rattle.spec_rules.specs.State.{State, holder_of, id_of, in_both, is_second, leads_link, link_named, live, other_in, second}
-use Rattle.spec_rules.proofs.Tests.{both_true, by_test, is_the_one, none_some, same_numbers, same_or_apart, same_some, true_false}
-use Rattle.law_state.specs.Homes.{stage_at}
-use Rattle.law_state.specs.Steady.{IsSteady}
-use Rattle.law_state.proofs.LoneHolders.{IsBothRow, both_row}
-use Rattle.law_state.proofs.CellsByLinkRows.{link_led_by, second_by}
-use Rattle.law_state.proofs.ListLookups.{found_at}
-use Rattle.law_steps.specs.DidHolder.{DidHolder, TakenCopy, Copy_as_is, Copy_trimmed, Copy_synced, Asks_page, Turns_page, Begins_copy}
-use Rattle.law_steps.specs.DidHolder.{Goes_on_copying, Finds_it_full, Tidies, IsHeldWith}
-use Rattle.law_steps.specs.DidOther.{OtherReply, Replies, DidOther, IsOfCopy, Is_copied_to, Goes_on_trimming, Puts_entry, Has_entry, Has_no_slot}
-use Rattle.law_steps.proofs.WhoLeads.{stage_live}
-use Rattle.law_steps.proofs.CopiesRest.{among_least, on_row, row_named}
+use Rattle.law_copies.proofs.Imports.{◌&&◌, ◌<◌, ◌==◌, ◌∙◌, ◌≡◌, ◌⊎◌, Asks_page, Begins_copy, Block, Body, Both, Busy, Cell, Copy_as_is, Copy_synced}
+use Rattle.law_copies.proofs.Imports.{Copy_trimmed, Copying, DidHolder, DidOther, Entry, Finds_it_full, Goes_on_copying, Goes_on_trimming, Has_entry}
+use Rattle.law_copies.proofs.Imports.{Has_no_slot, IsBothRow, IsHeldWith, IsOfCopy, IsSteady, Is_copied_to, JobContext, JobResult, LastCopy, LinkId, LinkRow}
+use Rattle.law_copies.proofs.Imports.{None, Only, Option, OtherReply, PairState, Puts_entry, Replies, Some, Stale, State, TakenCopy, Tidies, Turns_page}
+use Rattle.law_copies.proofs.Imports.{about, among_least, ap, both_row, both_true, by_test, cell_at, cell_holder, cell_link, cell_of, copying_on, filter}
+use Rattle.law_copies.proofs.Imports.{found_at, holder_of, id_of, idle_mark, in_both, inl, inr, is_alone, is_link, is_second, is_the_one, is_under_way, is_up}
+use Rattle.law_copies.proofs.Imports.{leads_link, link_led_by, link_named, live, marked_blocks, next_copy, none_some, not, on_row, option_and_then, other_in}
+use Rattle.law_copies.proofs.Imports.{other_of, refl, row_lead, row_named, same_numbers, same_or_apart, same_some, second, second_by, stage_at, stage_live}
+use Rattle.law_copies.proofs.Imports.{subst, sym, true, true_false, ℕ}
 use Rattle.law_copies.specs.LoneSteps.{IsFit}
 use Rattle.law_copies.proofs.LeftToCopy.{HasAny, marked_on, next_is, on_itself}
-pub use Rattle.law_copies.proofs.OtherIsNotHolder.{IsOtherOf, alone_both, only_alone, other_row}
 use Rattle.law_copies.proofs.OtherIsNotHolder.{held_not_leading, other_apart}
 use Rattle.law_copies.proofs.ChainsRise.{in_left}
 use Rattle.law_copies.proofs.WorkedCell.{IsSo, above_none, holder_cell, other_cell, page_cell}
+use Rattle.petal_msg.specs.declared.body.Body.TheVariants as body
+pub use Rattle.law_copies.proofs.OtherIsNotHolder.{IsOtherOf, alone_both, only_alone, other_row}
 
 -- ### Rows
 

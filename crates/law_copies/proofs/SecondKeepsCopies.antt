@@ -1,30 +1,12 @@
 -- What a step of the second server of a cell in Both keeps of its two copies.
-use Rattle.std.proofs.Common.{◌≡◌, ◌≢◌, ℕ, ◌+◌, ◌≤◌, List, Some, refl, ap, sym, ◌∙◌, subst, ◌⊎◌, inl, inr, arith}
-use Rattle.std.specs.Ordering.{nat_cmp}
-use Rattle.petal_base.specs.declared.cell.Cell.{Cell}
-use Rattle.petal_base.specs.declared.cell.Key.{Key}
-use Rattle.petal_base.specs.Cells.{cell_of}
-use Rattle.petal_table.specs.Table.{at, put}
-use Rattle.petal_msg.specs.Kinds.{about}
-use Rattle.petal_msg.specs.declared.body.Body.{Body}
-use Rattle.petal_msg.specs.declared.body.Body.TheVariants as body
-use Rattle.petal_msg.specs.declared.operation.Far.{Far}
-use Rattle.petal_msg.specs.declared.operation.Far.TheVariants as far_is
-use Rattle.petal_msg.specs.declared.operation.LastOp.{LastOp}
-use Rattle.spec_rules.specs.Lists.{In}
-use Rattle.spec_rules.specs.Store.{Chain, cell_cmp, chain_in, version_of}
-use Rattle.spec_rules.specs.Server.{PairState, JobContext, Post, JobResult}
-use Rattle.spec_rules.specs.Writes.{with_last, tells, follows}
-use Rattle.spec_rules.proofs.CellTables.{cell_same, cell_apart}
-use Rattle.spec_rules.proofs.Tests.{same_some}
-use Rattle.law_steps.specs.Operations.{progress}
-use Rattle.law_steps.specs.DidSecond.{DidSecond, with_tickets, Sets_apart, Promises, Declines, Follows}
-use Rattle.law_steps.proofs.Letters.{posted}
-use Rattle.law_steps.proofs.OperationsRest.{same_cell_or_apart}
-use Rattle.law_steps.proofs.Subjects.{told_own}
+use Rattle.law_copies.proofs.Imports.{◌+◌, ◌∙◌, ◌≡◌, ◌≢◌, ◌≤◌, ◌⊎◌, Body, Cell, Chain, Declines, DidSecond, Far, Follows, In, JobContext, JobResult, Key}
+use Rattle.law_copies.proofs.Imports.{LastOp, List, PairState, Post, Promises, Sets_apart, Some, about, ap, arith, at, cell_apart, cell_cmp, cell_of}
+use Rattle.law_copies.proofs.Imports.{cell_same, chain_apart, chain_in, chain_put, follows, inl, inr, nat_cmp, posted, progress, put, refl}
+use Rattle.law_copies.proofs.Imports.{same_cell_or_apart, same_some, subst, sym, tells, told_own, version_of, with_last, with_tickets, ℕ}
 use Rattle.law_copies.specs.BothSteps.{SaysKnown}
 use Rattle.law_copies.specs.Pair.{Pair, pair_of, far, PairOk, IsPutting, Keeps, Known}
-use Rattle.law_jobs.proofs.ChainsApart.{chain_put, chain_apart}
+use Rattle.petal_msg.specs.declared.body.Body.TheVariants as body
+use Rattle.petal_msg.specs.declared.operation.Far.TheVariants as far_is
 use Rattle.law_copies.proofs.CellChangesKeepCopies as moves
 
 -- what a step leaves of the cell, and of what it tells

@@ -1,40 +1,12 @@
 -- Who may have served a cell's link at later fronts of the log: what a server that is at a place may rely on, whatever has been chosen
 -- since.
-use Rattle.std.proofs.Common.{◌≡◌, ◌≤◌, ◌<◌, ◌++◌, ◌==◌, ℕ, List, [], ◌∷◌, Bool, true, false, Some, None, is_some, refl}
-use Rattle.std.proofs.Common.{sym, ap, ◌∙◌, subst, ◌⊎◌, inl, inr, arith}
-use Rattle.std.specs.Option.{option_map_or}
-use Rattle.global_tables.specs.Link.{has_server, other_of}
-use Rattle.global_tables.specs.declared.link.LinkRow.{LinkRow}
-use Rattle.global_tables.specs.declared.link.LinkState.TheVariants.{Both, Lost, Only}
-use Rattle.petal_base.specs.declared.cell.Cell.{Cell}
-use Rattle.petal_command.specs.declared.command.Command.{Command}
-use Rattle.petal_command.specs.declared.command.Command.TheVariants.{Caught}
-use Rattle.spec_history.specs.Claims.{IsPrefix}
-use Rattle.spec_history.specs.declared.record.Record.{Record}
-use Rattle.spec_state.specs.CellState.{cell_link, serves}
-use Rattle.spec_state.specs.Command.{state_after}
-use Rattle.spec_rules.specs.Server.{PairState}
-use Rattle.spec_rules.specs.State.{State, id_of, is_alone_on, is_in}
-use Rattle.spec_rules.specs.Store.{Store}
-use Rattle.spec_rules.specs.World.{Setting, World, chosen_log, server_state}
-use Rattle.spec_rules.proofs.Tests.{by_bool, number_itself, same_numbers, same_some, some_or_none, true_false}
-use Rattle.law_log.specs.ProposedCommands.{WasStarted}
-use Rattle.law_state.specs.Firm.{Firm}
-use Rattle.law_state.specs.LinkChanges.{IsCaughtStill, IsHeldStill, StaysSo}
-use Rattle.law_state.specs.Plain.{IsPlainLog}
-use Rattle.law_state.specs.LinkRows.{ByBoth, ByNone, ByOne}
-use Rattle.law_state.specs.StartedBallots.{is_flagged}
-use Rattle.law_state.specs.Steady.{IsSteady}
-use Rattle.law_state.proofs.CaughtsMadeBoth.{log_alone, log_both_place}
-use Rattle.law_state.proofs.Ages.{up_some}
-use Rattle.law_state.proofs.LoneHolders.{alone_row}
-use Rattle.law_state.proofs.GrownStates.{alone_not_both, lost_not_both}
-use Rattle.law_state.proofs.Leaves.{either_true, other_between}
-use Rattle.law_state.proofs.Roles.{primary_is_one, secondary_is_one}
-use Rattle.law_state.proofs.Steady.{front_plain, log_steady}
-use Rattle.law_steps.proofs.Fronts.{front_itself, front_more, front_on}
-use Rattle.law_steps.proofs.HeldBackForCaughts.{held_as_flag}
-use Rattle.law_steps.proofs.Ties.{running_fronts, stays_alone, stays_both}
+use Rattle.law_copies.proofs.Imports.{[], ◌++◌, ◌<◌, ◌==◌, ◌∙◌, ◌∷◌, ◌≡◌, ◌≤◌, ◌⊎◌, Bool, Both, ByBoth, ByNone, ByOne, Caught, Cell, Command, Firm}
+use Rattle.law_copies.proofs.Imports.{IsCaughtStill, IsHeldStill, IsPlainLog, IsPrefix, IsSteady, LinkRow, List, Lost, None, Only, PairState, Record, Setting}
+use Rattle.law_copies.proofs.Imports.{Some, State, StaysSo, Store, WasStarted, World, alone_not_both, alone_row, ap, arith, by_bool, cell_link, chosen_log}
+use Rattle.law_copies.proofs.Imports.{either_true, false, front_itself, front_more, front_on, front_plain, has_server, held_as_flag, id_of, inl, inr}
+use Rattle.law_copies.proofs.Imports.{is_alone_on, is_flagged, is_in, is_some, log_alone, log_both_place, log_steady, lost_not_both, number_itself}
+use Rattle.law_copies.proofs.Imports.{option_map_or, other_between, other_of, primary_is_one, refl, running_fronts, same_numbers, same_some, secondary_is_one}
+use Rattle.law_copies.proofs.Imports.{server_state, serves, some_or_none, state_after, stays_alone, stays_both, subst, sym, true, true_false, up_some, ℕ}
 use Rattle.law_copies.specs.CopyProgress.{IsCaught}
 use Rattle.law_copies.specs.GoodCopies.{Good}
 use Rattle.law_copies.specs.Visits.{AliveIn, IsLinked, place_by, with_stores}

@@ -1,40 +1,13 @@
 -- Each step of a server that is allowed keeps what is kept of two copies, by the stores that count.
-use Rattle.std.proofs.Common.{◌≡◌, ◌≤◌, ◌++◌, ◌==◌, ℕ, true, false, if◌then◌else◌, List, [], ◌∷◌, Option, Some, None, refl, sym}
-use Rattle.std.proofs.Common.{ap, ◌∙◌, subst, ◌⊎◌, inl, inr}
-use Rattle.std.specs.Prelude.{map}
-use Rattle.std.specs.Ordering.{nat_cmp}
-use Rattle.busy_marks.specs.Marks.{has_mark}
-use Rattle.petal_command.specs.declared.command.Command.{Command}
-use Rattle.petal_command.specs.declared.command.Command.TheVariants.{Caught}
-use Rattle.petal_msg.specs.Kinds.{subject_of}
-use Rattle.petal_msg.specs.declared.body.Body.TheVariants as body
-use Rattle.petal_msg.specs.declared.letter.Letter.{Letter}
-use Rattle.spec_state.specs.Command.{state_after}
-use Rattle.spec_history.specs.Claims.{IsPrefix}
-use Rattle.spec_history.specs.Steps.{world_after}
-use Rattle.spec_rules.specs.Ballots.{post_of}
-use Rattle.spec_rules.specs.Blanked.{BeforeBlank, kept_store}
-use Rattle.spec_rules.specs.Boots.{awake, raised, stays, wakes}
-use Rattle.spec_rules.specs.Crossing.{crossed, settled_by}
-use Rattle.spec_rules.specs.Jobs.{Acted}
-use Rattle.spec_rules.specs.Lists.{In}
-use Rattle.spec_rules.specs.Log.{state_in}
-use Rattle.spec_rules.specs.Progress.{last_copy}
-use Rattle.spec_rules.specs.Returns.{proposed}
-use Rattle.spec_rules.specs.Server.{PairState, Server, Post, Sender, JobResult, silent, sender, letters_of}
-use Rattle.spec_rules.specs.State.{State, is_in, live}
-use Rattle.spec_rules.specs.Store.{Store, chain_in, mark_on}
-use Rattle.spec_rules.specs.World.{Setting, World, acts, before_blanks, blank_joins_in, counted_by, kept}
-use Rattle.spec_rules.specs.World.{server_state, stamped, start, with_store}
-use Rattle.spec_rules.specs.declared.step.Step.{Step}
-use Rattle.spec_rules.proofs.ListLemmas.{in-append, put_apart, put_same}
-use Rattle.spec_rules.proofs.Settled.{settling}
-use Rattle.spec_rules.proofs.Tests.{by_bool, true_false}
-use Rattle.law_state.specs.Homes.{stage_at}
-use Rattle.law_steps.specs.DidStep.{Serving, Goes, Ends, Stays, Wakes, Fails, By_job, By_ballot, By_entry, Starts}
-use Rattle.law_steps.specs.DidStep.{served_so, stopped_so, shown_so, is_between, own_place, without_rev}
-use Rattle.law_steps.specs.Ready.{IsRising}
-use Rattle.law_steps.proofs.Fronts.{front_itself, front_more}
+use Rattle.law_copies.proofs.Imports.{[], if◌then◌else◌, ◌++◌, ◌==◌, ◌∙◌, ◌∷◌, ◌≡◌, ◌≤◌, ◌⊎◌, Acted, BeforeBlank, By_ballot, By_entry, By_job, Caught}
+use Rattle.law_copies.proofs.Imports.{Command, Ends, Fails, Goes, In, IsPrefix, IsRising, JobResult, Letter, List, None, Option, PairState, Post, Sender}
+use Rattle.law_copies.proofs.Imports.{Server, Serving, Setting, Some, Starts, State, Stays, Step, Store, Wakes, World, ap, awake, before_blanks}
+use Rattle.law_copies.proofs.Imports.{blank_joins_in, by_bool, chain_in, counted_by, crossed, false, front_itself, front_more, has_mark, in-append, inl, inr}
+use Rattle.law_copies.proofs.Imports.{is_between, is_in, kept, kept_store, last_copy, letters_of, live, map, mark_on, nat_cmp, own_place, post_of, proposed}
+use Rattle.law_copies.proofs.Imports.{put_apart, put_same, raised, refl, sender, served_so, server_state, settled_by, settling, shown_so, silent, stage_at}
+use Rattle.law_copies.proofs.Imports.{stamped, start, state_after, state_in, stays, stopped_so, subject_of, subst, sym, true, true_false, wakes, with_store}
+use Rattle.law_copies.proofs.Imports.{without_rev, world_after, ℕ}
+use Rattle.spec_rules.specs.World.{acts}
 use Rattle.law_copies.specs.GoodCopies.{IsUnheard}
 use Rattle.law_copies.specs.Pair.{HaveMarks}
 use Rattle.law_copies.specs.LoneSteps.{AreFilled}
@@ -42,19 +15,20 @@ use Rattle.law_copies.proofs.CopiesKnownOfWorlds.{OneMore, before_of}
 use Rattle.law_copies.proofs.AtEntry.{at_entry}
 use Rattle.law_copies.proofs.CopiesGround.{Ground}
 use Rattle.law_copies.proofs.AtStep.{IsStep, at_step}
-use Rattle.law_copies.proofs.JobsKeepEachFront as jobs
-use Rattle.law_copies.proofs.EntriesKeepCopies as entries
 use Rattle.law_copies.proofs.LeftByEntry.{IsCrossed}
 use Rattle.law_copies.proofs.FramesKeepFronts.{store_same}
 use Rattle.law_copies.proofs.JobsAndBallotsKeep.{ballot_keeping, job_keeping}
 use Rattle.law_copies.proofs.MuteLettersTellNothing.{logged_mute}
-use Rattle.law_copies.proofs.StepsLeaveCopies as quiet
 use Rattle.law_copies.proofs.StepsLeaveCopies.{posts_mute}
 use Rattle.law_copies.proofs.AtSeat.{AtSeat, IsAtWork}
 use Rattle.law_copies.proofs.StepsKeepCopies.{GoesOn, IsSoundOwn, IsTrue}
 use Rattle.law_copies.proofs.VisitsAfterSteps.{IsThen, counted as reached_then, later, stored}
 use Rattle.law_copies.proofs.AtJob.{AtJob, at_job, IsKeeping}
 use Rattle.law_copies.proofs.WakingKeepsCopies.{woken_sound}
+use Rattle.petal_msg.specs.declared.body.Body.TheVariants as body
+use Rattle.law_copies.proofs.JobsKeepEachFront as jobs
+use Rattle.law_copies.proofs.EntriesKeepCopies as entries
+use Rattle.law_copies.proofs.StepsLeaveCopies as quiet
 
 -- what a server that stops tells the others
 all_down : (me inc : ℕ) (others : List ℕ) (post : Post) → In post (map (post_of (body.Down me inc)) others) → is_between (subject_of post.body) ≡ false

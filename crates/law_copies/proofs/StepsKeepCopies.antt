@@ -1,40 +1,19 @@
 -- What is kept after a step of one server, from what the step keeps at each front, and of what it sends.
-use Rattle.std.proofs.Common.{◌≡◌, ◌≤◌, ◌++◌, ℕ, List, [], ◌∷◌, length, Bool, true, Option, Some, None, sym, ◌∙◌, subst, ◌⊎◌, inl, inr, arith}
-use Rattle.std.specs.Ordering.{nat_cmp}
-use Rattle.global_tables.specs.declared.link.LinkRow.{LinkRow}
-use Rattle.global_tables.specs.declared.link.LinkState.TheVariants.{Both, Only}
-use Rattle.petal_base.specs.declared.cell.Cell.{Cell}
-use Rattle.petal_command.specs.declared.command.Command.{Command}
-use Rattle.petal_msg.specs.Kinds.{about, subject_of}
-use Rattle.petal_msg.specs.declared.body.Body.TheVariants as body
-use Rattle.petal_msg.specs.declared.copying.LastCopy.{LastCopy}
-use Rattle.petal_msg.specs.declared.letter.Letter.{Letter}
-use Rattle.spec_history.specs.Claims.{IsPrefix}
-use Rattle.spec_history.specs.declared.record.Record.{Record}
-use Rattle.spec_state.specs.Command.{state_after}
-use Rattle.spec_rules.specs.Lists.{In}
-use Rattle.spec_rules.specs.Log.{state_in}
-use Rattle.spec_rules.specs.Progress.{last_copy}
-use Rattle.spec_rules.specs.Server.{PairState, Server}
-use Rattle.spec_rules.specs.State.{live}
-use Rattle.spec_rules.specs.Store.{Store, chain_in}
-use Rattle.spec_rules.specs.World.{Setting, World, server_state}
-use Rattle.spec_rules.proofs.Tests.{same_or_apart}
-use Rattle.law_state.specs.Homes.{stage_at}
-use Rattle.law_steps.specs.DidStep.{is_between}
-use Rattle.law_steps.specs.Ready.{IsRising}
-use Rattle.law_steps.proofs.Fronts.{front_itself}
+use Rattle.law_copies.proofs.Imports.{[], ◌++◌, ◌∙◌, ◌∷◌, ◌≡◌, ◌≤◌, ◌⊎◌, Bool, Both, Cell, Command, In, IsPrefix, IsRising, LastCopy, Letter, LinkRow, List}
+use Rattle.law_copies.proofs.Imports.{None, Only, Option, PairState, Record, Server, Setting, Some, Store, World, about, arith, chain_in, front_itself, inl}
+use Rattle.law_copies.proofs.Imports.{inr, is_between, last_copy, length, live, nat_cmp, same_or_apart, server_state, stage_at, state_after, state_in}
+use Rattle.law_copies.proofs.Imports.{subject_of, subst, sym, true, ℕ}
 use Rattle.law_copies.specs.CopyProgress.{IsOfLink}
 use Rattle.law_copies.specs.GoodCopies.{AloneOk, BothOk, Good, IsUnheard, SaidOk, store_of}
 use Rattle.law_copies.specs.Pair.{HaveMarks}
 use Rattle.law_copies.specs.LoneSteps.{AreFilled}
 use Rattle.law_copies.specs.Visits.{AliveIn, IsLinked}
-use Rattle.law_copies.proofs.VisitsAfterSteps.{then_of}
+use Rattle.law_copies.proofs.VisitsAfterSteps.{then_of, IsThen, KeepsFlags, all_visited, been_now, counted_up, ever_then, here_now, now_then, reaching_now}
+use Rattle.law_copies.proofs.VisitsAfterSteps.{seen, started_now}
 use Rattle.law_copies.proofs.AtStep.{AtStep}
 use Rattle.law_copies.proofs.VisitsComeFromMoments.{came_then}
 use Rattle.law_copies.proofs.PlacesByFronts.{below_at}
-use Rattle.law_copies.proofs.VisitsAfterSteps.{IsThen, KeepsFlags, all_visited, been_now, counted_up, ever_then, here_now}
-use Rattle.law_copies.proofs.VisitsAfterSteps.{now_then, reaching_now, seen, started_now}
+use Rattle.petal_msg.specs.declared.body.Body.TheVariants as body
 
 -- a letter that is sent tells what is so, by the link at the front of its sender
 pub record IsTrue (setting : Setting) (top : List Command) (stores : ℕ → ℕ → Store) (visits : (n place : ℕ) → Cell → Option PairState) (reached : Cell → ℕ)

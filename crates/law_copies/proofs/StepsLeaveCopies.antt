@@ -1,36 +1,16 @@
 -- Steps that leave two copies as they are: glances, boots, what clients do, and jobs of a server that is not In as itself.
-use Rattle.std.proofs.Common.{◌≡◌, ◌++◌, ℕ, List, [], ◌∷◌, Bool, true, false, Some, sym, ap, ◌∙◌, subst, ◌⊎◌, inl, inr}
-use Rattle.global_tables.specs.Link.{has_server}
-use Rattle.global_tables.specs.declared.link.LinkRow.{LinkRow}
-use Rattle.global_tables.specs.declared.link.LinkState.TheVariants.{Only}
-use Rattle.petal_base.specs.declared.cell.Cell.{Cell}
-use Rattle.petal_command.specs.declared.command.Command.{Command}
-use Rattle.petal_msg.specs.Kinds.{subject_of}
-use Rattle.petal_msg.specs.declared.body.Body.{Body}
-use Rattle.petal_msg.specs.declared.letter.Letter.{Letter}
-use Rattle.spec_history.specs.Claims.{IsPrefix}
-use Rattle.spec_history.specs.declared.record.Record.{Record}
-use Rattle.spec_state.specs.Command.{state_after}
-use Rattle.spec_rules.specs.Lists.{In}
-use Rattle.spec_rules.specs.Log.{state_in}
-use Rattle.spec_rules.specs.Server.{PairState, Post, Sender, letters_of}
-use Rattle.spec_rules.specs.State.{id_of, is_in}
-use Rattle.spec_rules.specs.Store.{Store}
-use Rattle.spec_rules.specs.World.{Setting, blank_joins_in, stamped}
-use Rattle.spec_rules.proofs.Tests.{same_or_apart, same_some, true_false}
-use Rattle.law_state.specs.StartedBallots.{is_flagged}
-use Rattle.law_state.proofs.Steady.{front_plain, log_steady}
-use Rattle.law_steps.specs.DidStep.{is_between}
-use Rattle.law_steps.proofs.Letters.{said}
+use Rattle.law_copies.proofs.Imports.{[], ◌++◌, ◌∙◌, ◌∷◌, ◌≡◌, ◌⊎◌, Body, Bool, Cell, Command, In, IsPrefix, Letter, LinkRow, List, Only, PairState, Post}
+use Rattle.law_copies.proofs.Imports.{Record, Sender, Setting, Some, Store, ap, blank_joins_in, false, front_plain, has_server, id_of, inl, inr, is_between}
+use Rattle.law_copies.proofs.Imports.{is_flagged, is_in, letters_of, log_steady, said, same_or_apart, same_some, stamped, state_after, state_in, subject_of}
+use Rattle.law_copies.proofs.Imports.{subst, sym, true, true_false, ℕ}
 use Rattle.law_copies.specs.Visits.{AliveIn, IsLinked, Visits, place_by, store_by}
-use Rattle.law_copies.proofs.VisitsAfterSteps.{then_of}
+use Rattle.law_copies.proofs.VisitsAfterSteps.{then_of, IsAt, IsThen, KeepsFlags, stored_apart, stored_by, stored_frozen, visited_beside, visited_by}
+use Rattle.law_copies.proofs.VisitsAfterSteps.{visited_here, was_stored}
 use Rattle.law_copies.proofs.AtStep.{AtStep}
 use Rattle.law_copies.proofs.FramesKeepFronts.{LeavesBoth, LeavesStore, alone_framed, both_framed, said_framed, store_same}
 use Rattle.law_copies.proofs.ServedAtLaterFronts.{holder_is_one}
 use Rattle.law_copies.proofs.MuteLettersTellNothing.{no_page, said_mute}
 use Rattle.law_copies.proofs.StepsKeepCopies.{GoesOn, IsSoundOwn, IsTrue, KeepsFronts, good_after}
-use Rattle.law_copies.proofs.VisitsAfterSteps.{IsAt, IsThen, KeepsFlags, stored_apart, stored_by}
-use Rattle.law_copies.proofs.VisitsAfterSteps.{stored_frozen, visited_beside, visited_by, visited_here, was_stored}
 
 -- a letter that speaks neither of pairs nor of copies is true
 pub mute_true : (setting : Setting) (top : List Command) (stores : ℕ → ℕ → Store) (visits : Visits) (reached : Cell → ℕ) (letter : Letter)

@@ -1,34 +1,15 @@
 -- The laws, over every legal history of a sound script.
-use Rattle.std.proofs.Common.{◌≡◌, ◌≢◌, ◌≤◌, ◌==◌, ◌++◌, inl, inr, ℕ, true, false, List, [], ◌∷◌, Option, Some, None, refl}
-use Rattle.std.proofs.Common.{sym, ap, ◌∙◌, subst, append_assoc, arith}
-use Rattle.std.proofs.lemmas.List.{append-nil}
-use Rattle.script_lines.specs.declared.script.Script.{Script}
-use Rattle.petal_command.specs.declared.command.Command.{Command}
-use Rattle.petal_command.specs.declared.command.Command.TheVariants.{Join}
-use Rattle.spec_history.specs.Claims.{IsPrefix}
-use Rattle.spec_history.specs.Steps.{AreSteps}
-use Rattle.spec_history.specs.Sound.{IsSound}
-use Rattle.spec_history.specs.declared.record.Record.{Record}
-use Rattle.spec_state.specs.Command.{state_after}
-use Rattle.spec_rules.specs.Blanked.{BeforeBlank, kept_store}
-use Rattle.spec_rules.specs.Lists.{In}
-use Rattle.spec_rules.specs.Server.{Server}
-use Rattle.spec_rules.specs.State.{is_in}
-use Rattle.spec_rules.specs.Store.{Store}
-use Rattle.spec_rules.specs.World.{Setting, World, blank_joins_in, chosen_log, server_state, setting_of, start}
-use Rattle.spec_rules.proofs.ListLemmas.{in_former}
-use Rattle.spec_rules.proofs.Tests.{by_test, none_some, same_numbers, same_or_apart, same_some, true_false}
-use Rattle.law_state.specs.Joins.{HasJoinedSince}
-use Rattle.law_state.specs.Plain.{IsPlainLog}
-use Rattle.law_state.proofs.BlankJoins.{joined_counts, joins_grow}
-use Rattle.law_state.proofs.Incarnations.{joined_in, joined_once}
-use Rattle.law_steps.proofs.LogHistories.{chosen_join_acts, history_grows, history_is_firm, join_has_begun, join_was_wanted}
-use Rattle.law_steps.proofs.ListPlaces.{parted}
-use Rattle.law_steps.proofs.Fronts.{front_more, front_on}
+use Rattle.law_copies.proofs.Imports.{[], ◌++◌, ◌==◌, ◌∙◌, ◌∷◌, ◌≡◌, ◌≢◌, ◌≤◌, AreSteps, At, BeforeBlank, Command, HasJoinedSince, In, IsPlainLog, IsPrefix}
+use Rattle.law_copies.proofs.Imports.{IsSound, Join, List, None, OneMore, Option, Record, Script, Server, Setting, Some, Store, World, ap, append-nil}
+use Rattle.law_copies.proofs.Imports.{append_assoc, arith, before_part, blank_joins_in, by_run, by_test, chosen_join_acts, chosen_log, false, firm_in}
+use Rattle.law_copies.proofs.Imports.{front_more, front_on, grown_in, in_former, inl, inr, is_in, join_has_begun, join_was_wanted, joined_counts, joined_in}
+use Rattle.law_copies.proofs.Imports.{joined_once, joins_grow, kept_store, longer, more_of, none_some, parted, refl, run_of, same_numbers, same_or_apart}
+use Rattle.law_copies.proofs.Imports.{same_some, server_state, setting_in, setting_of, start, state_after, subst, sym, true, true_false, ℕ}
+use Rattle.law_steps.proofs.LogHistories.{history_grows, history_is_firm}
 use Rattle.law_copies.specs.WaitingStores.{AreEmpty, IsEmpty, IsOwn}
 use Rattle.law_copies.proofs.EmptyJoins.{joined_where, stands_in}
 use Rattle.law_copies.proofs.StoreKept.{Kept, kept_blanked, kept_more, kept_moves}
-use Rattle.law_jobs.proofs.Runs.{At, OneMore, after, before_part, by_run, firm_in, grown_in, longer, more_of, run_of, setting_in}
+use Rattle.law_jobs.proofs.Runs.{after}
 use Rattle.law_copies.proofs.StoresAlongRecords.{before_last, stays_filled, step_moves, waits_moves, waits_since}
 
 -- what is kept of all servers' stores

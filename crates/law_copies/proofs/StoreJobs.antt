@@ -1,15 +1,6 @@
 -- No job makes a store wait to be filled by others, or takes that away; and a ballot leaves the store as it is.
-use Rattle.std.proofs.Common.{◌≡◌, refl, ◌∙◌}
-use Rattle.petal_command.specs.declared.command.Command.{Command}
-use Rattle.petal_msg.specs.declared.body.Body.{Body}
-use Rattle.std.specs.Prelude.{Bool, Option}
-use Rattle.spec_rules.specs.Returns.{proposed}
-use Rattle.spec_rules.specs.Server.{PairState, JobContext, JobResult}
-use Rattle.spec_rules.specs.State.{State}
-use Rattle.law_steps.specs.Did.{Did}
-use Rattle.law_steps.proofs.OneWorld.{proposed_as}
-use Rattle.law_jobs.specs.Effects.{Counts, Effect, applied}
-use Rattle.law_jobs.proofs.JobsAreEffects.{job_keeps}
+use Rattle.law_copies.proofs.Imports.{◌∙◌, ◌≡◌, Body, Bool, Command, Counts, Did, Effect, JobContext, JobResult, Option, PairState, State, applied, job_keeps}
+use Rattle.law_copies.proofs.Imports.{proposed, proposed_as, refl}
 
 -- whether the own part's store waits to be filled
 abbrev pub waits : PairState → Bool

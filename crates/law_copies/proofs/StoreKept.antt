@@ -1,26 +1,10 @@
 -- What is kept of a server's store: while it waits to be filled it is empty; who is In as itself waits for nobody; and while the store
 -- from before a blank counts, the server's own waits.
-use Rattle.std.proofs.Common.{◌≡◌, ◌≢◌, ◌≤◌, ◌<◌, ◌+◌, ◌++◌, ◌⊎◌, inl, inr, ℕ, ◌&&◌, Bool, true, false, List, [], ◌∷◌}
-use Rattle.std.proofs.Common.{Option, Some, refl, sym, ap, ◌∙◌, subst, arith}
-use Rattle.std.specs.Prelude.{slice_get}
-use Rattle.petal_command.specs.declared.command.Command.{Command}
-use Rattle.petal_command.specs.declared.command.Command.TheVariants.{Join}
-use Rattle.spec_history.specs.Claims.{IsPrefix}
-use Rattle.spec_state.specs.Command.{may_join, state_after}
+use Rattle.law_copies.proofs.Imports.{[], ◌&&◌, ◌++◌, ◌+◌, ◌<◌, ◌∙◌, ◌∷◌, ◌≡◌, ◌≢◌, ◌≤◌, ◌⊎◌, BeforeBlank, Bool, Command, In, IsPlainLog, IsPrefix, Join}
+use Rattle.law_copies.proofs.Imports.{Life, List, Option, Server, Some, Store, ap, arith, blank_joins_from, blanked, by_bool, false, front_itself, front_more}
+use Rattle.law_copies.proofs.Imports.{front_on, in_former, inl, inr, is_blank_join, is_in, joined_counts, joined_since, joins_grow, may_join, number_itself}
+use Rattle.law_copies.proofs.Imports.{refl, same_some, slice_get, state_after, subst, sym, true, true_false, ℕ}
 use Rattle.spec_state.specs.State.{start}
-use Rattle.spec_rules.specs.Blanked.{BeforeBlank, blank_joins_from}
-use Rattle.spec_rules.specs.Boots.{blanked}
-use Rattle.spec_rules.specs.Crossing.{is_blank_join}
-use Rattle.spec_rules.specs.Lists.{In}
-use Rattle.spec_rules.specs.Server.{Life, Server}
-use Rattle.spec_rules.specs.State.{is_in}
-use Rattle.spec_rules.specs.Store.{Store}
-use Rattle.spec_rules.proofs.ListLemmas.{in_former}
-use Rattle.spec_rules.proofs.Tests.{by_bool, number_itself, same_some, true_false}
-use Rattle.law_state.specs.Plain.{IsPlainLog}
-use Rattle.law_state.proofs.BlankJoins.{joined_counts, joins_grow}
-use Rattle.law_state.proofs.Incarnations.{joined_since}
-use Rattle.law_steps.proofs.Fronts.{front_itself, front_more, front_on}
 use Rattle.law_copies.specs.WaitingStores.{IsEmpty}
 use Rattle.law_copies.proofs.EmptyJoins.{after_front, joins_by_entry, stands_in}
 use Rattle.law_copies.proofs.StoreMoves.{IsSame, Moves, Rests, Works, Enters, Settles, Raises}

@@ -1,25 +1,10 @@
 -- What a step does to one server's store, as far as it is waited for or counts.
-use Rattle.std.proofs.Common.{◌≡◌, ◌+◌, ◌==◌, ◌++◌, ◌⊎◌, inl, inr, ℕ, true, false, List, [], ◌∷◌, Option, Some, refl, sym, ap, ◌∙◌, subst}
-use Rattle.petal_command.specs.declared.command.Command.{Command}
-use Rattle.petal_command.specs.declared.command.Command.TheVariants.{Join}
-use Rattle.spec_history.specs.Claims.{IsPrefix}
-use Rattle.spec_state.specs.Command.{state_after}
-use Rattle.spec_rules.specs.Blanked.{BeforeBlank}
-use Rattle.spec_rules.specs.Boots.{awake, blanked, raised}
-use Rattle.spec_rules.specs.Crossing.{crossed, is_blank_join}
-use Rattle.spec_rules.specs.Jobs.{Acted}
-use Rattle.spec_rules.specs.Lists.{put_at}
-use Rattle.spec_rules.specs.Log.{Log}
-use Rattle.spec_rules.specs.Server.{PairState, Server, JobResult}
-use Rattle.spec_rules.specs.State.{State, is_in}
-use Rattle.spec_rules.specs.Store.{Store, settled}
-use Rattle.spec_rules.specs.World.{Setting, World, blank_joins_in, chosen_log, kept, server_state}
-use Rattle.spec_rules.specs.declared.step.Step.{Step}
-use Rattle.spec_rules.proofs.ListLemmas.{put_apart, put_same}
-use Rattle.spec_rules.proofs.Tests.{all_put_apart, both_true, by_test, same_numbers, same_or_apart, true_false}
-use Rattle.law_steps.specs.DidStep.{Happens, Serves, Blanks, Turns, Serving, Goes, Ends, Stays, Wakes, Fails, Worked, By_job}
-use Rattle.law_steps.specs.DidStep.{By_ballot, By_entry, own_place, served_so, stopped_so}
-use Rattle.law_steps.specs.WakingServers.{AllMayWake}
+use Rattle.law_copies.proofs.Imports.{[], ◌++◌, ◌+◌, ◌==◌, ◌∙◌, ◌∷◌, ◌≡◌, ◌⊎◌, Acted, AllMayWake, BeforeBlank, Blanks, By_ballot, By_entry, By_job, Command}
+use Rattle.law_copies.proofs.Imports.{Ends, Fails, Goes, Happens, IsPrefix, JobResult, Join, List, Log, Option, PairState, Server, Serves, Serving, Setting}
+use Rattle.law_copies.proofs.Imports.{Some, State, Stays, Step, Store, Turns, Wakes, Worked, World, all_put_apart, ap, awake, blank_joins_in, blanked}
+use Rattle.law_copies.proofs.Imports.{both_true, by_test, chosen_log, crossed, false, inl, inr, is_blank_join, is_in, kept, own_place, put_apart, put_at}
+use Rattle.law_copies.proofs.Imports.{put_same, raised, refl, same_numbers, same_or_apart, served_so, server_state, settled, state_after, stopped_so, subst}
+use Rattle.law_copies.proofs.Imports.{sym, true, true_false, ℕ}
 use Rattle.law_copies.proofs.StoreJobs.{ballot_store, did_waits}
 
 -- a store waits to be filled as the other one does, and has the same entries and marks

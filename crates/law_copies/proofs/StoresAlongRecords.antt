@@ -1,24 +1,10 @@
 -- Along the records of a history: a server's store does not begin to wait while the server runs on, and what waits does so until the
 -- server applies a Join of its own.
-use Rattle.std.proofs.Common.{◌≡◌, ◌≤◌, ◌<◌, ◌++◌, ◌⊎◌, inl, inr, ℕ, true, false, List, [], ◌∷◌, length, length-append}
-use Rattle.std.proofs.Common.{refl, sym, ap, ◌∙◌, subst, arith}
-use Rattle.script_lines.specs.declared.script.Script.{Script}
-use Rattle.petal_command.specs.declared.command.Command.{Command}
-use Rattle.petal_command.specs.declared.command.Command.TheVariants.{Join}
-use Rattle.spec_history.specs.Steps.{AreSteps}
-use Rattle.spec_history.specs.Sound.{IsSound}
-use Rattle.spec_history.specs.declared.record.Record.{Record}
-use Rattle.spec_rules.specs.Boots.{blanked}
-use Rattle.spec_rules.specs.Lists.{In}
-use Rattle.spec_rules.specs.Server.{Server}
-use Rattle.spec_rules.specs.World.{chosen_log, chosen_state, setting_of}
-use Rattle.spec_rules.proofs.ListLemmas.{in_former}
-use Rattle.spec_rules.proofs.Tests.{by_bool, true_false}
-use Rattle.law_steps.specs.ProposedCommands.{WasReturning}
-use Rattle.law_steps.proofs.Fronts.{below_itself}
-use Rattle.law_steps.proofs.Records.{split_last}
-use Rattle.law_steps.proofs.WakingGoesOn.{may_wake}
-use Rattle.law_jobs.proofs.Runs.{At, OneMore, Run, after, grown_in, happened_in, longer, run_of, setting_in, since}
+use Rattle.law_copies.proofs.Imports.{[], ◌++◌, ◌<◌, ◌∙◌, ◌∷◌, ◌≡◌, ◌≤◌, ◌⊎◌, AreSteps, At, Command, In, IsSound, Join, List, OneMore, Record, Run, Script}
+use Rattle.law_copies.proofs.Imports.{Server, WasReturning, ap, arith, below_itself, blanked, by_bool, chosen_log, chosen_state, false, grown_in, happened_in}
+use Rattle.law_copies.proofs.Imports.{in_former, inl, inr, length, length-append, longer, may_wake, refl, run_of, setting_in, setting_of, since, split_last}
+use Rattle.law_copies.proofs.Imports.{subst, sym, true, true_false, ℕ}
+use Rattle.law_jobs.proofs.Runs.{after}
 use Rattle.law_copies.proofs.EmptyJoins.{stands_in}
 use Rattle.law_copies.proofs.StoreMoves.{IsBlanked, IsMoved, Moves, Rests, Works, Enters, Settles, Raises, happened}
 

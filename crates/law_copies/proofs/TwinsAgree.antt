@@ -1,59 +1,31 @@
 -- What each step of one of the two servers of a cell in Both keeps of the cell.
-use Rattle.std.proofs.Common.{◌≡◌, ◌≢◌, ℕ, ◌≤◌, ◌+◌, List, [], ◌∷◌, true, Some, None, refl, ap, sym, ◌∙◌, subst, inl, inr, arith}
-use Rattle.std.specs.Prelude.{option_and_then}
-use Rattle.std.specs.Ordering.{nat_cmp}
-use Rattle.petal_base.specs.declared.cell.Cell.{Cell}
-use Rattle.petal_base.specs.declared.cell.Key.{Key}
-use Rattle.petal_base.specs.Cells.{cell_of}
-use Rattle.petal_table.specs.Table.{at}
-use Rattle.petal_msg.specs.Kinds.{about, subject_of}
-use Rattle.petal_msg.specs.declared.body.Body.{Body}
-use Rattle.petal_msg.specs.declared.body.Body.TheVariants as body
-use Rattle.petal_msg.specs.declared.copying.Copying.{Copying}
-use Rattle.petal_msg.specs.declared.letter.Actor.TheVariants as actor
-use Rattle.petal_msg.specs.declared.operation.Action.{Action}
-use Rattle.petal_msg.specs.declared.operation.Action.TheVariants as action
-use Rattle.petal_msg.specs.declared.operation.Ending.{Ending}
-use Rattle.petal_msg.specs.declared.operation.Ending.TheVariants as ending
-use Rattle.petal_msg.specs.declared.operation.Far.TheVariants as far
-use Rattle.petal_msg.specs.declared.operation.Pending.{Pending}
-use Rattle.spec_state.specs.CellState.{row_lead, state_lead}
-use Rattle.spec_rules.specs.Progress.{copying_on, has_proposed}
-use Rattle.spec_rules.specs.State.{in_both, is_lead, is_the, leads_link}
-use Rattle.spec_rules.specs.Store.{Store, cell_cmp, chain_in}
-use Rattle.spec_rules.specs.Server.{PairState, Pairs, Post, JobResult}
-use Rattle.spec_rules.specs.Writes.{acts, ended, ends, follows, gives_back, is_clients, next_stage, pending_on, tells, with_last, without_pending}
-use Rattle.spec_rules.proofs.CellTables.{cell_same}
-use Rattle.spec_rules.proofs.Tests.{same_numbers, same_some, true_false}
-use Rattle.law_state.specs.Homes.{stage_at}
-use Rattle.law_steps.specs.Did.{Did, Ignores, Refuses, By_read, By_lead, By_second, By_holder, By_other, By_filler, By_sweep}
-use Rattle.law_steps.specs.Operations.{progress}
-use Rattle.law_steps.specs.DidLead.{DidLead, Asks_for, Repeats, Is_full, Opens, Gives_up, Closes}
-use Rattle.law_steps.specs.DidLead.{Closes_alone, Opens_fill, Has_fill, Has_no_room, Goes_on_dead, Asks, A_slot, A_copy}
-use Rattle.law_steps.specs.DidLead.{An_entry_to_move, Of_the_log, Taken}
-use Rattle.law_steps.specs.DidSecond.{DidSecond, with_tickets, Sets_apart, Promises, Declines, Follows}
-use Rattle.law_steps.specs.Ready.{IsReady}
-use Rattle.law_steps.proofs.CopyFrames.{CopyFrame, of_holder, of_other}
-use Rattle.law_steps.proofs.FillsByJobs.{Fills, Stood, Writes, did_come}
-use Rattle.law_steps.proofs.WhoLeads.{lead_links, stage_live}
-use Rattle.law_steps.proofs.Letters.{one_post, posted}
-use Rattle.law_steps.proofs.OperationsRest.{did_ready, same_cell_or_apart}
-use Rattle.law_steps.proofs.Subjects.{of_filler, of_lead, of_read, of_second, of_sweep, told_own}
-use Rattle.law_steps.proofs.TakenUpAlone.{taking}
+use Rattle.law_copies.proofs.Imports.{[], ◌+◌, ◌∙◌, ◌∷◌, ◌≡◌, ◌≢◌, ◌≤◌, A_copy, A_slot, Action, An_entry_to_move, Asks, Asks_for, Body, By_filler, By_holder}
+use Rattle.law_copies.proofs.Imports.{By_lead, By_other, By_read, By_second, By_sweep, Cell, Closes, Closes_alone, CopyFrame, Copying, Declines, Did, DidLead}
+use Rattle.law_copies.proofs.Imports.{DidSecond, Ending, Fills, Follows, Gives_up, Goes_on_dead, Has_fill, Has_no_room, Ignores, IsReady, Is_full, JobResult}
+use Rattle.law_copies.proofs.Imports.{Key, List, None, Of_the_log, Opens, Opens_fill, PairState, Pairs, Pending, Post, Promises, Refuses, Repeats, Sets_apart}
+use Rattle.law_copies.proofs.Imports.{Some, Stood, Store, Taken, Writes, about, acts, ap, arith, at, cell_cmp, cell_of, cell_same, chain_apart, chain_in}
+use Rattle.law_copies.proofs.Imports.{copying_on, did_come, did_ready, ended, ends, follows, gives_back, has_proposed, in_both, inl, inr, is_clients, is_lead}
+use Rattle.law_copies.proofs.Imports.{is_paired, is_the, lead_links, leads_link, nat_cmp, next_stage, of_filler, of_holder, of_lead, of_other, of_read}
+use Rattle.law_copies.proofs.Imports.{of_second, of_sweep, one_post, option_and_then, pending_on, posted, progress, refl, row_lead, same_cell_or_apart}
+use Rattle.law_copies.proofs.Imports.{same_numbers, same_some, stage_at, stage_live, state_lead, subject_of, subst, sym, taking, tells, told_own, true}
+use Rattle.law_copies.proofs.Imports.{true_false, with_last, with_tickets, without_pending, ℕ}
 use Rattle.law_copies.specs.BothSteps.{LacksFill, LeadKeeps, SecondKeeps, SaysKnown}
 use Rattle.law_copies.specs.Pair.{AreCopies, HaveMarks, IsRecalled, Keeps, Known, PairOk, pair_of}
-use Rattle.law_copies.specs.Pair as pair
 use Rattle.law_copies.specs.LoneSteps.{IsBare}
-use Rattle.petal_msg.specs.Kinds.{is_paired}
 use Rattle.law_copies.proofs.CellInBoth.{CellInBoth}
 use Rattle.law_copies.proofs.MuteLettersTellNothing.{logged_known, unpaired_known}
 use Rattle.law_copies.proofs.ForeignCellsStay.{away}
-use Rattle.law_jobs.proofs.ChainsApart.{chain_apart}
-use Rattle.law_copies.proofs.LeadKeepsCopies as lead
 use Rattle.law_copies.proofs.LeadsFindMarks.{job_marked}
 use Rattle.law_copies.proofs.EpochsRise.{AreRising, did_rising}
-use Rattle.law_copies.proofs.SecondKeepsCopies as follow
 use Rattle.law_copies.proofs.WorkedCell.{IsLedHere, lead_beside, lead_cell, lead_leads, sweep_beside}
+use Rattle.petal_msg.specs.declared.body.Body.TheVariants as body
+use Rattle.petal_msg.specs.declared.letter.Actor.TheVariants as actor
+use Rattle.petal_msg.specs.declared.operation.Action.TheVariants as action
+use Rattle.petal_msg.specs.declared.operation.Ending.TheVariants as ending
+use Rattle.petal_msg.specs.declared.operation.Far.TheVariants as far
+use Rattle.law_copies.specs.Pair as pair
+use Rattle.law_copies.proofs.LeadKeepsCopies as lead
+use Rattle.law_copies.proofs.SecondKeepsCopies as follow
 use Rattle.law_copies.proofs.BesideTwins as beside
 
 module _ (it : CellInBoth) where

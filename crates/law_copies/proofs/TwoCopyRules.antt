@@ -1,37 +1,11 @@
 -- The rules of two copies by what is chosen: in Both, and where one server holds a cell alone.
-use Rattle.std.proofs.Common.{◌≡◌, ◌≤◌, ◌==◌, ℕ, true, false, if◌then◌else◌, List, Option, Some, None, refl, sym, ap, ◌∙◌, subst, inl, inr, arith}
-use Rattle.std.specs.Prelude.{option_and_then, option_map}
-use Rattle.std.specs.Option.{option_map_or}
-use Rattle.busy_marks.specs.declared.marks.MarkKind.TheVariants.{Busy}
-use Rattle.global_tables.specs.Link.{other_of}
-use Rattle.global_tables.specs.declared.link.LinkRow.{LinkRow}
-use Rattle.global_tables.specs.declared.link.LinkState.TheVariants.{Both}
-use Rattle.petal_base.specs.declared.cell.Cell.{Cell}
-use Rattle.petal_command.specs.declared.command.Command.{Command}
-use Rattle.petal_table.specs.Table.{at}
-use Rattle.petal_table.proofs.Rows.{at-empty}
-use Rattle.petal_msg.specs.declared.operation.Pending.{Pending}
-use Rattle.script_lines.specs.declared.script.Script.{Script}
-use Rattle.spec_history.specs.Claims.{AreCovered, Copies, Covered, TwoCopies, is_at_work, one_put_ahead}
-use Rattle.spec_history.specs.Steps.{AreSteps, world_after}
-use Rattle.spec_history.specs.Sound.{IsSound}
-use Rattle.spec_history.specs.declared.record.Record.{Record}
-use Rattle.spec_state.specs.CellState.{cell_link}
-use Rattle.spec_state.specs.Role.{row_in_both}
-use Rattle.spec_state.specs.State.{inc_of}
-use Rattle.spec_rules.specs.Server.{PairState}
-use Rattle.spec_rules.specs.State.{State, first, is_in, live}
-use Rattle.spec_rules.specs.Store.{Store, cell_cmp, chain_in, is_marked}
-use Rattle.spec_rules.specs.World.{Setting, World, chosen_log, chosen_state, counted, server_state, setting_of, start}
-use Rattle.spec_rules.proofs.Tests.{both_true, by_bool, none_some, same_some}
-use Rattle.law_log.proofs.LogInHistories.{history_is_firm}
-use Rattle.law_state.specs.Firm.{Firm}
-use Rattle.law_state.specs.Steady.{IsSteady}
-use Rattle.law_state.proofs.Caughts.{alone_by}
-use Rattle.law_state.proofs.CellsByLinkRows.{first_by, second_by}
-use Rattle.law_state.proofs.Steady.{log_steady}
-use Rattle.law_steps.proofs.Fronts.{front_itself}
-use Rattle.law_steps.proofs.WhoLeads.{live_stage}
+use Rattle.law_copies.proofs.Imports.{if◌then◌else◌, ◌==◌, ◌∙◌, ◌≡◌, ◌≤◌, AreCovered, AreSteps, Both, Busy, Cell, Command, Covered, Firm, IsSound, IsSteady}
+use Rattle.law_copies.proofs.Imports.{LinkRow, List, None, Option, PairState, Pending, Record, Script, Setting, Some, State, Store, TwoCopies, World}
+use Rattle.law_copies.proofs.Imports.{alone_by, ap, arith, at, at-empty, both_true, by_bool, cell_cmp, cell_link, chain_in, chosen_log, chosen_state, counted}
+use Rattle.law_copies.proofs.Imports.{false, first, first_by, front_itself, history_is_firm, inc_of, inl, inr, is_at_work, is_in, is_marked, live, live_stage}
+use Rattle.law_copies.proofs.Imports.{log_steady, none_some, one_put_ahead, option_and_then, option_map, option_map_or, other_of, refl, row_in_both}
+use Rattle.law_copies.proofs.Imports.{same_some, second_by, server_state, setting_of, start, subst, sym, true, world_after, ℕ}
+use Rattle.spec_history.specs.Claims.{Copies}
 use Rattle.law_copies.specs.CopyProgress.{IsCovered, Is_equal, Is_marked_here, Is_marked_there, Is_to_be_copied}
 use Rattle.law_copies.specs.GoodCopies.{AreTwins, Good, pair_at, store_of}
 use Rattle.law_copies.specs.Pair.{pair_of}

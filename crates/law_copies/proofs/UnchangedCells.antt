@@ -1,23 +1,7 @@
 -- Where all of a cell is as before in a server's own part, what is so of its copy stays so; and what goes on from a pair to the next one.
-use Rattle.std.proofs.Common.{◌≡◌, ◌≤◌, ◌+◌, ℕ, false, Option, Some, None}
-use Rattle.std.proofs.Common.{refl, sym, ap, ◌∙◌, subst, arith}
-use Rattle.std.specs.Prelude.{unwrap_or}
-use Rattle.std.specs.Option.{option_map_or}
-use Rattle.std.specs.Ordering.{nat_cmp}
-use Rattle.busy_marks.specs.Marks.{above}
-use Rattle.global_tables.specs.declared.link.LinkRow.{LinkRow}
-use Rattle.petal_base.specs.declared.cell.Cell.{Cell}
-use Rattle.petal_table.specs.Table.{at}
-use Rattle.petal_msg.specs.declared.body.Body.{Body}
-use Rattle.petal_msg.specs.declared.copying.Progress.{Progress}
-use Rattle.petal_msg.specs.declared.operation.Pending.{Pending}
-use Rattle.spec_rules.specs.Progress.{no_progress, progress_on}
-use Rattle.spec_rules.specs.Server.{PairState}
-use Rattle.spec_rules.specs.State.{id_of, link_cmp}
-use Rattle.spec_rules.specs.Store.{Store}
-use Rattle.spec_rules.specs.Writes.{is_clients}
-use Rattle.spec_rules.proofs.Tests.{same_some}
-use Rattle.law_state.specs.StartedBallots.{is_flagged}
+use Rattle.law_copies.proofs.Imports.{◌+◌, ◌∙◌, ◌≡◌, ◌≤◌, Body, Cell, LinkRow, None, Option, PairState, Pending, Progress, Some, Store, above, ap, arith, at}
+use Rattle.law_copies.proofs.Imports.{false, id_of, is_clients, is_flagged, link_cmp, nat_cmp, no_progress, option_map_or, progress_on, refl, same_some}
+use Rattle.law_copies.proofs.Imports.{subst, sym, unwrap_or, ℕ}
 use Rattle.law_copies.specs.CopyProgress.{AreAlike, AreCopying, IsCovered, Is_equal, Is_marked_here, Is_marked_there, Is_to_be_copied}
 use Rattle.law_copies.specs.Pair.{Known, Pair, PairOk, far}
 use Rattle.law_copies.specs.LoneSteps.{StaysTold}

@@ -1,19 +1,7 @@
 -- The two copies of a cell in Both are equal, or the first is one put ahead and marked. So an unequal block is marked once one server
 -- is left alone.
-use Rattle.std.proofs.Common.{◌≡◌, ◌+◌, Bool, true, false, Option, Some, None, refl, ap, sym, ◌⊎◌, inl, inr, arith}
-use Rattle.std.proofs.lemmas.Bool.{cases_lt}
-use Rattle.busy_marks.specs.declared.marks.MarkKind.TheVariants.{Busy}
-use Rattle.global_tables.specs.declared.link.LinkRow.{LinkRow}
-use Rattle.petal_base.specs.declared.cell.Cell.{Cell}
-use Rattle.petal_table.specs.Table.{at}
-use Rattle.petal_msg.specs.declared.operation.Pending.{Pending}
-use Rattle.petal_msg.specs.declared.operation.Stage.{Stage}
-use Rattle.spec_history.specs.Claims.{one_put_ahead}
-use Rattle.spec_rules.specs.Server.{PairState}
-use Rattle.spec_rules.specs.Store.{cell_cmp, is_marked}
-use Rattle.spec_rules.proofs.Tests.{by_bool}
-use Rattle.law_steps.specs.Operations.{AtRest}
-use Rattle.law_steps.proofs.InvertLead.{is_copying}
+use Rattle.law_copies.proofs.Imports.{◌+◌, ◌≡◌, ◌⊎◌, AtRest, Bool, Busy, Cell, LinkRow, None, Option, PairState, Pending, Some, Stage, ap, arith, at, by_bool}
+use Rattle.law_copies.proofs.Imports.{cases_lt, cell_cmp, false, inl, inr, is_copying, is_marked, one_put_ahead, refl, sym, true}
 use Rattle.law_copies.specs.CopyProgress.{IsCovered, Is_equal, Is_marked_here, Is_marked_there}
 use Rattle.law_copies.specs.Pair.{Pair, pair_of, far, IsRecalled, Working, AreCopies, PairOk}
 

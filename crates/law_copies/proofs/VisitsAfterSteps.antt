@@ -1,31 +1,12 @@
 -- Where servers have been, once one of them has done a step.
-use Rattle.std.proofs.Common.{◌≡◌, ◌≢◌, ◌≤◌, ◌++◌, ◌==◌, ◌&&◌, ℕ, List, [], ◌∷◌, Bool, true, false, if◌then◌else◌, Option, Some}
-use Rattle.std.proofs.Common.{None, is_some, sym, ap, ◌∙◌, subst, ◌⊎◌, inl, inr, arith}
-use Rattle.std.specs.Prelude.{max, nat_eq, option_map}
-use Rattle.std.specs.Option.{option_map_or}
-use Rattle.std.specs.Ordering.{nat_cmp}
-use Rattle.global_tables.specs.declared.link.LinkRow.{LinkRow}
-use Rattle.global_tables.specs.declared.link.LinkState.TheVariants.{Only}
-use Rattle.petal_base.specs.declared.cell.Cell.{Cell}
-use Rattle.petal_command.specs.declared.command.Command.{Command}
-use Rattle.spec_history.specs.Claims.{IsPrefix}
-use Rattle.spec_history.specs.Steps.{world_after}
-use Rattle.spec_history.specs.declared.record.Record.{Record}
-use Rattle.spec_state.specs.CellState.{cell_link, serves}
-use Rattle.spec_state.specs.Command.{state_after}
-use Rattle.spec_rules.specs.Log.{state_in}
-use Rattle.spec_rules.specs.Server.{PairState, Server}
-use Rattle.spec_rules.specs.State.{State, id_of, is_in}
-use Rattle.spec_rules.specs.Store.{Store, chain_in}
-use Rattle.spec_rules.specs.World.{Setting, World, blank_joins_in, server_state, start, with_store}
-use Rattle.spec_rules.proofs.Tests.{both_true, by_bool, number_itself, same_numbers, same_or_apart, some_or_none, true_false}
-use Rattle.law_log.specs.ProposedCommands.{WasStarted}
-use Rattle.law_state.specs.StartedBallots.{is_flagged}
-use Rattle.law_steps.specs.Ready.{IsRising}
-use Rattle.law_steps.proofs.Fronts.{front_itself, front_on}
-use Rattle.law_steps.proofs.Records.{split_last}
-use Rattle.law_copies.specs.Visits.{AliveIn, AreReached, HasBeen, HasReached, IsHere, IsLinked, IsPlaced, Visits, is_alive}
-use Rattle.law_copies.specs.Visits.{is_at, place_by, place_on, store_by, visited}
+use Rattle.law_copies.proofs.Imports.{[], if◌then◌else◌, ◌&&◌, ◌++◌, ◌==◌, ◌∙◌, ◌∷◌, ◌≡◌, ◌≢◌, ◌≤◌, ◌⊎◌, Bool, Cell, Command, IsPrefix, IsRising, LinkRow}
+use Rattle.law_copies.proofs.Imports.{List, None, Only, Option, PairState, Record, Server, Setting, Some, State, Store, WasStarted, World, ap, arith}
+use Rattle.law_copies.proofs.Imports.{blank_joins_in, both_true, by_bool, cell_link, chain_in, false, front_itself, front_on, id_of, inl, inr, is_flagged}
+use Rattle.law_copies.proofs.Imports.{is_in, is_some, max, nat_cmp, nat_eq, number_itself, option_map, option_map_or, same_numbers, same_or_apart}
+use Rattle.law_copies.proofs.Imports.{server_state, serves, some_or_none, split_last, start, state_after, state_in, subst, sym, true, true_false, with_store}
+use Rattle.law_copies.proofs.Imports.{world_after, ℕ}
+use Rattle.law_copies.specs.Visits.{AliveIn, AreReached, HasBeen, HasReached, IsHere, IsLinked, IsPlaced, Visits, is_alive, is_at, place_by, place_on}
+use Rattle.law_copies.specs.Visits.{store_by, visited}
 use Rattle.law_copies.proofs.AtStep.{AtStep}
 use Rattle.law_copies.proofs.PlacesByFronts.{one_row, reached_on}
 

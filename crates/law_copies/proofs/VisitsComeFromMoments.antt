@@ -1,13 +1,7 @@
 -- Each visit of a place comes from a moment of the history.
-use Rattle.std.proofs.Common.{◌≡◌, ◌++◌, ℕ, List, [], ◌∷◌, true, false, if◌then◌else◌, Some, sym, ap, ◌∙◌, subst, inl, inr, append_assoc}
-use Rattle.std.proofs.lemmas.List.{append-nil}
-use Rattle.petal_base.specs.declared.cell.Cell.{Cell}
-use Rattle.spec_history.specs.Steps.{world_after}
-use Rattle.spec_history.specs.declared.record.Record.{Record}
-use Rattle.spec_rules.specs.Server.{PairState, Server}
-use Rattle.spec_rules.specs.World.{Setting, World, start}
-use Rattle.spec_rules.proofs.Tests.{by_bool, same_some, true_false}
-use Rattle.law_steps.proofs.Records.{none_before_none, split_last}
+use Rattle.law_copies.proofs.Imports.{[], if◌then◌else◌, ◌++◌, ◌∙◌, ◌∷◌, ◌≡◌, Cell, List, PairState, Record, Server, Setting, Some, World, ap, append-nil}
+use Rattle.law_copies.proofs.Imports.{append_assoc, by_bool, false, inl, inr, none_before_none, same_some, split_last, start, subst, sym, true, true_false}
+use Rattle.law_copies.proofs.Imports.{world_after, ℕ}
 use Rattle.law_copies.specs.Visits.{Visits, WasThere, is_at}
 use Rattle.law_copies.proofs.VisitsAfterSteps.{IsThen, seen}
 

@@ -1,18 +1,7 @@
 -- What a server that wakes keeps of two copies, by the stores that count: it has nothing in memory.
-use Rattle.std.proofs.Common.{◌≡◌, ◌≤◌, ℕ, sym, ap, ◌∙◌, subst, arith}
-use Rattle.std.specs.Prelude.{unwrap_or}
-use Rattle.std.specs.Ordering.{nat_cmp}
-use Rattle.busy_marks.specs.Marks.{has_mark}
-use Rattle.petal_table.specs.Table.{at}
-use Rattle.petal_table.proofs.Rows.{at-empty}
-use Rattle.spec_rules.specs.Progress.{no_progress}
-use Rattle.spec_rules.specs.Server.{Copies, Pairs, Server, no_copies, no_pairs}
-use Rattle.spec_rules.specs.State.{id_of, link_cmp}
-use Rattle.spec_rules.specs.Store.{cell_cmp, chain_in, mark_on}
-use Rattle.spec_rules.specs.World.{World}
-use Rattle.spec_rules.proofs.Tests.{none_some}
-use Rattle.law_state.proofs.Steady.{front_plain, log_below}
-use Rattle.law_steps.specs.Ready.{IsRising}
+use Rattle.law_copies.proofs.Imports.{◌∙◌, ◌≡◌, ◌≤◌, Copies, IsRising, Pairs, Server, World, ap, arith, at, at-empty, cell_cmp, chain_in, front_plain}
+use Rattle.law_copies.proofs.Imports.{has_mark, id_of, link_cmp, log_below, mark_on, nat_cmp, no_copies, no_pairs, no_progress, none_some, subst, sym}
+use Rattle.law_copies.proofs.Imports.{unwrap_or, ℕ}
 use Rattle.law_copies.specs.LoneSteps.{AreFilled}
 use Rattle.law_copies.proofs.CopiesKnownOfWorlds.{OneMore, before_of}
 use Rattle.law_copies.proofs.AtStep.{IsStep}

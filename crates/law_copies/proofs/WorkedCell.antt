@@ -1,56 +1,25 @@
 -- The cell that a job works on, if there is one, and why; each other cell it leaves as it is.
-use Rattle.std.proofs.Common.{◌≡◌, ◌≢◌, ◌≤◌, ◌<◌, ◌+◌, ℕ, true, false, Option, Some, None, refl, sym, ap, ◌∙◌, inl, inr, arith}
-use Rattle.std.proofs.lemmas.Bool.Decides.{nat_tests}
-use Rattle.busy_marks.specs.declared.marks.MarkKind.{MarkKind}
-use Rattle.busy_marks.specs.declared.marks.MarkKind.TheVariants.{Busy, Stale}
-use Rattle.global_tables.specs.declared.link.LinkRow.{LinkRow}
-use Rattle.petal_base.specs.declared.cell.Cell.{Cell}
-use Rattle.petal_base.specs.declared.cell.Key.{Key}
-use Rattle.petal_base.specs.Cells.{cell_of, key_at}
-use Rattle.petal_msg.specs.declared.body.Body.{Body}
-use Rattle.petal_msg.specs.declared.copying.Copying.{Copying}
-use Rattle.petal_msg.specs.declared.copying.LastCopy.{LastCopy}
-use Rattle.petal_msg.specs.declared.dead.Dead.{Dead}
+use Rattle.law_copies.proofs.Imports.{◌+◌, ◌<◌, ◌∙◌, ◌≡◌, ◌≢◌, ◌≤◌, Action, Asks_page, Begins_copy, Body, Busy, Cell, Closes, Closes_alone, Closes_copy}
+use Rattle.law_copies.proofs.Imports.{CopyStep, Copy_as_is, Copy_synced, Copy_trimmed, Copying, Dead, Declines, DidFiller, DidHolder, DidLead, DidOther}
+use Rattle.law_copies.proofs.Imports.{DidSecond, DidSweep, Drops_entry, Ending, Far, Finds_it_full, Follows, Gives_up, Goes_on_copying, Goes_on_dead}
+use Rattle.law_copies.proofs.Imports.{Goes_on_trimming, Has_entry, Has_no_slot, IsReady, Is_copied_to, Is_full, Is_trimmed, JobContext, JobResult, Key}
+use Rattle.law_copies.proofs.Imports.{LastCopy, LinkRow, MarkKind, Marks, Marks_alone, None, Opens, Opens_alone, Opens_fill, Opens_fill_alone, Option}
+use Rattle.law_copies.proofs.Imports.{OtherReply, PairState, Pending, Promises, Puts, Puts_alone, Puts_entry, Replies, Sets_apart, Some, Stale, Stored}
+use Rattle.law_copies.proofs.Imports.{Sweeps, Taken, TakenCopy, Tidies, TrimStep, Turns_page, Unmarks, Unmarks_alone, Unmarks_copied, about, acts, ap, arith}
+use Rattle.law_copies.proofs.Imports.{begins_copy, by_test, cell_at, cell_holder, cell_link, cell_of, cell_swept, chain_in, drop_none, ends, false}
+use Rattle.law_copies.proofs.Imports.{fill_operation, first_copy, first_last, gives_back, has_proposed, inl, inr, is_lead, is_second, key_at, lead_links}
+use Rattle.law_copies.proofs.Imports.{leads_link, live, live_stage, marks, nat_tests, next_stage, of_ending, of_filler, opened, operation, pending_on}
+use Rattle.law_copies.proofs.Imports.{progress_on, puts, refl, same_cell_or_apart, same_or_apart, stage_at, stage_live, sym, taking, tells, true, true_false}
+use Rattle.law_copies.proofs.Imports.{unmark_none, unmarks, version_of, with_entry, with_last_copy, with_mark_at, with_mark_on, with_opened, with_page}
+use Rattle.law_copies.proofs.Imports.{with_paired, with_pending, with_reserved, with_ticket, with_tickets, without_copying, without_dead, without_entry}
+use Rattle.law_copies.proofs.Imports.{without_mark_on, without_pending, ℕ}
+use Rattle.law_copies.specs.LoneSteps.{IsBare, KeepsCell}
+use Rattle.law_copies.proofs.OwnPartFrames.{copied_alike, copied_beside, copying_beside, dropped_beside, ended_beside, entry_beside, followed_beside}
+use Rattle.law_copies.proofs.OwnPartFrames.{keeps_alike, keeps_itself, keeps_on, last_beside, marked_beside, pending_beside, unmarked_beside}
 use Rattle.petal_msg.specs.declared.dead.Dead.TheVariants as dead
 use Rattle.petal_msg.specs.declared.operation.Ending.TheVariants as ending
-use Rattle.petal_msg.specs.declared.operation.Action.{Action}
 use Rattle.petal_msg.specs.declared.operation.Action.TheVariants as action
-use Rattle.petal_msg.specs.declared.operation.Ending.{Ending}
-use Rattle.petal_msg.specs.declared.operation.Far.{Far}
 use Rattle.petal_msg.specs.declared.operation.Far.TheVariants as far
-use Rattle.petal_msg.specs.declared.operation.Pending.{Pending}
-use Rattle.spec_state.specs.CellState.{cell_link}
-use Rattle.spec_rules.specs.Copies.{begins_copy, cell_at, cell_holder, with_page}
-use Rattle.spec_rules.specs.Progress.{has_proposed, progress_on, with_last_copy, without_copying}
-use Rattle.petal_msg.specs.Kinds.{about}
-use Rattle.spec_rules.specs.Server.{PairState, JobContext, JobResult}
-use Rattle.spec_rules.specs.Fills.{fill_operation}
-use Rattle.spec_rules.specs.State.{is_lead, is_second, leads_link, live}
-use Rattle.spec_rules.specs.Store.{Stored, chain_in, version_of, with_entry, with_mark_on, with_ticket, without_entry, without_mark_on}
-use Rattle.spec_rules.specs.Sweeping.{without_dead}
-use Rattle.spec_rules.specs.Writes.{acts, ends, gives_back, marks, next_stage, operation, opened, puts, tells, unmarks, with_mark_at, with_opened}
-use Rattle.spec_rules.specs.Writes.{with_paired, with_pending, with_reserved, without_pending, pending_on}
-use Rattle.spec_rules.proofs.Tests.{by_test, same_or_apart, true_false}
-use Rattle.law_state.specs.Homes.{stage_at}
-use Rattle.law_steps.specs.Ready.{IsReady}
-use Rattle.law_steps.specs.DidLead.{DidLead, Is_full, Opens, Marks, Puts, Gives_up, Unmarks, Closes, Opens_alone, Marks_alone, Puts_alone}
-use Rattle.law_steps.specs.DidLead.{Unmarks_alone, Closes_alone, Opens_fill, Opens_fill_alone, Goes_on_dead, Taken}
-use Rattle.law_steps.specs.DidSecond.{DidSecond, Sets_apart, Promises, Declines, Follows, with_tickets}
-use Rattle.law_steps.specs.DidHolder.{DidHolder, CopyStep, Unmarks_copied, Closes_copy, TakenCopy, Copy_as_is, Copy_trimmed, Copy_synced}
-use Rattle.law_steps.specs.DidHolder.{Asks_page, Turns_page, Begins_copy, Goes_on_copying, Finds_it_full, Tidies, first_copy}
-use Rattle.law_steps.specs.DidOther.{OtherReply, Replies, DidOther, first_last, TrimStep, Is_trimmed, Drops_entry, Is_copied_to}
-use Rattle.law_steps.specs.DidOther.{Goes_on_trimming, Puts_entry, Has_entry, Has_no_slot}
-use Rattle.law_steps.specs.DidFiller.{DidFiller}
-use Rattle.law_steps.specs.DidSweep.{DidSweep, Sweeps, cell_swept}
-use Rattle.law_steps.proofs.WhoLeads.{lead_links, live_stage, stage_live}
-use Rattle.law_steps.proofs.OperationsRest.{same_cell_or_apart}
-use Rattle.law_steps.proofs.Subjects.{of_ending, of_filler}
-use Rattle.law_steps.proofs.TakenUpAlone.{taking}
-use Rattle.law_copies.specs.LoneSteps.{IsBare, KeepsCell}
-use Rattle.law_jobs.proofs.ChainsApart.{drop_none}
-use Rattle.law_jobs.proofs.MarksApart.{unmark_none}
-use Rattle.law_copies.proofs.OwnPartFrames.{copied_alike, copied_beside, copying_beside, dropped_beside, ended_beside, entry_beside, followed_beside, keeps_alike}
-use Rattle.law_copies.proofs.OwnPartFrames.{keeps_itself, keeps_on, last_beside, marked_beside, pending_beside, unmarked_beside}
 
 -- the cell is another one
 abbrev pub Away : Cell → Option Cell → Type 0

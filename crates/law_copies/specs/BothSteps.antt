@@ -1,15 +1,6 @@
 -- What a step of one server of a link in Both leaves of a cell, whatever the other server has in memory of it.
-use Rattle.std.specs.Prelude.{◌≡◌, ◌+◌, ◌≤◌, false, List, Some, None}
-use Rattle.std.specs.Ordering.{nat_cmp}
-use Rattle.petal_base.specs.declared.cell.Cell.{Cell}
-use Rattle.petal_table.specs.Table.{at}
-use Rattle.petal_msg.specs.Kinds.{about}
-use Rattle.petal_msg.specs.declared.operation.Pending.{Pending}
-use Rattle.spec_rules.specs.Lists.{In}
-use Rattle.spec_rules.specs.Server.{PairState, Post}
-use Rattle.spec_rules.specs.Store.{cell_cmp, chain_in}
-use Rattle.spec_rules.specs.Writes.{is_clients}
-use Rattle.law_steps.specs.Ready.{IsRising}
+use Rattle.law_copies.specs.Imports.{◌+◌, ◌≡◌, ◌≤◌, Cell, In, IsRising, List, None, PairState, Pending, Post, Some, about, at, cell_cmp, chain_in, false}
+use Rattle.law_copies.specs.Imports.{is_clients, nat_cmp}
 use Rattle.law_copies.specs.Pair.{IsRecalled, Keeps, Known, Pair, far, pair_of}
 
 -- of each letter about the cell, which a server sends, something is known where the two copies stand so

@@ -1,29 +1,10 @@
 -- One cell of a link that one server holds alone, as the holder and the other server had it at one place of the link: how far a copy of
 -- it is, at both, and what the letters between them tell.
-use Rattle.std.specs.Prelude.{◌≡◌, ℕ, ◌+◌, ◌≤◌, ◌<◌, ◌⊎◌, true, false, List, [], length, slice_get, Option, Some, None, is_some}
-use Rattle.std.specs.Option.{option_map_or}
-use Rattle.std.specs.Ordering.{nat_cmp}
-use Rattle.busy_marks.specs.Marks.{above}
-use Rattle.global_tables.specs.Map.{tuple_of}
-use Rattle.global_tables.specs.Region.{link_of}
-use Rattle.global_tables.specs.declared.link.LinkRow.{LinkRow}
-use Rattle.petal_base.specs.declared.cell.Cell.{Cell}
-use Rattle.petal_base.specs.Cells.{cell_of}
-use Rattle.petal_table.specs.Table.{at}
-use Rattle.petal_msg.specs.declared.body.Body.{Body}
+use Rattle.law_copies.specs.Imports.{[], ◌+◌, ◌<◌, ◌≡◌, ◌≤◌, ◌⊎◌, Body, Cell, Copying, IsMarked, IsRising, IsToBeCopied, LastCopy, LinkRow, List, None}
+use Rattle.law_copies.specs.Imports.{Option, PairState, Some, State, Store, Stored, above, at, cell_at, cell_link, cell_of, chain_in, copying_on}
+use Rattle.law_copies.specs.Imports.{epochs_beyond, epochs_of, false, id_of, is_flagged, is_some, last_copy, length, link_of, live, nat_cmp, option_map_or}
+use Rattle.law_copies.specs.Imports.{pending_on, progress_on, slice_get, true, tuple_of, ℕ}
 use Rattle.petal_msg.specs.declared.body.Body.TheVariants as body
-use Rattle.petal_msg.specs.declared.copying.Copying.{Copying}
-use Rattle.petal_msg.specs.declared.copying.LastCopy.{LastCopy}
-use Rattle.spec_history.specs.Claims.{IsMarked, IsToBeCopied}
-use Rattle.spec_rules.specs.Copies.{cell_at, epochs_beyond}
-use Rattle.spec_rules.specs.Progress.{copying_on, last_copy, progress_on}
-use Rattle.spec_rules.specs.Server.{PairState}
-use Rattle.spec_rules.specs.Store.{Store, Stored, chain_in, epochs_of}
-use Rattle.spec_rules.specs.Writes.{pending_on}
-use Rattle.law_state.specs.StartedBallots.{is_flagged}
-use Rattle.law_steps.specs.Ready.{IsRising}
-use Rattle.spec_state.specs.CellState.{cell_link}
-use Rattle.spec_rules.specs.State.{State, id_of, live}
 
 -- ### What is left to copy
 

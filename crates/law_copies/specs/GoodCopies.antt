@@ -1,38 +1,14 @@
 -- What is kept of the two copies of each cell: at each place of its link, and at the stores as they are now.
-use Rattle.std.specs.Prelude.{◌≡◌, ◌≤◌, ◌<◌, ◌⊎◌, ◌+◌, ℕ, Bool, true, false, List, [], length, Option, Some, None, is_some}
-use Rattle.std.specs.Ordering.{nat_cmp}
-use Rattle.global_tables.specs.Link.{other_of}
-use Rattle.global_tables.specs.declared.link.LinkRow.{LinkRow}
-use Rattle.global_tables.specs.declared.link.LinkState.TheVariants.{Both, Only}
-use Rattle.petal_base.specs.declared.cell.Cell.{Cell}
-use Rattle.petal_command.specs.declared.command.Command.{Command}
-use Rattle.petal_table.specs.Table.{at}
-use Rattle.petal_msg.specs.Kinds.{about, subject_of}
-use Rattle.petal_msg.specs.declared.body.Body.{Body}
-use Rattle.petal_msg.specs.declared.body.Body.TheVariants as body
-use Rattle.petal_msg.specs.declared.copying.LastCopy.{LastCopy}
-use Rattle.petal_msg.specs.declared.letter.Letter.{Letter}
-use Rattle.petal_msg.specs.declared.operation.Pending.{Pending}
-use Rattle.spec_history.specs.Claims.{IsPrefix, IsMarked, IsToBeCopied}
-use Rattle.spec_history.specs.declared.record.Record.{Record}
-use Rattle.spec_rules.specs.Lists.{In}
-use Rattle.spec_rules.specs.Progress.{last_copy, no_progress, progress_on}
-use Rattle.spec_rules.specs.Server.{PairState}
-use Rattle.spec_rules.specs.State.{State, id_of, is_in, is_whole, live}
-use Rattle.spec_rules.specs.Store.{Store, cell_cmp, chain_in}
-use Rattle.spec_rules.specs.World.{Setting, World, blank_joins_in, server_state}
-use Rattle.spec_rules.specs.Writes.{is_clients}
-use Rattle.spec_state.specs.CellState.{cell_link}
-use Rattle.spec_state.specs.Command.{state_after}
-use Rattle.law_log.specs.ProposedCommands.{WasStarted}
-use Rattle.law_state.specs.Homes.{stage_at}
-use Rattle.law_state.specs.StartedBallots.{is_flagged}
-use Rattle.law_steps.specs.DidStep.{is_between}
-use Rattle.law_steps.specs.Ready.{IsRising}
+use Rattle.law_copies.specs.Imports.{[], ◌+◌, ◌<◌, ◌≡◌, ◌≤◌, ◌⊎◌, Body, Bool, Both, Cell, Command, In, IsMarked, IsPrefix, IsRising, IsToBeCopied, LastCopy}
+use Rattle.law_copies.specs.Imports.{Letter, LinkRow, List, None, Only, Option, PairState, Pending, Record, Setting, Some, State, Store, WasStarted, World}
+use Rattle.law_copies.specs.Imports.{about, at, blank_joins_in, cell_cmp, cell_link, chain_in, false, id_of, is_between, is_clients, is_flagged, is_in}
+use Rattle.law_copies.specs.Imports.{is_some, is_whole, last_copy, length, live, nat_cmp, no_progress, other_of, progress_on, server_state, stage_at}
+use Rattle.law_copies.specs.Imports.{state_after, subject_of, true, ℕ}
 use Rattle.law_copies.specs.CopyProgress.{AreAlike, AreCopying, IsOfLink, IsPage, IsTold, NotCopied, links_of}
 use Rattle.law_copies.specs.Pair.{HaveMarks, IsRecalled, Known, Pair, PairOk, far, pair_of}
 use Rattle.law_copies.specs.LoneSteps.{AreFilled, IsBare}
 use Rattle.law_copies.specs.Visits.{AliveIn, AreReached, HasBeen, HasFilled, IsHere, IsLast, IsLinked, Visits, WasThere, half, place_by, store_by}
+use Rattle.petal_msg.specs.declared.body.Body.TheVariants as body
 
 abbrev pub store_of : World → ℕ → Store
 store_of w n = (w.servers n).own.store

@@ -1,3 +1,4 @@
+pub mod Imports
 pub mod Pair
 pub mod Visits
 pub mod CopyProgress

@@ -1,33 +1,12 @@
 -- What a job of a server leaves of a cell whose link one server holds alone: at the holder, at the other server of the link, and at a
 -- server that the link is not of.
-use Rattle.std.specs.Prelude.{◌≡◌, ◌≢◌, ◌<◌, ◌⊎◌, ℕ, Bool, true, false, [], Option, Some, None, is_some}
-use Rattle.std.specs.Ordering.{nat_cmp}
-use Rattle.busy_marks.specs.declared.marks.MarkKind.{MarkKind}
-use Rattle.global_tables.specs.Link.{has_server}
-use Rattle.global_tables.specs.declared.link.LinkRow.{LinkRow}
-use Rattle.global_tables.specs.declared.link.LinkState.TheVariants.{Only}
-use Rattle.petal_base.specs.declared.cell.Cell.{Cell}
-use Rattle.petal_msg.specs.Kinds.{about, subject_of}
-use Rattle.petal_msg.specs.declared.body.Body.{Body}
-use Rattle.petal_msg.specs.declared.body.Body.TheVariants as body
-use Rattle.petal_msg.specs.declared.copying.LastCopy.{LastCopy}
-use Rattle.spec_state.specs.CellState.{cell_link}
-use Rattle.petal_table.specs.Table.{Table, at}
-use Rattle.spec_history.specs.Claims.{IsMarked}
-use Rattle.spec_rules.specs.Lists.{In}
-use Rattle.spec_rules.specs.Progress.{copying_on, has_proposed, last_copy}
-use Rattle.spec_rules.specs.Server.{PairState, JobContext, Post, JobResult}
-use Rattle.spec_rules.specs.State.{holder_of, id_of, live}
-use Rattle.spec_rules.specs.Store.{Chain, Store, cell_cmp, chain_in, is_marked}
-use Rattle.spec_rules.specs.Writes.{last_on, pending_on}
-use Rattle.law_state.specs.Homes.{stage_at}
-use Rattle.law_state.specs.StartedBallots.{is_flagged}
-use Rattle.law_state.specs.Steady.{IsSteady}
-use Rattle.law_steps.specs.DidStep.{is_between}
-use Rattle.law_steps.specs.Ready.{IsReady, IsRising}
-use Rattle.law_steps.specs.RestingCopies.{AreResting}
+use Rattle.law_copies.specs.Imports.{[], ◌<◌, ◌≡◌, ◌≢◌, ◌⊎◌, AreResting, Body, Bool, Cell, Chain, In, IsMarked, IsReady, IsRising, IsSteady, JobContext}
+use Rattle.law_copies.specs.Imports.{JobResult, LastCopy, LinkRow, MarkKind, None, Only, Option, PairState, Post, Some, Store, Table, about, at, cell_cmp}
+use Rattle.law_copies.specs.Imports.{cell_link, chain_in, copying_on, false, has_proposed, has_server, holder_of, id_of, is_between, is_flagged, is_marked}
+use Rattle.law_copies.specs.Imports.{is_some, last_copy, last_on, live, nat_cmp, pending_on, stage_at, subject_of, true, ℕ}
 use Rattle.law_copies.specs.CopyProgress.{AreAlike, AreCopying, IsLeft, IsOfLink, IsPage, IsTold, links_of}
 use Rattle.law_copies.specs.Pair.{HaveMarks}
+use Rattle.petal_msg.specs.declared.body.Body.TheVariants as body
 
 -- a cell without entries has no chain
 abbrev pub AreFilled : Table Cell Chain → Type 0

@@ -1,21 +1,8 @@
 -- One cell as its two servers have it, and what is kept of it.
-use Rattle.std.specs.Prelude.{◌≡◌, ℕ, ◌+◌, ◌≤◌, ◌<◌, ◌⊎◌, Bool, true, false, List, Option, Some, None}
-use Rattle.std.specs.Ordering.{nat_cmp}
-use Rattle.busy_marks.specs.declared.marks.MarkKind.TheVariants.{Busy, Stale}
-use Rattle.petal_base.specs.declared.cell.Cell.{Cell}
-use Rattle.petal_base.specs.declared.cell.Key.{Key}
-use Rattle.petal_table.specs.Table.{Table, at}
-use Rattle.petal_msg.specs.declared.body.Body.{Body}
+use Rattle.law_copies.specs.Imports.{◌+◌, ◌<◌, ◌≡◌, ◌≤◌, ◌⊎◌, AtRest, Body, Bool, Busy, Cell, Chain, Key, LastOp, List, None, Option, PairState, Pending}
+use Rattle.law_copies.specs.Imports.{Some, Stale, State, Store, Table, World, at, cell_cmp, chain_in, false, is_clients, is_marked, live, nat_cmp}
+use Rattle.law_copies.specs.Imports.{one_put_ahead, primary, progress, secondary, true, ℕ}
 use Rattle.petal_msg.specs.declared.body.Body.TheVariants as body
-use Rattle.petal_msg.specs.declared.operation.LastOp.{LastOp}
-use Rattle.petal_msg.specs.declared.operation.Pending.{Pending}
-use Rattle.spec_rules.specs.State.{State, live, primary, secondary}
-use Rattle.spec_rules.specs.Store.{Chain, Store, cell_cmp, chain_in, is_marked}
-use Rattle.spec_rules.specs.Server.{PairState}
-use Rattle.spec_rules.specs.Writes.{is_clients}
-use Rattle.spec_rules.specs.World.{World}
-use Rattle.spec_history.specs.Claims.{one_put_ahead}
-use Rattle.law_steps.specs.Operations.{AtRest, progress}
 
 -- the two copies, the operation that is pending at the first server and the number of its next one, and the last operation that
 -- the second one took part in

@@ -1,25 +1,9 @@
 -- What servers were at the places of a link. What two servers of a link tell each other belongs to one place of it; so a server's
 -- own part is kept here as it last was at each place, and is there while the other server is still at that place.
-use Rattle.std.specs.Prelude.{◌≡◌, ◌≤◌, ◌<◌, ◌⊎◌, ◌==◌, ◌&&◌, ℕ, Bool, true, false, List, [], ◌++◌, if◌then◌else◌}
-use Rattle.std.specs.Prelude.{nat_eq, nat_lt, Option, Some, None, option_map}
-use Rattle.std.specs.Option.{option_map_or}
-use Rattle.global_tables.specs.declared.link.LinkRow.{LinkRow}
-use Rattle.petal_base.specs.declared.cell.Cell.{Cell}
-use Rattle.petal_command.specs.declared.command.Command.{Command}
-use Rattle.spec_history.specs.Claims.{IsPrefix}
-use Rattle.spec_state.specs.CellState.{cell_link, serves}
-use Rattle.spec_state.specs.Command.{state_after}
-use Rattle.spec_state.specs.Place.{places_from}
-use Rattle.spec_state.specs.State.{start}
-use Rattle.spec_rules.specs.Log.{state_in}
-use Rattle.spec_rules.specs.Server.{PairState, Pairs, Server, no_copies, no_pairs}
-use Rattle.spec_rules.specs.State.{State, is_in}
-use Rattle.spec_rules.specs.Store.{Store}
-use Rattle.spec_rules.specs.World.{Setting, World, blank_joins_in, with_store}
-use Rattle.spec_rules.specs.World.{start as start_world}
-use Rattle.spec_history.specs.Steps.{world_after}
-use Rattle.spec_history.specs.declared.record.Record.{Record}
-use Rattle.law_state.specs.Homes.{stage_at}
+use Rattle.law_copies.specs.Imports.{[], if◌then◌else◌, ◌&&◌, ◌++◌, ◌<◌, ◌==◌, ◌≡◌, ◌≤◌, ◌⊎◌, Bool, Cell, Command, IsPrefix, LinkRow, List, None, Option}
+use Rattle.law_copies.specs.Imports.{PairState, Pairs, Record, Server, Setting, Some, State, Store, World, blank_joins_in, cell_link, false, is_in, nat_eq}
+use Rattle.law_copies.specs.Imports.{nat_lt, no_copies, no_pairs, option_map, option_map_or, places_from, serves, stage_at, start, start_world, state_after}
+use Rattle.law_copies.specs.Imports.{state_in, true, with_store, world_after, ℕ}
 
 -- the cell is not dead by this state
 abbrev pub AliveIn : State → Cell → Type 0

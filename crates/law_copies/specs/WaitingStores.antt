@@ -1,8 +1,5 @@
 -- Stores that wait to be filled by others, and whose own store counts.
-use Rattle.std.specs.Prelude.{◌≡◌, ℕ, [], true}
-use Rattle.spec_rules.specs.Blanked.{kept_store}
-use Rattle.spec_rules.specs.Store.{Store}
-use Rattle.spec_rules.specs.World.{Setting, World, blank_joins_in, chosen_log}
+use Rattle.law_copies.specs.Imports.{[], ◌≡◌, Setting, Store, World, blank_joins_in, chosen_log, kept_store, true, ℕ}
 
 -- the store has neither entries nor marks
 pub record IsEmpty (store : Store) : Type 0 where

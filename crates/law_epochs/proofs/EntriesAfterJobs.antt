@@ -1,16 +1,6 @@
 -- What is so of each entry of a server, of what it has pending and of what letters tell, is so of its entries after each job.
-use Rattle.std.proofs.Common.{◌≡◌, ℕ, Some}
-use Rattle.petal_base.specs.declared.cell.Cell.{Cell}
-use Rattle.petal_base.specs.declared.cell.Key.{Key}
-use Rattle.petal_table.specs.Table.{at}
-use Rattle.petal_msg.specs.declared.body.Body.{Body}
-use Rattle.petal_msg.specs.declared.operation.Pending.{Pending}
-use Rattle.spec_rules.specs.Server.{PairState, JobContext, JobResult}
-use Rattle.spec_rules.specs.Store.{Stored, cell_cmp}
-use Rattle.law_steps.specs.Did.{Did}
-use Rattle.law_jobs.specs.Effects.{Becomes, A_copy, A_lead, An_operation, IsPutFor}
-use Rattle.law_jobs.proofs.JobsAreEffects.{effects_of}
-use Rattle.law_jobs.proofs.JobsKeepChains.{becomes_keeps}
+use Rattle.law_epochs.proofs.Imports.{◌≡◌, A_copy, A_lead, An_operation, Becomes, Body, Cell, Did, IsPutFor, JobContext, JobResult, Key, PairState, Pending}
+use Rattle.law_epochs.proofs.Imports.{Some, Stored, at, becomes_keeps, cell_cmp, effects_of, ℕ}
 use Rattle.law_epochs.proofs.EntryPredicates.{AreWithin, IsWithin, OfKey, drop_within, put_within}
 
 module _ (bound : Cell → ℕ → Type 0) (heard : Body → Type 0) (here : JobContext) (own : PairState) (all : AreWithin bound own.store.chains)

@@ -1,60 +1,23 @@
 -- Every step keeps that no server has an entry of an epoch that it doesn't know of, or of a cell that is not live yet, nor a letter of its
 -- revision tells of one.
-use Rattle.std.proofs.Common.{◌≡◌, ◌≢◌, ◌≤◌, ◌==◌, ℕ, false, List, [], ◌∷◌, Some, length, refl, sym, ap, ◌∙◌, subst, inl, inr, arith}
-use Rattle.std.specs.List.{range_with_len}
-use Rattle.std.specs.Ordering.{nat_cmp}
-use Rattle.std.specs.Prelude.{filter, not, slice_get}
-use Rattle.petal_base.specs.declared.cell.Cell.{Cell}
-use Rattle.petal_base.specs.Cells.{cell_of}
-use Rattle.petal_base.specs.declared.cell.Key.{Key}
-use Rattle.petal_command.specs.declared.command.Command.{Command}
-use Rattle.petal_table.specs.Table.{at}
-use Rattle.petal_msg.specs.Kinds.{subject_of}
-use Rattle.petal_msg.specs.declared.body.Body.{Body}
-use Rattle.petal_msg.specs.declared.body.Body.TheVariants as body
-use Rattle.petal_msg.specs.declared.letter.Letter.{Letter}
-use Rattle.script_lines.specs.declared.script.Script.{Script}
-use Rattle.spec_state.specs.Command.{state_after}
-use Rattle.spec_rules.specs.Blanked.{BeforeBlank}
-use Rattle.spec_rules.specs.Clients.{client_sender}
-use Rattle.spec_rules.specs.Jobs.{Acted, down_posts}
-use Rattle.spec_rules.specs.Lists.{In}
-use Rattle.spec_rules.specs.Log.{Log}
-use Rattle.spec_rules.specs.Server.{PairState, Post, Sender, JobResult, letters_of, sender}
-use Rattle.spec_rules.specs.State.{State}
-use Rattle.spec_rules.specs.Store.{Chain, Store, chain_in}
-use Rattle.spec_rules.specs.World.{World, chosen_state, setting_of, stamped}
-use Rattle.spec_rules.specs.declared.step.Step.{Step}
-use Rattle.spec_rules.proofs.ListLemmas.{in-append}
-use Rattle.spec_history.specs.Steps.{AreSteps}
-use Rattle.spec_history.specs.Sound.{IsSound}
-use Rattle.spec_history.specs.declared.record.Record.{Record}
-use Rattle.law_state.specs.Homes.{stage_at}
-use Rattle.law_state.specs.Firm.{Firm}
-use Rattle.law_state.proofs.Steady.{log_rev}
-use Rattle.law_log.proofs.ProposersInSchedule.{said_to_all}
-use Rattle.law_steps.specs.DidStep.{Handled, Happens, Serves, Blanks, Turns, Worked, By_job, By_ballot, By_entry, Serving, Goes}
-use Rattle.law_steps.specs.DidStep.{Ends, Stays, Wakes, Fails, own_place, without_rev}
-use Rattle.law_steps.specs.DidLead.{IsNextFill}
-use Rattle.law_steps.proofs.MovesAreOfComingCells.{next_comes, stage_facts}
-use Rattle.law_steps.proofs.WorldsAreFirm.{always_firm}
-use Rattle.law_steps.proofs.Fronts.{below_itself, front_on}
-use Rattle.law_steps.proofs.KindsInHistories.{last_happens, own_plain}
-use Rattle.law_steps.proofs.Letters.{said}
-use Rattle.law_steps.proofs.ClientLetters.{turned_asks}
-use Rattle.law_jobs.proofs.Runs.{At, by_run, run_of}
-use Rattle.law_jobs.proofs.JobsSay.{none_in}
+use Rattle.law_epochs.proofs.Imports.{[], ◌==◌, ◌∙◌, ◌∷◌, ◌≡◌, ◌≢◌, ◌≤◌, Acted, AreSteps, At, BeforeBlank, Blanks, Body, By_ballot, By_entry, By_job, Cell}
+use Rattle.law_epochs.proofs.Imports.{Chain, Command, Ends, Fails, Firm, Goes, Handled, Happens, In, IsNextFill, IsSound, JobResult, Key, Letter, List, Log}
+use Rattle.law_epochs.proofs.Imports.{PairState, Post, Record, Script, Sender, Serves, Serving, Some, State, Stays, Step, Store, Turns, Wakes, Worked, World}
+use Rattle.law_epochs.proofs.Imports.{always_firm, ap, arith, at, below_itself, by_run, cell_of, chain_in, chosen_state, client_sender, down_posts, false}
+use Rattle.law_epochs.proofs.Imports.{filter, front_on, in-append, inl, inr, last_happens, length, letters_of, log_rev, nat_cmp, next_comes, none_in, not}
+use Rattle.law_epochs.proofs.Imports.{own_place, own_plain, range_with_len, refl, run_of, said, said_to_all, sender, setting_of, slice_get, stage_at}
+use Rattle.law_epochs.proofs.Imports.{stage_facts, stamped, state_after, subject_of, subst, sym, turned_asks, twins_epoch, without_rev, ℕ}
 use Rattle.law_epochs.specs.EntryEpochs.{AreEarly, HaveEarlyEntries}
 use Rattle.law_epochs.proofs.RowKeysHold.{at_key}
 use Rattle.law_epochs.proofs.PendingIsInTime.{firm}
 use Rattle.law_epochs.proofs.ReportedHaveNoPending.{grows}
 use Rattle.law_epochs.proofs.KeysToldByJobs.{IsMoverOwn, did_said, mover_store}
-use Rattle.law_state.proofs.TwinsAreOfOneDisk.{twins_epoch}
 use Rattle.law_epochs.proofs.EntryPredicates.{AreWithin, IsWithin, OfKey, asked_none, is_of_entries, logged_none, of_key_on, of_no_key}
-pub use Rattle.law_epochs.proofs.KnownEntries.{IsKnownBy, kept_by}
-use Rattle.law_epochs.proofs.KnownEntries.{AllEarly, IsKnown, before_within, fills_within, known_more, known_on, now_within, pending_within}
-use Rattle.law_epochs.proofs.KnownEntries.{start_early, stores_within, told_within}
+use Rattle.law_epochs.proofs.KnownEntries.{AllEarly, IsKnown, before_within, fills_within, known_more, known_on, now_within, pending_within, start_early}
+use Rattle.law_epochs.proofs.KnownEntries.{stores_within, told_within}
 use Rattle.law_epochs.proofs.EpochScenes.{OneMore, ends_of}
+use Rattle.petal_msg.specs.declared.body.Body.TheVariants as body
+pub use Rattle.law_epochs.proofs.KnownEntries.{IsKnownBy, kept_by}
 
 posted_so : (P : Body → Type 0) (who : Sender) (stamp : ℕ) (posts : List Post) → ((post : Post) → In post posts → P post.body)
     → (letter : Letter) → In letter (stamped stamp (letters_of who 0 posts)) → P letter.body

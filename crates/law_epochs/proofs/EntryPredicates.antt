@@ -1,19 +1,9 @@
 -- What is so of each entry of a store by its cell and epoch, and of the keys that letters tell of.
-use Rattle.std.proofs.Common.{◌≡◌, ◌||◌, ℕ, Bool, true, false, [], ◌∷◌, Some, refl, sym, ap, ◌∙◌, subst, inl, inr}
-use Rattle.std.specs.Prelude.{unwrap_or}
-use Rattle.std.specs.Ordering.{nat_cmp}
-use Rattle.petal_base.specs.declared.cell.Cell.{Cell}
-use Rattle.petal_base.specs.declared.cell.Key.{Key}
-use Rattle.petal_base.specs.Cells.{cell_of}
-use Rattle.petal_table.specs.Table.{Table, at, put, without}
-use Rattle.petal_table.proofs.Rows.{at_apart, at-empty, gone_apart, gone_same}
-use Rattle.petal_msg.specs.Kinds.{Copied, Filling, Logged, Paired, Read_asked, Subject, Write_asked, is_asked, is_logged, subject_of}
-use Rattle.petal_msg.specs.declared.body.Body.{Body}
+use Rattle.law_epochs.proofs.Imports.{[], ◌||◌, ◌∙◌, ◌∷◌, ◌≡◌, Body, Bool, Cell, Chain, Copied, Filling, Key, Logged, Paired, Read_asked, Some, Store, Stored}
+use Rattle.law_epochs.proofs.Imports.{Subject, Table, Write_asked, ap, at, at-empty, at_apart, cell_cmp, cell_of, chain_apart, chain_in, chain_put, chains_at}
+use Rattle.law_epochs.proofs.Imports.{chains_with, drop_apart, false, gone_apart, gone_chain, gone_same, inl, inr, is_asked, is_logged, nat_cmp, none_some}
+use Rattle.law_epochs.proofs.Imports.{put, refl, same_cell_or_apart, same_or_apart, subject_of, subst, sym, true, unwrap_or, without, without_entry, ℕ}
 use Rattle.petal_msg.specs.declared.body.Body.TheVariants as body
-use Rattle.spec_rules.specs.Store.{Chain, Store, Stored, cell_cmp, chain_in, chains_at, chains_with, without_entry}
-use Rattle.spec_rules.proofs.Tests.{none_some, same_or_apart}
-use Rattle.law_steps.proofs.OperationsRest.{same_cell_or_apart}
-use Rattle.law_jobs.proofs.ChainsApart.{chain_apart, chain_put, drop_apart, gone_chain}
 
 abbrev pub IsWithin : (bound : Cell → ℕ → Type 0) → Key → Type 0
 IsWithin bound key = bound (cell_of key) key.epoch

@@ -1,17 +1,7 @@
 -- A legal history, and one with a record more: what the lemmas here and in the laws above are told of.
-use Rattle.std.proofs.Common.{◌≡◌, List, [], ◌∷◌, ◌++◌, refl, subst}
-use Rattle.petal_command.specs.declared.command.Command.{Command}
-use Rattle.script_lines.specs.declared.script.Script.{Script}
-use Rattle.spec_state.specs.Command.{state_after}
-use Rattle.spec_rules.specs.State.{State}
-use Rattle.spec_rules.specs.World.{Setting, World, chosen_log, setting_of}
-use Rattle.spec_history.specs.Claims.{IsPrefix}
-use Rattle.spec_history.specs.Steps.{AreSteps}
-use Rattle.spec_history.specs.declared.record.Record.{Record}
-use Rattle.law_state.specs.Plain.{IsPlainLog}
-use Rattle.law_log.proofs.LogInHistories.{history_grows, history_is_firm}
+use Rattle.law_epochs.proofs.Imports.{[], ◌++◌, ◌∷◌, ◌≡◌, AreSteps, At, Command, IsPlainLog, IsPrefix, List, Record, Script, Setting, State, World}
+use Rattle.law_epochs.proofs.Imports.{before_part, chosen_log, history_grows, history_is_firm, refl, setting_of, state_after, subst}
 pub use Rattle.law_jobs.proofs.Runs.{OneMore, Run}
-use Rattle.law_jobs.proofs.Runs.{At, before_part}
 
 -- where it has led
 pub record End : Type 0 where

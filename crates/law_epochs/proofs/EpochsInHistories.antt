@@ -1,24 +1,7 @@
 -- The laws, over every legal history of a sound script.
-use Rattle.std.proofs.Common.{◌≡◌, ◌≤◌, ℕ, List, Some, length, refl, true}
-use Rattle.global_tables.specs.declared.link.LinkRow.{LinkRow}
-use Rattle.global_tables.specs.declared.link.LinkState.TheVariants.{Both}
-use Rattle.petal_base.specs.declared.cell.Cell.{Cell}
-use Rattle.petal_command.specs.declared.command.Command.{Command}
-use Rattle.petal_msg.specs.declared.operation.Pending.{Pending}
-use Rattle.petal_table.specs.Table.{at}
-use Rattle.script_lines.specs.declared.script.Script.{Script}
-use Rattle.spec_state.specs.Command.{state_after}
-use Rattle.spec_rules.specs.Server.{Pairs}
-use Rattle.spec_rules.specs.State.{is_in}
-use Rattle.spec_rules.specs.Store.{cell_cmp}
-use Rattle.spec_rules.specs.Writes.{is_clients}
-use Rattle.spec_rules.specs.World.{chosen_log, server_state, setting_of}
-use Rattle.spec_history.specs.Claims.{IsPrefix}
-use Rattle.spec_history.specs.Steps.{AreSteps}
-use Rattle.spec_history.specs.Sound.{IsSound}
-use Rattle.spec_history.specs.declared.record.Record.{Record}
-use Rattle.law_copies.specs.Visits.{IsLinked, WasThere, place_by}
-use Rattle.law_jobs.proofs.Runs.{At}
+use Rattle.law_epochs.proofs.Imports.{◌≡◌, ◌≤◌, AreSteps, At, Both, Cell, Command, IsLinked, IsPrefix, IsSound, LinkRow, List, Pairs, Pending, Record, Script}
+use Rattle.law_epochs.proofs.Imports.{Some, WasThere, at, cell_cmp, chosen_log, is_clients, is_in, length, place_by, refl, server_state, setting_of}
+use Rattle.law_epochs.proofs.Imports.{state_after, true, ℕ}
 use Rattle.law_epochs.specs.EntryEpochs.{HaveEarlyEntries}
 use Rattle.law_epochs.specs.InTime.{IsTimely}
 use Rattle.law_epochs.proofs.PendingIsInTime.{present, present_now}

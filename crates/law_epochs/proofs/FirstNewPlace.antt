@@ -1,12 +1,6 @@
 -- Two parts of one list, and the first entry that makes a new place of a link.
-use Rattle.std.proofs.Common.{◌≡◌, ◌≤◌, ◌+◌, ◌++◌, ◌⊎◌, List, [], ◌∷◌, true, if◌then◌else◌, refl, sym, ap, ◌∙◌, inl, inr, arith}
-use Rattle.std.specs.Prelude.{fold}
-use Rattle.global_tables.specs.declared.link.LinkRow.{LinkRow}
-use Rattle.petal_command.specs.declared.command.Command.{Command}
-use Rattle.spec_state.specs.Command.{after}
-use Rattle.spec_state.specs.Place.{places_from, touches}
-use Rattle.spec_rules.specs.State.{State}
-use Rattle.spec_rules.proofs.Tests.{by_bool}
+use Rattle.law_epochs.proofs.Imports.{[], if◌then◌else◌, ◌++◌, ◌+◌, ◌∙◌, ◌∷◌, ◌≡◌, ◌≤◌, ◌⊎◌, Command, LinkRow, List, State, after, ap, arith, by_bool, fold}
+use Rattle.law_epochs.proofs.Imports.{inl, inr, places_from, refl, sym, touches, true}
 
 first : {A : Type 0} {x z : A} {xs zs : List A} → x ∷ xs ≡ z ∷ zs → x ≡ z
 first e = cc

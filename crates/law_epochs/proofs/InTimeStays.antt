@@ -1,32 +1,9 @@
 -- What is in time stays so while the era of its cell does not rise; and a cell that has died was leaving before.
-use Rattle.std.proofs.Common.{◌≡◌, ◌≤◌, ◌+◌, ℕ, List, true, Some, sym, ap, ◌∙◌, inl, inr, arith}
-use Rattle.std.specs.Prelude.{nat_le, option_and_then, if◌then◌else◌, length}
-use Rattle.std.specs.Option.{option_map_or}
-use Rattle.std.proofs.lemmas.Bool.Decides.{nat_tests}
-use Rattle.global_tables.specs.Link.{link_at}
-use Rattle.global_tables.specs.Map.{tuple_of}
-use Rattle.global_tables.specs.Region.{link_of}
-use Rattle.global_tables.specs.declared.link.LinkRow.{LinkRow}
-use Rattle.petal_base.specs.declared.cell.Cell.{Cell}
-use Rattle.petal_command.specs.declared.command.Command.{Command}
-use Rattle.petal_command.specs.declared.command.Command.TheVariants.{Moved}
-use Rattle.petal_msg.specs.declared.operation.Pending.{Pending}
-use Rattle.spec_history.specs.Claims.{IsPrefix}
-use Rattle.spec_state.specs.CellState.{cell_link}
-use Rattle.spec_state.specs.Command.{state_after}
-use Rattle.spec_state.specs.State.{links_of}
-use Rattle.spec_rules.specs.State.{State}
-use Rattle.spec_rules.proofs.Tests.{none_some, some_or_none}
-use Rattle.global_tables.specs.Region.{region_of}
-use Rattle.law_state.specs.Homes.{epoch_at, era_at, era_by, stage_at}
-use Rattle.law_state.specs.Plain.{IsPlainLog}
-use Rattle.law_state.proofs.EntriesOnlyAdd.{log_plain}
-use Rattle.law_state.proofs.Eras.{era_low}
-use Rattle.law_state.proofs.NewMapLinks.{proper}
-use Rattle.law_state.proofs.LinksAreNoted.{log_dead}
-use Rattle.law_state.proofs.Steady.{front_plain, log_below, log_grown, tuple_on}
-use Rattle.law_steps.proofs.Fronts.{front_more, front_on}
-use Rattle.law_copies.proofs.PlacesByFronts.{at_most_or_above}
+use Rattle.law_epochs.proofs.Imports.{if◌then◌else◌, ◌+◌, ◌∙◌, ◌≡◌, ◌≤◌, Cell, Command, IsPlainLog, IsPrefix, LinkRow, List, Moved, Pending, Some, State, ap}
+use Rattle.law_epochs.proofs.Imports.{arith, at_most_or_above, cell_link, epoch_at, era_by, era_low, front_more, front_on, front_plain, inl, inr, length}
+use Rattle.law_epochs.proofs.Imports.{link_at, link_of, links_of, log_below, log_dead, log_grown, log_plain, nat_le, nat_tests, none_some, option_and_then}
+use Rattle.law_epochs.proofs.Imports.{option_map_or, proper, region_of, some_or_none, stage_at, state_after, sym, true, tuple_of, tuple_on, ℕ}
+use Rattle.law_state.specs.Homes.{era_at}
 use Rattle.law_epochs.specs.InTime.{IsTimely}
 
 era_high : (e a : ℕ) → 3 ≤ a → era_by e a ≡ e + 1

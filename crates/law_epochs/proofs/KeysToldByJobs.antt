@@ -1,29 +1,13 @@
 -- What is so of each entry of a server, of what it has pending and of what it moves is so of the keys that it tells of in each job.
-use Rattle.std.proofs.Common.{◌≡◌, ◌⊎◌, ℕ, Some, refl, ap, inl, inr}
-use Rattle.petal_base.specs.declared.cell.Cell.{Cell}
-use Rattle.global_tables.specs.declared.link.LinkRow.{LinkRow}
-use Rattle.petal_base.specs.declared.cell.Key.{Key}
-use Rattle.petal_table.specs.Table.{at}
-use Rattle.petal_msg.specs.Kinds.{subject_of}
-use Rattle.petal_msg.specs.declared.body.Body.{Body}
-use Rattle.petal_msg.specs.declared.body.Body.TheVariants as body
-use Rattle.petal_msg.specs.declared.operation.Ending.{Ending}
-use Rattle.petal_msg.specs.declared.operation.Ending.TheVariants as ending
-use Rattle.petal_msg.specs.declared.operation.Pending.{Pending}
-use Rattle.spec_rules.specs.Lists.{In}
-use Rattle.spec_rules.specs.Server.{PairState, JobContext, Post, JobResult}
-use Rattle.spec_rules.specs.Store.{cell_cmp, chain_in}
-use Rattle.spec_rules.specs.Writes.{ended, moved_as}
-use Rattle.law_steps.specs.Did.{Did}
-use Rattle.law_steps.specs.DidFiller.{IsNextKey, filled_to}
-use Rattle.law_steps.specs.DidLead.{IsNextFill}
-use Rattle.law_jobs.specs.Effects.{Becomes}
-use Rattle.law_jobs.specs.Sayings.{Says, Asks_copy, Ends, Ends_fill, Moves, Moves_on, Of_the_log, Refuses, Repeats, Syncs}
-use Rattle.law_jobs.proofs.JobsAreEffects.{effects_of}
-use Rattle.law_jobs.proofs.JobsSay.{letters_of_job}
+use Rattle.law_epochs.proofs.Imports.{◌≡◌, ◌⊎◌, Asks_copy, Becomes, Body, Cell, Did, Ending, Ends_fill, In, IsNextFill, IsNextKey, JobContext, JobResult, Key}
+use Rattle.law_epochs.proofs.Imports.{LinkRow, Moves, Moves_on, Of_the_log, PairState, Pending, Post, Refuses, Repeats, Says, Some, Syncs, ap, at, cell_cmp}
+use Rattle.law_epochs.proofs.Imports.{chain_in, effects_of, ended, filled_to, inl, inr, letters_of_job, moved_as, refl, subject_of, ℕ}
+use Rattle.law_jobs.specs.Sayings.{Ends}
 use Rattle.law_epochs.proofs.RowKeysHold.{at_key}
 use Rattle.law_epochs.proofs.EntriesAfterJobs.{becomes_kept}
 use Rattle.law_epochs.proofs.EntryPredicates.{AreWithin, IsWithin, OfKey, is_of_entries, logged_none, of_no_key}
+use Rattle.petal_msg.specs.declared.body.Body.TheVariants as body
+use Rattle.petal_msg.specs.declared.operation.Ending.TheVariants as ending
 
 -- the own by which a server sends the next entry of a link: as it is, or once it was told of the next key
 pub record IsToldNext (heard : Body → Type 0) (here : JobContext) (own now : PairState) : Type 0 where

@@ -1,40 +1,11 @@
 -- Every step keeps that no server has in its stores, nor has pending, an entry of an epoch that it doesn't know of, or of a cell that is not live yet.
-use Rattle.std.proofs.Common.{◌≡◌, ◌≤◌, ◌==◌, ℕ, false, true, List, [], Option, Some, None, length, refl, sym, ap, ◌∙◌, subst, arith}
-use Rattle.petal_base.specs.declared.cell.Cell.{Cell}
-use Rattle.petal_base.specs.Cells.{cell_of}
-use Rattle.petal_base.specs.declared.cell.Key.{Key}
-use Rattle.petal_command.specs.declared.command.Command.{Command}
-use Rattle.petal_table.specs.Table.{Table, at}
-use Rattle.petal_table.proofs.Rows.{at-empty}
-use Rattle.petal_msg.specs.declared.body.Body.{Body}
-use Rattle.petal_msg.specs.declared.letter.Letter.{Letter}
-use Rattle.petal_msg.specs.declared.operation.Pending.{Pending}
-use Rattle.spec_state.specs.Command.{state_after}
-use Rattle.spec_rules.specs.Blanked.{BeforeBlank, kept_store}
-use Rattle.spec_rules.specs.Boots.{blanked}
-use Rattle.spec_rules.specs.Crossing.{crossed}
-use Rattle.spec_rules.specs.Jobs.{Acted}
-use Rattle.spec_rules.specs.Lists.{In}
-use Rattle.spec_rules.specs.Log.{Log}
-use Rattle.spec_rules.specs.Server.{Pairs, Server, JobResult}
-use Rattle.spec_rules.specs.State.{State}
-use Rattle.spec_rules.specs.Store.{Store, cell_cmp}
-use Rattle.spec_rules.specs.Writes.{is_clients}
-use Rattle.spec_rules.specs.World.{Setting, World, blank_joins_in, chosen_log, kept, server_state, start}
-use Rattle.spec_rules.specs.declared.step.Step.{Step}
-use Rattle.spec_rules.proofs.Settled.{settling}
-use Rattle.spec_rules.proofs.Tests.{all_put, by_bool, by_test, none_some, same_some, true_false}
-use Rattle.spec_history.specs.Claims.{IsPrefix}
-use Rattle.law_state.specs.Homes.{epoch_at, stage_at}
-use Rattle.law_state.specs.Firm.{Firm}
-use Rattle.law_state.specs.Plain.{IsPlainLog}
-use Rattle.law_state.proofs.Steady.{log_below}
-use Rattle.law_steps.specs.DidStep.{Handled, Happens, Serves, Blanks, Turns, Worked, By_job, By_ballot, By_entry, Serving, Goes}
-use Rattle.law_steps.specs.DidStep.{Ends, Stays, Wakes, Fails, own_place}
-use Rattle.law_steps.proofs.FillsByJobs.{Fills, Stood, Writes, did_come}
-use Rattle.law_steps.proofs.Fronts.{front_on, one_front}
-use Rattle.law_steps.proofs.KindsInHistories.{own_plain, proposed_pairs}
-use Rattle.law_copies.proofs.StoreJobs.{ballot_store}
+use Rattle.law_epochs.proofs.Imports.{[], ◌==◌, ◌∙◌, ◌≡◌, ◌≤◌, Acted, BeforeBlank, Blanks, Body, By_ballot, By_entry, By_job, Cell, Command, Ends, Fails}
+use Rattle.law_epochs.proofs.Imports.{Fills, Firm, Goes, Handled, Happens, In, IsPlainLog, IsPrefix, JobResult, Key, Letter, List, Log, None, Option, Pairs}
+use Rattle.law_epochs.proofs.Imports.{Pending, Server, Serves, Serving, Setting, Some, State, Stays, Step, Stood, Store, Table, Turns, Wakes, Worked, World}
+use Rattle.law_epochs.proofs.Imports.{Writes, all_put, ap, arith, at, at-empty, ballot_store, blank_joins_in, blanked, by_bool, by_test, cell_cmp, cell_of}
+use Rattle.law_epochs.proofs.Imports.{chosen_log, crossed, did_come, epoch_at, false, front_on, is_clients, kept, kept_store, length, log_below, none_some}
+use Rattle.law_epochs.proofs.Imports.{one_front, own_place, own_plain, proposed_pairs, refl, same_some, server_state, settling, stage_at, start, state_after}
+use Rattle.law_epochs.proofs.Imports.{subst, sym, true, true_false, ℕ}
 use Rattle.law_epochs.proofs.PendingIsInTime.{firm, opened_by, was_opened}
 use Rattle.law_epochs.proofs.EntriesAfterJobs.{did_kept}
 use Rattle.law_epochs.proofs.ReportedHaveNoPending.{resting}

@@ -1,19 +1,7 @@
 -- A server that has led a cell's link is one of the link's two.
-use Rattle.std.proofs.Common.{◌≡◌, ℕ, List, true, Some, sym, ◌∙◌, subst, inl, inr}
-use Rattle.std.specs.Prelude.{option_and_then}
-use Rattle.global_tables.specs.Link.{has_server}
-use Rattle.global_tables.specs.declared.link.LinkRow.{LinkRow}
-use Rattle.petal_base.specs.declared.cell.Cell.{Cell}
-use Rattle.petal_command.specs.declared.command.Command.{Command}
-use Rattle.spec_history.specs.Claims.{IsPrefix}
-use Rattle.spec_state.specs.CellState.{cell_link, row_lead}
-use Rattle.spec_state.specs.Command.{state_after}
-use Rattle.spec_rules.specs.State.{State, leads_link}
-use Rattle.spec_rules.proofs.Tests.{is_the_one, none_some, same_some}
-use Rattle.law_state.specs.Plain.{IsPlainLog}
-use Rattle.law_state.proofs.CellsByLinkRows.{link_led_by}
-use Rattle.law_state.proofs.Roles.{holder_is_one, primary_is_one}
-use Rattle.law_state.proofs.Steady.{front_plain, log_below, log_steady}
+use Rattle.law_epochs.proofs.Imports.{◌∙◌, ◌≡◌, Cell, Command, IsPlainLog, IsPrefix, LinkRow, List, Some, State, cell_link, front_plain, has_server}
+use Rattle.law_epochs.proofs.Imports.{holder_is_one, inl, inr, is_the_one, leads_link, link_led_by, log_below, log_steady, none_some, option_and_then}
+use Rattle.law_epochs.proofs.Imports.{primary_is_one, row_lead, same_some, state_after, subst, sym, true, ℕ}
 
 pub led_has : (servers : ℕ) (front whole : List Command) (n : ℕ) (cell : Cell) (row : LinkRow) → IsPlainLog servers whole → IsPrefix front whole
     → leads_link (state_after servers front) n cell ≡ true → cell_link (state_after servers whole) cell ≡ Some row → has_server n row ≡ true

@@ -1,3 +1,4 @@
+pub mod Imports
 pub mod EpochScenes
 pub mod RowKeysHold
 pub mod FirstNewPlace

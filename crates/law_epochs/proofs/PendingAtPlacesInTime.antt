@@ -1,41 +1,15 @@
 -- A client's write that a server had pending when it was last at a place of the cell's link is in time at each front of the log at that place:
 -- a report by which the era rose would have been made before the visit, or during it.
-use Rattle.std.proofs.Common.{◌≡◌, ◌≤◌, ◌++◌, ◌⊎◌, ℕ, true, List, [], ◌∷◌, Some, length, sym, ap, ◌∙◌, subst, inl, inr, arith}
-use Rattle.std.proofs.lemmas.List.{append-nil}
-use Rattle.global_tables.specs.declared.link.LinkRow.{LinkRow}
-use Rattle.petal_base.specs.declared.cell.Cell.{Cell}
-use Rattle.petal_command.specs.declared.command.Command.{Command}
-use Rattle.petal_table.specs.Table.{at}
-use Rattle.petal_msg.specs.declared.operation.Pending.{Pending}
-use Rattle.spec_state.specs.Command.{state_after}
-use Rattle.spec_state.specs.Place.{places_from}
+use Rattle.law_epochs.proofs.Imports.{[], ◌++◌, ◌∙◌, ◌∷◌, ◌≡◌, ◌≤◌, ◌⊎◌, AliveIn, AreSteps, At, Cell, Command, IsAt, IsLinked, IsPlainLog, IsPrefix, LinkRow}
+use Rattle.law_epochs.proofs.Imports.{List, Pairs, Pending, Record, Setting, Some, WasDraining, WasThere, World, ap, append-nil, arith, at, at_by}
+use Rattle.law_epochs.proofs.Imports.{at_most_or_above, before_part, cell_cmp, chosen_log, either_front, front_long, front_on, front_within, history_grows}
+use Rattle.law_epochs.proofs.Imports.{in_between, inl, inr, is_at, is_at_so, is_clients, is_in, length, log_below, place_by, place_of_later, places_from}
+use Rattle.law_epochs.proofs.Imports.{places_grow, same_place, seat_stays, stage_at, stage_most, state_after, subst, sym, true, ℕ}
 use Rattle.spec_state.specs.State.{start}
-use Rattle.spec_rules.specs.Server.{Pairs}
-use Rattle.spec_rules.specs.State.{is_in}
-use Rattle.spec_rules.specs.Store.{cell_cmp}
-use Rattle.spec_rules.specs.Writes.{is_clients}
-use Rattle.spec_rules.specs.World.{Setting, World, chosen_log}
-use Rattle.spec_history.specs.Claims.{IsPrefix}
-use Rattle.spec_history.specs.Steps.{AreSteps}
-use Rattle.spec_history.specs.declared.record.Record.{Record}
-use Rattle.law_state.specs.Homes.{stage_at}
-use Rattle.law_state.specs.Plain.{IsPlainLog}
-use Rattle.law_state.proofs.Stages.{stage_most}
-use Rattle.law_state.proofs.Steady.{log_below}
-use Rattle.law_state.proofs.EntriesTouchLinks.{places_grow, same_place}
-use Rattle.law_log.specs.ProposedCommands.{WasDraining}
-use Rattle.law_log.proofs.LogInHistories.{history_grows}
-use Rattle.law_steps.proofs.Fronts.{front_long, front_on, front_within}
-use Rattle.law_jobs.proofs.Runs.{At, before_part}
-use Rattle.law_copies.specs.Visits.{AliveIn, IsLinked, WasThere, is_at, place_by}
-use Rattle.law_copies.proofs.PlacesByFronts.{at_most_or_above, place_of_later}
-use Rattle.law_copies.proofs.VisitsAfterSteps.{IsAt, at_by, is_at_so}
-use Rattle.law_requests.proofs.RequestsKnownLater.{either_front}
-use Rattle.law_requests.proofs.LeadsAtTwoPlaces.{seat_stays}
-use Rattle.law_requests.proofs.OpenWhileRunning.{in_between}
 use Rattle.law_epochs.specs.InTime.{IsTimely}
 use Rattle.law_epochs.proofs.FirstNewPlace.{one_in_other}
-use Rattle.law_epochs.proofs.PendingIsInTime.{IsOpened, IsReported, chosen_plain, firm, opened_by, opened_later, ran, seated_now, timely_or_reported, was_opened}
+use Rattle.law_epochs.proofs.PendingIsInTime.{IsOpened, IsReported, chosen_plain, firm, opened_by, opened_later, ran, seated_now, timely_or_reported}
+use Rattle.law_epochs.proofs.PendingIsInTime.{was_opened}
 use Rattle.law_epochs.proofs.ReportedHaveNoPending.{grows, not_held}
 use Rattle.law_epochs.proofs.LeadsAreOfLinks.{led_has}
 use Rattle.law_epochs.proofs.InTimeStays.{was_leaving}

@@ -1,34 +1,10 @@
 -- A client's write that is under way is in time: had the era of its cell risen, its server would have reported before, with no such write
 -- under way.
-use Rattle.std.proofs.Common.{◌≡◌, ◌<◌, ◌++◌, ◌⊎◌, ℕ, true, false, List, [], ◌∷◌, Some, length, sym, ◌∙◌, subst, inl, inr, arith}
-use Rattle.petal_base.specs.declared.cell.Cell.{Cell}
-use Rattle.petal_command.specs.declared.command.Command.{Command}
-use Rattle.petal_command.specs.declared.command.Command.TheVariants.{Drained}
-use Rattle.petal_table.specs.Table.{at}
-use Rattle.petal_msg.specs.declared.operation.Pending.{Pending}
-use Rattle.script_lines.specs.declared.script.Script.{Script}
-use Rattle.spec_state.specs.Command.{state_after}
-use Rattle.spec_rules.specs.State.{held, is_in, leads_link}
-use Rattle.spec_rules.specs.Store.{cell_cmp}
-use Rattle.spec_rules.specs.Writes.{is_clients, is_writes_held}
-use Rattle.spec_rules.specs.World.{Setting, World, chosen_log, server_state, setting_of}
-use Rattle.spec_rules.proofs.Tests.{same_or_apart}
-use Rattle.spec_history.specs.Claims.{IsPrefix}
-use Rattle.spec_history.specs.Steps.{AreSteps}
-use Rattle.spec_history.specs.Sound.{IsSound}
-use Rattle.spec_history.specs.declared.record.Record.{Record}
-use Rattle.law_state.specs.Epochs.{era_at}
-use Rattle.law_state.specs.Firm.{Firm}
-use Rattle.law_state.specs.Plain.{IsPlainLog}
-use Rattle.law_state.proofs.ErasRiseAfterReports.{log_epochs, log_unheld}
-use Rattle.law_state.proofs.Steady.{front_plain}
-use Rattle.law_log.specs.ProposedCommands.{WasDraining}
-use Rattle.law_log.proofs.LogInHistories.{history_is_firm, report_was_made}
-use Rattle.law_steps.proofs.Fronts.{front_itself, front_long, front_more, front_on, one_front}
-use Rattle.law_steps.proofs.MovesAreOfComingCells.{stage_facts}
-use Rattle.law_steps.proofs.KindsInHistories.{runs_now}
-use Rattle.law_jobs.proofs.Runs.{At}
-use Rattle.law_requests.proofs.OpenWhileRunning.{chosen_front}
+use Rattle.law_epochs.proofs.Imports.{[], ◌++◌, ◌<◌, ◌∙◌, ◌∷◌, ◌≡◌, ◌⊎◌, AreSteps, At, Cell, Command, Drained, Firm, IsPlainLog, IsPrefix, IsSound, List}
+use Rattle.law_epochs.proofs.Imports.{Pending, Record, Script, Setting, Some, WasDraining, World, arith, at, cell_cmp, chosen_front, chosen_log, era_at}
+use Rattle.law_epochs.proofs.Imports.{false, front_itself, front_long, front_more, front_on, front_plain, held, history_is_firm, inl, inr, is_clients, is_in}
+use Rattle.law_epochs.proofs.Imports.{is_writes_held, leads_link, length, log_epochs, log_unheld, one_front, report_was_made, runs_now, same_or_apart}
+use Rattle.law_epochs.proofs.Imports.{server_state, setting_of, stage_facts, state_after, subst, sym, true, ℕ}
 use Rattle.law_epochs.specs.InTime.{IsTimely}
 use Rattle.law_epochs.proofs.ReportedHaveNoPending.{asking, resting}
 use Rattle.law_epochs.proofs.InTimeStays.{on_time}

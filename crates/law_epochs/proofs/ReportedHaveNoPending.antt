@@ -1,27 +1,7 @@
 -- What a server has pending once it has reported to a fence: no client's write on a cell of which the fence held the writes.
-use Rattle.std.proofs.Common.{◌≡◌, ◌++◌, ℕ, List, true, false, Some}
-use Rattle.petal_base.specs.declared.cell.Cell.{Cell}
-use Rattle.petal_command.specs.declared.command.Command.{Command}
-use Rattle.petal_table.specs.Table.{at}
-use Rattle.petal_msg.specs.declared.operation.Pending.{Pending}
-use Rattle.script_lines.specs.declared.script.Script.{Script}
-use Rattle.spec_state.specs.Command.{state_after}
-use Rattle.spec_rules.specs.Draining.{has_held_write}
-use Rattle.spec_rules.specs.State.{held}
-use Rattle.spec_rules.specs.Store.{cell_cmp}
-use Rattle.spec_rules.specs.Writes.{is_clients, is_writes_held}
-use Rattle.spec_rules.specs.World.{Setting, setting_of, start}
-use Rattle.spec_rules.proofs.Tests.{true_false}
-use Rattle.spec_history.specs.Claims.{IsPrefix}
-use Rattle.spec_history.specs.Steps.{AreSteps}
-use Rattle.spec_history.specs.Sound.{IsSound}
-use Rattle.spec_history.specs.declared.record.Record.{Record}
-use Rattle.law_steps.specs.Ready.{Rests}
-use Rattle.law_steps.proofs.WorldsAreFirm.{always_firm}
-use Rattle.law_steps.proofs.KindsInHistories.{rests_after, start_rests}
-use Rattle.law_jobs.proofs.Runs.{At}
-use Rattle.law_requests.proofs.PendingHoldsReports.{held_write}
-use Rattle.law_requests.proofs.RequestsInHistories.{AskingAlong, asking_along}
+use Rattle.law_epochs.proofs.Imports.{◌++◌, ◌≡◌, AreSteps, AskingAlong, At, Cell, Command, IsPrefix, IsSound, List, Pending, Record, Rests, Script, Setting}
+use Rattle.law_epochs.proofs.Imports.{Some, always_firm, asking_along, at, cell_cmp, false, has_held_write, held, held_write, is_clients, is_writes_held}
+use Rattle.law_epochs.proofs.Imports.{rests_after, setting_of, start, start_rests, state_after, true, true_false, ℕ}
 
 module _ (script : Script) (sound : IsSound script) where
   abbrev setting : Setting

@@ -1,12 +1,7 @@
 -- The key of each row of a table has something.
-use Rattle.std.proofs.Common.{◌≡◌, ℕ, zero, suc, [], ◌∷◌, cond, Some, refl, ap, ◌∙◌, subst}
-use Rattle.std.specs.Prelude.{slice_get}
+use Rattle.law_epochs.proofs.Imports.{[], ◌∙◌, ◌∷◌, ◌≡◌, Some, Table, ap, at, by_bool, cond, is_eq, lookup, nat_cmp, nat_cmp_total, none_some, refl}
+use Rattle.law_epochs.proofs.Imports.{same_some, slice_get, subst, suc, tied_itself, zero, ℕ}
 use Rattle.std.specs.BTreeMap.{is_at}
-use Rattle.std.specs.Map.{lookup}
-use Rattle.std.specs.Ordering.{nat_cmp, is_eq}
-use Rattle.std.specs.Cmp.{nat_cmp_total, tied_itself}
-use Rattle.petal_table.specs.Table.{Table, at}
-use Rattle.spec_rules.proofs.Tests.{by_bool, none_some, same_some}
 
 -- something stands at the key of each row
 pub at_key : {X : Type 0} (t : Table ℕ X) (i : ℕ) (row : ℕ × X) → slice_get t i ≡ Some row → (x : X) × (at nat_cmp t row.0 ≡ Some x)

@@ -1,36 +1,12 @@
 -- A client's write that a second server can still put is in time. Where its link was touched after its own entries, that was by a Leave, after
 -- which the era rises only once the second server has reported; and it has applied no more than its own entries.
-use Rattle.std.proofs.Common.{◌≡◌, ◌≤◌, ◌++◌, ℕ, true, List, [], ◌∷◌, length, length-append, refl, sym, ap}
-use Rattle.std.proofs.Common.{◌∙◌, subst, inl, inr, arith, append_assoc}
-use Rattle.std.specs.Prelude.{fold}
-use Rattle.std.proofs.lemmas.Grind.{fold-append}
-use Rattle.global_tables.specs.declared.link.LinkRow.{LinkRow}
-use Rattle.global_tables.specs.declared.link.LinkState.TheVariants.{Both}
-use Rattle.petal_base.specs.declared.cell.Cell.{Cell}
-use Rattle.petal_command.specs.declared.command.Command.{Command}
-use Rattle.petal_command.specs.declared.command.Command.TheVariants.{Leave}
-use Rattle.petal_msg.specs.declared.operation.Pending.{Pending}
-use Rattle.spec_state.specs.Command.{after}
-use Rattle.spec_state.specs.Place.{places_from, touches}
-use Rattle.spec_state.specs.State.{is_up_as, start}
-use Rattle.spec_rules.specs.State.{is_in}
-use Rattle.spec_rules.specs.World.{Setting, World, chosen_log, server_state}
-use Rattle.spec_rules.proofs.Tests.{same_or_apart}
-use Rattle.spec_history.specs.Claims.{IsPrefix}
-use Rattle.spec_history.specs.declared.record.Record.{Record}
-use Rattle.law_state.specs.Epochs.{era_at}
-use Rattle.law_state.specs.Firm.{Firm}
-use Rattle.law_state.specs.LinkChanges.{By_leave, By_join, By_caught, IsTouchedBy}
-use Rattle.law_state.proofs.ErasRiseAfterReports.{log_epochs, log_left}
-use Rattle.law_state.proofs.GrownStates.{alone_not_both}
-use Rattle.law_state.proofs.EntriesTouchLinks.{log_touched, places_grow, places_of_both, places_on, same_place}
-use Rattle.law_log.proofs.LogInHistories.{report_was_made}
-use Rattle.law_steps.proofs.Fronts.{front_itself, front_long, front_more, front_on, front_within}
-use Rattle.law_steps.proofs.KindsInHistories.{runs_at, runs_now}
-use Rattle.law_copies.proofs.EmptyJoins.{stands_in}
-use Rattle.law_jobs.proofs.Runs.{At}
-use Rattle.law_copies.specs.Visits.{IsLinked, place_by}
-use Rattle.law_copies.proofs.PlacesByFronts.{at_most_or_above, place_of_later, place_touched}
+use Rattle.law_epochs.proofs.Imports.{[], ◌++◌, ◌∙◌, ◌∷◌, ◌≡◌, ◌≤◌, At, Both, By_caught, By_join, By_leave, Cell, Command, Firm, IsLinked, IsPrefix}
+use Rattle.law_epochs.proofs.Imports.{IsTouchedBy, Leave, LinkRow, List, Pending, Record, Setting, World, after, alone_not_both, ap, append_assoc, arith}
+use Rattle.law_epochs.proofs.Imports.{at_most_or_above, chosen_log, era_at, fold, fold-append, front_itself, front_long, front_more, front_on, front_within}
+use Rattle.law_epochs.proofs.Imports.{inl, inr, is_in, is_up_as, length, length-append, log_epochs, log_left, log_touched, place_by, place_of_later}
+use Rattle.law_epochs.proofs.Imports.{place_touched, places_from, places_grow, places_of_both, places_on, refl, report_was_made, runs_at, runs_now}
+use Rattle.law_epochs.proofs.Imports.{same_or_apart, same_place, server_state, stands_in, subst, sym, touches, true, ℕ}
+use Rattle.spec_state.specs.State.{start}
 use Rattle.law_epochs.specs.InTime.{IsTimely}
 use Rattle.law_epochs.proofs.FirstNewPlace.{IsFirst, first_touch}
 use Rattle.law_epochs.proofs.PendingIsInTime.{chosen_plain, firm}

@@ -1,13 +1,6 @@
 -- Numbers of operations only grow: the next one, and how far a second server is on each cell.
-use Rattle.std.proofs.Common.{◌≡◌, ◌≤◌, ℕ, ap, ◌∙◌, inl, inr, arith}
-use Rattle.petal_base.specs.declared.cell.Cell.{Cell}
-use Rattle.petal_msg.specs.declared.body.Body.{Body}
-use Rattle.spec_rules.specs.Server.{PairState, JobContext, JobResult}
-use Rattle.spec_rules.specs.Writes.{last_on}
-use Rattle.spec_rules.proofs.CellTables.{cell_apart, cell_same}
-use Rattle.law_steps.specs.Did.{Did}
-use Rattle.law_steps.specs.Operations.{far_of, progress}
-use Rattle.law_steps.proofs.OperationsRest.{same_cell_or_apart}
+use Rattle.law_jobs.proofs.Imports.{◌∙◌, ◌≡◌, ◌≤◌, Body, Cell, Did, JobContext, JobResult, PairState, ap, arith, cell_apart, cell_same, far_of, inl, inr}
+use Rattle.law_jobs.proofs.Imports.{last_on, progress, same_cell_or_apart, ℕ}
 use Rattle.law_jobs.specs.Effects.{Counts, Effect, Follows, May, applied}
 use Rattle.law_jobs.proofs.JobsAreEffects.{job_keeps}
 

@@ -1,17 +1,8 @@
 -- What a server remembers of entries that it has moved is as before after a job, or a letter told of the next one of a link.
-use Rattle.std.proofs.Common.{◌≡◌, refl}
-use Rattle.global_tables.specs.declared.link.LinkRow.{LinkRow}
-use Rattle.petal_base.specs.declared.cell.Key.{Key}
-use Rattle.petal_msg.specs.declared.body.Body.{Body}
-use Rattle.petal_msg.specs.declared.body.Body.TheVariants as body
-use Rattle.petal_msg.specs.declared.copying.LinkId.{LinkId}
-use Rattle.spec_rules.specs.Server.{PairState, JobContext, JobResult}
-use Rattle.spec_rules.specs.State.{id_of, link_cmp}
-use Rattle.petal_table.specs.Table.{Table, put}
-use Rattle.law_steps.specs.Did.{Did}
-use Rattle.law_steps.specs.DidFiller.{IsNextKey}
+use Rattle.law_jobs.proofs.Imports.{◌≡◌, Body, Did, IsNextKey, JobContext, JobResult, Key, LinkId, LinkRow, PairState, Table, id_of, link_cmp, put, refl}
 use Rattle.law_jobs.specs.Effects.{Effect, Fills, May, applied}
 use Rattle.law_jobs.proofs.JobsAreEffects.{job_keeps}
+use Rattle.petal_msg.specs.declared.body.Body.TheVariants as body
 
 pub data Remembers (heard : Body → Type 0) (here : JobContext) (own : PairState) (filled : Table LinkId Key) : Type 0 where
   As_before : filled ≡ own.filled → Remembers heard here own filled

@@ -1,57 +1,27 @@
 -- Each job of a server is a list of effects.
-use Rattle.std.proofs.Common.{◌≡◌, ℕ, Bool, true, false, Option, Some, None, refl, sym, ap, subst, inl, inr, arith}
-use Rattle.std.specs.Prelude.{◌+◌, ◌-◌, is_some}
-use Rattle.busy_marks.specs.Marks.{above}
-use Rattle.busy_marks.specs.declared.marks.MarkKind.{MarkKind}
-use Rattle.busy_marks.specs.declared.marks.MarkKind.TheVariants as mark
-use Rattle.global_tables.specs.declared.link.LinkRow.{LinkRow}
-use Rattle.petal_base.specs.Cells.{cell_of, key_at}
-use Rattle.petal_base.specs.declared.cell.Cell.{Cell}
-use Rattle.petal_base.specs.declared.cell.Key.{Key}
-use Rattle.petal_msg.specs.declared.body.Body.{Body}
-use Rattle.petal_msg.specs.declared.copying.Copying.{Copying}
-use Rattle.petal_msg.specs.declared.copying.LastCopy.{LastCopy}
-use Rattle.petal_msg.specs.declared.dead.Dead.TheVariants as dead
-use Rattle.petal_msg.specs.declared.operation.Action.{Action}
-use Rattle.petal_msg.specs.declared.operation.Action.TheVariants as action
-use Rattle.petal_msg.specs.declared.operation.Ending.{Ending}
-use Rattle.petal_msg.specs.declared.operation.Ending.TheVariants as ending
-use Rattle.petal_msg.specs.declared.operation.Far.{Far}
-use Rattle.petal_msg.specs.declared.operation.Far.TheVariants as far
-use Rattle.petal_msg.specs.declared.operation.OpKind.{OpKind}
-use Rattle.petal_msg.specs.declared.operation.OpKind.TheVariants as kind
-use Rattle.petal_msg.specs.declared.operation.Pending.{Pending}
-use Rattle.petal_msg.specs.declared.operation.Stage.{Stage}
-use Rattle.spec_state.specs.CellState.{cell_link}
-use Rattle.spec_rules.specs.Copies.{with_copied, with_page}
-use Rattle.spec_rules.specs.Fills.{fill_operation}
-use Rattle.spec_rules.specs.Progress.{progress_on, with_progress, without_copying}
-use Rattle.spec_rules.specs.Server.{PairState, JobContext, JobResult}
-use Rattle.spec_rules.specs.Copies.{begins_copy, cell_at}
-use Rattle.spec_rules.specs.Store.{Stored, chain_in, version_of}
-use Rattle.spec_rules.specs.Writes.{acts, ends, gives_back, gives_up, last_on, marks, pending_on, puts, next_stage, operation, tells, with_flag, with_mark_at, with_opened, with_paired, with_pending, with_reserved, without_pending}
-use Rattle.spec_rules.proofs.CellTables.{cell_gone, cell_same}
-use Rattle.spec_rules.proofs.Tests.{by_test, true_false}
-use Rattle.law_steps.specs.DidLead.{DidLead, Is_full, Opens, Opens_alone, Opens_fill, Opens_fill_alone, Gives_up, Closes_alone, Goes_on_dead}
-use Rattle.law_steps.specs.DidLead.{Marks_alone, Puts_alone, Unmarks_alone, Taken, As_it_is, As_told, told}
-use Rattle.law_steps.specs.DidLead.{Marks, Puts, Unmarks, Closes}
-use Rattle.law_steps.specs.DidSecond.{DidSecond, Sets_apart, Promises, Follows}
-use Rattle.law_steps.specs.DidHolder.{DidHolder, CopyStep, Unmarks_copied, Closes_copy, TakenCopy, Copy_as_is, Copy_trimmed, Copy_synced}
-use Rattle.law_steps.specs.DidHolder.{Turns_page, Begins_copy, Goes_on_copying, Finds_it_full, Tidies}
-use Rattle.law_steps.specs.DidOther.{DidOther, TrimStep, Is_trimmed, Drops_entry, Is_copied_to, Goes_on_trimming, Puts_entry, first_last}
-use Rattle.law_steps.specs.DidFiller.{DidFiller, Is_filled, Is_out_of_slots}
-use Rattle.law_steps.specs.DidSweep.{DidSweep, Sweeps}
-use Rattle.law_steps.specs.Did.{Did, Ignores, Refuses, By_read, By_lead, By_second, By_holder, By_other, By_filler, By_sweep}
-use Rattle.petal_msg.specs.declared.copying.LinkId.{LinkId}
-use Rattle.spec_rules.specs.State.{id_of, link_named, live}
-use Rattle.law_steps.specs.Operations.{progress}
-use Rattle.law_steps.proofs.CopiesRest.{row_named}
-use Rattle.law_steps.proofs.Subjects.{of_read}
-use Rattle.law_steps.proofs.TakenUpAlone.{taking}
+use Rattle.law_jobs.proofs.Imports.{◌+◌, ◌-◌, ◌≡◌, Action, As_it_is, As_told, Begins_copy, Body, Bool, By_filler, By_holder, By_lead, By_other, By_read}
+use Rattle.law_jobs.proofs.Imports.{By_second, By_sweep, Cell, Closes, Closes_alone, Closes_copy, CopyStep, Copy_as_is, Copy_synced, Copy_trimmed, Copying}
+use Rattle.law_jobs.proofs.Imports.{Did, DidFiller, DidHolder, DidLead, DidOther, DidSecond, DidSweep, Drops_entry, Ending, Far, Finds_it_full, Follows}
+use Rattle.law_jobs.proofs.Imports.{Gives_up, Goes_on_copying, Goes_on_dead, Goes_on_trimming, Ignores, Is_copied_to, Is_filled, Is_full, Is_out_of_slots}
+use Rattle.law_jobs.proofs.Imports.{Is_trimmed, JobContext, JobResult, Key, LastCopy, LinkId, LinkRow, MarkKind, Marks, Marks_alone, None, OpKind, Opens}
+use Rattle.law_jobs.proofs.Imports.{Opens_alone, Opens_fill, Opens_fill_alone, Option, PairState, Pending, Promises, Puts, Puts_alone, Puts_entry, Refuses}
+use Rattle.law_jobs.proofs.Imports.{Sets_apart, Some, Stage, Stored, Sweeps, Taken, TakenCopy, Tidies, TrimStep, Turns_page, Unmarks, Unmarks_alone}
+use Rattle.law_jobs.proofs.Imports.{Unmarks_copied, above, acts, ap, arith, begins_copy, by_test, cell_at, cell_gone, cell_link, cell_of, cell_same, chain_in}
+use Rattle.law_jobs.proofs.Imports.{ends, false, fill_operation, first_last, gives_back, gives_up, id_of, inl, inr, is_some, key_at, last_on, link_named}
+use Rattle.law_jobs.proofs.Imports.{live, marks, next_stage, of_read, operation, pending_on, progress, progress_on, puts, refl, row_named, subst, sym, taking}
+use Rattle.law_jobs.proofs.Imports.{tells, told, true, true_false, version_of, with_copied, with_flag, with_mark_at, with_opened, with_page, with_paired}
+use Rattle.law_jobs.proofs.Imports.{with_pending, with_progress, with_reserved, without_copying, without_pending, ℕ}
 use Rattle.law_jobs.proofs.ChainsApart.{entry_put}
+use Rattle.law_jobs.specs.Effects.{Effect, applied, May, Becomes, As_it_was, Then, Alone_has, Both_have, By_operation, For_a_fill, For_a_write, Had_no_slot}
+use Rattle.law_jobs.specs.Effects.{HasEnded, Is_dead, Is_declined, IsFilledAs, IsOpening, IsPutFor, IsSetFor, Is_begun, Is_further, Is_opened, Goes_on}
+use Rattle.law_jobs.specs.Effects.{Has_put, An_operation, A_lead, A_copy}
+use Rattle.busy_marks.specs.declared.marks.MarkKind.TheVariants as mark
+use Rattle.petal_msg.specs.declared.dead.Dead.TheVariants as dead
+use Rattle.petal_msg.specs.declared.operation.Action.TheVariants as action
+use Rattle.petal_msg.specs.declared.operation.Ending.TheVariants as ending
+use Rattle.petal_msg.specs.declared.operation.Far.TheVariants as far
+use Rattle.petal_msg.specs.declared.operation.OpKind.TheVariants as kind
 use Rattle.law_jobs.specs.Effects as effect
-use Rattle.law_jobs.specs.Effects.{Effect, applied, May, Becomes, As_it_was, Then, Alone_has, Both_have, By_operation, For_a_fill, For_a_write, Had_no_slot, HasEnded, Is_dead, Is_declined}
-use Rattle.law_jobs.specs.Effects.{IsFilledAs, IsOpening, IsPutFor, IsSetFor, Is_begun, Is_further, Is_opened, Goes_on, Has_put, An_operation, A_lead, A_copy}
 
 module _ (heard : Body → Type 0) (here : JobContext) (own : PairState) where
   abbrev To : PairState → Type 0

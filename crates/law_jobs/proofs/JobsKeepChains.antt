@@ -1,11 +1,5 @@
 -- What each put and each drop of an entry keeps of all chains, a job keeps.
-use Rattle.petal_base.specs.declared.cell.Cell.{Cell}
-use Rattle.petal_base.specs.declared.cell.Key.{Key}
-use Rattle.petal_table.specs.Table.{Table}
-use Rattle.petal_msg.specs.declared.body.Body.{Body}
-use Rattle.spec_rules.specs.Server.{PairState, JobContext, JobResult}
-use Rattle.spec_rules.specs.Store.{Chain, Store, Stored, chains_with, without_entry}
-use Rattle.law_steps.specs.Did.{Did}
+use Rattle.law_jobs.proofs.Imports.{Body, Cell, Chain, Did, JobContext, JobResult, Key, PairState, Store, Stored, Table, chains_with, without_entry}
 use Rattle.law_jobs.specs.Effects.{Becomes, Effect, IsPutFor, May, Drops, Puts, applied}
 use Rattle.law_jobs.proofs.JobsAreEffects.{all_keep, effects_of}
 

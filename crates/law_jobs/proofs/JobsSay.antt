@@ -1,49 +1,21 @@
 -- Each letter of a job is one that it may say.
-use Rattle.std.proofs.Common.{[], ◌∷◌, ◌≡◌, ℕ, true, false, List, Option, Some, None, refl, sym, ap, subst, inl, inr}
-use Rattle.std.specs.Ordering.{nat_cmp}
-use Rattle.petal_base.specs.declared.cell.Cell.{Cell}
-use Rattle.petal_base.specs.Cells.{cell_of}
-use Rattle.petal_msg.specs.declared.body.Body.{Body}
-use Rattle.petal_msg.specs.declared.copying.Copying.{Copying}
-use Rattle.petal_msg.specs.declared.copying.LastCopy.{LastCopy}
-use Rattle.petal_msg.specs.declared.operation.Action.{Action}
-use Rattle.petal_msg.specs.declared.operation.Action.TheVariants as action
-use Rattle.petal_msg.specs.declared.operation.Ending.{Ending}
-use Rattle.petal_msg.specs.declared.operation.Ending.TheVariants as ending
-use Rattle.petal_msg.specs.declared.operation.Far.{Far}
-use Rattle.petal_msg.specs.declared.operation.Far.TheVariants as far
-use Rattle.petal_msg.specs.declared.operation.Finished.{Finished}
-use Rattle.petal_msg.specs.declared.operation.OpKind.{OpKind}
-use Rattle.petal_msg.specs.declared.operation.OpKind.TheVariants as kind
-use Rattle.petal_msg.specs.declared.operation.Pending.{Pending}
-use Rattle.petal_table.specs.Table.{put}
-use Rattle.spec_rules.specs.Copies.{cell_holder}
-use Rattle.spec_rules.specs.Fills.{fill_operation}
-use Rattle.spec_rules.specs.Lists.{In}
-use Rattle.spec_rules.specs.Progress.{last_copy}
-use Rattle.spec_rules.specs.Server.{PairState, JobContext, Post, JobResult, post_to}
-use Rattle.spec_rules.specs.State.{live}
-use Rattle.spec_rules.specs.Writes.{acts, ends, gives_back, next_stage, operation, pending_on, tells, without_pending}
-use Rattle.spec_rules.proofs.CellTables.{cell_gone, cell_same}
-use Rattle.spec_rules.proofs.Tests.{none_some}
-use Rattle.law_steps.specs.DidLead.{DidLead, Asks_for, Repeats, Is_full, Opens, Gives_up, Closes}
-use Rattle.law_steps.specs.DidLead.{Closes_alone, Opens_fill, Has_fill, Has_no_room, Goes_on_dead, Taken, Asks}
-use Rattle.law_steps.specs.DidLead.{A_slot, A_copy, A_trim, A_copied_entry, A_page, An_entry_to_move, Of_the_log}
-use Rattle.law_steps.specs.DidFiller.{Is_filled, Is_out_of_slots}
-use Rattle.law_steps.specs.DidRead.{DidRead, Not_here, Shows}
-use Rattle.law_steps.specs.DidSecond.{DidSecond, Sets_apart, Promises, Declines, Follows}
-use Rattle.law_steps.specs.DidHolder.{DidHolder, CopyStep, Asks_to_trim, Sends, Asks_page, Copy_as_is}
-use Rattle.law_steps.specs.DidHolder.{Begins_copy, Goes_on_copying}
-use Rattle.law_steps.specs.DidOther.{OtherReply, Replies, DidOther, TrimStep, Is_trimmed, Drops_entry, Answers_page, Has_entry, Has_no_slot, Is_copied_to}
-use Rattle.law_steps.specs.DidOther.{Goes_on_trimming, Puts_entry, first_last}
-use Rattle.law_steps.specs.Did.{Did, Ignores, Refuses, By_read, By_lead, By_second, By_holder, By_other, By_filler, By_sweep}
-use Rattle.law_steps.proofs.WhoLeads.{dead_second}
-use Rattle.law_steps.proofs.Subjects.{of_sweep}
-use Rattle.law_steps.proofs.TakenUpAlone.{taking}
-use Rattle.law_jobs.specs.Sayings as says
+use Rattle.law_jobs.proofs.Imports.{[], ◌∷◌, ◌≡◌, A_copied_entry, A_copy, A_page, A_slot, A_trim, Action, An_entry_to_move, Answers_page, Asks, Asks_for}
+use Rattle.law_jobs.proofs.Imports.{Asks_page, Asks_to_trim, Begins_copy, Body, By_filler, By_holder, By_lead, By_other, By_read, By_second, By_sweep, Cell}
+use Rattle.law_jobs.proofs.Imports.{Closes, Closes_alone, CopyStep, Copy_as_is, Copying, Declines, Did, DidHolder, DidLead, DidOther, DidRead, DidSecond}
+use Rattle.law_jobs.proofs.Imports.{Drops_entry, Ending, Far, Finished, Follows, Gives_up, Goes_on_copying, Goes_on_dead, Goes_on_trimming, Has_entry}
+use Rattle.law_jobs.proofs.Imports.{Has_fill, Has_no_room, Has_no_slot, Ignores, In, Is_copied_to, Is_filled, Is_full, Is_out_of_slots, Is_trimmed}
+use Rattle.law_jobs.proofs.Imports.{JobContext, JobResult, LastCopy, List, None, Not_here, Of_the_log, OpKind, Opens, Opens_fill, Option, OtherReply}
+use Rattle.law_jobs.proofs.Imports.{PairState, Pending, Post, Promises, Puts_entry, Refuses, Repeats, Replies, Sends, Sets_apart, Shows, Some, Taken}
+use Rattle.law_jobs.proofs.Imports.{TrimStep, acts, ap, cell_gone, cell_holder, cell_of, cell_same, dead_second, ends, false, fill_operation, first_last}
+use Rattle.law_jobs.proofs.Imports.{gives_back, inl, inr, is_second, last_copy, live, nat_cmp, next_stage, none_some, of_sweep, operation, pending_on}
+use Rattle.law_jobs.proofs.Imports.{post_to, put, refl, subst, sym, taking, tells, true, without_pending, ℕ}
 use Rattle.law_jobs.specs.Effects.{Alone_has, Both_have, By_operation, Had_no_slot, HasEnded, Is_dead, Is_declined}
 use Rattle.law_jobs.specs.Sayings.{IsCopying, Says, to_server}
-use Rattle.spec_rules.specs.State.{is_second}
+use Rattle.petal_msg.specs.declared.operation.Action.TheVariants as action
+use Rattle.petal_msg.specs.declared.operation.Ending.TheVariants as ending
+use Rattle.petal_msg.specs.declared.operation.Far.TheVariants as far
+use Rattle.petal_msg.specs.declared.operation.OpKind.TheVariants as kind
+use Rattle.law_jobs.specs.Sayings as says
 
 pub none_in : {A : Type 0} (post : Post) → In post [] → A
 unfolding In

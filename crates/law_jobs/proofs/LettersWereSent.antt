@@ -1,16 +1,8 @@
 -- Each letter was sent by one of a run's records, and what was sent stays so; so it is of answers.
-use Rattle.std.proofs.Common.{◌≡◌, ◌++◌, ℕ, List, [], ◌∷◌, sym, ap, ◌∙◌, subst, inl, inr, refl, append_assoc}
-use Rattle.spec_history.specs.declared.record.Record.{Record}
-use Rattle.petal_msg.specs.declared.letter.Actor.{Actor}
-use Rattle.petal_msg.specs.declared.letter.Actor.TheVariants as actor
-use Rattle.petal_msg.specs.declared.letter.Letter.{Letter}
-use Rattle.spec_rules.specs.Lists.{In}
-use Rattle.spec_rules.specs.World.{Setting, World, step, with_answer}
-use Rattle.spec_rules.specs.declared.step.Step.{Step}
-use Rattle.spec_rules.proofs.ListLemmas.{in-append, in_former, in_later}
-use Rattle.law_state.specs.Moments.{IsMoment}
-use Rattle.law_state.proofs.Moments.{last_moment, moment_more}
+use Rattle.law_jobs.proofs.Imports.{[], ◌++◌, ◌∙◌, ◌∷◌, ◌≡◌, Actor, In, IsMoment, Letter, List, Record, Setting, Step, World, ap, append_assoc, in-append}
+use Rattle.law_jobs.proofs.Imports.{in_former, in_later, inl, inr, last_moment, moment_more, refl, step, subst, sym, with_answer, ℕ}
 use Rattle.law_jobs.proofs.Runs.{At, OneMore, Run, after, at_moment, by_run, follows_in, longer, setting_in, since, stepped_in}
+use Rattle.petal_msg.specs.declared.letter.Actor.TheVariants as actor
 
 -- one of the records sent the letter
 pub record WasSent (records : List Record) (letter : Letter) : Type 0 where

@@ -1,21 +1,10 @@
 -- What is pending after a job was so before, in whatever stage, or was opened under the next number; and which request a job is done with.
-use Rattle.std.proofs.Common.{◌≡◌, ◌≤◌, ◌+◌, ◌⊎◌, ℕ, Some, None, refl, sym, ap, ◌∙◌, subst, inl, inr, arith}
-use Rattle.std.specs.Ordering.{nat_cmp}
-use Rattle.petal_base.specs.declared.cell.Cell.{Cell}
-use Rattle.petal_msg.specs.declared.body.Body.{Body}
-use Rattle.petal_msg.specs.declared.operation.Finished.{Finished}
-use Rattle.petal_msg.specs.declared.operation.Pending.{Pending}
-use Rattle.petal_msg.specs.declared.operation.Stage.{Stage}
-use Rattle.petal_table.specs.Table.{Table, at, put, without}
-use Rattle.petal_table.proofs.Rows.{at_apart, at_same}
-use Rattle.spec_rules.specs.Server.{PairState, JobContext, JobResult}
-use Rattle.spec_rules.specs.Store.{cell_cmp}
-use Rattle.spec_rules.proofs.CellTables.{cell_apart, cell_gone, cell_gone_apart, cell_same}
-use Rattle.spec_rules.proofs.Tests.{same_or_apart, same_some}
-use Rattle.law_steps.specs.Did.{Did}
-use Rattle.law_steps.proofs.Restages.{IsSame, Was, same_itself, same_on, stood, was_same}
-use Rattle.law_steps.proofs.OperationsRest.{same_cell_or_apart}
-use Rattle.law_jobs.specs.Effects.{By_operation, Closes, Counts, Effect, Finishes, Goes_on, Had_no_slot, Has_put, Is_opened, IsFinishedFor, IsOpening, IsSetFor, May, Sets, applied}
+use Rattle.law_jobs.proofs.Imports.{◌+◌, ◌∙◌, ◌≡◌, ◌≤◌, ◌⊎◌, Body, Cell, Did, Finished, IsSame, JobContext, JobResult, None, PairState, Pending, Some, Stage}
+use Rattle.law_jobs.proofs.Imports.{Table, Was, ap, arith, at, at_apart, at_same, cell_apart, cell_cmp, cell_gone, cell_gone_apart, cell_same, inl, inr}
+use Rattle.law_jobs.proofs.Imports.{nat_cmp, put, refl, same_cell_or_apart, same_itself, same_on, same_or_apart, same_some, stood, subst, sym, was_same}
+use Rattle.law_jobs.proofs.Imports.{without, ℕ}
+use Rattle.law_jobs.specs.Effects.{By_operation, Closes, Counts, Effect, Finishes, Goes_on, Had_no_slot, Has_put, Is_opened, IsFinishedFor, IsOpening}
+use Rattle.law_jobs.specs.Effects.{IsSetFor, May, Sets, applied}
 use Rattle.law_jobs.proofs.JobsAreEffects.{job_keeps}
 
 pub restaged : (op : Pending) (version : ℕ) (stage : Stage) → IsSame op (record op { version = version; stage = stage })

@@ -1,17 +1,9 @@
 -- What the first world has, and each record keeps, every run has; and what is known of a run and of its next record.
-use Rattle.std.proofs.Common.{◌≡◌, List, [], ◌∷◌, ◌++◌, refl, sym, ◌∙◌, subst, append_assoc}
-use Rattle.std.proofs.lemmas.List.{append-nil}
-use Rattle.spec_history.specs.Steps.{Follows, stepped}
-use Rattle.spec_rules.specs.State.{State}
-use Rattle.law_state.specs.LaterStates.{IsBelow}
-use Rattle.law_state.specs.Firm.{Firm}
-use Rattle.law_state.specs.Histories.{AreSteps, IsPrefix, IsSound, Record, Script, chosen_log, chosen_state, setting_of, start}
-use Rattle.law_state.specs.Moments.{IsMoment}
-use Rattle.law_log.proofs.LogInHistories.{history_grows, history_is_firm}
-use Rattle.law_steps.specs.DidStep.{Happens}
-use Rattle.law_steps.specs.Ready.{Ready, Rests}
-use Rattle.law_steps.proofs.WorldsAreFirm.{always_firm}
-use Rattle.law_steps.proofs.KindsInHistories.{front_legal, last_happens, ready_after, rests_after, start_rests, world_more}
+use Rattle.law_jobs.proofs.Imports.{[], ◌++◌, ◌∙◌, ◌∷◌, ◌≡◌, AreSteps, Firm, Happens, IsBelow, IsMoment, IsPrefix, IsSound, List, Ready, Rests, Script, State}
+use Rattle.law_jobs.proofs.Imports.{always_firm, append-nil, append_assoc, chosen_log, chosen_state, front_legal, history_grows, history_is_firm}
+use Rattle.law_jobs.proofs.Imports.{last_happens, ready_after, refl, rests_after, setting_of, start, start_rests, stepped, subst, sym, world_more}
+use Rattle.spec_history.specs.Steps.{Follows}
+use Rattle.law_state.specs.Histories.{Record}
 pub use Rattle.law_jobs.specs.Runs.{At, OneMore, Run, after, longer, run_of, setting_in}
 
 -- the part of a history before some of its records

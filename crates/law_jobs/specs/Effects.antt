@@ -1,36 +1,11 @@
 -- Of what a job is made: effects, each on one place of a server's own part, with what was so when it was had.
-use Rattle.std.specs.Prelude.{◌≡◌, ◌≤◌, ◌<◌, ◌+◌, ◌⊎◌, ℕ, Bool, true, false, Some, None, List, length, is_some}
-use Rattle.std.specs.Ordering.{nat_cmp}
-use Rattle.busy_marks.specs.declared.marks.MarkKind.{MarkKind}
-use Rattle.global_tables.specs.declared.link.LinkRow.{LinkRow}
-use Rattle.petal_base.specs.Cells.{cell_of}
-use Rattle.petal_base.specs.declared.cell.Cell.{Cell}
-use Rattle.petal_base.specs.declared.cell.Key.{Key}
-use Rattle.petal_msg.specs.declared.body.Body.{Body}
+use Rattle.law_jobs.specs.Imports.{◌+◌, ◌<◌, ◌≡◌, ◌≤◌, ◌⊎◌, Body, Bool, Cell, Copying, Ending, Entry, Finished, Full, IsNew, IsNewFill, IsNextKey, JobContext}
+use Rattle.law_jobs.specs.Imports.{Key, LastCopy, LastOp, LinkId, LinkRow, List, MarkKind, Moving, None, PairState, Pending, Progress, Some, Stage, Stored}
+use Rattle.law_jobs.specs.Imports.{Table, Taken, Wanted, Write, Written, answering, at, cell_cmp, cell_of, chain_in, copying_on, false, far_of}
+use Rattle.law_jobs.specs.Imports.{fill_operation, first_last, free_of, in_both, is_alone_on, is_some, last_copy, last_on, length, link_named, live, nat_cmp}
+use Rattle.law_jobs.specs.Imports.{operation, pending_on, progress, put, true, with_copying, with_entry, with_filled, with_full, with_last_copy, with_mark_on}
+use Rattle.law_jobs.specs.Imports.{with_pending, with_progress, without_copying, without_entry, without_mark_on, without_pending, ℕ}
 use Rattle.petal_msg.specs.declared.body.Body.TheVariants as body
-use Rattle.petal_msg.specs.declared.copying.Copying.{Copying}
-use Rattle.petal_msg.specs.declared.copying.LastCopy.{LastCopy}
-use Rattle.petal_msg.specs.declared.copying.Progress.{Progress}
-use Rattle.petal_msg.specs.declared.operation.Ending.{Ending}
-use Rattle.petal_msg.specs.declared.operation.Ending.TheVariants.{Full, Written}
-use Rattle.petal_msg.specs.declared.operation.Finished.{Finished}
-use Rattle.petal_msg.specs.declared.operation.OpKind.TheVariants.{Write}
-use Rattle.petal_msg.specs.declared.operation.LastOp.{LastOp}
-use Rattle.petal_msg.specs.declared.operation.Pending.{Pending}
-use Rattle.petal_msg.specs.declared.operation.Stage.{Stage}
-use Rattle.petal_table.specs.Table.{Table, at, put}
-use Rattle.spec_rules.specs.Copies.{Entry}
-use Rattle.spec_rules.specs.Fills.{Moving, fill_operation, with_filled}
-use Rattle.spec_rules.specs.Progress.{copying_on, last_copy, with_copying, without_copying, with_full, with_last_copy, with_progress}
-use Rattle.petal_msg.specs.declared.copying.LinkId.{LinkId}
-use Rattle.spec_rules.specs.Server.{PairState, JobContext}
-use Rattle.spec_rules.specs.State.{in_both, is_alone_on, link_named, live}
-use Rattle.spec_rules.specs.Store.{Stored, cell_cmp, chain_in, free_of, with_mark_on, with_entry, without_entry, without_mark_on}
-use Rattle.spec_rules.specs.Writes.{Wanted, last_on, operation, pending_on, with_pending, without_pending}
-use Rattle.law_steps.specs.DidFiller.{IsNextKey}
-use Rattle.law_steps.specs.DidLead.{IsNew, IsNewFill, Taken}
-use Rattle.law_steps.specs.DidOther.{first_last}
-use Rattle.law_steps.specs.Operations.{answering, far_of, progress}
 
 pub data Effect : Type 0 where
   -- an operation is opened on its cell, or is at another stage

@@ -1,7 +1,5 @@
 -- Runs: the lists of allowed steps of sound scripts.
-use Rattle.std.specs.Prelude.{List, [], ◌∷◌, ◌++◌}
-use Rattle.spec_rules.specs.World.{Setting, World}
-use Rattle.law_state.specs.Histories.{AreSteps, IsSound, Record, Script, setting_of, start, world_after}
+use Rattle.law_jobs.specs.Imports.{[], ◌++◌, ◌∷◌, AreSteps, IsSound, List, Record, Script, Setting, World, setting_of, start, world_after}
 
 -- the world after these records
 abbrev pub At : Script → List Record → World

@@ -1,33 +1,19 @@
 -- Prepare, Accept and Chosen, and the start of a ballot: what is kept, in the schedule as on the device.
-use Rattle.std.proofs.Common.{◌≡◌, ◌≢◌, ◌<◌, ◌+◌, inl, inr, ℕ, Bool, true, false, if◌then◌else◌, List, [], ◌∷◌, Some, refl, sym, ap, ◌∙◌, subst}
-use Rattle.petal_command.specs.declared.ballot.Ballot.{Ballot}
-use Rattle.petal_command.specs.declared.command.Command.{Command}
-use Rattle.petal_command.specs.declared.pax.Pax.{Pax}
-use Rattle.petal_command.specs.declared.pax.Pax.TheVariants as pax
-use Rattle.petal_msg.specs.declared.body.Body.TheVariants as body
-use Rattle.spec_paxos.specs.Acceptor.{Acceptor, is_open, promise, accept, prepare_reply, accept_reply}
-use Rattle.spec_paxos.specs.Kept.{acceptor_of, known_at, committed}
-use Rattle.spec_paxos.specs.Member.{In, put_at}
-use Rattle.spec_paxos.specs.Schedule.{vote, sent, World, keep, cast, learn, send}
-use Rattle.spec_paxos.specs.declared.phase.Phase.{Phase}
-use Rattle.spec_paxos.specs.declared.record.StateRecord.{StateRecord}
-use Rattle.spec_paxos.specs.declared.record.StateRecord.TheVariants.{Promise, Accepted, Chosen}
-use Rattle.spec_paxos.proofs.Members.{in_cons, in_here, in_there}
-use Rattle.spec_rules.specs.Agreement.{IsTold}
-use Rattle.petal_msg.specs.declared.letter.Actor.{Actor}
-use Rattle.petal_msg.specs.declared.letter.Actor.TheVariants as actor
-use Rattle.spec_rules.specs.Ballots.{on_prepare, on_accept}
-use Rattle.spec_rules.specs.Entries.{learns}
-use Rattle.spec_rules.specs.Log.{commits}
-use Rattle.spec_rules.proofs.Tests.{by_test, same_or_apart, same_some}
+use Rattle.law_log.proofs.Imports.{[], if◌then◌else◌, ◌+◌, ◌<◌, ◌∙◌, ◌∷◌, ◌≡◌, ◌≢◌, Accepted, Acceptor, Actor, Ballot, Bool, Chosen, Command, In, IsTold}
+use Rattle.law_log.proofs.Imports.{List, Pax, Phase, Promise, Some, StateRecord, World, accept, accept_reply, acceptor_accepted, acceptor_chosen, acceptor_of}
+use Rattle.law_log.proofs.Imports.{acceptor_promise, ap, by_test, cast, commits, committed, false, in_cons, in_here, in_there, inc_accepted, inc_chosen}
+use Rattle.law_log.proofs.Imports.{inc_promise, inl, inr, is_open, keep, known_accepted, known_at, known_elsewhere, known_here, known_promise, learn, learns}
+use Rattle.law_log.proofs.Imports.{on_accept, on_prepare, prepare_reply, promise, refl, same_or_apart, same_some, send, sent, subst, sym, true, vote, ℕ}
+use Rattle.spec_paxos.specs.Member.{put_at}
 use Rattle.law_log.specs.AgreedLog.{IsSeenAt, IsLow}
-use Rattle.spec_paxos.proofs.Committed.{known_promise, known_accepted, known_here, known_elsewhere, acceptor_promise, acceptor_accepted}
-use Rattle.spec_paxos.proofs.Committed.{acceptor_chosen, inc_promise, inc_accepted, inc_chosen}
 use Rattle.law_log.proofs.RunningLog.{RunningLog}
 use Rattle.law_log.proofs.VotesAfterCommits.{in_committed, same_votes}
 use Rattle.law_log.proofs.ListPlaces.{put_here, put_away, put_at_here, put_at_beside, put_at_itself}
-use Rattle.law_log.proofs.ScheduleTurns.{apart_itself, no_posts, Turns, HasTurn, by_letter, replied, seen_same, busy_same, apart_both, low_keep}
-use Rattle.law_log.proofs.ScheduleTurns.{low_cast, low_learn, apart_keep, apart_cast, apart_learn}
+use Rattle.law_log.proofs.ScheduleTurns.{apart_itself, no_posts, Turns, HasTurn, by_letter, replied, seen_same, busy_same, apart_both, low_keep, low_cast}
+use Rattle.law_log.proofs.ScheduleTurns.{low_learn, apart_keep, apart_cast, apart_learn}
+use Rattle.petal_command.specs.declared.pax.Pax.TheVariants as pax
+use Rattle.petal_msg.specs.declared.body.Body.TheVariants as body
+use Rattle.petal_msg.specs.declared.letter.Actor.TheVariants as actor
 
 -- ### Rows after a commit
 

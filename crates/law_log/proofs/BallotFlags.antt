@@ -1,21 +1,8 @@
 -- For which links a server has started a ballot for the Caught, when how far it is with one of them changes.
-use Rattle.std.proofs.Common.{◌≡◌, true, false, cond, Option, Some, None, refl, sym, ap, ◌∙◌}
-use Rattle.std.specs.Prelude.{unwrap_or}
-use Rattle.std.specs.Option.{option_map_or}
-use Rattle.std.specs.declared.cmp.Ordering.TheVariants.{Equal}
-use Rattle.std.specs.Ordering.{nat_cmp, is_eq, eq_by_cmp}
-use Rattle.std.specs.Cmp.{Equal-is, IsTotalOrder, nat_cmp_total, ranked, tied_itself, tied_then}
-use Rattle.std.proofs.lemmas.Cmp.{on_total, then_total}
-use Rattle.global_tables.specs.declared.link.LinkRow.{LinkRow}
-use Rattle.petal_msg.specs.declared.copying.LinkId.{LinkId}
-use Rattle.petal_msg.specs.declared.copying.Progress.{Progress}
-use Rattle.petal_table.specs.Table.{at}
-use Rattle.petal_table.proofs.Rows.{at-put}
-use Rattle.spec_rules.specs.Progress.{no_progress, progress_on, with_progress}
-use Rattle.spec_rules.specs.Server.{PairState}
-use Rattle.spec_rules.specs.State.{id_of, link_cmp}
-use Rattle.spec_rules.proofs.Tests.{both_true, by_bool}
-use Rattle.law_state.specs.StartedBallots.{is_flagged}
+use Rattle.law_log.proofs.Imports.{◌∙◌, ◌≡◌, Equal, Equal-is, IsTotalOrder, LinkId, LinkRow, None, Option, PairState, Progress, Some, ap, at, at-put}
+use Rattle.law_log.proofs.Imports.{both_true, by_bool, cond, eq_by_cmp, false, id_of, is_eq, is_flagged, link_cmp, nat_cmp, nat_cmp_total, no_progress}
+use Rattle.law_log.proofs.Imports.{on_total, option_map_or, progress_on, ranked, refl, sym, then_total, tied_itself, tied_then, true, unwrap_or}
+use Rattle.law_log.proofs.Imports.{with_progress}
 
 -- names stand in a line
 pub link_cmp_total : IsTotalOrder link_cmp

@@ -1,17 +1,7 @@
 -- A server that boots, in the schedule: its incarnation is raised, and it begins with what its device knows.
-use Rattle.std.proofs.Common.{◌≡◌, ◌+◌, ℕ, Bool, true, false, List, [], ◌∷◌, Option, Some, None, refl, sym, ap, ◌∙◌, subst, arith}
-use Rattle.petal_command.specs.declared.ballot.Ballot.{Ballot}
-use Rattle.petal_command.specs.declared.command.Command.{Command}
-use Rattle.spec_paxos.specs.Kept.{committed, inc_of, known_at}
-use Rattle.spec_paxos.specs.Schedule.{World, Boots, Goes, StopsAfter, raise, turn}
-use Rattle.spec_paxos.specs.declared.phase.Phase.{Phase}
-use Rattle.spec_paxos.specs.declared.phase.Phase.TheVariants.{Idle}
-use Rattle.spec_paxos.specs.declared.record.StateRecord.{StateRecord}
-use Rattle.spec_paxos.specs.declared.record.StateRecord.TheVariants.{Inc, Accepted}
-use Rattle.spec_paxos.proofs.Committed.{acceptor_inc, inc_committed, known_inc}
-use Rattle.spec_rules.specs.Agreement.{IsProposer}
-use Rattle.spec_rules.specs.Boots.{known_front, read_log}
-use Rattle.spec_rules.specs.Log.{Log, commits}
+use Rattle.law_log.proofs.Imports.{[], ◌+◌, ◌∙◌, ◌∷◌, ◌≡◌, Accepted, Ballot, Bool, Boots, Command, Goes, Idle, Inc, IsProposer, List, Log, None, Option}
+use Rattle.law_log.proofs.Imports.{Phase, Some, StateRecord, StopsAfter, World, acceptor_inc, ap, arith, commits, committed, false, inc_committed, inc_of}
+use Rattle.law_log.proofs.Imports.{known_at, known_front, known_inc, raise, read_log, refl, subst, sym, true, turn, ℕ}
 use Rattle.law_log.specs.AgreedLog.{AreLow, IsBusyAs, IsSeenAt}
 use Rattle.law_log.proofs.LogJobsInSchedule.{run_known}
 use Rattle.law_log.proofs.VotesAfterCommits.{same_votes}

@@ -1,22 +1,10 @@
 -- The Caught that a server wants: of a link that it holds alone, whose other server is In; and that it has it in mind once it has
 -- started the ballot.
-use Rattle.std.proofs.Common.{◌≡◌, ◌&&◌, ℕ, true, List, [], ◌∷◌, Option, Some, None, refl, sym, ap, ◌∙◌, inl, inr}
-use Rattle.std.specs.List.{flat_map}
-use Rattle.global_tables.specs.Link.{link_at, other_of}
-use Rattle.global_tables.specs.declared.link.LinkRow.{LinkRow}
-use Rattle.petal_command.specs.declared.command.Command.{Command}
-use Rattle.petal_command.specs.declared.command.Command.TheVariants.{Caught}
-use Rattle.spec_state.specs.Command.{is_alone, may_catch}
-use Rattle.spec_state.specs.State.{inc_of, is_up}
-use Rattle.spec_rules.specs.Copies.{next_copy}
-use Rattle.spec_rules.specs.Lists.{In as Among}
-use Rattle.spec_rules.specs.Progress.{progress_on}
-use Rattle.spec_rules.specs.Returns.{caught_as, caught_links, caught_of, holds_link, is_nothing, proposed}
-use Rattle.spec_rules.specs.Server.{PairState, JobContext}
-use Rattle.spec_rules.specs.State.{State, id_of, link_named, other_in}
-use Rattle.spec_rules.proofs.ListLemmas.{in-append}
-use Rattle.spec_rules.proofs.Tests.{both_true, by_test, none_some, number_itself, same_some}
-use Rattle.law_state.specs.StartedBallots.{is_flagged}
+use Rattle.law_log.proofs.Imports.{[], ◌&&◌, ◌∙◌, ◌∷◌, ◌≡◌, Among, Caught, Command, JobContext, LinkRow, List, None, Option, PairState, Some, State, ap}
+use Rattle.law_log.proofs.Imports.{both_true, by_test, caught_as, caught_links, caught_of, flat_map, holds_link, id_of, in-append, inl, inr, is_alone}
+use Rattle.law_log.proofs.Imports.{is_flagged, is_nothing, is_up, link_at, link_named, may_catch, next_copy, none_some, number_itself, other_in, other_of}
+use Rattle.law_log.proofs.Imports.{progress_on, proposed, refl, same_some, sym, true, ℕ}
+use Rattle.spec_state.specs.State.{inc_of}
 use Rattle.law_log.proofs.CopyJobsLeaveLog.{IsKept, kept_itself}
 use Rattle.law_log.proofs.BallotFlags.{flag_put, flags_put}
 

@@ -1,35 +1,18 @@
 -- The chosen log of a world whose steps are those of a schedule.
-use Rattle.std.proofs.Common.{◌≡◌, ◌<◌, ◌≤◌, ◌+◌, ◌⊎◌, inl, inr, ℕ, Bool, true, false, List, [], ◌∷◌, ◌++◌, length, Some}
-use Rattle.std.proofs.Common.{None, sym, ap, ◌∙◌, subst, append_assoc, arith}
-use Rattle.std.specs.Prelude.{slice_get}
-use Rattle.std.proofs.lemmas.Bool.Decides.{nat_tests}
-use Rattle.petal_command.specs.declared.command.Command.{Command}
-use Rattle.petal_command.specs.declared.command.Command.TheVariants.{Join, Leave, Caught, Drained, Moved}
-use Rattle.spec_paxos.specs.Chosen.{IsChosenBy, chosen_at}
-use Rattle.spec_paxos.specs.Schedule.{run, begin, IsChosen}
-use Rattle.spec_paxos.specs.Schedule as schedule
-use Rattle.law_agreement.specs.Single.{IsSingle}
-use Rattle.law_agreement.proofs.ChosenLogGrows.{log_tells, log_ends, log_has, front_of_log}
-use Rattle.law_agreement.proofs.MajoritiesChoose.{told_is_chosen, chosen_is_told}
-use Rattle.spec_history.specs.Claims.{IsPrefix, Agrees}
-use Rattle.petal_msg.specs.declared.body.Body.TheVariants as body
-use Rattle.petal_msg.specs.declared.letter.Letter.{Letter}
-use Rattle.spec_rules.specs.Agreement.{IsTold, HasSchedule}
-use Rattle.spec_rules.specs.Lists.{In as Among}
-use Rattle.spec_state.specs.Command.{state_after}
-use Rattle.spec_rules.specs.State.{is_in}
-use Rattle.spec_rules.specs.World.{Setting, World, devices, chosen_log, chosen_state}
-use Rattle.spec_rules.proofs.Tests.{by_bool, none_some, true_false}
-use Rattle.law_state.specs.Firm.{Firm}
-use Rattle.law_state.specs.Plain.{IsPlainLog}
-use Rattle.law_state.proofs.Disks.{who_is_out}
-use Rattle.law_state.proofs.Incarnations.{who_is_in}
+use Rattle.law_log.proofs.Imports.{[], ◌++◌, ◌+◌, ◌<◌, ◌∙◌, ◌∷◌, ◌≡◌, ◌≤◌, ◌⊎◌, Agrees, Among, Bool, Caught, Command, Drained, Firm, HasSchedule, IsChosen}
+use Rattle.law_log.proofs.Imports.{IsChosenBy, IsPlainLog, IsPrefix, IsSingle, IsTold, Join, Leave, Letter, List, Moved, None, Setting, Some, ap}
+use Rattle.law_log.proofs.Imports.{append_assoc, arith, begin, by_bool, chosen_at, chosen_is_told, chosen_log, chosen_state, devices, false, front_of_log}
+use Rattle.law_log.proofs.Imports.{inl, inr, is_in, length, log_ends, log_has, log_tells, nat_tests, none_some, run, slice_get, state_after, subst, sym}
+use Rattle.law_log.proofs.Imports.{told_is_chosen, true, true_false, who_is_in, who_is_out, ℕ}
+use Rattle.spec_rules.specs.World.{World}
 use Rattle.law_log.specs.AgreedLog.{Catches, Drains, IsBacked, IsCalledAnywhere, IsJoinAt, IsSaidBy, Logged, Minded, Moves, Returns, Waits, WasMinded}
 use Rattle.law_log.specs.ProposedCommands.{HasBegun, HasStopped, IsCalledFor, IsCaughtAt, IsReportAt, WasWanted}
-use Rattle.law_log.proofs.OneCommandEachPlace.{IsFair, told_chosen, chosen_wanted, chosen_once, told_wanted, leave_stopped, no_join, no_moved}
-use Rattle.law_log.proofs.OneCommandEachPlace.{no_report, not_called, uncaught, wanted_plain}
+use Rattle.law_log.proofs.OneCommandEachPlace.{IsFair, told_chosen, chosen_wanted, chosen_once, told_wanted, leave_stopped, no_join, no_moved, no_report}
+use Rattle.law_log.proofs.OneCommandEachPlace.{not_called, uncaught, wanted_plain}
 use Rattle.law_log.proofs.ListPlaces.{at_among, at_next, next_at, one_front, parted}
 use Rattle.law_log.proofs.ServersKeepWorlds.{IsGrown}
+use Rattle.spec_paxos.specs.Schedule as schedule
+use Rattle.petal_msg.specs.declared.body.Body.TheVariants as body
 
 within_or_past : (i many : ℕ) → (i ≤ many) ⊎ (many < i)
 within_or_past i many = grind (arith, nat_tests)

@@ -1,43 +1,22 @@
 -- Each step of a client keeps what is kept of a world.
-use Rattle.std.proofs.Common.{true≢false, ◌≡◌, ◌<◌, ◌≤◌, ◌+◌, ◌-◌, ◌⊎◌, inl, inr, ℕ, Bool, true, false, zero, suc, ◌==◌, ◌&&◌, List, [], ◌∷◌, ◌++◌}
-use Rattle.std.proofs.Common.{length, drop, Option, Some, None, refl, sym, ap, ◌∙◌, subst, arith}
-use Rattle.std.specs.Prelude.{slice_get, ⊤, nat_le, not, map, if◌then◌else◌}
-use Rattle.std.proofs.lemmas.Bool.Decides.{nat_tests}
-use Rattle.petal_base.specs.declared.cell.Cell.{Cell}
-use Rattle.petal_command.specs.declared.command.Command.{Command}
-use Rattle.petal_command.specs.declared.command.Command.TheVariants.{Witness}
-use Rattle.petal_msg.specs.Kinds.{about}
-use Rattle.petal_msg.specs.declared.body.Body.{Body}
-use Rattle.petal_msg.specs.declared.body.Body.TheVariants as body
-use Rattle.petal_msg.specs.declared.letter.Actor.{Actor}
-use Rattle.petal_msg.specs.declared.letter.Actor.TheVariants as actor
-use Rattle.petal_msg.specs.declared.letter.Letter.{Letter}
-use Rattle.script_lines.specs.declared.answer.Answer.{Answer}
-use Rattle.script_lines.specs.declared.answer.Answer.TheVariants as answer
-use Rattle.script_lines.specs.declared.request.Line.{Line}
-use Rattle.script_lines.specs.declared.request.Request.{Request}
-use Rattle.script_lines.specs.declared.request.Request.TheVariants as request
-use Rattle.spec_state.specs.CellState.{cell_asked}
-use Rattle.spec_state.specs.Settled.{is_settled}
-use Rattle.spec_state.specs.State.{latest}
-use Rattle.spec_state.specs.Command.{after}
-use Rattle.spec_state.specs.declared.answer.DiskView.{DiskView}
-use Rattle.spec_rules.specs.Clients.{Client, Asked, Reaction, Learning, Turn, rests, in_turn, readers, epoch_for, write_posts, read_posts_at, read_posts}
-use Rattle.spec_rules.specs.Clients.{posts_for, command_of, refusal, witness_where, or_command, to_propose, post_in_turn, sends_or_proposes, goes_out}
-use Rattle.spec_rules.specs.Clients.{goes_out_where, goes_the_old_way, way_now, asking, asks_and_sends, called, replies, is_read, is_write, first_round, Sight}
-use Rattle.spec_rules.specs.Clients.{with_sight, stays_open, rounds, settles, sees_for, sees, sees_from, answers, hears, hears_of, verdict_for, answered_where}
-use Rattle.spec_rules.specs.Clients.{witnessed, is_witness, judged_by, judged, takes_entry, next_entries, takes_all, then_goes_out, takes_entries, hears_any}
-use Rattle.spec_rules.specs.Clients.{heard, ticked}
-use Rattle.spec_rules.specs.Lists.{In as Among}
+use Rattle.law_log.proofs.Imports.{[], if◌then◌else◌, ◌&&◌, ◌++◌, ◌+◌, ◌-◌, ◌<◌, ◌==◌, ◌∙◌, ◌∷◌, ◌≡◌, ◌≤◌, ◌⊎◌, Actor, Among, Answer, Asked, Body, Bool, Cell}
+use Rattle.law_log.proofs.Imports.{Client, Command, DiskView, Learning, Letter, Line, List, None, Option, Reaction, Request, Sight, Some, State, Turn}
+use Rattle.law_log.proofs.Imports.{Witness, about, after, answered_where, answers, ap, arith, asking, asks_and_sends, by_test, called, cell_asked, command_of}
+use Rattle.law_log.proofs.Imports.{drop, epoch_for, false, first_round, goes_out, goes_out_where, goes_the_old_way, heard, hears, hears_any, hears_of}
+use Rattle.law_log.proofs.Imports.{in-append, in_turn, inl, inr, is_read, is_settled, is_witness, is_write, judged, judged_by, latest, lead, length, lines_of}
+use Rattle.law_log.proofs.Imports.{map, nat_le, nat_tests, next_entries, none_some, not, only, or_command, post_in_turn, posts_for, read_posts, read_posts_at}
+use Rattle.law_log.proofs.Imports.{readers, refl, refusal, replies, rests, rounds, same_some, sees, sees_for, sees_from, sends_or_proposes, servers_of}
+use Rattle.law_log.proofs.Imports.{settles, slice_get, stays_open, subst, suc, sym, takes_all, takes_entries, takes_entry, then_goes_out, ticked, to_propose}
+use Rattle.law_log.proofs.Imports.{true, true≢false, verdict_for, way_now, with_sight, witness_where, witnessed, write_posts, zero, ℕ, ⊤}
 use Rattle.spec_rules.specs.Posts.{Post}
-use Rattle.spec_rules.specs.State.{State, lead, servers_of}
-use Rattle.spec_rules.specs.World.{lines_of}
-use Rattle.spec_rules.proofs.ListLemmas.{in-append}
-use Rattle.spec_rules.proofs.Tests.{only, by_test, same_some, none_some}
 use Rattle.law_log.specs.AgreedLog.{IsOpen}
 use Rattle.law_log.proofs.ListPlaces.{at_last}
 use Rattle.law_log.proofs.PairJobsLeaveLog.{IsDated, posted_dated}
 use Rattle.law_log.proofs.ScheduleTurns.{no_posts}
+use Rattle.petal_msg.specs.declared.body.Body.TheVariants as body
+use Rattle.petal_msg.specs.declared.letter.Actor.TheVariants as actor
+use Rattle.script_lines.specs.declared.answer.Answer.TheVariants as answer
+use Rattle.script_lines.specs.declared.request.Request.TheVariants as request
 
 -- what a client posts: no letter of a ballot, no News and no Down, and a command only of its open request
 abbrev pub IsClients : (Command → Type 0) → Body → Type 0

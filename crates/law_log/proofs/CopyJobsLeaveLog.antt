@@ -1,41 +1,21 @@
 -- Jobs of copies: they say nothing of the log, put no letter into the queue, and forget no Caught for which a ballot was started.
-use Rattle.std.proofs.Common.{refl, ◌≡◌, ◌==◌, ◌&&◌, not, ℕ, Bool, true, false, List, [], ◌∷◌, Option, Some, None, inl, inr}
-use Rattle.std.specs.Prelude.{nat_lt}
-use Rattle.std.specs.List.{flat_map}
-use Rattle.global_tables.specs.declared.link.LinkRow.{LinkRow}
-use Rattle.global_tables.specs.declared.link.LinkState.{LinkState}
-use Rattle.global_tables.specs.declared.link.LinkState.TheVariants.{Both, Only, Lost}
-use Rattle.busy_marks.specs.Marks.{above}
-use Rattle.petal_base.specs.declared.cell.Cell.{Cell}
-use Rattle.petal_base.specs.Cells.{cell_of}
-use Rattle.petal_msg.specs.declared.body.Body.{Body}
-use Rattle.petal_msg.specs.declared.body.Body.TheVariants as body
-use Rattle.petal_msg.specs.declared.copying.CopyAction.{CopyAction}
-use Rattle.petal_msg.specs.declared.copying.CopyAction.TheVariants as copy_action
-use Rattle.petal_msg.specs.declared.copying.Copying.{Copying}
-use Rattle.petal_msg.specs.declared.copying.LastCopy.{LastCopy}
-use Rattle.petal_msg.specs.declared.copying.LinkId.{LinkId}
-use Rattle.petal_msg.specs.declared.copying.NextCopy.{NextCopy}
-use Rattle.petal_msg.specs.declared.copying.NextCopy.TheVariants.{Ask, Block, Wait, Nothing}
-use Rattle.petal_msg.specs.declared.letter.Letter.{Letter}
-use Rattle.spec_state.specs.CellState.{cell_link}
-use Rattle.spec_rules.specs.Copies.{copies_on, copies_with, copy_acts, copy_stage, sends_entry, closes, repair_after, with_copied, begins_copy, goes_for}
-use Rattle.spec_rules.specs.Copies.{catches_up, clears_old_marks, takes_mark, repairs_row, mends_found, repairs, next_copy, idle_mark, cell_at, answers_page, on_hello_ask}
-use Rattle.spec_rules.specs.Copies.{with_page, hears_page, hears_hello, on_hello, same_block, cell_holder, trims_first, trims_for, trims_on, trims_newly}
-use Rattle.spec_rules.specs.Copies.{trims_again, hears_trim, hears_trim_of, on_trim, Entry, puts_entry, hears_entry, hears_sync, on_sync, hears_trimmed}
-use Rattle.spec_rules.specs.Copies.{on_trimmed, is_syncing, hears_synced, on_synced, hears_sync_full, on_sync_full, page_asked, page_wanted, page_for}
-use Rattle.spec_rules.specs.Copies.{page_posts, copy_awaited, copy_posts}
-use Rattle.spec_rules.specs.Lists.{In as Among}
-use Rattle.spec_rules.specs.Progress.{copying_on, last_copy, progress_on, with_progress, with_copying, without_copying, with_last_copy}
-use Rattle.spec_rules.specs.Server.{PairState, JobContext, Post, JobResult, silent, says_to}
-use Rattle.spec_rules.specs.State.{State, link_named, other_in}
-use Rattle.spec_rules.specs.declared.job.Job.TheVariants as job
-use Rattle.spec_rules.proofs.ListLemmas.{in-append}
-use Rattle.spec_rules.proofs.Tests.{by_test}
-use Rattle.law_state.specs.StartedBallots.{is_flagged}
+use Rattle.law_log.proofs.Imports.{[], ◌&&◌, ◌==◌, ◌∷◌, ◌≡◌, Among, Ask, Block, Body, Bool, Both, Cell, CopyAction, Copying, Entry, JobContext, JobResult}
+use Rattle.law_log.proofs.Imports.{LastCopy, Letter, LinkId, LinkRow, LinkState, List, Lost, NextCopy, None, Only, Option, PairState, Post, Some, State, Wait}
+use Rattle.law_log.proofs.Imports.{above, answers_page, begins_copy, by_test, catches_up, cell_at, cell_holder, cell_link, cell_of, clears_old_marks, closes}
+use Rattle.law_log.proofs.Imports.{copies_on, copies_with, copy_acts, copy_awaited, copy_posts, copy_stage, copying_on, false, flat_map, goes_for}
+use Rattle.law_log.proofs.Imports.{hears_entry, hears_hello, hears_page, hears_sync, hears_sync_full, hears_synced, hears_trim, hears_trim_of, hears_trimmed}
+use Rattle.law_log.proofs.Imports.{idle_mark, in-append, inl, inr, is_flagged, is_syncing, last_copy, link_named, mends_found, nat_lt, next_copy, not}
+use Rattle.law_log.proofs.Imports.{on_hello, on_hello_ask, on_sync, on_sync_full, on_synced, on_trim, on_trimmed, other_in, page_asked, page_for, page_posts}
+use Rattle.law_log.proofs.Imports.{page_wanted, progress_on, puts_entry, refl, repair_after, repairs, repairs_row, same_block, says_to, sends_entry, silent}
+use Rattle.law_log.proofs.Imports.{takes_mark, trims_again, trims_first, trims_for, trims_newly, trims_on, true, with_copied, with_copying, with_last_copy}
+use Rattle.law_log.proofs.Imports.{with_page, with_progress, without_copying, ℕ}
+use Rattle.petal_msg.specs.declared.copying.NextCopy.TheVariants.{Nothing}
 use Rattle.law_log.proofs.BallotFlags.{flags_put}
 use Rattle.law_log.proofs.PairJobsLeaveLog.{IsDated, IsQuiet, no_letter, only_stage, posted_dated, quiet_says_to}
 use Rattle.law_log.proofs.ScheduleTurns.{no_posts}
+use Rattle.petal_msg.specs.declared.body.Body.TheVariants as body
+use Rattle.petal_msg.specs.declared.copying.CopyAction.TheVariants as copy_action
+use Rattle.spec_rules.specs.declared.job.Job.TheVariants as job
 
 -- what a job leaves of what it has started ballots for
 pub record IsKept (before after : PairState) : Type 0 where

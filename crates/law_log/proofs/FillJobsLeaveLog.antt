@@ -1,38 +1,17 @@
 -- Jobs of fills and sweeps: they say nothing of the log, put no letter into the queue, and forget no Caught for which a ballot was started.
-use Rattle.std.proofs.Common.{◌≡◌, Bool, true, false, cond, List, [], ◌∷◌, Option, Some, None, refl, ap, ◌∙◌, inl, inr}
-use Rattle.std.specs.Prelude.{is_some, nat_lt}
-use Rattle.std.specs.List.{flat_map}
-use Rattle.std.specs.Cmp.{tied_itself}
-use Rattle.std.specs.Ordering.{eq_by_cmp, is_eq, nat_cmp}
-use Rattle.global_tables.specs.declared.link.LinkRow.{LinkRow}
-use Rattle.petal_base.specs.declared.cell.Cell.{Cell}
-use Rattle.petal_base.specs.declared.cell.Key.{Key}
-use Rattle.petal_base.specs.Cells.{cell_of, key_at}
-use Rattle.petal_msg.specs.declared.body.Body.TheVariants as body
-use Rattle.petal_msg.specs.declared.copying.LinkId.{LinkId}
-use Rattle.petal_msg.specs.declared.dead.Dead.{Dead}
-use Rattle.petal_msg.specs.declared.letter.Letter.{Letter}
-use Rattle.petal_msg.specs.declared.operation.Ending.TheVariants as ending
-use Rattle.spec_state.specs.CellState.{target}
-use Rattle.petal_table.specs.Table.{at}
-use Rattle.petal_table.proofs.Rows.{at-put}
-use Rattle.spec_rules.specs.Fills.{Moving, fill_of, fill_operation, fill_posts, fills_row, goes_after, has_epoch, hears_fill, hears_fill_full, hears_filled}
-use Rattle.spec_rules.specs.Fills.{is_next, link_before, on_fill, on_fill_full, on_filled, opens_fill, sends_key, sends_moving, with_filled}
-use Rattle.spec_rules.specs.Lists.{In as Among}
-use Rattle.spec_rules.specs.Progress.{has_proposed, with_full}
-use Rattle.spec_rules.specs.Server.{PairState, JobContext, Post}
-use Rattle.spec_rules.specs.State.{State, id_of, is_lead, lead, link_cmp}
-use Rattle.spec_rules.specs.Store.{Stored, chain_in, free_of}
-use Rattle.spec_rules.specs.Sweeping.{next_dead, sweep_jobs, sweeps, sweeps_with}
-use Rattle.spec_rules.specs.Writes.{is_under_way, with_opened}
-use Rattle.spec_rules.specs.declared.job.Job.{Job}
-use Rattle.spec_rules.specs.declared.job.Job.TheVariants as job
-use Rattle.spec_rules.proofs.ListLemmas.{in-append}
-use Rattle.spec_rules.proofs.Tests.{by_test}
+use Rattle.law_log.proofs.Imports.{[], ◌∙◌, ◌∷◌, ◌≡◌, Among, Bool, Cell, Dead, Job, JobContext, Key, Letter, LinkId, LinkRow, List, Moving, None, Option}
+use Rattle.law_log.proofs.Imports.{PairState, Post, Some, State, Stored, ap, at, at-put, by_test, cell_of, chain_in, cond, eq_by_cmp, false, fill_of}
+use Rattle.law_log.proofs.Imports.{fill_operation, fill_posts, fills_row, flat_map, free_of, goes_after, has_epoch, has_proposed, hears_fill, hears_fill_full}
+use Rattle.law_log.proofs.Imports.{hears_filled, id_of, in-append, inl, inr, is_eq, is_lead, is_next, is_some, is_under_way, key_at, lead, link_before}
+use Rattle.law_log.proofs.Imports.{link_cmp, nat_cmp, nat_lt, next_dead, on_fill, on_fill_full, on_filled, opens_fill, refl, sends_key, sends_moving}
+use Rattle.law_log.proofs.Imports.{sweep_jobs, sweeps, sweeps_with, target, tied_itself, true, with_filled, with_full, with_opened}
 use Rattle.law_log.proofs.CopyJobsLeaveLog.{IsCalm, IsKept, calm_silent}
 use Rattle.law_log.proofs.BallotFlags.{link_cmp_total}
 use Rattle.law_log.proofs.PairJobsLeaveLog.{IsDated, Leaves, no_letter, dated_moved, pair_goes, pair_says_to, pair_silent, posted_dated, quiet_silent}
 use Rattle.law_log.proofs.ScheduleTurns.{no_posts}
+use Rattle.petal_msg.specs.declared.body.Body.TheVariants as body
+use Rattle.petal_msg.specs.declared.operation.Ending.TheVariants as ending
+use Rattle.spec_rules.specs.declared.job.Job.TheVariants as job
 
 -- ### The new lead
 

@@ -1,24 +1,13 @@
 -- Where no server boots, each keeps its first incarnation.
-use Rattle.std.proofs.Common.{◌≡◌, ◌≢◌, ℕ, List, [], ◌∷◌, refl, ◌∙◌, inl, inr}
-use Rattle.petal_msg.specs.declared.letter.Actor.{Actor}
-use Rattle.petal_msg.specs.declared.letter.Actor.TheVariants as actor
-use Rattle.script_lines.specs.declared.script.Script.{Script}
-use Rattle.spec_history.specs.Steps.{stepped, world_after}
-use Rattle.spec_history.specs.declared.record.Record.{Record}
-use Rattle.spec_rules.specs.Jobs.{Acted, here_of, is_log_job, is_overfull, job_done, works}
+use Rattle.law_log.proofs.Imports.{[], ◌∙◌, ◌∷◌, ◌≡◌, ◌≢◌, Acted, Actor, After, Boot, Deliver, Job, JobContext, List, Record, Script, Server, Setting, State}
+use Rattle.law_log.proofs.Imports.{Step, StopIn, Work, WorkEnd, all_put, by_test, here_of, inl, inr, is_log_job, is_overfull, job_done, refl, server_state}
+use Rattle.law_log.proofs.Imports.{server_step, setting_of, start, step, stepped, works, world_after, ℕ}
 use Rattle.spec_rules.specs.Lists.{In}
-use Rattle.spec_rules.specs.Server.{JobContext, Server}
-use Rattle.spec_rules.specs.State.{State}
-use Rattle.spec_rules.specs.World.{Setting, World, server_state, server_step, setting_of, start, step}
-use Rattle.spec_rules.specs.declared.job.Job.{Job}
-use Rattle.spec_rules.specs.declared.job.Job.TheVariants as job
-use Rattle.spec_rules.specs.declared.step.CommitEnd.TheVariants.{After}
-use Rattle.spec_rules.specs.declared.step.Step.{Step}
-use Rattle.spec_rules.specs.declared.step.Step.TheVariants.{Deliver, Work, StopIn, Boot}
-use Rattle.spec_rules.specs.declared.step.WorkEnd.{WorkEnd}
-use Rattle.spec_rules.specs.declared.step.WorkEnd.TheVariants as work_end
-use Rattle.spec_rules.proofs.Tests.{all_put, by_test}
+use Rattle.spec_rules.specs.World.{World}
 use Rattle.law_log.specs.ProposedCommands.{NoneBoots}
+use Rattle.petal_msg.specs.declared.letter.Actor.TheVariants as actor
+use Rattle.spec_rules.specs.declared.job.Job.TheVariants as job
+use Rattle.spec_rules.specs.declared.step.WorkEnd.TheVariants as work_end
 
 job_inc : (here : JobContext) (server : Server) (first : Job) (rest : List Job) → (job_done here server first rest).server.life.inc ≡ server.life.inc
 job_inc here server (job.Letter letter) rest =

@@ -1,3 +1,4 @@
+pub mod Imports
 pub mod ListPlaces
 pub mod ScheduleTurns
 pub mod RunningLog

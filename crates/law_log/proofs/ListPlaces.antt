@@ -1,10 +1,7 @@
 -- Places in lists, and functions with one value given again.
-use Rattle.std.proofs.Common.{◌≡◌, ◌≢◌, ◌<◌, ◌⊎◌, inl, inr, ℕ, zero, suc, Bool, true, false, cond, List, [], ◌∷◌, ◌++◌, length, Some, refl, sym, ap, ◌∙◌, arith}
-use Rattle.std.specs.Prelude.{filter, slice_get}
-use Rattle.spec_paxos.specs.Member.{In, put, put_at}
-use Rattle.spec_paxos.proofs.Members.{put_cases, put_at_cases}
-use Rattle.spec_rules.specs.Lists.{In as Among}
-use Rattle.spec_rules.proofs.Tests.{same_some, none_some}
+use Rattle.law_log.proofs.Imports.{[], ◌++◌, ◌<◌, ◌∙◌, ◌∷◌, ◌≡◌, ◌≢◌, ◌⊎◌, Among, Bool, In, List, Some, ap, arith, cond, false, filter, inl, inr, length}
+use Rattle.law_log.proofs.Imports.{none_some, put, put_at_cases, put_cases, refl, same_some, slice_get, suc, sym, true, zero, ℕ}
+use Rattle.spec_paxos.specs.Member.{put_at}
 
 -- a member stands at some place
 pub placed : {X : Type 0} (x : X) (xs : List X) → In x xs → (i : ℕ) × (slice_get xs i ≡ Some x)

@@ -1,32 +1,19 @@
 -- The laws, over every legal history of a sound script.
-use Rattle.std.proofs.Common.{◌≡◌, ◌<◌, ◌≤◌, ◌++◌, ◌⊎◌, ℕ, Bool, true, false, List, [], ◌∷◌, refl, sym, ap, ◌∙◌, subst, append_assoc}
-use Rattle.std.specs.Prelude.{⊤, slice_get}
-use Rattle.petal_command.specs.declared.command.Command.{Command}
-use Rattle.petal_command.specs.declared.command.Command.TheVariants.{Join, Leave, Caught, Drained, Moved}
-use Rattle.petal_msg.specs.declared.body.Body.TheVariants as body
-use Rattle.petal_msg.specs.declared.letter.Letter.{Letter}
-use Rattle.spec_paxos.specs.Schedule.{run, begin}
-use Rattle.script_lines.specs.declared.script.Script.{Script}
-use Rattle.spec_history.specs.Claims.{Agrees, Grows, IsPrefix}
-use Rattle.spec_history.specs.Steps.{AreSteps, AreStepsFrom, stepped, world_after}
-use Rattle.spec_history.specs.Sound.{IsSound}
-use Rattle.spec_history.specs.declared.record.Record.{Record}
-use Rattle.spec_rules.specs.Agreement.{HasSchedule}
+use Rattle.law_log.proofs.Imports.{[], ◌++◌, ◌<◌, ◌∙◌, ◌∷◌, ◌≡◌, ◌≤◌, ◌⊎◌, Agrees, AreSteps, AreStepsFrom, Bool, Caught, Command, Drained, Firm, Grows}
+use Rattle.law_log.proofs.Imports.{HasSchedule, IsPrefix, IsSound, Join, Leave, Letter, List, Moved, Record, Script, Server, Setting, ap, append_assoc, begin}
+use Rattle.law_log.proofs.Imports.{chosen_log, chosen_state, false, inc_of, is_in, may_join, refl, run, setting_of, slice_get, start, state_after, stepped}
+use Rattle.law_log.proofs.Imports.{subst, sym, true, world_after, ℕ, ⊤}
 use Rattle.spec_rules.specs.Lists.{In}
-use Rattle.spec_rules.specs.State.{is_in}
-use Rattle.spec_rules.specs.World.{Setting, World, start, setting_of, chosen_log, chosen_state}
-use Rattle.spec_paxos.specs.Kept.{inc_of}
-use Rattle.spec_state.specs.Command.{may_join, state_after}
-use Rattle.spec_rules.specs.Server.{Server}
-use Rattle.law_state.specs.Firm.{Firm}
+use Rattle.spec_rules.specs.World.{World}
 use Rattle.law_log.specs.AgreedLog.{Catches, Drains, IsBacked, IsCalledAnywhere, IsSaidBy, Logged, Minded, Moves, Waits}
 use Rattle.law_log.specs.ProposedCommands.{HasBegun, HasStopped, IsCalledFor, IsCaughtAt, IsReportAt, WasDraining, WasMoving, WasReturning, WasRunning}
 use Rattle.law_log.specs.ProposedCommands.{WasStarted, WasWanted}
-use Rattle.law_log.proofs.ChosenInSchedules.{agrees, caught_at, caught_was, firm, called_for, join_at, join_chosen, join_waited, moved_was, report_at, report_was}
-use Rattle.law_log.proofs.ChosenInSchedules.{in_begun, leave_chosen, out_stopped, runs_in, has_schedule, grown_log}
+use Rattle.law_log.proofs.ChosenInSchedules.{agrees, caught_at, caught_was, firm, called_for, join_at, join_chosen, join_waited, moved_was, report_at}
+use Rattle.law_log.proofs.ChosenInSchedules.{report_was, in_begun, leave_chosen, out_stopped, runs_in, has_schedule, grown_log}
 use Rattle.law_log.proofs.OneCommandEachPlace.{IsFair, leave_stopped}
 use Rattle.law_log.proofs.StepsKeepLog.{history_goes, start_logged}
 use Rattle.law_log.proofs.ServersKeepWorlds.{Remembers}
+use Rattle.petal_msg.specs.declared.body.Body.TheVariants as body
 
 sound_fair : (script : Script) → IsSound script → IsFair (setting_of script)
 sound_fair script sound = record { small = sound.told_apart; spread = sound.spread; moved = sound.moved }

@@ -1,50 +1,24 @@
 -- Each job of the log, as the schedule has it.
-use Rattle.std.proofs.Common.{◌≡◌, ◌<◌, ◌+◌, ◌⊎◌, inl, inr, ℕ, zero, suc, Bool, true, false, if◌then◌else◌, ◌||◌, List, [], ◌∷◌, ◌++◌, length}
-use Rattle.std.proofs.Common.{Option, Some, None, is_some, refl, sym, ap, ◌∙◌, subst, arith, length-append}
-use Rattle.std.specs.Prelude.{slice_get, nat_lt, fold, not}
-use Rattle.std.proofs.lemmas.Bool.Decides.{nat_tests}
-use Rattle.petal_command.specs.Same.{has_command, same_command}
-use Rattle.petal_command.specs.declared.command.Command.{Command}
-use Rattle.petal_command.specs.declared.command.Command.TheVariants.{Leave}
-use Rattle.petal_command.specs.declared.pax.Pax.{Pax}
-use Rattle.petal_command.specs.declared.pax.Pax.TheVariants as pax
-use Rattle.petal_msg.specs.declared.body.Body.{Body}
-use Rattle.petal_msg.specs.declared.body.Body.TheVariants as body
-use Rattle.petal_msg.specs.declared.letter.Actor.{Actor}
-use Rattle.petal_msg.specs.declared.letter.Actor.TheVariants as actor
-use Rattle.petal_msg.specs.declared.letter.Letter.{Letter}
-use Rattle.spec_paxos.specs.Acceptor.{is_open}
-use Rattle.spec_paxos.specs.Kept.{acceptor_of, known_at}
-use Rattle.spec_paxos.specs.Kept.{inc_of as told_inc}
-use Rattle.spec_paxos.proofs.Committed.{inc_accepted, inc_chosen, inc_promise}
-use Rattle.spec_paxos.specs.Member.{In}
-use Rattle.spec_paxos.specs.Proposer.{Step, hear}
-use Rattle.spec_paxos.specs.Schedule.{sent, World}
-use Rattle.spec_paxos.specs.declared.phase.Heard.{Heard}
-use Rattle.spec_paxos.specs.declared.phase.Heard.TheVariants.{Nothing, Send, Refused}
-use Rattle.spec_paxos.specs.declared.phase.Heard.TheVariants.{Chosen as Decided}
-use Rattle.spec_paxos.specs.declared.phase.Phase.{Phase}
-use Rattle.spec_paxos.specs.declared.phase.Phase.TheVariants.{Idle}
+use Rattle.law_log.proofs.Imports.{[], if◌then◌else◌, ◌++◌, ◌+◌, ◌<◌, ◌||◌, ◌∙◌, ◌∷◌, ◌≡◌, ◌⊎◌, Actor, Among, Body, Bool, Command, Decided, Heard, Idle, In}
+use Rattle.law_log.proofs.Imports.{IsProposer, IsTold, Job, Leave, Letter, List, Log, LogDone, None, Nothing, Option, Pax, Phase, Post, Refused, Send, Some}
+use Rattle.law_log.proofs.Imports.{Voter, World, acceptor_of, ap, applies, applies_known, applies_then, arith, before_known, by_test, false, first_wanted}
+use Rattle.law_log.proofs.Imports.{fold, has_command, hear, hears_log, hears_of_ballot, in-append, inc_accepted, inc_chosen, inc_promise, inl, inr, is_due}
+use Rattle.law_log.proofs.Imports.{is_open, is_some, keeps, known, known_at, known_run, learns, learns_first, leave_before, length, length-append, log_does}
+use Rattle.law_log.proofs.Imports.{nat_lt, nat_tests, next_place, none_some, not, on_ask, on_down, on_news, on_pax, on_propose, only, own_leave, proposes}
+use Rattle.law_log.proofs.Imports.{refl, rev_of, same_command, sent, slice_get, starts, starts_for, state_in, subst, suc, sym, told_inc, true, unknown_from}
+use Rattle.law_log.proofs.Imports.{wanted, with_entry, with_leave, zero, ℕ}
+use Rattle.spec_paxos.specs.Proposer.{Step}
 use Rattle.spec_state.specs.State.{inc_of}
-use Rattle.spec_rules.specs.Agreement.{IsTold, IsProposer}
-use Rattle.spec_rules.specs.Ballots.{is_due, own_leave, leave_before, with_leave, wanted, on_down, on_propose, on_pax, first_wanted}
-use Rattle.spec_rules.specs.Ballots.{starts, starts_for, hears_of_ballot, proposes}
-use Rattle.spec_rules.specs.Entries.{learns, applies_then, unknown_from, learns_first, on_news, with_entry, applies}
-use Rattle.spec_rules.specs.Entries.{applies_known, before_known, known_run, on_ask}
-use Rattle.spec_rules.specs.Jobs.{log_does, hears_log}
-use Rattle.spec_rules.specs.Lists.{In as Among}
-use Rattle.spec_rules.specs.Log.{Log, LogDone, Voter, state_in, rev_of, next_place, known, keeps}
-use Rattle.spec_rules.specs.Server.{Post}
-use Rattle.spec_rules.specs.declared.job.Job.{Job}
-use Rattle.spec_rules.specs.declared.job.Job.TheVariants as job
-use Rattle.spec_rules.proofs.ListLemmas.{in-append}
-use Rattle.spec_rules.proofs.Tests.{only, by_test, none_some}
 use Rattle.law_log.specs.AgreedLog.{IsBacked, IsSaidBy}
 use Rattle.law_log.proofs.RunningLog.{VotingLog, voter_at}
 use Rattle.law_log.proofs.ListPlaces.{at_last, kept_among}
 use Rattle.law_log.proofs.ProposersInSchedule.{pax_turn, start_turn}
 use Rattle.law_log.proofs.AcceptorsInSchedule.{learn_turn}
 use Rattle.law_log.proofs.ScheduleTurns.{HasTurn, still, no_posts, proposer_there}
+use Rattle.petal_command.specs.declared.pax.Pax.TheVariants as pax
+use Rattle.petal_msg.specs.declared.body.Body.TheVariants as body
+use Rattle.petal_msg.specs.declared.letter.Actor.TheVariants as actor
+use Rattle.spec_rules.specs.declared.job.Job.TheVariants as job
 
 -- ### Lists of entries
 

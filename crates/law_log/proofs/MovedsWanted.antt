@@ -1,16 +1,6 @@
 -- The Moved that a server wants: of a link whose blocks of a region it is to move, and of which nothing is left.
-use Rattle.std.proofs.Common.{◌≡◌, ℕ, true, List, [], ◌∷◌, Option, Some, None, refl, inl, inr}
-use Rattle.std.specs.List.{flat_map}
-use Rattle.global_tables.specs.declared.link.LinkRow.{LinkRow}
-use Rattle.petal_base.specs.declared.cell.Key.{Key}
-use Rattle.petal_command.specs.declared.command.Command.{Command}
-use Rattle.petal_command.specs.declared.command.Command.TheVariants.{Moved}
-use Rattle.spec_rules.specs.Fills.{fill_of, moved_of, moved_where, moving, region_to_move}
-use Rattle.spec_rules.specs.Lists.{In as Among}
-use Rattle.spec_rules.specs.Server.{PairState, JobContext}
-use Rattle.spec_rules.specs.State.{is_in}
-use Rattle.spec_rules.proofs.ListLemmas.{in-append}
-use Rattle.spec_rules.proofs.Tests.{by_test}
+use Rattle.law_log.proofs.Imports.{[], ◌∷◌, ◌≡◌, Among, Command, JobContext, Key, LinkRow, List, Moved, None, Option, PairState, Some, by_test, fill_of}
+use Rattle.law_log.proofs.Imports.{flat_map, in-append, inl, inr, is_in, moved_of, moved_where, moving, refl, region_to_move, true, ℕ}
 use Rattle.law_log.proofs.ListPlaces.{none_among, only_among}
 
 -- the command is the Moved of this link, of which the server is to move the region and has nothing left

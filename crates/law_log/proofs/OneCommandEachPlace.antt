@@ -1,30 +1,16 @@
 -- What follows from what is kept: one command a place is told, those that are told were asked for, and logs are plain.
-use Rattle.std.proofs.Common.{◌≡◌, ◌≤◌, ◌+◌, inl, inr, ℕ, Bool, true, false, List, Some, refl, sym, ap, subst}
-use Rattle.std.specs.Prelude.{slice_get, ◌==◌}
-use Rattle.petal_base.specs.Tuple.{is_tuple}
-use Rattle.petal_command.specs.declared.command.Command.{Command}
-use Rattle.petal_command.specs.declared.command.Command.TheVariants.{Join, Leave, Caught, Drained, MakeDisk, Moved, Snap, StartMove, Witness}
+use Rattle.law_log.proofs.Imports.{◌+◌, ◌==◌, ◌≡◌, ◌≤◌, Among, Bool, Caught, Command, Drained, IsChosen, IsPlain, IsPlainLog, IsTold, Join, Leave, Line, List}
+use Rattle.law_log.proofs.Imports.{MakeDisk, Moved, Request, Server, Setting, Snap, Some, StartMove, Witness, ap, begin, begin_holds, command_of, false, inl}
+use Rattle.law_log.proofs.Imports.{inr, is_caught, is_tuple, lines_of, log_in, none_some, one_chosen, refl, run, run_holds, same_some, server_state}
+use Rattle.law_log.proofs.Imports.{servers_of, slice_get, subst, sym, true, true_false, ℕ}
 use Rattle.petal_command.specs.declared.pax.Pax.TheVariants.{Chosen}
-use Rattle.spec_paxos.specs.Schedule.{run, begin, IsChosen}
-use Rattle.spec_paxos.specs.Schedule as schedule
-use Rattle.law_agreement.proofs.SchedulesKeepFacts.{run_holds, begin_holds, one_chosen}
-use Rattle.law_agreement.proofs.ChosenWasWanted as wants
-use Rattle.spec_rules.specs.Agreement.{IsTold}
-use Rattle.spec_rules.specs.Clients.{command_of}
-use Rattle.spec_rules.specs.Lists.{In as Among}
-use Rattle.spec_rules.specs.State.{servers_of}
-use Rattle.spec_rules.specs.World.{Setting, World, lines_of, server_state}
-use Rattle.spec_rules.proofs.Tests.{same_some, none_some, true_false}
-use Rattle.script_lines.specs.declared.request.Line.{Line}
-use Rattle.script_lines.specs.declared.request.Request.{Request}
-use Rattle.script_lines.specs.declared.request.Request.TheVariants as request
-use Rattle.law_state.specs.Plain.{IsPlain, IsPlainLog}
-use Rattle.law_state.specs.StartedBallots.{is_caught}
-use Rattle.law_state.proofs.Disks.{log_in}
-use Rattle.spec_rules.specs.Server.{Server}
+use Rattle.spec_rules.specs.World.{World}
 use Rattle.law_log.specs.AgreedLog.{IsCalledAnywhere, Logged, MayWant, Minded, Returns, is_join}
 use Rattle.law_log.specs.ProposedCommands.{HasStopped, IsCalledFor, IsOfLives, IsScripted}
 use Rattle.law_log.proofs.ListPlaces.{among_at, at_among, kept_among}
+use Rattle.spec_paxos.specs.Schedule as schedule
+use Rattle.law_agreement.proofs.ChosenWasWanted as wants
+use Rattle.script_lines.specs.declared.request.Request.TheVariants as request
 
 -- what the laws need of a setting: ballots tell the servers apart, and each disk is made, and moved, over a tuple of them
 pub record IsFair (setting : Setting) : Type 0 where

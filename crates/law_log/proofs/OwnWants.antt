@@ -1,36 +1,12 @@
 -- What a server wants by its own part may be wanted: a Join, a Caught, a report and a Moved are each after the entries that it has applied, and it has it in
 -- mind.
-use Rattle.std.proofs.Common.{◌≡◌, ◌<◌, ◌≤◌, ◌+◌, ◌==◌, ◌⊎◌, inl, inr, ℕ, true, false, List, ◌++◌}
-use Rattle.std.proofs.Common.{length, Option, Some, refl, sym, ap, ◌∙◌, subst, arith}
-use Rattle.std.specs.Prelude.{slice_get}
-use Rattle.std.specs.Option.{option_map_or}
-use Rattle.petal_command.specs.declared.command.Command.{Command}
-use Rattle.petal_msg.specs.declared.copying.LinkId.{LinkId}
-use Rattle.spec_paxos.specs.Schedule.{run, begin}
-use Rattle.petal_command.specs.declared.command.Command.TheVariants.{Join}
-use Rattle.spec_rules.specs.Ballots.{first_wanted, starts}
-use Rattle.spec_rules.specs.Draining.{draining}
-use Rattle.spec_rules.specs.Fills.{moving}
-use Rattle.spec_rules.specs.Returns.{caught_links, own_join, proposed, returning}
-use Rattle.spec_state.specs.Command.{may_join}
-use Rattle.spec_rules.specs.Jobs.{voter_of}
-use Rattle.spec_rules.specs.Jobs.{own_wants, wanted_by}
-use Rattle.spec_rules.specs.Lists.{In as Among, put_at}
-use Rattle.spec_rules.specs.Log.{Log, Voter, next_place, rev_of}
-use Rattle.spec_rules.specs.Server.{Server}
-use Rattle.spec_rules.specs.State.{State, id_of}
-use Rattle.spec_rules.specs.State.{is_in as seated}
-use Rattle.spec_rules.specs.World.{Setting, World}
-use Rattle.spec_rules.specs.declared.job.Job.{Job}
-use Rattle.spec_rules.proofs.ListLemmas.{in-append, put_same}
-use Rattle.spec_rules.proofs.Tests.{number_itself, by_test}
-use Rattle.law_log.specs.AgreedLog.{Catches, IsReached, IsToldBefore}
-use Rattle.law_log.specs.AgreedLog.{Logged, Minded, Returns, WasMinded}
-use Rattle.law_state.specs.StartedBallots.{HasFlag, is_flagged}
-use Rattle.global_tables.specs.declared.fence.Member.TheVariants as member
-use Rattle.law_state.specs.Tables.{IsPlainState}
-use Rattle.law_state.proofs.Ages.{may_by}
-use Rattle.law_state.proofs.EntriesOnlyAdd.{log_plain}
+use Rattle.law_log.proofs.Imports.{◌++◌, ◌+◌, ◌<◌, ◌==◌, ◌∙◌, ◌≡◌, ◌≤◌, ◌⊎◌, Among, Command, HasFlag, IsPlainState, Job, Join, LinkId, List, Log, Option}
+use Rattle.law_log.proofs.Imports.{Server, Setting, Some, State, Voter, ap, arith, begin, by_test, caught_links, draining, false, first_wanted, id_of}
+use Rattle.law_log.proofs.Imports.{in-append, inl, inr, is_flagged, length, log_plain, may_by, may_join, moving, next_place, number_itself, option_map_or}
+use Rattle.law_log.proofs.Imports.{own_join, own_wants, proposed, put_at, put_same, refl, returning, rev_of, run, seated, slice_get, starts, subst, sym, true}
+use Rattle.law_log.proofs.Imports.{voter_of, wanted_by, ℕ}
+use Rattle.spec_rules.specs.World.{World}
+use Rattle.law_log.specs.AgreedLog.{Catches, IsReached, IsToldBefore, Logged, Minded, Returns, WasMinded}
 use Rattle.law_log.proofs.OneCommandEachPlace.{applied_plain}
 use Rattle.law_log.proofs.CaughtsWanted.{caught_among, caught_may, caught_minded}
 use Rattle.law_log.proofs.ReportsWanted.{IsReport, report_among}
@@ -38,6 +14,7 @@ use Rattle.law_log.proofs.LogJobsInSchedule.{start_wants}
 use Rattle.law_log.proofs.ListPlaces.{got}
 use Rattle.law_log.proofs.MovedsWanted.{IsMove, move_among}
 use Rattle.law_log.proofs.ServersKeepWorlds.{ServerStep, before_of, Remembers}
+use Rattle.global_tables.specs.declared.fence.Member.TheVariants as member
 
 -- the next place is reached: what is applied before it was told
 pub reached_next : {Was : Minded} (setting : Setting) (w : World) (l : Logged Was setting w) (n : ℕ)

@@ -1,47 +1,24 @@
 -- Operations of the pairs say nothing of the log, put no letter into the queue, and leave all copies as they are; neither does what a tick sends
 -- for them say anything of the log.
-use Rattle.std.proofs.Common.{◌≡◌, ℕ, Bool, true, false, true≢false, ◌==◌, ◌&&◌, not, List, [], ◌∷◌, Option, Some, None, refl, inl, inr}
-use Rattle.std.specs.Prelude.{nat_lt}
-use Rattle.std.specs.List.{flat_map}
-use Rattle.petal_base.specs.declared.cell.Cell.{Cell}
-use Rattle.petal_base.specs.declared.cell.Key.{Key}
-use Rattle.petal_base.specs.Cells.{cell_of}
-use Rattle.petal_command.specs.declared.command.Command.{Command}
-use Rattle.petal_command.specs.declared.pax.Pax.{Pax}
-use Rattle.petal_msg.specs.Kinds.{about, is_logged, subject_of}
-use Rattle.petal_msg.specs.declared.body.Body.{Body}
-use Rattle.petal_msg.specs.declared.body.Body.TheVariants as body
-use Rattle.petal_msg.specs.declared.letter.Actor.{Actor}
-use Rattle.petal_msg.specs.declared.letter.Actor.TheVariants as actor
-use Rattle.petal_msg.specs.declared.letter.Letter.{Letter}
-use Rattle.petal_msg.specs.declared.operation.Action.{Action}
-use Rattle.petal_msg.specs.declared.operation.Action.TheVariants as action
-use Rattle.petal_msg.specs.declared.operation.Ending.{Ending}
-use Rattle.petal_msg.specs.declared.operation.Ending.TheVariants as ending
-use Rattle.petal_msg.specs.declared.operation.Far.{Far}
-use Rattle.petal_msg.specs.declared.operation.Far.TheVariants as far
-use Rattle.petal_msg.specs.declared.operation.LastOp.{LastOp}
-use Rattle.petal_msg.specs.declared.operation.OpKind.{OpKind}
-use Rattle.petal_msg.specs.declared.operation.OpKind.TheVariants as kind
-use Rattle.petal_msg.specs.declared.operation.Pending.{Pending}
-use Rattle.petal_msg.specs.declared.operation.Reply.{Reply}
-use Rattle.petal_msg.specs.declared.operation.Reply.TheVariants as reply
-use Rattle.spec_paxos.specs.Schedule.{World}
-use Rattle.spec_rules.specs.Jobs.{awaited, sent_again}
-use Rattle.spec_rules.specs.Lists.{In as Among}
-use Rattle.spec_rules.specs.Reads.{on_read, reply_to, said}
-use Rattle.spec_rules.specs.Server.{PairState, Copies, JobContext, Post, JobResult, post_to, silent, says, says_to}
-use Rattle.spec_rules.specs.State.{is_lead, is_second, readable}
-use Rattle.spec_rules.specs.Writes.{Wanted, Standing, Older, Again, Newer, acts, ended, ends, finishes, gives_back, gives_up}
-use Rattle.spec_rules.specs.Writes.{moved_as, without_pending, goes_on_with}
-use Rattle.spec_rules.specs.Writes.{goes_on, pending_on, opens, opened, takes_newer, takes, is_pending_for, is_kept_back, is_under_way, on_write, is_reserving}
-use Rattle.spec_rules.specs.Writes.{is_replicating, hears_reserved, on_reserved, hears_pair_full, on_pair_full, hears_replicated, on_replicated, tells}
-use Rattle.spec_rules.specs.Writes.{reserves, hears_reserve, on_reserve, follows_once, hears_replicate, on_replicate, last_on}
-use Rattle.spec_rules.specs.declared.job.Job.TheVariants as job
-use Rattle.spec_rules.proofs.ListLemmas.{in-append}
-use Rattle.spec_rules.proofs.Tests.{only, by_test}
+use Rattle.law_log.proofs.Imports.{[], ◌&&◌, ◌==◌, ◌∷◌, ◌≡◌, Action, Actor, Again, Among, Body, Bool, Cell, Command, Copies, Ending, Far, JobContext}
+use Rattle.law_log.proofs.Imports.{JobResult, Key, LastOp, Letter, List, Newer, None, Older, OpKind, Option, PairState, Pax, Pending, Post, Reply, Some}
+use Rattle.law_log.proofs.Imports.{Standing, Wanted, World, about, awaited, by_test, cell_of, ended, ends, false, finishes, flat_map, follows_once}
+use Rattle.law_log.proofs.Imports.{gives_back, gives_up, goes_on, goes_on_with, hears_pair_full, hears_replicate, hears_replicated, hears_reserve}
+use Rattle.law_log.proofs.Imports.{hears_reserved, in-append, inl, inr, is_kept_back, is_lead, is_logged, is_pending_for, is_replicating, is_reserving}
+use Rattle.law_log.proofs.Imports.{is_second, is_under_way, last_on, moved_as, nat_lt, not, on_pair_full, on_read, on_replicate, on_replicated, on_reserve}
+use Rattle.law_log.proofs.Imports.{on_reserved, on_write, only, opened, opens, pending_on, post_to, readable, refl, reply_to, reserves, said, says, says_to}
+use Rattle.law_log.proofs.Imports.{sent_again, silent, subject_of, takes, takes_newer, tells, true, true≢false, without_pending, ℕ}
+use Rattle.spec_rules.specs.Writes.{acts}
 use Rattle.law_log.specs.AgreedLog.{IsBacked}
 use Rattle.law_log.proofs.ScheduleTurns.{no_posts}
+use Rattle.petal_msg.specs.declared.body.Body.TheVariants as body
+use Rattle.petal_msg.specs.declared.letter.Actor.TheVariants as actor
+use Rattle.petal_msg.specs.declared.operation.Action.TheVariants as action
+use Rattle.petal_msg.specs.declared.operation.Ending.TheVariants as ending
+use Rattle.petal_msg.specs.declared.operation.Far.TheVariants as far
+use Rattle.petal_msg.specs.declared.operation.OpKind.TheVariants as kind
+use Rattle.petal_msg.specs.declared.operation.Reply.TheVariants as reply
+use Rattle.spec_rules.specs.declared.job.Job.TheVariants as job
 
 -- it is handled at its sender's revision alone
 abbrev pub IsDated : Body → Type 0

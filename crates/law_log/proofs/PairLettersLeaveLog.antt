@@ -1,35 +1,18 @@
 -- What is done with a letter of the pairs, and each stage, is calm: what it says is handled at its revision alone, it puts no letter into the queue,
 -- and it forgets no Caught for which a ballot was started. A job may besides tell a client of another revision.
-use Rattle.std.proofs.Common.{◌==◌, ◌++◌, not, [], ℕ, false, Option, Some, None, refl, ap, ◌∙◌, inl, inr}
-use Rattle.std.specs.Prelude.{if◌then◌else◌, is_some}
-use Rattle.std.specs.Option.{option_map_or}
-use Rattle.petal_base.specs.declared.cell.Cell.{Cell}
-use Rattle.petal_msg.specs.declared.body.Body.{Body}
-use Rattle.petal_msg.specs.declared.body.Body.TheVariants as body
-use Rattle.petal_msg.specs.declared.copying.Progress.{Progress}
-use Rattle.petal_msg.specs.declared.letter.Actor.{Actor}
-use Rattle.petal_msg.specs.declared.letter.Actor.TheVariants as actor
-use Rattle.petal_msg.specs.declared.letter.Letter.{Letter}
-use Rattle.petal_table.specs.Table.{at}
-use Rattle.spec_rules.specs.Jobs.{handles, wrong_rev, at_other_rev, is_from_in, on_letter, stages, does, asked_by, copies_again}
-use Rattle.spec_rules.specs.Copies.{copy_posts, page_posts}
-use Rattle.spec_rules.specs.Fills.{fill_posts}
-use Rattle.spec_rules.specs.Lists.{In as Among}
-use Rattle.spec_rules.specs.Progress.{copying_on}
-use Rattle.spec_rules.specs.Server.{PairState, Copies, JobContext, Post, JobResult, silent}
-use Rattle.spec_rules.specs.State.{is_in, link_cmp}
-use Rattle.spec_rules.specs.Writes.{pending_on}
-use Rattle.spec_rules.specs.declared.job.Job.{Job}
-use Rattle.spec_rules.specs.declared.job.Job.TheVariants as job
-use Rattle.spec_rules.proofs.ListLemmas.{in-append}
-use Rattle.spec_rules.proofs.Tests.{by_test, only}
-use Rattle.law_log.proofs.CopyJobsLeaveLog.{IsCalm, IsKept, kept_itself, calm_silent, calm_copies, calm_mends, calm_hello_ask}
-use Rattle.law_log.proofs.CopyJobsLeaveLog.{calm_hello, calm_trims, calm_trim, calm_sync}
-use Rattle.law_log.proofs.CopyJobsLeaveLog.{calm_trimmed, calm_synced, calm_sync_full, dated_copy_posts, dated_page_posts}
+use Rattle.law_log.proofs.Imports.{[], if◌then◌else◌, ◌++◌, ◌==◌, ◌∙◌, Actor, Among, Body, Cell, Copies, Job, JobContext, JobResult, Letter, None, Option}
+use Rattle.law_log.proofs.Imports.{PairState, Post, Progress, Some, ap, asked_by, at, at_other_rev, by_test, copies_again, copy_posts, copying_on, does}
+use Rattle.law_log.proofs.Imports.{false, fill_posts, handles, in-append, inl, inr, is_from_in, is_in, is_some, link_cmp, not, on_letter, only, option_map_or}
+use Rattle.law_log.proofs.Imports.{page_posts, pending_on, refl, silent, stages, wrong_rev, ℕ}
+use Rattle.law_log.proofs.CopyJobsLeaveLog.{IsCalm, IsKept, kept_itself, calm_silent, calm_copies, calm_mends, calm_hello_ask, calm_hello, calm_trims}
+use Rattle.law_log.proofs.CopyJobsLeaveLog.{calm_trim, calm_sync, calm_trimmed, calm_synced, calm_sync_full, dated_copy_posts, dated_page_posts}
 use Rattle.law_log.proofs.FillJobsLeaveLog.{calm_fill_full, calm_filled, calm_sweeps, dated_fill_posts, pair_fill}
 use Rattle.law_log.proofs.PairJobsLeaveLog.{IsDated, IsOther, Leaves, no_letter, other_dated, pair_goes, pair_read, pair_write, pair_reserve, pair_reserved}
 use Rattle.law_log.proofs.PairJobsLeaveLog.{pair_pair_full, pair_replicate, pair_replicated}
 use Rattle.law_log.proofs.ScheduleTurns.{no_posts}
+use Rattle.petal_msg.specs.declared.body.Body.TheVariants as body
+use Rattle.petal_msg.specs.declared.letter.Actor.TheVariants as actor
+use Rattle.spec_rules.specs.declared.job.Job.TheVariants as job
 
 -- an operation leaves the copies as they are
 calm_pair : (own : PairState) (done : JobResult) → Leaves own done → IsCalm own done

@@ -1,45 +1,22 @@
 -- A proposer: the ballot that it starts, and what it makes of the letters that answer it.
-use Rattle.std.proofs.Common.{◌≡◌, ◌<◌, ◌≤◌, ◌+◌, inl, inr, ℕ, zero, suc, Bool, true, false, not, ◌&&◌, List, [], ◌∷◌, map, set}
-use Rattle.std.proofs.Common.{Option, Some, None, refl, sym, ap, ◌∙◌, subst, arith}
-use Rattle.std.specs.Prelude.{⊤, nat_le, nat_lt, if◌then◌else◌}
-use Rattle.std.specs.List.{range_with_len}
-use Rattle.std.proofs.lemmas.Bool.Decides.{nat_tests}
-use Rattle.petal_command.specs.declared.ballot.Ballot.{Ballot}
-use Rattle.petal_command.specs.declared.command.Command.{Command}
-use Rattle.petal_command.specs.declared.pax.Pax.{Pax}
-use Rattle.petal_command.specs.declared.pax.Pax.TheVariants as pax
-use Rattle.petal_command.specs.Ballot.{number}
-use Rattle.petal_msg.specs.declared.body.Body.{Body}
-use Rattle.petal_msg.specs.declared.body.Body.TheVariants as body
-use Rattle.spec_paxos.specs.Acceptor.{Acceptor, rank, is_open, is_unpromised, promise}
-use Rattle.spec_paxos.specs.Kept.{acceptor_of, committed}
-use Rattle.spec_paxos.specs.Member.{In}
-use Rattle.spec_paxos.specs.Proposer.{Step, nobody, is_in, has_majority, hear, collecting, collected, counted, is_for, counts, higher}
-use Rattle.spec_paxos.specs.Quorum.{count_below}
-use Rattle.spec_paxos.specs.Schedule.{sent, World, Starts, Goes, keep, send, turn, started, IsWanted}
-use Rattle.spec_paxos.specs.Schedule as schedule
-use Rattle.spec_paxos.specs.declared.phase.Phase.{Phase}
-use Rattle.spec_paxos.specs.declared.phase.Phase.TheVariants.{Idle, Collecting, Voting}
-use Rattle.spec_paxos.specs.declared.phase.Heard.{Heard}
-use Rattle.spec_paxos.specs.declared.phase.Heard.TheVariants.{Nothing, Send, Refused}
-use Rattle.spec_paxos.specs.declared.phase.Heard.TheVariants.{Chosen as Decided}
-use Rattle.spec_paxos.specs.declared.record.StateRecord.TheVariants.{Promise}
-use Rattle.spec_paxos.proofs.Members.{in_here, in_there}
-use Rattle.law_agreement.proofs.MovesKeepFacts.{not_in_nobody}
-use Rattle.spec_rules.specs.Agreement.{IsTold, IsAskedFor, IsAbout, IsProposer}
-use Rattle.spec_rules.specs.Ballots.{post_of, round_of, next_round, first_wanted, starts, starts_for, starts_ballot, greatest_place}
-use Rattle.spec_rules.specs.Ballots.{gives_way, proposes, comes_out, hears_of_ballot}
-use Rattle.spec_rules.specs.Entries.{learns}
-use Rattle.spec_rules.specs.Lists.{In as Among}
-use Rattle.spec_rules.specs.Log.{Log, rev_of, next_place, with_phase, Voter}
-use Rattle.spec_rules.specs.Server.{Post}
-use Rattle.spec_rules.proofs.Tests.{true_false, by_test, none_some, same_some}
+use Rattle.law_log.proofs.Imports.{[], if◌then◌else◌, ◌&&◌, ◌+◌, ◌<◌, ◌∙◌, ◌∷◌, ◌≡◌, ◌≤◌, Acceptor, Among, Ballot, Body, Bool, Collecting, Command, Decided}
+use Rattle.law_log.proofs.Imports.{Goes, Heard, Idle, In, IsAbout, IsAskedFor, IsProposer, IsTold, IsWanted, List, Log, None, Nothing, Option, Pax, Phase}
+use Rattle.law_log.proofs.Imports.{Post, Promise, Refused, Send, Some, Starts, Voter, Voting, World, acceptor_of, ap, arith, by_test, collected, collecting}
+use Rattle.law_log.proofs.Imports.{comes_out, committed, count_below, counted, counts, false, first_wanted, gives_way, greatest_place, has_majority, hear}
+use Rattle.law_log.proofs.Imports.{hears_of_ballot, higher, in_here, in_there, inl, inr, is_for, is_open, is_unpromised, keep, learns, map, nat_le, nat_lt}
+use Rattle.law_log.proofs.Imports.{nat_tests, next_place, next_round, nobody, none_some, not, not_in_nobody, number, post_of, promise, proposes}
+use Rattle.law_log.proofs.Imports.{range_with_len, rank, refl, rev_of, round_of, same_some, send, sent, set, started, starts, starts_ballot, starts_for}
+use Rattle.law_log.proofs.Imports.{subst, suc, sym, true, true_false, turn, with_phase, zero, ℕ, ⊤}
+use Rattle.spec_paxos.specs.Proposer.{Step, is_in}
 use Rattle.law_log.specs.AgreedLog.{IsSeenAt, AreLow, IsLow, IsBacked}
 use Rattle.law_log.proofs.RunningLog.{VotingLog, voter_at}
 use Rattle.law_log.proofs.ListPlaces.{put_here}
 use Rattle.law_log.proofs.AcceptorsInSchedule.{seen_promise, prepare_turn, accept_turn, learn_turn}
 use Rattle.law_log.proofs.ScheduleTurns.{Turns, HasTurn, apart_itself, apart_both, apart_keep, apart_send, apart_turn, by_letter, turned}
 use Rattle.law_log.proofs.ScheduleTurns.{still as nothing_happens, no_posts, low_keep, low_send, low_turn, seen_same, about_itself}
+use Rattle.petal_command.specs.declared.pax.Pax.TheVariants as pax
+use Rattle.petal_msg.specs.declared.body.Body.TheVariants as body
+use Rattle.spec_paxos.specs.Schedule as schedule
 
 -- ### Nobody is no majority
 

@@ -1,43 +1,18 @@
 -- What stands in a server's queue: among the jobs that a tick, or an entry, puts there no letter is; and what a tick sends of a ballot is backed.
-use Rattle.std.proofs.Common.{◌≡◌, inl, inr, ℕ, not, if◌then◌else◌, ◌&&◌, List, [], ◌∷◌, ◌++◌}
-use Rattle.std.proofs.Common.{map, Option, Some, None, refl}
-use Rattle.std.specs.Prelude.{filter}
-use Rattle.std.specs.List.{range_with_len}
-use Rattle.global_tables.specs.declared.link.LinkRow.{LinkRow}
-use Rattle.petal_base.specs.declared.cell.Cell.{Cell}
-use Rattle.petal_command.specs.declared.command.Command.{Command}
-use Rattle.petal_command.specs.declared.pax.Pax.TheVariants as pax
-use Rattle.petal_msg.specs.declared.letter.Letter.{Letter}
-use Rattle.petal_msg.specs.declared.operation.Pending.{Pending}
-use Rattle.spec_paxos.specs.Member.{In}
-use Rattle.spec_paxos.specs.Proposer.{is_in, has_majority}
-use Rattle.spec_paxos.specs.Schedule.{sent}
-use Rattle.spec_paxos.specs.Schedule as schedule
-use Rattle.spec_paxos.specs.declared.phase.Phase.{Phase}
-use Rattle.spec_paxos.specs.declared.phase.Phase.TheVariants.{Idle, Collecting, Voting}
-use Rattle.spec_rules.specs.Agreement.{IsAskedFor}
-use Rattle.spec_rules.specs.Ballots.{ballot_posts, start_jobs}
-use Rattle.spec_rules.specs.Copies.{repair_jobs, waits_for_job}
-use Rattle.spec_rules.specs.Sweeping.{sweep_jobs}
-use Rattle.spec_state.specs.Command.{after}
-use Rattle.spec_state.specs.Place.{touches}
-use Rattle.spec_rules.specs.Crossing.{is_repaired, jobs_by, link_jobs, stage_jobs, touches_cell}
-use Rattle.spec_rules.specs.Jobs.{tick_jobs}
-use Rattle.spec_rules.specs.Jobs.{wanted_by}
-use Rattle.spec_rules.specs.Lists.{In as Among}
-use Rattle.spec_rules.specs.Log.{Voter}
+use Rattle.law_log.proofs.Imports.{[], if◌then◌else◌, ◌&&◌, ◌++◌, ◌∷◌, ◌≡◌, Among, Cell, Collecting, Command, Idle, In, IsAskedFor, Job, JobContext, Letter}
+use Rattle.law_log.proofs.Imports.{LinkRow, List, None, Option, PairState, Pending, Phase, Server, Some, State, Voter, Voting, after, ballot_posts, by_test}
+use Rattle.law_log.proofs.Imports.{filter, has_majority, id_of, in-append, inl, inr, is_repaired, jobs_by, link_jobs, map, not, range_with_len, refl}
+use Rattle.law_log.proofs.Imports.{repair_jobs, seated, sent, stage_jobs, start_jobs, sweep_jobs, tick_jobs, touches, touches_cell, waits_for_job, wanted_by}
+use Rattle.law_log.proofs.Imports.{ℕ}
+use Rattle.spec_paxos.specs.Proposer.{is_in}
 use Rattle.spec_rules.specs.Posts.{Post}
-use Rattle.spec_rules.specs.Server.{Server, PairState, JobContext}
-use Rattle.spec_rules.specs.State.{State, id_of}
-use Rattle.spec_rules.specs.State.{is_in as seated}
-use Rattle.spec_rules.specs.declared.job.Job.{Job}
-use Rattle.spec_rules.specs.declared.job.Job.TheVariants as job
-use Rattle.spec_rules.proofs.ListLemmas.{in-append}
-use Rattle.spec_rules.proofs.Tests.{by_test}
 use Rattle.law_log.specs.AgreedLog.{IsBacked}
 use Rattle.law_log.proofs.FillJobsLeaveLog.{no_sweep}
 use Rattle.law_log.proofs.ProposersInSchedule.{all_backed}
 use Rattle.law_log.proofs.ScheduleTurns.{no_posts}
+use Rattle.petal_command.specs.declared.pax.Pax.TheVariants as pax
+use Rattle.spec_paxos.specs.Schedule as schedule
+use Rattle.spec_rules.specs.declared.job.Job.TheVariants as job
 
 pub job_here : (x : Job) (xs : List Job) → Among x (x ∷ xs)
 unfolding Among

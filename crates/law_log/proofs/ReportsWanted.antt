@@ -1,14 +1,6 @@
 -- The report that a server wants: to the active fence, which awaits it, of a server that is In as itself and has drained.
-use Rattle.std.proofs.Common.{◌≡◌, ◌&&◌, not, true, false, List, [], ◌∷◌, Option, Some, None, refl}
-use Rattle.global_tables.specs.View.{head}
-use Rattle.global_tables.specs.declared.fence.Fence.{Fence}
-use Rattle.petal_command.specs.declared.command.Command.{Command}
-use Rattle.petal_command.specs.declared.command.Command.TheVariants.{Drained}
-use Rattle.spec_rules.specs.Draining.{awaits, drained_for, draining, has_held_write}
-use Rattle.spec_rules.specs.Lists.{In as Among}
-use Rattle.spec_rules.specs.Server.{PairState, JobContext}
-use Rattle.spec_rules.specs.State.{is_in}
-use Rattle.spec_rules.proofs.Tests.{both_true, by_test, not_true}
+use Rattle.law_log.proofs.Imports.{[], ◌&&◌, ◌∷◌, ◌≡◌, Among, Command, Drained, Fence, JobContext, List, None, Option, PairState, Some, awaits, both_true}
+use Rattle.law_log.proofs.Imports.{by_test, drained_for, draining, false, has_held_write, head, is_in, not, not_true, refl, true}
 use Rattle.law_log.proofs.ListPlaces.{none_among, only_among}
 
 -- the command is the server's report to the active fence

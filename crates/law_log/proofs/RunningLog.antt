@@ -1,7 +1,5 @@
 -- The log of a server that runs, and what the schedule's world has of it.
-use Rattle.std.proofs.Common.{◌≤◌, ◌<◌, ℕ, true}
-use Rattle.spec_paxos.specs.Schedule.{World}
-use Rattle.spec_rules.specs.Log.{Log, Voter}
+use Rattle.law_log.proofs.Imports.{◌<◌, ◌≤◌, Log, Voter, World, true, ℕ}
 use Rattle.law_log.specs.AgreedLog.{AreLow, IsBusyAs, IsSeenAt}
 
 -- such a log

@@ -1,28 +1,11 @@
 -- What changes in a schedule when one server does something.
-use Rattle.std.proofs.Common.{◌≡◌, ◌≢◌, ◌<◌, ◌+◌, ◌⊎◌, inl, inr, ℕ, Bool, true, false, List, [], ◌∷◌, ◌++◌, Option, Some, None, refl, sym, ap, ◌∙◌, subst}
-use Rattle.std.specs.Prelude.{◌↔◌}
-use Rattle.petal_command.specs.declared.ballot.Ballot.{Ballot}
-use Rattle.petal_command.specs.declared.command.Command.{Command}
-use Rattle.petal_command.specs.declared.command.Command.TheVariants.{Leave}
-use Rattle.petal_command.specs.declared.pax.Pax.{Pax}
-use Rattle.petal_msg.specs.declared.body.Body.{Body}
-use Rattle.petal_msg.specs.declared.body.Body.TheVariants as body
-use Rattle.petal_msg.specs.declared.letter.Actor.{Actor}
-use Rattle.spec_paxos.specs.Acceptor.{Acceptor}
-use Rattle.spec_paxos.specs.Member.{In}
-use Rattle.spec_paxos.specs.Schedule.{handed, Vote, vote, Sent, sent, World, Event, Starts, Handed, Stops, Boots, Goes, keep, cast}
-use Rattle.spec_paxos.specs.Schedule.{learn, send, turn, happens, run, IsWanted}
-use Rattle.spec_paxos.specs.declared.phase.Phase.{Phase}
-use Rattle.spec_paxos.specs.declared.record.StateRecord.{StateRecord}
-use Rattle.spec_paxos.specs.declared.phase.Phase.TheVariants.{Idle, Collecting, Voting}
-use Rattle.spec_paxos.proofs.Members.{in_cons, in_here, in_there, put_at_cases}
-use Rattle.spec_rules.specs.Agreement.{IsTold, IsProposer, IsAskedFor, IsAbout}
-use Rattle.spec_rules.specs.Lists.{In as Among}
-use Rattle.spec_rules.specs.Log.{Log}
-use Rattle.spec_rules.specs.Server.{Post}
+use Rattle.law_log.proofs.Imports.{[], ◌++◌, ◌+◌, ◌<◌, ◌↔◌, ◌∙◌, ◌∷◌, ◌≡◌, ◌≢◌, ◌⊎◌, Acceptor, Actor, Among, Ballot, Body, Bool, Boots, Collecting, Command}
+use Rattle.law_log.proofs.Imports.{Event, Goes, Handed, Idle, In, IsAbout, IsAskedFor, IsProposer, IsTold, IsWanted, Leave, List, Log, None, Option, Pax}
+use Rattle.law_log.proofs.Imports.{Phase, Post, Sent, Some, Starts, StateRecord, Stops, Vote, Voting, World, ap, cast, false, handed, happens, in_cons}
+use Rattle.law_log.proofs.Imports.{in_here, in_there, inl, inr, keep, learn, only, put_at_cases, refl, run, send, sent, subst, sym, true, turn, vote, ℕ}
 use Rattle.law_log.specs.AgreedLog.{IsReached, IsLow, AreLow, IsSeenAt, IsBusyAs, IsBacked}
-use Rattle.spec_rules.proofs.Tests.{only}
 use Rattle.law_log.proofs.ListPlaces.{placed, put_here, put_away, put_at_away}
+use Rattle.petal_msg.specs.declared.body.Body.TheVariants as body
 
 -- ### Only one server's part changed
 

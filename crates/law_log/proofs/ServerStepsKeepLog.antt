@@ -1,47 +1,17 @@
 -- Each step of a server keeps what is kept of a world.
-use Rattle.std.proofs.Common.{◌≡◌, ◌<◌, ◌≤◌, ◌+◌, ◌==◌, ◌⊎◌, inl, inr, ℕ, true, false, not, if◌then◌else◌, List, [], ◌∷◌, ◌++◌}
-use Rattle.std.proofs.Common.{length, Option, Some, None, refl, sym, ap, ◌∙◌, subst, arith}
-use Rattle.std.specs.Prelude.{filter}
-use Rattle.std.specs.List.{range_with_len, flat_map}
-use Rattle.petal_command.specs.declared.command.Command.{Command}
-use Rattle.petal_msg.specs.declared.body.Body.TheVariants as body
-use Rattle.petal_msg.specs.declared.letter.Actor.TheVariants as actor
-use Rattle.petal_msg.specs.declared.letter.Letter.{Letter}
-use Rattle.petal_msg.specs.declared.copying.LinkId.{LinkId}
-use Rattle.spec_paxos.specs.Member.{In}
-use Rattle.spec_paxos.specs.Schedule.{sent}
-use Rattle.spec_paxos.specs.Schedule as schedule
-use Rattle.spec_paxos.specs.declared.phase.Phase.{Phase}
-use Rattle.spec_rules.specs.Agreement.{IsAskedFor, IsProposer}
-use Rattle.spec_paxos.specs.Kept.{inc_of}
-use Rattle.spec_paxos.proofs.Committed.{inc_committed}
-use Rattle.spec_paxos.specs.declared.record.StateRecord.TheVariants.{Inc}
-use Rattle.spec_rules.specs.Ballots.{ballot_posts, ask_posts, first_wanted, starts, wanted}
-use Rattle.spec_rules.specs.Boots.{awake, blanked, boots, raised, stays, wakes}
-use Rattle.spec_rules.specs.Returns.{proposed}
-use Rattle.spec_rules.specs.Crossing.{crossed_by, jobs_by}
-use Rattle.spec_rules.specs.Entries.{applies, applies_known}
-use Rattle.spec_rules.specs.Jobs.{Acted, is_log_job, voter_of, worked, entered, crossing, job_done, down_posts, stops, is_overfull}
-use Rattle.spec_rules.specs.Jobs.{works, faults, glances, glance_sender, delivered, tick_jobs, tick_posts, ticks, log_does, does, sent_again}
-use Rattle.spec_rules.specs.Jobs.{copies_again, starting, own_wants, wanted_by}
-use Rattle.spec_rules.specs.Lists.{In as Among, put_at}
-use Rattle.spec_rules.specs.Log.{LogDone, known, next_place, rev_of}
-use Rattle.spec_rules.specs.Posts.{Post, Sender, letters_of}
-use Rattle.spec_rules.specs.Server.{Life, Server, PairState, JobContext, JobResult, sender, stopped}
-use Rattle.spec_rules.specs.State.{servers_of}
-use Rattle.spec_rules.specs.World.{Setting, World, MayServer, server_state, server_step, acts}
-use Rattle.spec_rules.specs.declared.job.Job.{Job}
-use Rattle.spec_rules.specs.declared.job.Job.TheVariants as job
-use Rattle.spec_rules.specs.declared.step.CommitEnd.{CommitEnd}
-use Rattle.spec_rules.specs.declared.step.CommitEnd.TheVariants.{Before, After}
-use Rattle.spec_rules.specs.declared.step.Step.{Step}
-use Rattle.spec_rules.specs.declared.step.Step.TheVariants.{Call, Deliver, Tick, Work, StopIn, Stop, Blank, Boot, Arm, Glance}
-use Rattle.spec_rules.specs.declared.step.WorkEnd.{WorkEnd}
-use Rattle.spec_rules.specs.declared.step.WorkEnd.TheVariants as work_end
-use Rattle.spec_rules.proofs.ListLemmas.{in-append, put_apart, put_same}
-use Rattle.spec_rules.proofs.Tests.{only, by_test, same_or_apart}
+use Rattle.law_log.proofs.Imports.{[], if◌then◌else◌, ◌++◌, ◌+◌, ◌<◌, ◌==◌, ◌∙◌, ◌∷◌, ◌≡◌, ◌≤◌, ◌⊎◌, Acted, After, Among, Arm, Before, Blank, Boot, Call}
+use Rattle.law_log.proofs.Imports.{Command, CommitEnd, Deliver, Glance, HasFlag, In, Inc, IsAskedFor, IsProposer, Job, JobContext, JobResult, Letter, Life}
+use Rattle.law_log.proofs.Imports.{LinkId, List, LogDone, MayServer, None, Option, PairState, Phase, Sender, Server, Setting, Some, Step, Stop, StopIn, Tick}
+use Rattle.law_log.proofs.Imports.{Work, WorkEnd, acts, ap, applies, applies_known, arith, ask_posts, awake, ballot_posts, blanked, boots, by_test}
+use Rattle.law_log.proofs.Imports.{copies_again, crossed_by, crossing, delivered, does, down_posts, entered, false, faults, filter, first_wanted, flat_map}
+use Rattle.law_log.proofs.Imports.{glance_sender, glances, in-append, inc_committed, inc_of, inl, inr, is_log_job, is_overfull, job_done, jobs_by, known}
+use Rattle.law_log.proofs.Imports.{length, letters_of, log_does, next_place, not, only, own_wants, proposed, put_apart, put_at, put_same, raised}
+use Rattle.law_log.proofs.Imports.{range_with_len, refl, rev_of, same_or_apart, sender, sent, sent_again, server_state, server_step, servers_of, starting}
+use Rattle.law_log.proofs.Imports.{starts, stays, stopped, stops, subst, sym, tick_jobs, tick_posts, ticks, true, voter_of, wakes, wanted, wanted_by, worked}
+use Rattle.law_log.proofs.Imports.{works, ℕ}
+use Rattle.spec_rules.specs.Posts.{Post}
+use Rattle.spec_rules.specs.World.{World}
 use Rattle.law_log.specs.AgreedLog.{IsBacked, IsBusyAs, IsCalledAnywhere, IsSaidBy, IsSeenAt, Logged, Minded}
-use Rattle.law_state.specs.StartedBallots.{HasFlag}
 use Rattle.law_log.proofs.OneCommandEachPlace.{IsFair, as_many, told_once}
 use Rattle.law_log.proofs.BootsRaiseIncarnations.{StoppedLog, fail_turn, no_proposer, wake_turn}
 use Rattle.law_log.proofs.CaughtsWanted.{kept_proposed}
@@ -51,12 +21,17 @@ use Rattle.law_log.proofs.LogJobsInSchedule.{JobLog, Outcome, applied_next, fine
 use Rattle.law_log.proofs.PairJobsLeaveLog.{dated_again, dated_backed, other_backed}
 use Rattle.law_log.proofs.ProposersInSchedule.{first_among, said_to_all}
 use Rattle.law_log.proofs.ScheduleTurns.{HasTurn, still, no_posts, stop_turn, turn_more}
-use Rattle.law_log.proofs.ServersKeepWorlds.{Acts, Goes, ServerStep, before_of, server_at, IsLaterLife, KeepsStarted, Remembers}
-use Rattle.law_log.proofs.ServersKeepWorlds.{may_more, same_life, server_goes, server_sends, started_same}
-pub use Rattle.law_log.proofs.OwnWants.{join_only}
-use Rattle.law_log.proofs.OwnWants as own_wants_of
+use Rattle.law_log.proofs.ServersKeepWorlds.{Acts, Goes, ServerStep, before_of, server_at, IsLaterLife, KeepsStarted, Remembers, may_more, same_life}
+use Rattle.law_log.proofs.ServersKeepWorlds.{server_goes, server_sends, started_same}
 use Rattle.law_log.proofs.OwnWants.{good_own, reached_next}
 use Rattle.law_log.proofs.Queues.{ballot_backed, job_here, job_there, letter_is, no_command, no_jobs, stages_only, tick_only}
+use Rattle.petal_msg.specs.declared.body.Body.TheVariants as body
+use Rattle.petal_msg.specs.declared.letter.Actor.TheVariants as actor
+use Rattle.spec_paxos.specs.Schedule as schedule
+use Rattle.spec_rules.specs.declared.job.Job.TheVariants as job
+use Rattle.spec_rules.specs.declared.step.WorkEnd.TheVariants as work_end
+pub use Rattle.law_log.proofs.OwnWants.{join_only}
+use Rattle.law_log.proofs.OwnWants as own_wants_of
 
 -- ### Ballots in mind
 

@@ -1,41 +1,19 @@
 -- What is kept of a world is kept by what one server does.
-use Rattle.spec_rules.specs.declared.job.Job.{Job}
-use Rattle.spec_rules.specs.Jobs.{here_of}
-use Rattle.spec_rules.specs.Log.{LogDone}
+use Rattle.law_log.proofs.Imports.{[], ◌++◌, ◌+◌, ◌<◌, ◌∙◌, ◌∷◌, ◌≡◌, ◌≤◌, ◌⊎◌, Accepted, Actor, Among, Ballot, Caught, Command, Drained, Event, HasFlag, In}
+use Rattle.law_log.proofs.Imports.{IsWanted, Job, JobContext, Join, Leave, Letter, Life, LinkId, LinkRow, List, LogDone, Moved, None, PairState, Pax, Sender}
+use Rattle.law_log.proofs.Imports.{Sent, Server, Setting, Some, State, Step, acts, all_put_apart, ap, arith, begin, devices, false, fill_of, has_held_write}
+use Rattle.law_log.proofs.Imports.{here_of, in-append, in_later, inc_of, inl, inr, is_flagged, is_in, length, letters_of, link_at, put_at, refl}
+use Rattle.law_log.proofs.Imports.{region_to_move, run, sent, server_state, stamped, state_after, subst, sym, true, ℕ}
 use Rattle.law_log.proofs.OneCommandEachPlace.{IsFair}
-use Rattle.std.proofs.Common.{◌≡◌, ◌<◌, ◌≤◌, ◌+◌, ◌⊎◌, inl, inr, ℕ, true, false, List, [], ◌∷◌, ◌++◌, length, Some, None, refl, sym, ap, ◌∙◌, subst, arith}
-use Rattle.global_tables.specs.Link.{link_at}
-use Rattle.global_tables.specs.declared.link.LinkRow.{LinkRow}
-use Rattle.petal_command.specs.declared.ballot.Ballot.{Ballot}
-use Rattle.petal_command.specs.declared.command.Command.{Command}
-use Rattle.petal_command.specs.declared.command.Command.TheVariants.{Join, Leave, Caught, Drained, Moved}
-use Rattle.petal_command.specs.declared.pax.Pax.{Pax}
-use Rattle.petal_msg.specs.declared.letter.Actor.{Actor}
-use Rattle.petal_msg.specs.declared.letter.Actor.TheVariants as actor
-use Rattle.petal_msg.specs.declared.letter.Letter.{Letter}
-use Rattle.spec_paxos.specs.Kept.{inc_of}
-use Rattle.spec_paxos.specs.Member.{In}
-use Rattle.spec_paxos.specs.Schedule.{Sent, sent, Event, run, begin, IsWanted}
-use Rattle.spec_paxos.specs.Schedule as schedule
-use Rattle.spec_paxos.specs.declared.record.StateRecord.TheVariants.{Accepted}
-use Rattle.spec_rules.specs.Lists.{In as Among, put_at}
-use Rattle.petal_msg.specs.declared.copying.LinkId.{LinkId}
-use Rattle.spec_state.specs.Command.{state_after}
-use Rattle.spec_rules.specs.Draining.{has_held_write}
-use Rattle.spec_rules.specs.Fills.{fill_of, region_to_move}
-use Rattle.spec_rules.specs.Posts.{Post, Sender, letters_of}
-use Rattle.spec_rules.specs.Server.{Life, PairState, Server, JobContext, JobContext}
-use Rattle.spec_rules.specs.State.{State, is_in}
-use Rattle.spec_rules.specs.declared.step.Step.{Step}
-use Rattle.spec_rules.specs.World.{Setting, World, devices, stamped, acts, server_state}
-use Rattle.spec_rules.specs.declared.job.Job.TheVariants as job
-use Rattle.spec_rules.proofs.ListLemmas.{in-append, in_later}
-use Rattle.spec_rules.proofs.Tests.{all_put_apart}
-use Rattle.law_log.specs.AgreedLog.{Catches, IsCalledAnywhere, IsSeenAt, IsBusyAs, IsBacked, IsSaidBy, IsLogged, Logged}
-use Rattle.law_log.specs.AgreedLog.{MayWant, Minded, Drains, Moves, Returns, Waits}
+use Rattle.spec_rules.specs.Posts.{Post}
+use Rattle.spec_rules.specs.World.{World}
+use Rattle.law_log.specs.AgreedLog.{Catches, IsCalledAnywhere, IsSeenAt, IsBusyAs, IsBacked, IsSaidBy, IsLogged, Logged, MayWant, Minded, Drains, Moves}
+use Rattle.law_log.specs.AgreedLog.{Returns, Waits}
 use Rattle.law_log.specs.ProposedCommands.{HasStopped, IsCalledFor, IsOfLives, IsScripted}
-use Rattle.law_state.specs.StartedBallots.{HasFlag, is_flagged}
 use Rattle.law_log.proofs.ScheduleTurns.{Turns, HasTurn, seen_apart, busy_same, told_more, reached_more, backed_more, run_on, wanted_on}
+use Rattle.petal_msg.specs.declared.letter.Actor.TheVariants as actor
+use Rattle.spec_paxos.specs.Schedule as schedule
+use Rattle.spec_rules.specs.declared.job.Job.TheVariants as job
 
 -- ### Letters of a step
 

@@ -1,32 +1,11 @@
 -- Each legal step keeps what is kept, from the start on.
-use Rattle.std.proofs.Common.{◌≡◌, ◌<◌, ◌≤◌, ◌+◌, inl, inr, ℕ, true, List, [], ◌∷◌, ◌++◌, Some, refl, sym, ap, subst, arith}
-use Rattle.std.specs.Prelude.{slice_get, nat_lt}
-use Rattle.std.proofs.lemmas.Bool.Decides.{nat_tests}
-use Rattle.petal_command.specs.declared.ballot.Ballot.{Ballot}
-use Rattle.petal_command.specs.declared.command.Command.{Command}
-use Rattle.petal_command.specs.declared.pax.Pax.{Pax}
-use Rattle.petal_msg.specs.declared.body.Body.{Body}
-use Rattle.petal_msg.specs.declared.body.Body.TheVariants as body
-use Rattle.petal_msg.specs.declared.letter.Actor.{Actor}
-use Rattle.petal_msg.specs.declared.letter.Actor.TheVariants as actor
-use Rattle.petal_msg.specs.declared.letter.Letter.{Letter}
-use Rattle.spec_paxos.specs.Member.{In}
-use Rattle.spec_paxos.specs.Schedule.{run, begin}
-use Rattle.spec_paxos.specs.Schedule as schedule
-use Rattle.spec_paxos.specs.declared.record.StateRecord.TheVariants.{Inc, Accepted}
-use Rattle.script_lines.specs.declared.request.Line.{Line}
-use Rattle.spec_rules.specs.Agreement.{IsTold}
-use Rattle.spec_rules.specs.Clients.{Client, Asked, Reaction, client_sender}
-use Rattle.spec_rules.specs.Lists.{In as Among}
+use Rattle.law_log.proofs.Imports.{[], ◌++◌, ◌+◌, ◌<◌, ◌∷◌, ◌≡◌, ◌≤◌, Accepted, Actor, Among, AreStepsFrom, Asked, Ballot, Body, Call, Client, Command}
+use Rattle.law_log.proofs.Imports.{Deliver, In, Inc, IsTold, Letter, Line, List, MayActor, MayClient, Pax, Reaction, Record, Setting, Some, Step, Tick}
+use Rattle.law_log.proofs.Imports.{all_put_apart, ap, arith, begin, calls, client_sender, client_state, client_step, in-append, in_later, inl, inr, nat_lt}
+use Rattle.law_log.proofs.Imports.{nat_tests, next_line, none_some, put_same, reacts, refl, run, server_state, server_step, slice_get, stamped, start, step}
+use Rattle.law_log.proofs.Imports.{stepped, subst, sym, true, world_after, ℕ}
 use Rattle.spec_rules.specs.Server.{letters_of}
-use Rattle.spec_rules.specs.World.{Setting, World, start, stamped, reacts, step, MayActor, MayClient, client_step, client_state}
-use Rattle.spec_rules.specs.World.{calls, next_line, server_state, server_step}
-use Rattle.spec_rules.specs.declared.step.Step.{Step}
-use Rattle.spec_rules.specs.declared.step.Step.TheVariants.{Call, Deliver, Tick}
-use Rattle.spec_rules.proofs.ListLemmas.{in-append, in_later, put_same}
-use Rattle.spec_rules.proofs.Tests.{all_put_apart, none_some}
-use Rattle.spec_history.specs.Steps.{AreStepsFrom, stepped, world_after}
-use Rattle.spec_history.specs.declared.record.Record.{Record}
+use Rattle.spec_rules.specs.World.{World}
 use Rattle.law_log.specs.AgreedLog.{IsBacked, IsCalledAnywhere, IsSaidBy, IsOpen, Logged, Minded}
 use Rattle.law_log.specs.ProposedCommands.{IsRequested, calls_in}
 use Rattle.law_log.proofs.ClientStepsKeepLog.{IsFine, Reacts, IsOf, IsClients, calls_so, hears_so, ticks_so}
@@ -34,6 +13,9 @@ use Rattle.law_log.proofs.OneCommandEachPlace.{IsFair, scripted_anywhere}
 use Rattle.law_log.proofs.ServerStepsKeepLog.{server_steps}
 use Rattle.law_log.proofs.ScheduleTurns.{backed_more}
 use Rattle.law_log.proofs.ServersKeepWorlds.{AllRemember, Goes, Remembers, called_more, may_more, posted_by, same_life, started_same}
+use Rattle.petal_msg.specs.declared.body.Body.TheVariants as body
+use Rattle.petal_msg.specs.declared.letter.Actor.TheVariants as actor
+use Rattle.spec_paxos.specs.Schedule as schedule
 
 -- ### A client's step
 

@@ -1,15 +1,6 @@
 -- Which votes stand after one commit.
-use Rattle.std.proofs.Common.{◌≡◌, ◌⊎◌, inl, inr, sym, subst, List}
-use Rattle.std.specs.Prelude.{ℕ, ◌↔◌}
-use Rattle.petal_command.specs.declared.ballot.Ballot.{Ballot}
-use Rattle.petal_command.specs.declared.command.Command.{Command}
-use Rattle.spec_paxos.specs.Kept.{committed}
-use Rattle.spec_paxos.specs.Member.{In}
-use Rattle.spec_paxos.specs.Schedule.{World, vote}
-use Rattle.spec_paxos.specs.declared.record.StateRecord.{StateRecord}
-use Rattle.spec_paxos.specs.declared.record.StateRecord.TheVariants.{Accepted}
-use Rattle.spec_paxos.proofs.Committed.{committed_in, accepted_in}
-use Rattle.spec_paxos.proofs.Committed.{in_committed as stays_in}
+use Rattle.law_log.proofs.Imports.{◌↔◌, ◌≡◌, ◌⊎◌, Accepted, Ballot, Command, In, List, StateRecord, World, accepted_in, committed, committed_in, inl, inr}
+use Rattle.law_log.proofs.Imports.{stays_in, subst, sym, vote, ℕ}
 use Rattle.law_log.specs.AgreedLog.{IsSeenAt}
 
 pub in_committed : (records : List StateRecord) (entry : StateRecord) (place : ℕ) (ballot : Ballot) (command : Command)

@@ -1,29 +1,10 @@
 -- What is kept of moves after the records of a history, all of it: each step keeps it where it held after each front of the records.
-use Rattle.std.specs.Prelude.{◌≡◌, ◌≤◌, ◌+◌, ◌++◌, ℕ, true, false, List, Some}
-use Rattle.petal_base.specs.Cells.{cell_of}
-use Rattle.petal_base.specs.declared.cell.Cell.{Cell}
-use Rattle.petal_base.specs.declared.cell.Key.{Key}
-use Rattle.petal_command.specs.declared.command.Command.{Command}
-use Rattle.petal_table.specs.Table.{at}
-use Rattle.petal_msg.specs.declared.copying.LinkId.{LinkId}
-use Rattle.petal_msg.specs.declared.operation.Pending.{Pending}
-use Rattle.script_lines.specs.declared.script.Script.{Script}
-use Rattle.spec_history.specs.Claims.{IsPrefix}
-use Rattle.spec_history.specs.declared.record.Record.{Record}
-use Rattle.spec_rules.specs.Lists.{In}
-use Rattle.spec_rules.specs.State.{link_cmp}
-use Rattle.spec_rules.specs.Store.{Chain, cell_cmp, chain_in}
-use Rattle.spec_rules.specs.World.{Setting, World, chosen_log, chosen_state, setting_of}
-use Rattle.spec_rules.specs.Writes.{is_clients}
-use Rattle.spec_state.specs.Command.{state_after}
-use Rattle.law_state.specs.Homes.{epoch_at, stage_at}
-use Rattle.law_steps.specs.Operations.{progress}
-use Rattle.law_jobs.proofs.Runs.{At}
-use Rattle.law_copies.specs.Visits.{WasThere, place_by}
+use Rattle.law_moves.proofs.Imports.{◌++◌, ◌+◌, ◌≡◌, ◌≤◌, At, Cell, Chain, Command, In, IsPrefix, Key, LinkId, List, OneMore, Pending, Record, Script}
+use Rattle.law_moves.proofs.Imports.{Setting, Some, WasThere, World, at, cell_cmp, cell_of, chain_in, chosen_log, chosen_state, epoch_at, false, is_clients}
+use Rattle.law_moves.proofs.Imports.{link_cmp, place_by, progress, setting_of, stage_at, state_after, true, ℕ}
 use Rattle.law_moves.specs.Fills.{AreFilled, Has, WasFilled}
 use Rattle.law_moves.specs.FrozenCopies.{AreStill}
 use Rattle.law_moves.proofs.NewestByLetters.{AllNewest}
-use Rattle.law_epochs.proofs.EpochScenes.{OneMore}
 use Rattle.law_moves.proofs.MoveScenes.{AsksToPut, FillAtPlace, IsSecondAt}
 
 -- what is frozen is of no epoch above that of the cell's disk

@@ -1,54 +1,22 @@
 -- Each step keeps what letters of entries that move say, and what operations for them were opened for.
-use Rattle.std.proofs.Common.{◌≡◌, ◌<◌, ◌&&◌, ℕ, List, [], ◌∷◌, true, false, length, Some, refl, sym, ap, ◌∙◌, subst, arith}
-use Rattle.std.specs.Prelude.{◌||◌, nat_lt}
-use Rattle.std.specs.Ordering.{nat_cmp}
-use Rattle.std.proofs.lemmas.Bool.Decides.{nat_tests}
-use Rattle.petal_base.specs.Cells.{cell_of, key_at}
-use Rattle.petal_base.specs.declared.cell.Cell.{Cell}
-use Rattle.petal_base.specs.declared.cell.Key.{Key}
-use Rattle.petal_command.specs.declared.command.Command.{Command}
-use Rattle.petal_msg.specs.Kinds.{subject_of}
-use Rattle.petal_msg.specs.declared.body.Body.{Body}
-use Rattle.petal_msg.specs.declared.body.Body.TheVariants as body
-use Rattle.petal_msg.specs.declared.letter.Letter.{Letter}
-use Rattle.petal_msg.specs.declared.operation.Pending.{Pending}
-use Rattle.petal_table.specs.Table.{Table, at}
-use Rattle.petal_table.proofs.Rows.{at-empty}
-use Rattle.spec_state.specs.CellState.{source}
-use Rattle.spec_rules.specs.Crossing.{crossed}
-use Rattle.spec_rules.specs.Fills.{comes_before}
-use Rattle.spec_rules.specs.Lists.{In}
-use Rattle.spec_rules.specs.Server.{PairState, Pairs, Post, Server}
-use Rattle.spec_rules.specs.State.{State, id_of, link_named}
-use Rattle.spec_rules.specs.Store.{Chain, Store, cell_cmp, chain_in}
-use Rattle.spec_rules.specs.Writes.{is_clients}
-use Rattle.spec_rules.specs.World.{chosen_log, server_state}
-use Rattle.spec_rules.proofs.Settled.{settling}
-use Rattle.spec_rules.proofs.Tests.{none_some, number_itself, same_some, true_false}
-use Rattle.law_state.proofs.NewMapLinks.{or_true}
-use Rattle.spec_history.specs.Claims.{IsPrefix}
-use Rattle.law_state.specs.Plain.{IsPlainLog}
-use Rattle.law_state.proofs.EntriesOnlyAdd.{log_plain}
-use Rattle.law_state.proofs.Steady.{front_plain, log_rev}
-use Rattle.law_steps.specs.DidLead.{IsNextFill}
-use Rattle.law_steps.specs.DidStep.{Handled, own_place}
-use Rattle.law_steps.proofs.MovesAreOfComingCells.{next_on, stage_facts}
-use Rattle.law_steps.proofs.FillsByJobs.{Fills, Is_next, Is_other, Stood, Writes, did_come, did_fills, is_fill}
-use Rattle.law_steps.proofs.Fronts.{front_on}
-use Rattle.law_steps.proofs.KindsInHistories.{proposed_pairs}
-use Rattle.law_epochs.proofs.EntryPredicates.{is_of_entries}
+use Rattle.law_moves.proofs.Imports.{[], ◌&&◌, ◌<◌, ◌||◌, ◌∙◌, ◌∷◌, ◌≡◌, Body, Cell, Chain, Command, Fills, Handled, In, IsNextFill, IsPlainLog, IsPrefix}
+use Rattle.law_moves.proofs.Imports.{Is_next, Is_other, Key, Letter, List, OneMore, PairState, Pairs, Pending, Post, Server, Some, State, Stood, Store, Table}
+use Rattle.law_moves.proofs.Imports.{Writes, ap, arith, at, at-empty, cell_cmp, cell_of, chain_in, chosen_log, comes_before, crossed, did_come, did_fills}
+use Rattle.law_moves.proofs.Imports.{ends_of, false, front_on, front_plain, id_of, is_clients, is_fill, is_of_entries, key_at, length, link_named, log_plain}
+use Rattle.law_moves.proofs.Imports.{log_rev, nat_cmp, nat_lt, nat_tests, next_on, none_some, number_itself, or_true, own_place, proposed_pairs, refl}
+use Rattle.law_moves.proofs.Imports.{same_some, server_state, settling, source, stage_facts, subject_of, subst, sym, true, true_false, ℕ}
 use Rattle.law_moves.specs.Fills.{Has, IsFrozen, WasFilled}
 use Rattle.law_moves.specs.LeftToMove.{IsKept, IsOurs}
 use Rattle.law_moves.proofs.FrozenIsWhatCounted.{frozen_stays}
 use Rattle.law_moves.proofs.AllKeptOfMoves.{WasKnown}
 use Rattle.law_moves.proofs.Movers.{had, three, way}
 use Rattle.law_moves.proofs.NextFill.{next_is}
-use Rattle.law_moves.proofs.StepsTellEntries.{Awakes, Before, Enters, HasGone, IsJob, IsPosted, Is_blanked, Other, Posted, Raises, Rests}
-use Rattle.law_moves.proofs.StepsTellEntries.{Starts_ballot, Works, chosen_on, gone, knows, sent}
+use Rattle.law_moves.proofs.StepsTellEntries.{Awakes, Before, Enters, HasGone, IsJob, IsPosted, Is_blanked, Other, Posted, Raises, Rests, Starts_ballot}
+use Rattle.law_moves.proofs.StepsTellEntries.{Works, chosen_on, gone, knows, sent}
 use Rattle.law_moves.proofs.LeadsWereTold.{HasTold, lift, same_frozen}
 use Rattle.law_moves.proofs.LeadsRememberMoved.{done_told}
-use Rattle.law_epochs.proofs.EpochScenes.{OneMore, ends_of}
 use Rattle.law_moves.proofs.MoveScenes.{IsMover}
+use Rattle.petal_msg.specs.declared.body.Body.TheVariants as body
 
 is_lower : (a b : ℕ) → a < b → nat_lt a b ≡ true
 is_lower a b lt = grind (arith, nat_tests)

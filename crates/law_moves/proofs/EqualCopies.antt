@@ -1,37 +1,10 @@
 -- Where a region begins to leave, the two copies of a link in Both are equal: whatever its first server has pending then, the second one has followed.
-use Rattle.std.proofs.Common.{◌≡◌, ◌≤◌, ◌+◌, ◌++◌, ℕ, Bool, true, false, List, Option, Some, None, is_some}
-use Rattle.std.proofs.Common.{refl, sym, ap, ◌∙◌, subst, inl, inr, arith}
-use Rattle.global_tables.specs.declared.link.LinkRow.{LinkRow}
-use Rattle.global_tables.specs.declared.link.LinkState.TheVariants.{Both}
-use Rattle.petal_base.specs.Cells.{cell_of}
-use Rattle.petal_base.specs.declared.cell.Cell.{Cell}
-use Rattle.petal_base.specs.declared.cell.Key.{Key}
-use Rattle.petal_table.specs.Table.{at}
-use Rattle.petal_table.proofs.Rows.{at-empty}
-use Rattle.petal_msg.specs.declared.operation.Pending.{Pending}
-use Rattle.script_lines.specs.declared.script.Script.{Script}
-use Rattle.spec_state.specs.CellState.{serves}
-use Rattle.spec_rules.specs.Server.{PairState, Pairs}
-use Rattle.spec_rules.specs.Store.{Chain, Store, cell_cmp, chain_in}
-use Rattle.spec_rules.specs.World.{blank_joins_in, kept, setting_of}
-use Rattle.spec_rules.specs.Writes.{is_clients}
-use Rattle.spec_rules.proofs.Tests.{by_bool, none_some, true_false}
-use Rattle.spec_history.specs.Steps.{AreSteps}
-use Rattle.spec_history.specs.Sound.{IsSound}
-use Rattle.spec_history.specs.declared.record.Record.{Record}
-use Rattle.law_log.proofs.LogInHistories.{history_grows}
-use Rattle.law_state.specs.LaterStates.{IsServing}
-use Rattle.law_state.specs.Homes.{stage_at}
-use Rattle.law_state.proofs.Roles.{secondary_is_one}
-use Rattle.law_steps.proofs.Fronts.{front_itself, front_long, front_on}
-use Rattle.law_steps.proofs.Records.{split_last}
-use Rattle.law_jobs.proofs.Runs.{At}
-use Rattle.law_copies.proofs.StoresAlongRecords.{before_last}
-use Rattle.law_copies.specs.GoodCopies.{AreTwins, pair_at}
-use Rattle.law_copies.specs.Pair.{AreCopies, Working, far}
-use Rattle.law_copies.specs.Visits.{IsLinked, WasThere, half, place_by}
-use Rattle.law_copies.proofs.PlacesByFronts.{at_most_or_above}
-use Rattle.law_epochs.proofs.EpochsInHistories.{place_timely}
+use Rattle.law_moves.proofs.Imports.{◌++◌, ◌+◌, ◌∙◌, ◌≡◌, ◌≤◌, AreCopies, AreSteps, AreTwins, At, Bool, Both, Cell, Chain, IsLinked, IsServing, IsSound, Key}
+use Rattle.law_moves.proofs.Imports.{LinkRow, List, None, OneMore, Option, PairState, Pairs, Pending, Record, Run, Script, Some, Store, WasThere, Working, ap}
+use Rattle.law_moves.proofs.Imports.{arith, at, at-empty, at_most_or_above, before_last, blank_joins_in, by_bool, cell_cmp, cell_of, chain_in, cut, ends_of}
+use Rattle.law_moves.proofs.Imports.{false, far, front_itself, front_long, front_on, half, history_grows, inl, inr, is_clients, is_some, kept, none_some}
+use Rattle.law_moves.proofs.Imports.{pair_at, place_by, place_timely, refl, secondary_is_one, serves, setting_of, split_last, stage_at, subst, sym, true}
+use Rattle.law_moves.proofs.Imports.{true_false, ℕ}
 use Rattle.law_moves.specs.Fills.{Has, IsFrozen}
 use Rattle.law_moves.proofs.FrozenIsWhatCounted.{frozen_stays}
 use Rattle.law_moves.proofs.AllKeptOfMoves.{WereKnown}
@@ -41,7 +14,6 @@ use Rattle.law_moves.proofs.PendingWasOpened.{opened_within}
 use Rattle.law_moves.proofs.MovedRegionsHaveAll.{AllMoved}
 use Rattle.law_moves.proofs.ToldEntriesAreThere.{told_already}
 use Rattle.law_moves.proofs.MoveWorlds.{chosen_twins, good, rests, row_serving}
-use Rattle.law_epochs.proofs.EpochScenes.{Run, OneMore, cut, ends_of}
 use Rattle.law_moves.proofs.MoveScenes.{FillsSo}
 
 -- what is known of an entry that moves stays so

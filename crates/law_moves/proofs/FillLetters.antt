@@ -1,29 +1,12 @@
 -- Who says that an entry is there, and who asks a second server to put: what a job sends of either.
-use Rattle.std.proofs.Common.{◌≡◌, ℕ, Bool, true, false, Some, None, refl, ap, ◌∙◌}
-use Rattle.petal_table.specs.Table.{at}
-use Rattle.petal_msg.specs.Kinds.{Filling, Logged, Paired, Subject, is_logged, subject_of}
-use Rattle.petal_msg.specs.declared.body.Body.{Body}
-use Rattle.petal_msg.specs.declared.body.Body.TheVariants as body
-use Rattle.petal_msg.specs.declared.operation.Ending.{Ending}
-use Rattle.petal_msg.specs.declared.operation.Ending.TheVariants.{Written, Full}
-use Rattle.petal_msg.specs.declared.operation.OpKind.TheVariants as kind
-use Rattle.petal_msg.specs.declared.operation.Pending.{Pending}
-use Rattle.spec_rules.specs.Fills.{Moving}
-use Rattle.spec_rules.specs.Lists.{In}
-use Rattle.spec_rules.specs.Server.{PairState, JobContext, Post, JobResult}
-use Rattle.spec_rules.specs.State.{in_both, is_alone_on}
-use Rattle.spec_rules.specs.Store.{cell_cmp}
-use Rattle.spec_rules.specs.Writes.{ended, pending_on}
-use Rattle.spec_rules.proofs.Tests.{by_bool, true_false}
-use Rattle.law_steps.specs.Operations.{answering, copying}
-use Rattle.law_steps.specs.Did.{Did, Refuses}
-use Rattle.law_steps.specs.DidLead.{Of_the_log, Repeats}
-use Rattle.law_steps.specs.DidLead.{Has_fill, IsFilled, Taken}
-use Rattle.law_jobs.specs.Sayings as says
-use Rattle.law_jobs.specs.Effects.{Alone_has, Both_have, HasEnded, Is_dead}
-use Rattle.law_jobs.specs.Sayings.{to_server}
-use Rattle.law_jobs.proofs.JobsSay.{letters_of_job}
+use Rattle.law_moves.proofs.Imports.{◌∙◌, ◌≡◌, Alone_has, Body, Bool, Both_have, Did, Ending, Filling, Full, HasEnded, Has_fill, In, IsFilled, Is_dead}
+use Rattle.law_moves.proofs.Imports.{JobContext, JobResult, Logged, Moving, None, Of_the_log, PairState, Paired, Pending, Post, Refuses, Repeats, Some}
+use Rattle.law_moves.proofs.Imports.{Subject, Taken, Written, answering, ap, at, by_bool, cell_cmp, copying, ended, false, in_both, is_alone_on, is_logged}
+use Rattle.law_moves.proofs.Imports.{letters_of_job, pending_on, refl, subject_of, to_server, true, true_false, ℕ}
 use Rattle.law_moves.proofs.JobsChangeOneChain.{NeverDead}
+use Rattle.petal_msg.specs.declared.body.Body.TheVariants as body
+use Rattle.petal_msg.specs.declared.operation.OpKind.TheVariants as kind
+use Rattle.law_jobs.specs.Sayings as says
 
 -- the letter says that an entry is there
 abbrev pub is_filled : Body → Bool

@@ -1,45 +1,15 @@
 -- An entry that moves which a second server can still put: its region is on its way, or a letter would say that it is there, and the server, which
 -- has not put it, would have it.
-use Rattle.std.proofs.Common.{◌≡◌, ◌≤◌, ◌+◌, ℕ, List, true, false, Some, None, sym, ap, ◌∙◌, subst, inl, inr, arith}
-use Rattle.std.specs.Prelude.{is_some}
-use Rattle.std.specs.Ordering.{nat_cmp}
-use Rattle.global_tables.specs.Link.{has_server}
-use Rattle.global_tables.specs.declared.link.LinkRow.{LinkRow}
-use Rattle.global_tables.specs.declared.link.LinkState.TheVariants.{Both}
-use Rattle.petal_base.specs.declared.cell.Cell.{Cell}
-use Rattle.petal_command.specs.declared.command.Command.{Command}
-use Rattle.petal_msg.specs.declared.operation.Pending.{Pending}
-use Rattle.petal_table.specs.Table.{at}
-use Rattle.script_lines.specs.declared.script.Script.{Script}
-use Rattle.spec_state.specs.CellState.{serves}
-use Rattle.spec_rules.specs.Server.{PairState, Pairs}
-use Rattle.spec_rules.specs.State.{is_in}
-use Rattle.spec_rules.specs.Store.{Store, cell_cmp, chain_in}
-use Rattle.spec_rules.specs.Writes.{is_clients}
-use Rattle.spec_rules.specs.World.{Setting, World, chosen_state, counted, kept, server_state, setting_of}
-use Rattle.spec_rules.proofs.Tests.{true_false}
-use Rattle.spec_history.specs.Claims.{IsPrefix}
-use Rattle.spec_history.specs.Steps.{AreSteps}
-use Rattle.spec_history.specs.Sound.{IsSound}
-use Rattle.spec_history.specs.declared.record.Record.{Record}
-use Rattle.law_state.specs.LaterStates.{IsServing}
-use Rattle.law_state.specs.Homes.{stage_at}
-use Rattle.law_state.proofs.Roles.{secondary_is_one}
-use Rattle.law_steps.specs.Operations.{progress}
-use Rattle.law_steps.proofs.Fronts.{front_itself}
-use Rattle.law_copies.proofs.StoreHistories.{in_counts}
-use Rattle.law_jobs.proofs.Runs.{At}
-use Rattle.law_copies.specs.GoodCopies.{AreTwins, Good, pair_at}
-use Rattle.law_copies.specs.Pair.{far}
-use Rattle.law_copies.specs.Visits.{IsHere, IsLinked, WasThere, half, place_by, store_by}
-use Rattle.law_copies.proofs.ServedAtLaterFronts.{both_last}
-use Rattle.law_copies.proofs.PlacesByFronts.{at_most_or_above}
+use Rattle.law_moves.proofs.Imports.{◌+◌, ◌∙◌, ◌≡◌, ◌≤◌, AreSteps, AreTwins, At, Both, Cell, Command, Good, IsHere, IsLinked, IsPrefix, IsServing, IsSound}
+use Rattle.law_moves.proofs.Imports.{LinkRow, List, None, PairState, Pairs, Pending, Record, Run, Script, Setting, Some, Store, WasThere, World, ap, arith}
+use Rattle.law_moves.proofs.Imports.{at, at_most_or_above, both_last, cell_cmp, chain_in, chosen_state, counted, end_of, false, far, front_itself, half}
+use Rattle.law_moves.proofs.Imports.{has_server, in_counts, inl, inr, is_clients, is_in, is_some, kept, nat_cmp, pair_at, place_by, progress}
+use Rattle.law_moves.proofs.Imports.{secondary_is_one, server_state, serves, setting_of, stage_at, store_by, subst, sym, true, true_false, ℕ}
 use Rattle.law_moves.specs.Fills.{Has, WasFilled}
 use Rattle.law_moves.proofs.KnownOfMoves.{born_after, filling_after, keyed}
 use Rattle.law_moves.proofs.MovesInHistories.{known_after}
 use Rattle.law_moves.proofs.ToldEntriesAreThere.{told_already}
 use Rattle.law_moves.proofs.MoveWorlds.{firm, good, own_counts, row_serving, serving_on, up, was_seen}
-use Rattle.law_epochs.proofs.EpochScenes.{Run, end_of}
 
 -- a server that runs, and by its own entries is In and the second one of a link in Both, where the first one had a fill pending that it has not followed
 record IsToFill (setting : Setting) (records : List Record) (w : World) : Type 0 where

@@ -1,32 +1,13 @@
 -- What is frozen of a cell is of no epoch above the one that the cell's disk had as its region's fence took effect, so by each front from there on.
-use Rattle.std.proofs.Common.{◌≡◌, ◌≤◌, ℕ, List, [], ◌∷◌, Option, Some, None, refl, sym, ap, ◌∙◌, inl, inr, arith}
-use Rattle.std.specs.Prelude.{is_some, option_map}
-use Rattle.std.specs.Ordering.{nat_cmp}
-use Rattle.petal_base.specs.declared.cell.Cell.{Cell}
-use Rattle.petal_command.specs.declared.command.Command.{Command}
-use Rattle.petal_table.specs.Table.{at}
-use Rattle.script_lines.specs.declared.script.Script.{Script}
-use Rattle.spec_state.specs.Command.{state_after}
-use Rattle.spec_rules.specs.State.{authority}
-use Rattle.spec_rules.specs.Store.{Chain, Store, Stored, chain_in}
-use Rattle.spec_rules.specs.World.{World, blank_joins_in, chosen_log, chosen_state, kept, setting_of}
-use Rattle.spec_rules.proofs.Tests.{none_some, same_or_apart, same_some, some_or_none, true_false}
-use Rattle.spec_history.specs.Claims.{IsPrefix}
-use Rattle.spec_history.specs.Steps.{AreSteps}
-use Rattle.spec_history.specs.Sound.{IsSound}
-use Rattle.spec_history.specs.declared.record.Record.{Record}
-use Rattle.law_state.specs.Homes.{epoch_at, stage_at}
-use Rattle.law_state.proofs.Steady.{front_plain, log_below}
-use Rattle.law_log.proofs.LogInHistories.{history_grows, history_is_firm}
-use Rattle.law_steps.proofs.Fronts.{front_itself}
-use Rattle.law_jobs.proofs.Runs.{At, by_run, run_of}
-use Rattle.law_copies.proofs.PlacesByFronts.{at_most_or_above, fronts_meet}
-use Rattle.law_epochs.proofs.EntriesNeverEarly.{IsKnownBy, all_early, before_then, kept_by, now_then}
-use Rattle.law_epochs.proofs.EntryPredicates.{AreWithin}
+use Rattle.law_moves.proofs.Imports.{[], ◌∙◌, ◌∷◌, ◌≡◌, ◌≤◌, AreSteps, AreWithin, At, Cell, Chain, Command, IsKnownBy, IsPrefix, IsSound, List, None, OneMore}
+use Rattle.law_moves.proofs.Imports.{Option, Record, Script, Some, Store, Stored, World, all_early, ap, arith, at, at_most_or_above, authority, before_then}
+use Rattle.law_moves.proofs.Imports.{blank_joins_in, by_run, chain_in, chosen_log, chosen_state, ends_of, epoch_at, front_itself, front_plain, fronts_meet}
+use Rattle.law_moves.proofs.Imports.{history_grows, history_is_firm, inl, inr, is_some, kept, log_below, nat_cmp, none_some, now_then, option_map, refl}
+use Rattle.law_moves.proofs.Imports.{run_of, same_or_apart, same_some, setting_of, some_or_none, stage_at, state_after, sym, true_false, ℕ}
+use Rattle.law_epochs.proofs.EntriesNeverEarly.{kept_by}
 use Rattle.law_moves.specs.Fills.{Has}
 use Rattle.law_moves.proofs.FrozenIsWhatCounted.{frozen_at, frozen_same, none_early}
 use Rattle.law_moves.proofs.AllKeptOfMoves.{AreFrozenEarly}
-use Rattle.law_epochs.proofs.EpochScenes.{OneMore, ends_of}
 
 pub entry_of : (chain : Chain) (epoch : ℕ) → Has chain epoch → (entry : Stored) × (at nat_cmp chain epoch ≡ Some entry)
 entry_of chain epoch has = elim (some_or_none (at nat_cmp chain epoch)) [ inl h ↦ h | inr none ↦ true_false has (ap is_some none) ]

@@ -1,28 +1,11 @@
 -- What is kept of an old map's cells as their region's fence took effect: the step that chooses that entry writes it, from the copy that counts
 -- then, and no other one changes it.
-use Rattle.std.proofs.Common.{◌≡◌, ◌≢◌, ◌≤◌, ◌⊎◌, ◌++◌, ◌&&◌, not, if◌then◌else◌, ℕ, List, [], ◌∷◌, Bool, true, false}
-use Rattle.std.proofs.Common.{Option, Some, None, refl, ap, ◌∙◌, inl, inr, arith}
-use Rattle.petal_base.specs.declared.cell.Cell.{Cell}
-use Rattle.script_lines.specs.declared.script.Script.{Script}
-use Rattle.spec_rules.specs.State.{State, leaving}
-use Rattle.spec_rules.specs.Store.{Chain}
-use Rattle.spec_rules.specs.World.{Setting, World, begins_to_leave, chain_that_counts, chosen_log, chosen_state, frozen_by, setting_of}
-use Rattle.spec_rules.proofs.Tests.{both_true, by_bool, none_some, true_false}
-use Rattle.spec_history.specs.Steps.{AreSteps}
-use Rattle.spec_history.specs.Sound.{IsSound}
-use Rattle.spec_history.specs.declared.record.Record.{Record}
-use Rattle.law_state.specs.Homes.{HasStage, stage_at}
-use Rattle.law_state.specs.Plain.{IsPlainLog}
-use Rattle.law_state.proofs.Steady.{log_below}
-use Rattle.law_log.proofs.LogInHistories.{history_grows, history_is_firm}
-use Rattle.law_steps.specs.DidStep.{Happens, Serves, Blanks, Turns}
-use Rattle.law_steps.proofs.MovesAreOfComingCells.{stage_facts}
-use Rattle.law_steps.proofs.WorldsAreFirm.{always_firm}
-use Rattle.law_steps.proofs.Fronts.{below_itself}
-use Rattle.law_steps.proofs.KindsInHistories.{last_happens}
-use Rattle.law_jobs.proofs.Runs.{At, before_part, after, by_run, run_of, setting_in, since}
-use Rattle.law_copies.proofs.PlacesByFronts.{at_most_or_above}
-use Rattle.law_epochs.proofs.EpochScenes.{OneMore, ends_of}
+use Rattle.law_moves.proofs.Imports.{[], if◌then◌else◌, ◌&&◌, ◌++◌, ◌∙◌, ◌∷◌, ◌≡◌, ◌≢◌, ◌≤◌, ◌⊎◌, AreSteps, At, Blanks, Bool, Cell, Chain, Happens, HasStage}
+use Rattle.law_moves.proofs.Imports.{IsPlainLog, IsSound, List, None, OneMore, Option, Record, Script, Serves, Setting, Some, State, Turns, World, after}
+use Rattle.law_moves.proofs.Imports.{always_firm, ap, arith, at_most_or_above, before_part, begins_to_leave, below_itself, both_true, by_bool, by_run}
+use Rattle.law_moves.proofs.Imports.{chain_that_counts, chosen_log, chosen_state, ends_of, false, frozen_by, history_grows, history_is_firm, inl, inr}
+use Rattle.law_moves.proofs.Imports.{last_happens, leaving, log_below, none_some, not, refl, run_of, setting_in, setting_of, since, stage_at, stage_facts}
+use Rattle.law_moves.proofs.Imports.{true, true_false, ℕ}
 
 -- ### One step
 

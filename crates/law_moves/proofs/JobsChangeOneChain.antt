@@ -1,40 +1,17 @@
 -- A job changes at most one chain: that of an operation that is pending here, of one whose lead asked to follow, or of a cell whose
 -- link the other server holds alone, and copies to this one.
-use Rattle.std.proofs.Common.{◌≡◌, ◌+◌, ℕ, List, [], true, false, Some, refl, sym, ap, ◌∙◌, ◌≢◌, ◌<◌, ◌∷◌, ◌⊎◌, inl, inr}
-use Rattle.petal_base.specs.declared.cell.Cell.{Cell}
-use Rattle.petal_base.specs.declared.cell.Key.{Key}
-use Rattle.petal_base.specs.Cells.{cell_of, key_at}
-use Rattle.petal_table.specs.Table.{Table}
-use Rattle.petal_msg.specs.declared.body.Body.{Body}
+use Rattle.law_moves.proofs.Imports.{[], ◌+◌, ◌<◌, ◌∙◌, ◌∷◌, ◌≡◌, ◌≢◌, ◌⊎◌, Begins_copy, Body, By_filler, By_holder, By_lead, By_other, By_read, By_second}
+use Rattle.law_moves.proofs.Imports.{By_sweep, Cell, Chain, Closes, Closes_alone, Closes_copy, CopyStep, Copy_as_is, Copy_synced, Copy_trimmed, Copying, Dead}
+use Rattle.law_moves.proofs.Imports.{Did, DidHolder, DidLead, DidOther, DidSecond, Drops_entry, Entry, Follows, Full, Gives_up, Goes_on_copying, Goes_on_dead}
+use Rattle.law_moves.proofs.Imports.{Goes_on_trimming, Ignores, IsSeated, Is_copied_to, Is_trimmed, JobContext, JobResult, Key, LastCopy, List, Marks_alone}
+use Rattle.law_moves.proofs.Imports.{PairState, Pending, Promises, Puts, Puts_alone, Puts_entry, Refuses, Some, Stage, Store, Stored, Sweeps, Table, Taken}
+use Rattle.law_moves.proofs.Imports.{TakenCopy, TrimStep, Turns_page, Unmarks_alone, Written, ap, cell_holder, cell_of, cell_swept, chain_apart, chain_in}
+use Rattle.law_moves.proofs.Imports.{chains_with, copied_chains, drop_apart, drop_none, epochs_beyond, false, first_last, gives_back, inl, inr, is_in}
+use Rattle.law_moves.proofs.Imports.{is_second, key_at, last_copy, last_on, live, of_ending, of_filler, of_read, page_chains, pending_on, refl, sym, taking}
+use Rattle.law_moves.proofs.Imports.{told_own, true, version_of, with_last_copy, without_dead, without_entry, without_pending, ℕ}
 use Rattle.petal_msg.specs.declared.body.Body.TheVariants as body
-use Rattle.petal_msg.specs.declared.copying.Copying.{Copying}
-use Rattle.petal_msg.specs.declared.copying.LastCopy.{LastCopy}
-use Rattle.petal_msg.specs.declared.dead.Dead.{Dead}
 use Rattle.petal_msg.specs.declared.dead.Dead.TheVariants as dead
-use Rattle.petal_msg.specs.declared.operation.Ending.TheVariants.{Full, Written}
 use Rattle.petal_msg.specs.declared.operation.Far.TheVariants as far
-use Rattle.petal_msg.specs.declared.operation.Pending.{Pending}
-use Rattle.petal_msg.specs.declared.operation.Stage.{Stage}
-use Rattle.spec_rules.specs.Copies.{Entry, cell_holder, epochs_beyond}
-use Rattle.spec_rules.specs.Progress.{last_copy, with_last_copy}
-use Rattle.spec_rules.specs.State.{is_in, is_second, live}
-use Rattle.spec_rules.specs.Sweeping.{without_dead}
-use Rattle.spec_rules.specs.Store.{Chain, Store, Stored, chain_in, chains_with, version_of, without_entry}
-use Rattle.spec_rules.specs.Server.{PairState, JobContext, JobResult}
-use Rattle.spec_rules.specs.Writes.{gives_back, pending_on, last_on, without_pending}
-use Rattle.law_steps.specs.DidLead.{DidLead, Gives_up, Puts, Closes, Marks_alone, Puts_alone}
-use Rattle.law_steps.specs.DidLead.{Unmarks_alone, Closes_alone, Goes_on_dead, Taken}
-use Rattle.law_steps.specs.DidSecond.{DidSecond, Promises, Follows}
-use Rattle.law_steps.specs.DidHolder.{DidHolder, CopyStep, TakenCopy, Closes_copy, Copy_as_is, Copy_trimmed, Copy_synced}
-use Rattle.law_steps.specs.DidHolder.{Turns_page, Begins_copy, Goes_on_copying}
-use Rattle.law_steps.specs.DidOther.{DidOther, TrimStep, first_last, Is_trimmed, Drops_entry, Is_copied_to}
-use Rattle.law_steps.specs.DidOther.{Goes_on_trimming, Puts_entry}
-use Rattle.law_steps.specs.Did.{Did, Ignores, Refuses, By_read, By_lead, By_second, By_holder, By_other, By_filler, By_sweep}
-use Rattle.law_steps.specs.DidStep.{IsSeated}
-use Rattle.law_steps.specs.DidSweep.{Sweeps, cell_swept}
-use Rattle.law_steps.proofs.Subjects.{of_ending, of_filler, of_read, told_own}
-use Rattle.law_steps.proofs.TakenUpAlone.{taking}
-use Rattle.law_jobs.proofs.ChainsApart.{chain_apart, copied_chains, drop_apart, drop_none, page_chains}
 
 -- an operation that is pending here was put
 pub record PutsOwn (own new : PairState) : Type 0 where

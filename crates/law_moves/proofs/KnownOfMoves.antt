@@ -1,28 +1,8 @@
 -- What is known of moves after each legal history.
-use Rattle.std.proofs.Common.{◌≡◌, ◌≤◌, ◌++◌, ℕ, List, ◌∷◌, false, Some, sym, ap, ◌∙◌, subst, inl, inr, arith}
-use Rattle.global_tables.specs.Region.{region_of}
-use Rattle.global_tables.specs.declared.link.LinkRow.{LinkRow}
-use Rattle.petal_base.specs.Cells.{cell_of}
-use Rattle.petal_base.specs.declared.cell.Cell.{Cell}
-use Rattle.petal_command.specs.declared.command.Command.TheVariants.{Moved}
-use Rattle.petal_msg.specs.declared.operation.Pending.{Pending}
-use Rattle.petal_table.specs.Table.{at}
-use Rattle.script_lines.specs.declared.script.Script.{Script}
-use Rattle.spec_rules.specs.Server.{Pairs}
-use Rattle.spec_rules.specs.Store.{Chain, cell_cmp}
-use Rattle.spec_rules.specs.Writes.{is_clients}
-use Rattle.spec_rules.specs.World.{chosen_state}
-use Rattle.spec_history.specs.Claims.{Moves}
-use Rattle.spec_history.specs.Steps.{AreSteps}
-use Rattle.spec_history.specs.Sound.{IsSound}
-use Rattle.spec_history.specs.declared.record.Record.{Record}
-use Rattle.law_state.specs.Homes.{stage_at}
-use Rattle.law_state.proofs.Steady.{log_below}
-use Rattle.law_log.proofs.LogInHistories.{history_grows, history_is_firm}
-use Rattle.law_steps.proofs.Fronts.{front_on}
-use Rattle.law_jobs.proofs.Runs.{At}
-use Rattle.law_copies.specs.Visits.{IsLinked, WasThere, place_by}
-use Rattle.law_copies.proofs.PlacesByFronts.{at_most_or_above}
+use Rattle.law_moves.proofs.Imports.{◌++◌, ◌∙◌, ◌∷◌, ◌≡◌, ◌≤◌, AreSteps, At, Cell, Chain, IsLinked, IsSound, LinkRow, List, Moved, Moves, Pairs, Pending}
+use Rattle.law_moves.proofs.Imports.{Record, Run, Script, Some, WasThere, ap, arith, at, at_most_or_above, cell_cmp, cell_of, chosen_state, cut, end_of}
+use Rattle.law_moves.proofs.Imports.{false, front_on, history_grows, history_is_firm, inl, inr, is_clients, log_below, place_by, region_of, stage_at, subst}
+use Rattle.law_moves.proofs.Imports.{sym, ℕ}
 use Rattle.law_moves.specs.Fills.{HaveComeOver, IsFrozen}
 use Rattle.law_moves.proofs.MovesInHistories.{all_known, known_after}
 use Rattle.law_moves.proofs.AllKeptOfMoves.{Known}
@@ -32,7 +12,6 @@ use Rattle.law_moves.proofs.TwoCopyRuleInMoves.{rule_kept}
 use Rattle.law_moves.proofs.EqualCopies.{frozen_on}
 use Rattle.law_moves.proofs.ToldEntriesAreThere.{told_already}
 use Rattle.law_moves.proofs.MoveWorlds.{rests}
-use Rattle.law_epochs.proofs.EpochScenes.{Run, cut, end_of}
 
 module _ (script : Script) (records : List Record) (sound : IsSound script) (legal : AreSteps script records) where
   abbrev h : Run

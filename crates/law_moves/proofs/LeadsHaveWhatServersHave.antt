@@ -1,46 +1,16 @@
 -- What a lead of a cell, by its own state, has of it while nothing of its own is under way, or its second server has followed: each server that serves the
 -- link by what is chosen has it too. And of two such leads the one has just held the link alone, and is after its own Caught.
-use Rattle.std.proofs.Common.{◌≡◌, ◌≤◌, ◌<◌, ◌+◌, ◌==◌, ◌⊎◌, ℕ, Bool, true, false, List, Option, Some, None, is_some}
-use Rattle.std.proofs.Common.{refl, sym, ap, ◌∙◌, subst, inl, inr, arith}
-use Rattle.std.specs.Prelude.{option_and_then}
-use Rattle.std.specs.Ordering.{nat_cmp}
-use Rattle.global_tables.specs.Link.{has_server}
-use Rattle.global_tables.specs.declared.link.LinkRow.{LinkRow}
-use Rattle.global_tables.specs.declared.link.LinkState.TheVariants.{Both, Only}
-use Rattle.petal_base.specs.declared.cell.Cell.{Cell}
-use Rattle.petal_command.specs.declared.command.Command.{Command}
-use Rattle.petal_table.specs.Table.{at, put}
-use Rattle.petal_table.proofs.Rows.{at-empty, at_apart, at_same}
-use Rattle.petal_msg.specs.declared.operation.Pending.{Pending}
-use Rattle.spec_state.specs.CellState.{cell_link, row_lead}
-use Rattle.spec_rules.specs.Progress.{has_proposed}
-use Rattle.spec_rules.specs.Server.{PairState}
-use Rattle.spec_rules.specs.State.{in_both, is_alone_on}
-use Rattle.spec_rules.specs.Store.{Chain, Store, cell_cmp, chain_in}
-use Rattle.spec_rules.specs.World.{chosen_state, kept, server_state, blank_joins_in}
-use Rattle.spec_rules.specs.Writes.{is_clients, pending_on}
-use Rattle.spec_rules.proofs.Tests.{by_bool, is_the_one, none_some, same_numbers, same_or_apart, same_some, true_false}
-use Rattle.spec_history.specs.Claims.{IsPrefix, one_put_ahead}
-use Rattle.law_state.specs.LaterStates.{IsServing}
-use Rattle.law_state.specs.Homes.{stage_at}
-use Rattle.law_state.proofs.LoneHolders.{alone_not_both, alone_row, so_both}
-use Rattle.law_state.proofs.CellsByLinkRows.{IsHeldBy, IsInBoth, link_led_by}
-use Rattle.law_state.proofs.GrownStates.{one_before}
-use Rattle.law_state.proofs.Leaves.{either_true}
-use Rattle.law_state.proofs.Roles.{holder_is_one, primary_is_one}
-use Rattle.law_steps.specs.Operations.{progress}
-use Rattle.law_steps.specs.Ties.{HasOwnCaught}
-use Rattle.law_steps.proofs.Fronts.{front_itself}
-use Rattle.law_steps.proofs.WhoLeads.{stage_live}
-use Rattle.law_steps.proofs.Ties.{running_fronts, stays_alone}
-use Rattle.law_copies.specs.GoodCopies.{pair_at}
-use Rattle.law_copies.specs.Pair.{AreCopies, PairOk, Working, far, pair_of}
-use Rattle.law_copies.specs.Visits.{AliveIn, IsLinked, half, place_by}
-use Rattle.law_copies.proofs.ServedAtLaterFronts.{both_since, same_only, serves_alone, serves_its, unseen_beyond}
-use Rattle.law_copies.proofs.PlacesByFronts.{at_most_or_above, one_row, places_up, rows_later}
+use Rattle.law_moves.proofs.Imports.{◌+◌, ◌<◌, ◌==◌, ◌∙◌, ◌≡◌, ◌≤◌, ◌⊎◌, AliveIn, AreCopies, Bool, Both, Cell, Chain, Command, HasOwnCaught, IsHeldBy}
+use Rattle.law_moves.proofs.Imports.{IsInBoth, IsLinked, IsPrefix, IsServing, LinkRow, List, None, Only, Option, PairOk, PairState, Pending, Run, Some, Store}
+use Rattle.law_moves.proofs.Imports.{Working, alone_not_both, alone_row, ap, arith, at, at-empty, at_apart, at_most_or_above, at_same, blank_joins_in}
+use Rattle.law_moves.proofs.Imports.{both_since, by_bool, cell_cmp, cell_link, chain_in, chosen_state, either_true, end_of, false, far, front_itself, half}
+use Rattle.law_moves.proofs.Imports.{has_proposed, has_server, holder_is_one, in_both, inl, inr, is_alone_on, is_clients, is_some, is_the_one, kept}
+use Rattle.law_moves.proofs.Imports.{link_led_by, nat_cmp, none_some, one_before, one_put_ahead, one_row, option_and_then, pair_at, pair_of, pending_on}
+use Rattle.law_moves.proofs.Imports.{place_by, places_up, primary_is_one, progress, put, refl, row_lead, rows_later, running_fronts, same_numbers, same_only}
+use Rattle.law_moves.proofs.Imports.{same_or_apart, same_some, server_state, serves_alone, serves_its, so_both, stage_at, stage_live, stays_alone, subst, sym}
+use Rattle.law_moves.proofs.Imports.{true, true_false, unseen_beyond, ℕ}
 use Rattle.law_moves.specs.Fills.{Has}
 use Rattle.law_moves.proofs.MoveWorlds.{chosen_twins, facts_at, firm, good, own_counts, rests, steady_at, up}
-use Rattle.law_epochs.proofs.EpochScenes.{Run, end_of}
 use Rattle.law_moves.proofs.MoveScenes.{LeadsAt, TwoLeads}
 
 -- ### Two copies

@@ -1,35 +1,14 @@
 -- Each step keeps what old leads remember of the entries that they have moved, and that each remembers so only since its region is on its way.
-use Rattle.std.proofs.Common.{◌≡◌, ◌++◌, ℕ, List, [], ◌∷◌, Bool, true, cond, Option, Some, None, refl, sym, ap, ◌∙◌, subst}
-use Rattle.std.specs.Prelude.{filter, is_some}
-use Rattle.std.specs.Ordering.{eq_by_cmp, is_eq}
-use Rattle.global_tables.specs.declared.link.LinkRow.{LinkRow}
-use Rattle.petal_base.specs.declared.cell.Cell.{Cell}
-use Rattle.petal_base.specs.declared.cell.Key.{Key}
-use Rattle.petal_command.specs.declared.command.Command.{Command}
-use Rattle.petal_command.specs.declared.command.Command.TheVariants.{Caught}
-use Rattle.petal_msg.specs.declared.copying.LinkId.{LinkId}
-use Rattle.petal_table.specs.Table.{Table, at, put}
-use Rattle.petal_table.proofs.Rows.{at-empty, at-where}
+use Rattle.law_moves.proofs.Imports.{[], ◌++◌, ◌∙◌, ◌∷◌, ◌≡◌, As_before, Bool, Caught, Cell, Command, Handled, IsPrefix, Key, LinkId, LinkRow, List, None}
+use Rattle.law_moves.proofs.Imports.{OneMore, Option, PairState, Server, Some, State, Table, Told_of, ap, at, at-empty, at-where, by_bool, by_settled}
+use Rattle.law_moves.proofs.Imports.{chosen_log, cond, crossed, did_remember, ends_of, eq_by_cmp, filled_beside, filled_here, filter, front_more, front_on}
+use Rattle.law_moves.proofs.Imports.{holds_link, id_of, is_eq, is_some, link_cmp, link_named, none_some, own_place, proposed, put, refl, same_id, same_some}
+use Rattle.law_moves.proofs.Imports.{server_state, settled_by, subst, sym, true, true_false, ℕ}
 use Rattle.spec_state.specs.Command.{after}
-use Rattle.spec_rules.specs.Crossing.{crossed, settled_by}
-use Rattle.spec_rules.specs.Returns.{holds_link, proposed}
-use Rattle.spec_rules.specs.Server.{PairState, Server}
-use Rattle.spec_rules.specs.State.{State, id_of, link_cmp, link_named}
-use Rattle.spec_rules.specs.World.{chosen_log, server_state}
-use Rattle.spec_rules.proofs.Settled.{by_settled}
-use Rattle.spec_rules.proofs.Tests.{by_bool, none_some, same_some, true_false}
-use Rattle.spec_history.specs.Claims.{IsPrefix}
-use Rattle.law_log.proofs.FillJobsLeaveLog.{filled_beside, filled_here}
-use Rattle.law_log.proofs.BallotFlags.{same_id}
-use Rattle.law_steps.specs.DidStep.{Handled, own_place}
-use Rattle.law_steps.proofs.Fronts.{front_more, front_on}
-use Rattle.law_jobs.proofs.FilledAsTold.{As_before, Told_of, did_remember}
 use Rattle.law_moves.specs.Fills.{AllFilled, IsOnWay, IsToldOf}
 use Rattle.law_moves.proofs.AllKeptOfMoves.{HasBegun, HaveBegun, WasKnown}
-use Rattle.law_moves.proofs.StepsTellEntries.{Awakes, Enters, HasGone, IsJob, Is_blanked, Raises, Rests}
-use Rattle.law_moves.proofs.StepsTellEntries.{Starts_ballot, Works, gone}
+use Rattle.law_moves.proofs.StepsTellEntries.{Awakes, Enters, HasGone, IsJob, Is_blanked, Raises, Rests, Starts_ballot, Works, gone}
 use Rattle.law_moves.proofs.LeadsWereTold.{HasTold, begun_here, told_before, told_now}
-use Rattle.law_epochs.proofs.EpochScenes.{OneMore, ends_of}
 
 -- ### What is remembered
 

@@ -1,43 +1,12 @@
 -- What the lead of a link of an old map remembers: up to the last key of which it was told, the new map was told to have all.
-use Rattle.std.proofs.Common.{◌≡◌, ◌++◌, ◌==◌, ◌&&◌, ℕ, List, [], ◌∷◌, true, false, Option, Some, None, refl, sym, ap, ◌∙◌, subst, inl, inr, arith}
-use Rattle.std.specs.Prelude.{◌||◌, if◌then◌else◌, is_some, nat_lt, option_and_then}
-use Rattle.std.specs.Option.{option_map_or}
-use Rattle.std.specs.Ordering.{eq_by_cmp}
-use Rattle.global_tables.specs.Link.{is_link}
-use Rattle.global_tables.specs.Map.{tuple_of}
-use Rattle.global_tables.specs.declared.disk.DiskRow.{DiskRow}
-use Rattle.global_tables.specs.Region.{region_of}
-use Rattle.global_tables.specs.declared.link.LinkRow.{LinkRow}
-use Rattle.petal_base.specs.Cells.{cell_of, key_at}
-use Rattle.petal_base.specs.declared.cell.Cell.{Cell}
-use Rattle.petal_base.specs.declared.cell.Key.{Key}
-use Rattle.petal_command.specs.declared.command.Command.{Command}
-use Rattle.petal_msg.specs.declared.body.Body.TheVariants as body
-use Rattle.petal_msg.specs.declared.copying.LinkId.{LinkId}
-use Rattle.petal_table.specs.Table.{Table, at, put}
-use Rattle.spec_state.specs.CellState.{cell_link, move_region, owner, source, target}
-use Rattle.spec_rules.specs.Fills.{comes_before}
-use Rattle.spec_rules.specs.Server.{PairState}
-use Rattle.spec_rules.specs.State.{State, id_of, link_cmp, link_named}
-use Rattle.spec_rules.specs.Store.{Chain, chain_in}
-use Rattle.spec_rules.specs.World.{chosen_log, server_state}
-use Rattle.spec_rules.proofs.Tests.{by_bool, none_some, number_itself, same_some, some_or_none}
-use Rattle.spec_history.specs.Claims.{IsPrefix}
-use Rattle.law_state.specs.Firm.{Firm}
-use Rattle.law_state.specs.Homes.{new_stage, old_stage, stage_at, stage_by}
-use Rattle.law_state.specs.Plain.{IsPlainLog}
-use Rattle.law_state.proofs.EntriesOnlyAdd.{log_plain}
-use Rattle.law_state.proofs.Steady.{front_plain, log_below, log_steady}
-use Rattle.law_state.proofs.EntriesTouchLinks.{map_of}
-use Rattle.law_state.proofs.TwinsAreOfOneDisk.{IsMoved, cells_same, log_comes, log_goes}
-use Rattle.law_log.proofs.FillJobsLeaveLog.{filled_beside, filled_here}
-use Rattle.law_log.proofs.BallotFlags.{same_id}
-use Rattle.law_log.proofs.LogInHistories.{history_grows, history_is_firm}
-use Rattle.law_steps.specs.DidFiller.{IsNextKey}
-use Rattle.law_steps.specs.DidStep.{Handled, own_place}
-use Rattle.law_steps.proofs.MovesAreOfComingCells.{leaves_with, next_on, region_left, stage_facts}
-use Rattle.law_steps.proofs.Fronts.{front_itself, front_on}
-use Rattle.law_steps.proofs.CopiesRest.{row_named}
+use Rattle.law_moves.proofs.Imports.{[], if◌then◌else◌, ◌&&◌, ◌++◌, ◌==◌, ◌||◌, ◌∙◌, ◌∷◌, ◌≡◌, Cell, Chain, Command, DiskRow, Firm, Handled, IsMoved}
+use Rattle.law_moves.proofs.Imports.{IsNextKey, IsPlainLog, IsPrefix, Key, LinkId, LinkRow, List, None, OneMore, Option, PairState, Some, State, Table, ap}
+use Rattle.law_moves.proofs.Imports.{arith, at, by_bool, cell_link, cell_of, cells_same, chain_in, chosen_log, comes_before, ends_of, eq_by_cmp, false}
+use Rattle.law_moves.proofs.Imports.{filled_beside, filled_here, front_itself, front_on, front_plain, history_grows, history_is_firm, id_of, inl, inr}
+use Rattle.law_moves.proofs.Imports.{is_link, is_some, key_at, leaves_with, link_cmp, link_named, log_below, log_comes, log_goes, log_plain, log_steady}
+use Rattle.law_moves.proofs.Imports.{map_of, move_region, nat_lt, new_stage, next_on, none_some, number_itself, old_stage, option_and_then, option_map_or}
+use Rattle.law_moves.proofs.Imports.{own_place, owner, put, refl, region_left, region_of, row_named, same_id, same_some, server_state, some_or_none, source}
+use Rattle.law_moves.proofs.Imports.{stage_at, stage_by, stage_facts, subst, sym, target, true, tuple_of, ℕ}
 use Rattle.law_moves.specs.Fills.{AllFilled, Has, IsOnWay, IsToldOf, WasFilled}
 use Rattle.law_moves.specs.LeftToMove.{IsKept, IsOurs}
 use Rattle.law_moves.proofs.FrozenIsWhatCounted.{frozen_same}
@@ -46,8 +15,8 @@ use Rattle.law_moves.proofs.MovedsHadNothingLeft.{filled_stays}
 use Rattle.law_moves.proofs.Movers.{had, known_told, three}
 use Rattle.law_moves.proofs.NextFill.{here_or_before, next_is}
 use Rattle.law_moves.proofs.MovedRegionsHaveAll.{link_slot, one_goal, plain}
-use Rattle.law_epochs.proofs.EpochScenes.{OneMore, ends_of}
 use Rattle.law_moves.proofs.MoveScenes.{IsMover}
+use Rattle.petal_msg.specs.declared.body.Body.TheVariants as body
 
 -- a cell is as far as another one of its map and region
 stage_region : (s : State) (one other : Cell) → one.map ≡ other.map → region_of one.block ≡ region_of other.block → stage_at s one ≡ stage_at s other

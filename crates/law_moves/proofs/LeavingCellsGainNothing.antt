@@ -1,44 +1,19 @@
 -- What a step leaves of a cell at a server that serves its link: no entry goes, and of a cell that is leaving, or has left, none comes.
-use Rattle.std.proofs.Common.{◌≡◌, ◌≤◌, ◌+◌, ◌==◌, ℕ, true, false, List, [], Option, Some, None, is_some, sym, ap, ◌∙◌, subst, inl, inr, arith}
-use Rattle.std.specs.Prelude.{if◌then◌else◌}
-use Rattle.std.specs.Ordering.{nat_cmp}
-use Rattle.std.proofs.lemmas.List.{append-nil}
-use Rattle.petal_base.specs.Cells.{cell_of}
-use Rattle.petal_base.specs.declared.cell.Cell.{Cell}
-use Rattle.petal_base.specs.declared.cell.Key.{Key}
-use Rattle.petal_command.specs.declared.command.Command.{Command}
-use Rattle.petal_table.specs.Table.{at, put}
-use Rattle.petal_table.proofs.Rows.{at_apart, at_same}
-use Rattle.petal_msg.specs.declared.body.Body.TheVariants as body
-use Rattle.petal_msg.specs.declared.operation.Far.TheVariants as far
-use Rattle.petal_msg.specs.declared.operation.Pending.{Pending}
-use Rattle.spec_state.specs.Command.{state_after}
-use Rattle.spec_rules.specs.Blanked.{BeforeBlank, kept_store}
-use Rattle.spec_rules.specs.Crossing.{crossed}
-use Rattle.spec_rules.specs.Server.{PairState, Server}
-use Rattle.spec_rules.specs.State.{is_in, is_second, second}
-use Rattle.spec_rules.specs.Store.{Chain, Store, cell_cmp, chain_in}
-use Rattle.spec_rules.specs.World.{blank_joins_in, chosen_state, kept, kept_by, server_state}
-use Rattle.spec_rules.specs.Writes.{is_clients, last_on}
-use Rattle.spec_rules.proofs.Settled.{settling}
-use Rattle.spec_rules.proofs.Tests.{by_bool, is_the_one, number_itself, same_or_apart}
-use Rattle.spec_history.specs.Claims.{IsPrefix}
-use Rattle.law_state.specs.LaterStates.{IsServing}
-use Rattle.law_state.specs.Homes.{stage_at}
-use Rattle.law_state.proofs.CellsByLinkRows.{second_by}
-use Rattle.law_steps.specs.DidStep.{Handled, own_place}
-use Rattle.law_steps.specs.Operations.{progress}
-use Rattle.law_steps.proofs.Fronts.{front_itself}
-use Rattle.law_copies.proofs.StoreJobs.{ballot_store}
-use Rattle.law_epochs.proofs.EpochsInHistories.{running_timely}
+use Rattle.law_moves.proofs.Imports.{[], if◌then◌else◌, ◌+◌, ◌==◌, ◌∙◌, ◌≡◌, ◌≤◌, BeforeBlank, Cell, Chain, Command, Handled, IsPrefix, IsServing, Key, List}
+use Rattle.law_moves.proofs.Imports.{None, OneMore, Option, PairState, Pending, Server, Some, Store, ap, append-nil, arith, at, at_apart, at_same}
+use Rattle.law_moves.proofs.Imports.{ballot_store, blank_joins_in, by_bool, cell_cmp, cell_of, chain_in, chosen_state, crossed, ends_of, false, front_itself}
+use Rattle.law_moves.proofs.Imports.{inl, inr, is_clients, is_in, is_second, is_some, is_the_one, kept, kept_by, kept_store, last_on, nat_cmp, number_itself}
+use Rattle.law_moves.proofs.Imports.{own_place, progress, put, running_timely, same_or_apart, second, second_by, server_state, settling, stage_at}
+use Rattle.law_moves.proofs.Imports.{state_after, subst, sym, true, ℕ}
 use Rattle.law_moves.specs.Fills.{Has}
 use Rattle.law_moves.proofs.ServedCellChanges.{Asked_put, IsPutOn, Own_put, Same, chain_so}
 use Rattle.law_moves.proofs.AllKeptOfMoves.{Known, WereKnown}
-use Rattle.law_moves.proofs.StepsTellEntries.{Awakes, Enters, Goes_on, HasGone, HasStore, Is_bare, Is_blanked, Raises, Rests}
-use Rattle.law_moves.proofs.StepsTellEntries.{Starts_ballot, Works, is_off, knows, stored}
+use Rattle.law_moves.proofs.StepsTellEntries.{Awakes, Enters, Goes_on, HasGone, HasStore, Is_bare, Is_blanked, Raises, Rests, Starts_ballot, Works, is_off}
+use Rattle.law_moves.proofs.StepsTellEntries.{knows, stored}
 use Rattle.law_moves.proofs.MoveWorlds.{steady_at, up}
-use Rattle.law_epochs.proofs.EpochScenes.{OneMore, ends_of}
 use Rattle.law_moves.proofs.MoveScenes.{IsSecondAt}
+use Rattle.petal_msg.specs.declared.body.Body.TheVariants as body
+use Rattle.petal_msg.specs.declared.operation.Far.TheVariants as far
 
 -- what an entry leaves of a chain
 pub has_put : (old new : Chain) (epoch e : ℕ) (bytes : List ℕ) → IsPutOn old new epoch bytes → Has old e → Has new e

@@ -1,33 +1,10 @@
 -- A step keeps that the copies of a cell that is leaving are what was frozen; and where it chooses the entry with which the region's fence takes effect, they
 -- are equal then.
-use Rattle.std.proofs.Common.{◌≡◌, ◌≤◌, ◌==◌, ℕ, true, List, Option, Some}
-use Rattle.std.proofs.Common.{refl, sym, ap, ◌∙◌, subst, inl, inr, arith}
-use Rattle.std.specs.Prelude.{option_map}
-use Rattle.global_tables.specs.Region.{region_of}
-use Rattle.petal_base.specs.declared.cell.Cell.{Cell}
-use Rattle.petal_command.specs.declared.command.Command.{Command}
-use Rattle.spec_state.specs.CellState.{serves}
-use Rattle.spec_rules.specs.Blanked.{BeforeBlank, kept_store}
-use Rattle.spec_rules.specs.Server.{Server}
-use Rattle.spec_rules.specs.State.{is_in}
-use Rattle.spec_rules.specs.Store.{Chain, Store, chain_in}
-use Rattle.spec_rules.specs.World.{chosen_log, kept, kept_by}
-use Rattle.spec_rules.proofs.Tests.{by_bool, same_numbers, true_false}
-use Rattle.spec_history.specs.Claims.{IsPrefix}
-use Rattle.spec_history.specs.Steps.{AreSteps}
-use Rattle.law_log.proofs.LogInHistories.{history_grows, history_is_firm, moved_was_wanted}
-use Rattle.law_state.specs.LaterStates.{IsServing}
-use Rattle.law_state.specs.Homes.{stage_at}
-use Rattle.law_state.specs.LinkRows.{ByBoth, ByNone, ByOne}
-use Rattle.law_state.proofs.CellsByLinkRows.{alone_authority, both_authority}
-use Rattle.law_state.proofs.Leaves.{either_true}
-use Rattle.law_state.proofs.Stages.{stage_most}
-use Rattle.law_steps.proofs.Fronts.{front_itself, front_on}
-use Rattle.law_copies.proofs.StoreHistories.{in_counts}
-use Rattle.law_jobs.proofs.Runs.{At, before_part}
-use Rattle.law_copies.proofs.StoresAlongRecords.{before_last}
-use Rattle.law_copies.proofs.ServedAtLaterFronts.{serves_alone}
-use Rattle.law_copies.proofs.PlacesByFronts.{at_most_or_above, fronts_meet}
+use Rattle.law_moves.proofs.Imports.{◌==◌, ◌∙◌, ◌≡◌, ◌≤◌, AreSteps, At, BeforeBlank, ByBoth, ByNone, ByOne, Cell, Chain, Command, IsPrefix, IsServing, List}
+use Rattle.law_moves.proofs.Imports.{OneMore, Option, Server, Some, Store, alone_authority, ap, arith, at_most_or_above, before_last, before_part}
+use Rattle.law_moves.proofs.Imports.{both_authority, by_bool, chain_in, chosen_log, either_true, ends_of, front_itself, front_on, fronts_meet, history_grows}
+use Rattle.law_moves.proofs.Imports.{history_is_firm, in_counts, inl, inr, is_in, kept, kept_by, kept_store, moved_was_wanted, option_map, refl, region_of}
+use Rattle.law_moves.proofs.Imports.{same_numbers, serves, serves_alone, stage_at, stage_most, subst, sym, true, true_false, ℕ}
 use Rattle.law_moves.specs.FrozenCopies.{AreStill}
 use Rattle.law_moves.proofs.FrozenIsWhatCounted.{frozen_at, frozen_same, none_early}
 use Rattle.law_moves.proofs.ServersOfGrownLog.{It_came, It_did, same_joins, served_before}
@@ -37,7 +14,6 @@ use Rattle.law_moves.proofs.MovedRegionsHaveAll.{dead_moved}
 use Rattle.law_moves.proofs.StepsTellEntries.{Goes_on, HasStore, Is_bare, here, stored}
 use Rattle.law_moves.proofs.MoveWorlds.{facts_at, own_counts, serving_on, steady_at, up}
 use Rattle.law_moves.proofs.EqualCopies.{equal_now}
-use Rattle.law_epochs.proofs.EpochScenes.{OneMore, ends_of}
 use Rattle.law_moves.proofs.MoveScenes.{FillsSo}
 
 module _ (it : OneMore) (all : WereKnown it) where

@@ -1,3 +1,4 @@
+pub mod Imports
 pub mod MoveScenes
 pub mod NextFill
 pub mod NewestByLetters

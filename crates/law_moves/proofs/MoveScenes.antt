@@ -1,26 +1,9 @@
 -- Of whom in a history the lemmas of moves are told.
-use Rattle.std.proofs.Common.{◌≡◌, ◌≢◌, ◌≤◌, ℕ, true, false, List, Some, length}
-use Rattle.global_tables.specs.declared.link.LinkRow.{LinkRow}
-use Rattle.global_tables.specs.declared.link.LinkState.TheVariants.{Both}
-use Rattle.petal_base.specs.Cells.{cell_of}
-use Rattle.petal_base.specs.declared.cell.Cell.{Cell}
-use Rattle.petal_base.specs.declared.cell.Key.{Key}
-use Rattle.petal_command.specs.declared.command.Command.{Command}
-use Rattle.petal_table.specs.Table.{at}
-use Rattle.petal_msg.specs.declared.body.Body.TheVariants as body
-use Rattle.petal_msg.specs.declared.letter.Letter.{Letter}
-use Rattle.petal_msg.specs.declared.operation.Pending.{Pending}
-use Rattle.spec_state.specs.Command.{state_after}
-use Rattle.spec_rules.specs.Server.{Pairs}
-use Rattle.spec_rules.specs.State.{id_of, is_in, leads_link, link_named}
-use Rattle.spec_rules.specs.Store.{cell_cmp}
-use Rattle.spec_rules.specs.World.{Setting, World, chosen_log, chosen_state, server_state}
-use Rattle.spec_rules.specs.Writes.{is_clients, pending_on}
-use Rattle.spec_rules.specs.Fills.{region_to_move}
-use Rattle.spec_history.specs.Claims.{IsPrefix}
-use Rattle.law_state.specs.Homes.{stage_at}
-use Rattle.law_copies.specs.Visits.{IsLinked, place_by}
+use Rattle.law_moves.proofs.Imports.{◌≡◌, ◌≢◌, ◌≤◌, Both, Cell, Command, IsLinked, IsPrefix, Key, Letter, LinkRow, List, Pairs, Pending, Setting, Some, World}
+use Rattle.law_moves.proofs.Imports.{at, cell_cmp, cell_of, chosen_log, chosen_state, false, id_of, is_clients, is_in, leads_link, length, link_named}
+use Rattle.law_moves.proofs.Imports.{pending_on, place_by, region_to_move, server_state, stage_at, state_after, true, ℕ}
 use Rattle.law_moves.specs.Fills.{IsFrozen, IsThere, WasFilled}
+use Rattle.petal_msg.specs.declared.body.Body.TheVariants as body
 
 -- ### Servers
 

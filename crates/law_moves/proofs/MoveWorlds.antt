@@ -1,45 +1,13 @@
 -- What the laws below say of the world after a legal history: who serves a link at later fronts, whose store counts, and what the two servers of a
 -- link have.
-use Rattle.std.proofs.Common.{◌≡◌, ◌≢◌, ◌≤◌, ◌<◌, ◌==◌, ◌⊎◌, ℕ, Bool, true, false, List, Option, Some, None, refl, sym, ◌∙◌, inl, inr, arith}
-use Rattle.global_tables.specs.Link.{has_server}
-use Rattle.global_tables.specs.declared.link.LinkRow.{LinkRow}
-use Rattle.global_tables.specs.declared.link.LinkState.TheVariants.{Both}
-use Rattle.petal_base.specs.declared.cell.Cell.{Cell}
-use Rattle.petal_command.specs.declared.command.Command.{Command}
-use Rattle.petal_command.specs.declared.command.Command.TheVariants.{Join}
-use Rattle.spec_state.specs.CellState.{cell_link, serves}
-use Rattle.spec_rules.specs.Blanked.{BeforeBlank, kept_store}
-use Rattle.spec_rules.specs.Server.{PairState, Pairs}
-use Rattle.spec_rules.specs.State.{State, is_in}
-use Rattle.spec_rules.specs.Store.{Store}
-use Rattle.spec_rules.specs.World.{blank_joins_in, chosen_state, counted, kept, start}
-use Rattle.spec_rules.proofs.Tests.{by_test, same_numbers, true_false}
-use Rattle.spec_history.specs.Claims.{IsPrefix}
-use Rattle.law_state.specs.LaterStates.{IsBelow, IsServing, KeepsRoles}
-use Rattle.law_state.specs.Firm.{Firm}
-use Rattle.law_state.specs.Homes.{HasStage, stage_at}
-use Rattle.law_state.specs.Joins.{HasJoinedSince}
-use Rattle.law_state.specs.Plain.{IsPlainLog}
-use Rattle.law_state.specs.Steady.{IsSteady}
-use Rattle.law_state.proofs.BlankJoins.{joined_counts}
-use Rattle.law_state.proofs.Incarnations.{joined_since}
-use Rattle.law_state.proofs.Roles.{log_roles}
-use Rattle.law_state.proofs.Steady.{front_plain, log_below, log_steady}
-use Rattle.law_log.proofs.LogInHistories.{history_is_firm, join_was_wanted}
-use Rattle.law_steps.specs.Ready.{Rests}
-use Rattle.law_steps.proofs.MovesAreOfComingCells.{stage_facts}
-use Rattle.law_steps.proofs.WorldsAreFirm.{always_firm}
-use Rattle.law_steps.proofs.Fronts.{front_itself}
-use Rattle.law_steps.proofs.KindsInHistories.{rests_after, runs_at, start_rests}
-use Rattle.law_copies.specs.WaitingStores.{IsOwn}
-use Rattle.law_copies.proofs.EmptyJoins.{after_front, stands_in}
-use Rattle.law_copies.proofs.StoreHistories.{in_own, kept_after}
-use Rattle.law_copies.proofs.StoresAlongRecords.{stays_filled}
-use Rattle.law_copies.specs.GoodCopies.{AreTwins, Good}
-use Rattle.law_copies.specs.Visits.{AliveIn, IsLast, IsLinked, WasThere, place_by}
-use Rattle.law_copies.proofs.PlacesByFronts.{places_up}
+use Rattle.law_moves.proofs.Imports.{◌<◌, ◌==◌, ◌∙◌, ◌≡◌, ◌≢◌, ◌≤◌, ◌⊎◌, AliveIn, AreTwins, BeforeBlank, Bool, Both, Cell, Command, Firm, Good}
+use Rattle.law_moves.proofs.Imports.{HasJoinedSince, HasStage, IsBelow, IsLast, IsLinked, IsOwn, IsPlainLog, IsPrefix, IsServing, IsSteady, Join, KeepsRoles}
+use Rattle.law_moves.proofs.Imports.{LinkRow, List, None, Option, PairState, Pairs, Rests, Run, Some, State, Store, WasThere, after_front, always_firm, arith}
+use Rattle.law_moves.proofs.Imports.{blank_joins_in, by_test, cell_link, chosen_state, counted, end_of, false, front_itself, front_plain, has_server}
+use Rattle.law_moves.proofs.Imports.{history_is_firm, in_own, inl, inr, is_in, join_was_wanted, joined_counts, joined_since, kept, kept_after, kept_store}
+use Rattle.law_moves.proofs.Imports.{log_below, log_roles, log_steady, place_by, places_up, refl, rests_after, runs_at, same_numbers, serves, stage_at}
+use Rattle.law_moves.proofs.Imports.{stage_facts, stands_in, start, start_rests, stays_filled, sym, true, true_false, ℕ}
 use Rattle.law_moves.proofs.PlacesAreVisits.{seen_after, were}
-use Rattle.law_epochs.proofs.EpochScenes.{Run, end_of}
 
 pub row_serving : (state : State) (n : ℕ) (cell : Cell) (row : LinkRow) → cell_link state cell ≡ Some row → has_server n row ≡ true
     → serves n row row.state ≡ true → IsServing state n cell

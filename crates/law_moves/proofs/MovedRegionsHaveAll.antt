@@ -1,40 +1,12 @@
 -- A region that has moved has all that was frozen: after the Moved of a link each of its entries was told to be at the new map, and what was told
 -- so is there.
-use Rattle.std.proofs.Common.{◌≡◌, ◌≤◌, ◌++◌, ◌==◌, ℕ, List, [], ◌∷◌, length, Some, refl, sym, ap, ◌∙◌, subst, inl, inr, arith}
-use Rattle.std.specs.Prelude.{option_and_then, option_map}
-use Rattle.std.specs.Option.{option_map_or}
-use Rattle.global_tables.specs.Link.{is_link, link_at}
-use Rattle.global_tables.specs.Map.{tuple_of}
-use Rattle.global_tables.specs.Region.{link_of, region_of}
-use Rattle.global_tables.specs.declared.link.LinkRow.{LinkRow}
-use Rattle.global_tables.specs.declared.map.MapRow.{MapRow}
-use Rattle.petal_base.specs.Cells.{key_at}
-use Rattle.petal_base.specs.declared.cell.Cell.{Cell}
-use Rattle.petal_command.specs.declared.command.Command.{Command}
-use Rattle.petal_command.specs.declared.command.Command.TheVariants.{Moved}
-use Rattle.spec_state.specs.CellState.{cell_link, source}
-use Rattle.spec_state.specs.State.{links_of}
-use Rattle.spec_rules.specs.Store.{Chain}
-use Rattle.spec_rules.specs.World.{Setting, World, chosen_log}
-use Rattle.spec_rules.proofs.Tests.{both_true, none_some, same_numbers, some_or_none}
-use Rattle.spec_history.specs.Claims.{IsPrefix}
-use Rattle.law_state.specs.Homes.{HasStage, stage_at}
-use Rattle.law_state.specs.NotedLinks.{HasMovedIn}
-use Rattle.law_state.specs.Plain.{IsPlainLog}
-use Rattle.law_state.proofs.EntriesOnlyAdd.{log_plain}
-use Rattle.law_state.proofs.Homes.{row_or_none}
-use Rattle.law_state.proofs.NewMapLinks.{proper}
-use Rattle.law_state.proofs.LinksAreNoted.{log_dead}
-use Rattle.law_state.proofs.Owners.{no_home, stage_in, stage_is}
-use Rattle.law_state.proofs.ListLookups.{found_at}
-use Rattle.law_state.proofs.Steady.{below, front_plain, log_grown, log_steady, tuple_on}
-use Rattle.law_state.proofs.TwinsAreOfOneDisk.{IsMoved, goal_same, gone_twin, log_comes, log_goes}
-use Rattle.law_log.proofs.LogInHistories.{history_is_firm}
-use Rattle.law_steps.proofs.MovesAreOfComingCells.{stage_facts}
-use Rattle.law_steps.proofs.Fronts.{front_more, front_on}
-use Rattle.law_copies.proofs.PlacesByFronts.{fronts_meet}
+use Rattle.law_moves.proofs.Imports.{[], ◌++◌, ◌==◌, ◌∙◌, ◌∷◌, ◌≡◌, ◌≤◌, Cell, Chain, Command, HasMovedIn, HasStage, IsMoved, IsPlainLog, IsPrefix, LinkRow}
+use Rattle.law_moves.proofs.Imports.{List, MapRow, Moved, Run, Setting, Some, World, ap, arith, below, both_true, cell_link, chosen_log, end_of, found_at}
+use Rattle.law_moves.proofs.Imports.{front_more, front_on, front_plain, fronts_meet, goal_same, gone_twin, history_is_firm, inl, inr, is_link, key_at, length}
+use Rattle.law_moves.proofs.Imports.{link_at, link_of, links_of, log_comes, log_dead, log_goes, log_grown, log_plain, log_steady, no_home, none_some}
+use Rattle.law_moves.proofs.Imports.{option_and_then, option_map, option_map_or, proper, refl, region_of, row_or_none, same_numbers, some_or_none, source}
+use Rattle.law_moves.proofs.Imports.{stage_at, stage_facts, stage_in, stage_is, subst, sym, tuple_of, tuple_on, ℕ}
 use Rattle.law_moves.specs.Fills.{AllFilled, AreFilled, Has, HaveComeOver, IsOnWay, WasFilled}
-use Rattle.law_epochs.proofs.EpochScenes.{Run, end_of}
 
 -- at each Moved of a link that is chosen, while a cell of the link was leaving, the new map was told to have each entry of the cell
 abbrev pub AllMoved : Setting → World → Type 0

@@ -1,45 +1,12 @@
 -- A Moved that is chosen was wanted by a server that had nothing left of its link: what the server had is what was frozen, and of all of it the
 -- server was told that the new map has it.
-use Rattle.std.proofs.Common.{◌≡◌, ◌++◌, ◌&&◌, ℕ, List, [], ◌∷◌, true, false, Option, Some, None, refl, sym, ap, ◌∙◌, subst}
-use Rattle.std.specs.Prelude.{is_some, option_and_then}
-use Rattle.std.specs.Option.{option_map_or}
-use Rattle.std.specs.Ordering.{nat_cmp}
-use Rattle.global_tables.specs.Link.{is_link}
-use Rattle.global_tables.specs.Region.{region_of}
-use Rattle.global_tables.specs.declared.link.LinkRow.{LinkRow}
-use Rattle.petal_base.specs.Cells.{key_at}
-use Rattle.petal_base.specs.declared.cell.Cell.{Cell}
-use Rattle.petal_base.specs.declared.cell.Key.{Key}
-use Rattle.petal_command.specs.declared.command.Command.{Command}
-use Rattle.petal_command.specs.declared.command.Command.TheVariants.{Moved}
-use Rattle.petal_msg.specs.declared.letter.Letter.{Letter}
-use Rattle.petal_table.specs.Table.{at}
-use Rattle.script_lines.specs.declared.script.Script.{Script}
-use Rattle.spec_state.specs.CellState.{region_leaving, row_lead}
-use Rattle.spec_state.specs.Role.{is_the}
-use Rattle.spec_rules.specs.Fills.{next_fill, not_noted, region_to_move}
-use Rattle.spec_rules.specs.Lists.{In}
-use Rattle.spec_rules.specs.Server.{PairState}
-use Rattle.spec_rules.specs.State.{State, is_in, link_named}
-use Rattle.spec_rules.specs.Store.{Chain, chain_in}
-use Rattle.spec_rules.specs.World.{Setting, World, chosen_log, chosen_state}
-use Rattle.spec_rules.proofs.ListLemmas.{in_later}
-use Rattle.spec_rules.proofs.Tests.{by_test, is_the_one, none_some, number_itself, same_some}
-use Rattle.spec_history.specs.Claims.{IsPrefix}
-use Rattle.spec_history.specs.Steps.{AreSteps}
-use Rattle.spec_history.specs.Sound.{IsSound}
-use Rattle.spec_history.specs.declared.record.Record.{Record}
-use Rattle.law_state.specs.LaterStates.{IsServing}
-use Rattle.law_state.specs.Firm.{Firm}
-use Rattle.law_state.proofs.EntriesOnlyAdd.{log_plain}
-use Rattle.law_state.proofs.Steady.{log_steady}
-use Rattle.law_state.proofs.EntriesTouchLinks.{map_of}
-use Rattle.law_log.specs.ProposedCommands.{WasMoving}
-use Rattle.law_log.proofs.LogInHistories.{history_is_firm, moved_was_wanted}
-use Rattle.law_steps.specs.DidStep.{Happens, Serves, Blanks, Turns}
-use Rattle.law_steps.proofs.Fronts.{below_itself, front_itself}
-use Rattle.law_steps.proofs.CopiesRest.{row_named}
-use Rattle.law_jobs.proofs.Runs.{At, before_part, after, happened_in, longer, run_of, setting_in, since}
+use Rattle.law_moves.proofs.Imports.{[], ◌&&◌, ◌++◌, ◌∙◌, ◌∷◌, ◌≡◌, AreSteps, At, Blanks, Cell, Chain, Command, Firm, Happens, In, IsPrefix, IsServing}
+use Rattle.law_moves.proofs.Imports.{IsSound, Key, Letter, LinkRow, List, Moved, None, Option, PairState, Record, Run, Script, Serves, Setting, Some, State}
+use Rattle.law_moves.proofs.Imports.{Turns, WasMoving, World, after, ap, at, before_part, below_itself, by_test, chain_in, chosen_log, chosen_state, end_of}
+use Rattle.law_moves.proofs.Imports.{false, front_itself, happened_in, history_is_firm, in_later, is_in, is_link, is_some, is_the, is_the_one, key_at}
+use Rattle.law_moves.proofs.Imports.{link_named, log_plain, log_steady, longer, map_of, moved_was_wanted, nat_cmp, next_fill, none_some, not_noted}
+use Rattle.law_moves.proofs.Imports.{number_itself, option_and_then, option_map_or, refl, region_leaving, region_of, region_to_move, row_lead, row_named}
+use Rattle.law_moves.proofs.Imports.{run_of, same_some, setting_in, since, subst, sym, true, ℕ}
 use Rattle.law_moves.specs.Fills.{AllFilled, IsOnWay, WasFilled}
 use Rattle.law_moves.specs.LeftToMove.{IsKept, IsKnown, IsOurs}
 use Rattle.law_moves.proofs.FrozenIsWhatCounted.{frozen_stays}
@@ -47,7 +14,6 @@ use Rattle.law_moves.proofs.AllKeptOfMoves.{Known}
 use Rattle.law_moves.proofs.NextFill.{none_left, nothing_left}
 use Rattle.law_moves.proofs.MovedRegionsHaveAll.{AllMoved, plain, until_lies}
 use Rattle.law_moves.proofs.ServersOfLinks.{link_lead_serves}
-use Rattle.law_epochs.proofs.EpochScenes.{Run, end_of}
 
 -- ### Letters stay
 

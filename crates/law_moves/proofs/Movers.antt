@@ -1,31 +1,13 @@
 -- A server that is to move a link, by its own entries: each cell of the link and the region is leaving, the server serves it, and has what was
 -- frozen of it; and of what it knows to be there it was told.
-use Rattle.std.proofs.Common.{◌≡◌, ℕ, List, Some, sym, ap, ◌∙◌}
-use Rattle.std.specs.Prelude.{option_and_then}
-use Rattle.petal_base.specs.Cells.{key_at}
-use Rattle.petal_base.specs.declared.cell.Cell.{Cell}
-use Rattle.petal_command.specs.declared.command.Command.{Command}
-use Rattle.spec_state.specs.CellState.{cell_link, row_lead, target}
-use Rattle.spec_rules.specs.Server.{PairState}
-use Rattle.spec_rules.specs.State.{State, id_of}
-use Rattle.spec_rules.specs.Store.{chain_in}
-use Rattle.spec_rules.specs.World.{chosen_log, server_state}
-use Rattle.spec_rules.proofs.Tests.{is_the_one}
-use Rattle.spec_history.specs.Claims.{IsPrefix}
-use Rattle.law_state.specs.LaterStates.{IsServing}
-use Rattle.law_state.specs.Homes.{stage_at}
-use Rattle.law_state.specs.Plain.{IsPlainLog}
-use Rattle.law_state.proofs.Steady.{front_plain, log_steady}
-use Rattle.law_log.proofs.LogInHistories.{history_is_firm}
-use Rattle.law_steps.proofs.MovesAreOfComingCells.{leaves_with, region_left, stage_facts}
-use Rattle.law_steps.proofs.Fronts.{front_itself}
-use Rattle.law_steps.proofs.CopiesRest.{on_row}
+use Rattle.law_moves.proofs.Imports.{◌∙◌, ◌≡◌, Cell, Command, IsPlainLog, IsPrefix, IsServing, List, PairState, Run, Some, State, ap, cell_link, chain_in}
+use Rattle.law_moves.proofs.Imports.{chosen_log, end_of, front_itself, front_plain, history_is_firm, id_of, is_the_one, key_at, leaves_with, log_steady}
+use Rattle.law_moves.proofs.Imports.{on_row, option_and_then, region_left, row_lead, server_state, stage_at, stage_facts, sym, target, ℕ}
 use Rattle.law_moves.specs.Fills.{IsOnWay, WasFilled}
 use Rattle.law_moves.specs.LeftToMove.{IsKept, IsKnown, IsOurs}
 use Rattle.law_moves.proofs.AllKeptOfMoves.{Known}
 use Rattle.law_moves.proofs.MovedsHadNothingLeft.{mover_leads}
 use Rattle.law_moves.proofs.ServersOfLinks.{link_lead_serves}
-use Rattle.law_epochs.proofs.EpochScenes.{Run, end_of}
 use Rattle.law_moves.proofs.MoveScenes.{IsMover}
 
 module _ (it : Run) (known : Known it.script it.records) (y : ℕ) (mover : IsMover (end_of it).setting (end_of it).w y) where

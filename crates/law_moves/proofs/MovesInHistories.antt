@@ -1,32 +1,9 @@
 -- All that is kept of moves is so after each legal history: by each step, where it was so after each front of the records.
-use Rattle.std.proofs.Common.{◌≡◌, ◌≤◌, ◌++◌, ℕ, List, [], ◌∷◌, false, Some, refl, sym, ap, ◌∙◌, subst, inl, inr, arith}
-use Rattle.std.specs.Prelude.{fold, map, max}
-use Rattle.std.specs.List.{flat_map, range_with_len}
-use Rattle.std.proofs.lemmas.List.{append-nil}
-use Rattle.petal_base.specs.Cells.{cell_of}
-use Rattle.petal_base.specs.declared.cell.Cell.{Cell}
-use Rattle.petal_base.specs.declared.cell.Key.{Key}
-use Rattle.petal_command.specs.declared.command.Command.{Command}
-use Rattle.petal_table.proofs.Rows.{at-empty}
-use Rattle.petal_msg.specs.declared.operation.Pending.{Pending}
-use Rattle.petal_table.specs.Table.{at}
-use Rattle.spec_state.specs.Command.{state_after}
-use Rattle.spec_state.specs.State.{start as first_state}
-use Rattle.script_lines.specs.declared.script.Script.{Script}
-use Rattle.spec_history.specs.Claims.{IsPrefix}
-use Rattle.spec_history.specs.Steps.{AreSteps}
-use Rattle.spec_history.specs.Sound.{IsSound}
-use Rattle.spec_history.specs.declared.record.Record.{Record}
-use Rattle.spec_rules.specs.Lists.{In}
-use Rattle.spec_rules.specs.State.{id_of, link_cmp}
-use Rattle.spec_rules.specs.Store.{cell_cmp}
-use Rattle.spec_paxos.specs.Chosen.{chosen_from, vote_place}
-use Rattle.spec_rules.specs.World.{Setting, chosen_log, chosen_state, devices, setting_of, start}
-use Rattle.spec_rules.specs.Writes.{is_clients}
-use Rattle.spec_rules.proofs.Tests.{none_some}
-use Rattle.law_state.specs.Homes.{stage_at}
-use Rattle.law_steps.proofs.Records.{none_before_none, split_last}
-use Rattle.law_jobs.proofs.Runs.{by_run, run_of}
+use Rattle.law_moves.proofs.Imports.{[], ◌++◌, ◌∙◌, ◌∷◌, ◌≡◌, ◌≤◌, AreSteps, Cell, Command, In, IsPrefix, IsSound, Key, List, OneMore, Pending, Record}
+use Rattle.law_moves.proofs.Imports.{Script, Setting, Some, ap, append-nil, arith, at, at-empty, by_run, cell_cmp, cell_of, chosen_from, chosen_log}
+use Rattle.law_moves.proofs.Imports.{chosen_state, devices, ends_of, false, first_state, flat_map, fold, id_of, inl, inr, is_clients, link_cmp, map, max}
+use Rattle.law_moves.proofs.Imports.{none_before_none, none_some, range_with_len, refl, run_of, setting_of, split_last, stage_at, start, state_after, subst}
+use Rattle.law_moves.proofs.Imports.{sym, vote_place, ℕ}
 use Rattle.law_moves.specs.Fills.{AreFilled, IsFrozen, IsThere, WasFilled}
 use Rattle.law_moves.specs.FrozenCopies.{AreStill}
 use Rattle.law_moves.proofs.NoPutsToLeavingCells.{followed_next}
@@ -43,7 +20,6 @@ use Rattle.law_moves.proofs.EntryLettersKept.{asked_next, sent_next}
 use Rattle.law_moves.proofs.FrozenEpochs.{frozen_early}
 use Rattle.law_moves.proofs.ToldEntriesAreThere.{born_next, filled_next}
 use Rattle.law_moves.proofs.PendingFillsUnsaid.{unsaid_at}
-use Rattle.law_epochs.proofs.EpochScenes.{OneMore, ends_of}
 use Rattle.law_moves.proofs.MoveScenes.{FillsSo}
 
 module _ (it : OneMore) (all : WereKnown it) where

@@ -1,19 +1,6 @@
 -- What a new map has of a block, or what letters tell of it, is newest: of each later frozen entry a letter says that it is there.
-use Rattle.std.proofs.Common.{◌≡◌, ◌≤◌, ◌<◌, ℕ, List, Some, refl}
-use Rattle.petal_base.specs.Cells.{key_at}
-use Rattle.petal_base.specs.declared.cell.Cell.{Cell}
-use Rattle.petal_command.specs.declared.command.Command.{Command}
-use Rattle.petal_msg.specs.declared.letter.Letter.{Letter}
-use Rattle.spec_state.specs.CellState.{source}
-use Rattle.spec_state.specs.Command.{state_after}
-use Rattle.spec_rules.specs.Blanked.{BeforeBlank}
-use Rattle.spec_rules.specs.Lists.{In}
-use Rattle.spec_rules.specs.Store.{Chain}
-use Rattle.spec_rules.specs.World.{Setting, World, chosen_log, chosen_state, start}
-use Rattle.spec_rules.proofs.Tests.{none_some}
-use Rattle.spec_history.specs.Claims.{IsPrefix}
-use Rattle.law_state.specs.Homes.{stage_at}
-use Rattle.law_epochs.proofs.EntryPredicates.{AreWithin, IsWithin, OfKey, none_within}
+use Rattle.law_moves.proofs.Imports.{◌<◌, ◌≡◌, ◌≤◌, AreWithin, BeforeBlank, Cell, Chain, Command, In, IsPrefix, IsWithin, Letter, List, OfKey, Setting, Some}
+use Rattle.law_moves.proofs.Imports.{World, chosen_log, chosen_state, key_at, none_some, none_within, refl, source, stage_at, start, state_after, ℕ}
 use Rattle.law_moves.specs.Fills.{Has, WasFilled}
 
 -- the cell is live, or has been; and of each frozen entry that is later a letter says that it is there. This is said until the cell's region has

@@ -1,28 +1,14 @@
 -- The two cells of a move by any two fronts; what is newest of entries that move; and that of a server that serves a coming cell all that is newer is
 -- there.
-use Rattle.std.proofs.Common.{◌≡◌, ◌≤◌, ℕ, List, Some, sym, ap, ◌∙◌, subst, inl, inr, arith}
-use Rattle.petal_base.specs.Cells.{cell_of, key_at}
-use Rattle.petal_base.specs.declared.cell.Cell.{Cell}
-use Rattle.petal_base.specs.declared.cell.Key.{Key}
-use Rattle.petal_command.specs.declared.command.Command.{Command}
-use Rattle.spec_state.specs.CellState.{source}
-use Rattle.spec_rules.specs.Store.{Chain, Store, chain_in}
-use Rattle.spec_rules.specs.World.{blank_joins_in, chosen_state, kept}
-use Rattle.spec_rules.proofs.Tests.{same_some}
-use Rattle.spec_history.specs.Claims.{HasNewer, IsFilledFrom, IsPrefix}
-use Rattle.law_state.specs.LaterStates.{IsServing}
-use Rattle.law_state.specs.Homes.{epoch_at, stage_at}
-use Rattle.law_state.proofs.Steady.{log_below}
-use Rattle.law_state.proofs.TwinsAreOfOneDisk.{IsMoved, gone_twin, log_comes, start_same, twins_later}
-use Rattle.law_steps.proofs.Fronts.{front_itself}
-use Rattle.law_copies.proofs.PlacesByFronts.{at_most_or_above, fronts_meet}
+use Rattle.law_moves.proofs.Imports.{◌∙◌, ◌≡◌, ◌≤◌, AreWithin, Cell, Chain, Command, HasNewer, IsFilledFrom, IsMoved, IsPrefix, IsServing, Key, List, Run}
+use Rattle.law_moves.proofs.Imports.{Some, Store, ap, arith, at_most_or_above, blank_joins_in, cell_of, chain_in, chosen_state, end_of, epoch_at}
+use Rattle.law_moves.proofs.Imports.{front_itself, fronts_meet, gone_twin, inl, inr, kept, key_at, log_below, log_comes, same_some, source, stage_at}
+use Rattle.law_moves.proofs.Imports.{start_same, subst, sym, twins_later, ℕ}
 use Rattle.law_epochs.proofs.EntriesNeverEarly.{kept_by}
-use Rattle.law_epochs.proofs.EntryPredicates.{AreWithin}
 use Rattle.law_moves.specs.Fills.{Has, IsFrozen, IsThere, WasFilled}
 use Rattle.law_moves.proofs.NewestByLetters.{AllNewest, IsNewest}
 use Rattle.law_moves.proofs.MovedRegionsHaveAll.{facts, plain}
 use Rattle.law_moves.proofs.FrozenEpochs.{entry_of}
-use Rattle.law_epochs.proofs.EpochScenes.{Run, end_of}
 
 module _ (it : Run) where
   open it use {script}

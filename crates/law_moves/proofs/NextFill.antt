@@ -1,31 +1,12 @@
 -- The keys that an old lead has still to move: which one comes next, and what the new map is known to have once none is left.
-use Rattle.std.proofs.Common.{◌≡◌, ◌⊎◌, inl, inr, ◌<◌, ◌≤◌, ◌==◌, ◌&&◌, ◌||◌, not, ℕ, Bool, true, false, cond, List, [], ◌∷◌, map}
-use Rattle.std.proofs.Common.{Option, Some, None, is_some, refl, sym, ap, ◌∙◌, subst, arith}
-use Rattle.std.specs.Prelude.{filter, nat_lt, unwrap_or}
-use Rattle.std.specs.List.{flat_map}
-use Rattle.std.specs.Cmp.{ranked}
+use Rattle.law_moves.proofs.Imports.{[], ◌&&◌, ◌<◌, ◌==◌, ◌||◌, ◌∙◌, ◌∷◌, ◌≡◌, ◌≤◌, ◌⊎◌, Bool, Cell, Chain, Equal, Greater, In, Key, Less, LinkRow, List}
+use Rattle.law_moves.proofs.Imports.{None, Option, Ordering, PairState, Some, State, Stored, Table, ap, arith, at, at-empty, both_true, by_bool, by_test}
+use Rattle.law_moves.proofs.Imports.{cell_cmp, cell_cmp_same, comes_before, comes_next, cond, earlier, false, fill_left, fill_of, filter, first_key, flat_map}
+use Rattle.law_moves.proofs.Imports.{in_former, in_later, inl, inr, is_eq, is_on, is_some, key_at, keys_in, keys_of, lookup, map, nat_cmp, nat_lt, nat_tests}
+use Rattle.law_moves.proofs.Imports.{next_fill, none_some, not, number_itself, ranked, refl, region_of, region_to_move, same_numbers, same_some, subst, sym}
+use Rattle.law_moves.proofs.Imports.{true, true_false, unwrap_or, ℕ}
 use Rattle.std.specs.BTreeMap.{is_at}
-use Rattle.std.specs.Map.{lookup}
-use Rattle.std.specs.Ordering.{is_eq, nat_cmp}
-use Rattle.std.specs.declared.cmp.Ordering.{Ordering}
-use Rattle.std.specs.declared.cmp.Ordering.TheVariants.{Less, Equal, Greater}
-use Rattle.std.proofs.lemmas.Bool.Decides.{nat_tests}
-use Rattle.global_tables.specs.Region.{region_of}
-use Rattle.global_tables.specs.declared.link.LinkRow.{LinkRow}
-use Rattle.petal_base.specs.Cells.{key_at}
-use Rattle.petal_base.specs.declared.cell.Cell.{Cell}
-use Rattle.petal_base.specs.declared.cell.Key.{Key}
-use Rattle.petal_table.specs.Table.{Table, at}
-use Rattle.petal_table.proofs.Rows.{at-empty}
-use Rattle.spec_rules.specs.Fills.{comes_before, comes_next, earlier, fill_left, fill_of, first_key, keys_in, keys_of, next_fill, region_to_move}
-use Rattle.spec_rules.specs.Lists.{In}
-use Rattle.spec_rules.specs.Server.{PairState}
-use Rattle.spec_rules.specs.State.{State, is_on}
-use Rattle.spec_rules.specs.Store.{Chain, Stored, cell_cmp}
 use Rattle.law_moves.specs.LeftToMove.{IsKept, IsKnown, IsNext, IsOurs, last_told}
-use Rattle.spec_rules.proofs.CellTables.{cell_cmp_same}
-use Rattle.spec_rules.proofs.ListLemmas.{in_former, in_later}
-use Rattle.spec_rules.proofs.Tests.{both_true, by_bool, by_test, none_some, number_itself, same_numbers, same_some, true_false}
 
 -- ### The order of keys
 

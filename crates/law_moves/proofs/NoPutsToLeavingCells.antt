@@ -1,40 +1,12 @@
 -- A step keeps that no second server will put what its lead asked for, of a cell that is leaving or has left: where the region begins to
 -- leave, each such letter is
 -- of an operation that the second server has followed; and none is sent from then on.
-use Rattle.std.proofs.Common.{◌≡◌, ◌≤◌, ◌<◌, ◌+◌, ◌++◌, ℕ, Bool, true, false, List, Option, Some, None}
-use Rattle.std.proofs.Common.{is_some, refl, sym, ap, ◌∙◌, subst, inl, inr, arith}
-use Rattle.std.specs.Ordering.{nat_cmp}
-use Rattle.petal_base.specs.declared.cell.Cell.{Cell}
-use Rattle.petal_table.specs.Table.{at}
-use Rattle.petal_table.proofs.Rows.{at-empty}
-use Rattle.petal_msg.specs.Kinds.{about, subject_of}
-use Rattle.petal_msg.specs.declared.body.Body.{Body}
-use Rattle.petal_msg.specs.declared.body.Body.TheVariants as body
-use Rattle.petal_msg.specs.declared.operation.Pending.{Pending}
-use Rattle.spec_state.specs.CellState.{serves}
-use Rattle.spec_rules.specs.Lists.{In}
-use Rattle.spec_rules.specs.Server.{PairState, Pairs}
-use Rattle.spec_rules.specs.Store.{Chain, Store, cell_cmp, chain_in}
-use Rattle.spec_rules.specs.World.{chosen_log, counted}
-use Rattle.spec_rules.specs.Writes.{is_clients}
-use Rattle.spec_rules.proofs.Tests.{by_bool, none_some, same_some, some_or_none, true_false}
-use Rattle.spec_history.specs.declared.record.Record.{Record}
-use Rattle.law_log.proofs.LogInHistories.{history_grows, history_is_firm}
-use Rattle.law_state.specs.LaterStates.{IsServing}
-use Rattle.law_state.specs.Homes.{stage_at}
-use Rattle.law_steps.specs.DidStep.{is_between}
-use Rattle.law_steps.specs.Operations.{progress}
-use Rattle.law_steps.proofs.Fronts.{front_on}
-use Rattle.law_steps.proofs.WhoLeads.{live_stage}
-use Rattle.law_steps.proofs.Records.{split_last}
-use Rattle.law_copies.proofs.StoreHistories.{in_counts}
-use Rattle.law_jobs.proofs.Runs.{At}
-use Rattle.law_copies.specs.GoodCopies.{Good, pair_at}
-use Rattle.law_copies.specs.Pair.{AreCopies, Known as Tells, Working}
-use Rattle.law_copies.specs.Visits.{WasThere, half, place_by, store_by}
-use Rattle.law_copies.proofs.VisitsAfterSteps.{at_by}
-use Rattle.law_copies.proofs.PlacesByFronts.{at_most_or_above}
-use Rattle.law_epochs.proofs.EpochsInHistories.{second_timely}
+use Rattle.law_moves.proofs.Imports.{◌++◌, ◌+◌, ◌<◌, ◌∙◌, ◌≡◌, ◌≤◌, AreCopies, At, Body, Bool, Cell, Chain, Good, In, IsServing, List, None, OneMore, Option}
+use Rattle.law_moves.proofs.Imports.{PairState, Pairs, Pending, Record, Run, Some, Store, Tells, WasThere, Working, about, ap, arith, at, at-empty, at_by}
+use Rattle.law_moves.proofs.Imports.{at_most_or_above, by_bool, cell_cmp, chain_in, chosen_log, counted, cut, ends_of, false, front_on, half, history_grows}
+use Rattle.law_moves.proofs.Imports.{history_is_firm, in_counts, inl, inr, is_between, is_clients, is_some, live_stage, nat_cmp, none_some, pair_at, place_by}
+use Rattle.law_moves.proofs.Imports.{progress, refl, same_some, second_timely, serves, some_or_none, split_last, stage_at, store_by, subject_of, subst, sym}
+use Rattle.law_moves.proofs.Imports.{true, true_false, ℕ}
 use Rattle.law_moves.specs.Fills.{Has}
 use Rattle.law_moves.proofs.AllKeptOfMoves.{HaveFollowed, WereKnown}
 use Rattle.law_moves.proofs.PendingWasOpened.{opened_mine}
@@ -44,8 +16,8 @@ use Rattle.law_moves.proofs.ToldEntriesAreThere.{told_already}
 use Rattle.law_moves.proofs.MoveWorlds.{good, own_counts, rests, row_serving}
 use Rattle.law_moves.proofs.SecondPlaces.{IsThereNow, last, one_of, second_place, there_so, twins}
 use Rattle.law_moves.proofs.StillFollowed.{past_so}
-use Rattle.law_epochs.proofs.EpochScenes.{Run, OneMore, cut, ends_of}
 use Rattle.law_moves.proofs.MoveScenes.{AsksToPut, FillsSo, IsSecondAt}
+use Rattle.petal_msg.specs.declared.body.Body.TheVariants as body
 
 -- an operation is pending there only where the server was there
 op_there : (visit : Option PairState) (store : Store) (cell : Cell) (op : Pending) → at cell_cmp (half visit store).pairs.pending cell ≡ Some op

@@ -1,23 +1,10 @@
 -- What is pending after a job was so before: with the same number, and put only if it was, or the job put it; or it is new, under the next number, and not
 -- put.
-use Rattle.std.proofs.Common.{◌≡◌, ◌⊎◌, true, false, Some, refl, sym, ap, ◌∙◌, subst, inl, inr}
-use Rattle.petal_base.specs.Cells.{cell_of}
-use Rattle.petal_base.specs.declared.cell.Cell.{Cell}
-use Rattle.petal_base.specs.declared.cell.Key.{Key}
-use Rattle.petal_table.specs.Table.{Table, at, put}
-use Rattle.petal_msg.specs.declared.body.Body.{Body}
-use Rattle.petal_msg.specs.declared.operation.Pending.{Pending}
-use Rattle.spec_rules.specs.Server.{PairState, JobContext, JobResult}
-use Rattle.spec_rules.specs.Store.{Chain, Stored, cell_cmp, chain_in, chains_with}
-use Rattle.spec_rules.proofs.CellTables.{cell_apart, cell_same}
-use Rattle.spec_rules.proofs.Tests.{same_some}
-use Rattle.law_steps.specs.Did.{Did}
-use Rattle.law_steps.proofs.Restages.{IsSame, same_itself, same_on, stood}
-use Rattle.law_steps.proofs.OperationsRest.{same_cell_or_apart}
-use Rattle.law_jobs.specs.Effects.{Closes, Drops, Effect, For_a_fill, For_a_write, Goes_on, Has_put, Is_opened, IsSetFor, May, Puts, Sets, applied}
-use Rattle.law_jobs.proofs.ChainsApart.{entry_stays}
-use Rattle.law_jobs.proofs.JobsAreEffects.{job_keeps}
-use Rattle.law_jobs.proofs.OperationsCome.{restaged}
+use Rattle.law_moves.proofs.Imports.{◌∙◌, ◌≡◌, ◌⊎◌, Body, Cell, Chain, Did, Drops, Effect, For_a_fill, For_a_write, Goes_on, Has_put, IsSame, IsSetFor}
+use Rattle.law_moves.proofs.Imports.{Is_opened, JobContext, JobResult, Key, May, PairState, Pending, Sets, Some, Stored, Table, ap, applied, at, cell_apart}
+use Rattle.law_moves.proofs.Imports.{cell_cmp, cell_of, cell_same, chain_in, chains_with, entry_stays, false, inl, inr, job_keeps, put, refl, restaged}
+use Rattle.law_moves.proofs.Imports.{same_cell_or_apart, same_itself, same_on, same_some, stood, subst, sym, true}
+use Rattle.law_jobs.specs.Effects.{Closes, Puts}
 use Rattle.law_moves.specs.Fills.{Has}
 
 -- the operation was pending, or is new

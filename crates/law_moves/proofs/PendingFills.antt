@@ -1,36 +1,11 @@
 -- A step keeps what is known of fills that are pending: while one is, its region is on its way, and no letter says that its entry is there; until it is put the
 -- entry is not there, and then it is.
-use Rattle.std.proofs.Common.{◌≡◌, ◌≢◌, ◌≤◌, ℕ, true, false, List, Option, Some, None, is_some, sym, ap, ◌∙◌, subst, inl, inr, arith}
-use Rattle.std.specs.Prelude.{option_and_then}
-use Rattle.std.specs.Ordering.{nat_cmp}
-use Rattle.petal_base.specs.Cells.{cell_of}
-use Rattle.petal_base.specs.declared.cell.Cell.{Cell}
-use Rattle.petal_base.specs.declared.cell.Key.{Key}
-use Rattle.petal_command.specs.declared.command.Command.{Command}
-use Rattle.petal_table.specs.Table.{at}
-use Rattle.petal_table.proofs.Rows.{at-empty}
-use Rattle.petal_msg.specs.declared.body.Body.TheVariants as body
-use Rattle.petal_msg.specs.declared.letter.Letter.{Letter}
-use Rattle.petal_msg.specs.declared.operation.Pending.{Pending}
-use Rattle.spec_state.specs.CellState.{cell_link, lead, row_lead}
-use Rattle.spec_rules.specs.Crossing.{crossed}
-use Rattle.spec_rules.specs.Progress.{has_proposed}
-use Rattle.spec_rules.specs.Server.{PairState, Pairs, Server}
-use Rattle.spec_rules.specs.State.{is_in, leads_link}
-use Rattle.spec_rules.specs.Store.{Store, cell_cmp, chain_in}
-use Rattle.spec_rules.specs.World.{World, chosen_state, server_state}
-use Rattle.spec_rules.specs.Writes.{is_clients}
-use Rattle.spec_rules.proofs.Settled.{settling}
-use Rattle.spec_rules.proofs.Tests.{is_the_one, none_some, same_or_apart, true_false}
-use Rattle.law_state.specs.Homes.{stage_at}
-use Rattle.law_steps.specs.DidStep.{Handled, own_place}
-use Rattle.law_steps.specs.Operations.{IsStaged}
-use Rattle.law_steps.proofs.FillsByJobs.{Fills, IsOpenedFill, Stood, Writes, did_come}
-use Rattle.law_steps.proofs.Fronts.{front_itself}
-use Rattle.law_steps.proofs.KindsInHistories.{proposed_pairs}
-use Rattle.law_steps.proofs.WhoLeads.{stage_live}
-use Rattle.law_steps.proofs.TakenUpAlone.{taking}
-use Rattle.law_copies.proofs.PlacesByFronts.{at_most_or_above}
+use Rattle.law_moves.proofs.Imports.{◌∙◌, ◌≡◌, ◌≢◌, ◌≤◌, Cell, Command, Fills, Handled, IsOpenedFill, IsStaged, Key, Letter, List, None, OneMore, Option}
+use Rattle.law_moves.proofs.Imports.{PairState, Pairs, Pending, Server, Some, Stood, Store, World, Writes, ap, arith, at, at-empty, at_most_or_above}
+use Rattle.law_moves.proofs.Imports.{cell_cmp, cell_link, cell_of, chain_in, chosen_state, crossed, did_come, ends_of, false, front_itself, has_proposed, inl}
+use Rattle.law_moves.proofs.Imports.{inr, is_clients, is_in, is_some, is_the_one, lead, leads_link, nat_cmp, none_some, option_and_then, own_place}
+use Rattle.law_moves.proofs.Imports.{proposed_pairs, row_lead, same_or_apart, server_state, settling, stage_at, stage_live, subst, sym, taking, true}
+use Rattle.law_moves.proofs.Imports.{true_false, ℕ}
 use Rattle.law_moves.specs.Fills.{Has, IsFrozen, WasFilled}
 use Rattle.law_moves.proofs.ServedCellChanges.{never_dead}
 use Rattle.law_moves.proofs.LeavingCellsGainNothing.{before}
@@ -39,13 +14,13 @@ use Rattle.law_moves.proofs.LeadsHaveWhatServersHave.{other_idle, other_lacks}
 use Rattle.law_moves.proofs.PendingAfterJobs.{Is_new, It_was, did_was}
 use Rattle.law_moves.proofs.FillLetters.{Asks_copy, Is_done, Is_done_alone, Is_neither, Is_there, Says, did_says, is_filled}
 use Rattle.law_moves.proofs.ServersOfLinks.{lead_serves, link_lead_serves}
-use Rattle.law_moves.proofs.StepsTellEntries.{Awakes, Before, Enters, HasGone, IsJob, IsPosted, Is_blanked, Other, Posted, Raises, Rests}
-use Rattle.law_moves.proofs.StepsTellEntries.{Starts_ballot, Works, chosen_on, gone, sent, mine_top}
+use Rattle.law_moves.proofs.StepsTellEntries.{Awakes, Before, Enters, HasGone, IsJob, IsPosted, Is_blanked, Other, Posted, Raises, Rests, Starts_ballot}
+use Rattle.law_moves.proofs.StepsTellEntries.{Works, chosen_on, gone, sent, mine_top}
 use Rattle.law_moves.proofs.EqualCopies.{moved_now}
 use Rattle.law_moves.proofs.ToldEntriesAreThere.{filled_key, kept_own, no_other, told_already}
 use Rattle.law_moves.proofs.MoveWorlds.{facts_at, firm, good, own_counts, rests, steady_at, up}
-use Rattle.law_epochs.proofs.EpochScenes.{OneMore, ends_of}
 use Rattle.law_moves.proofs.MoveScenes.{TwoLeads}
+use Rattle.petal_msg.specs.declared.body.Body.TheVariants as body
 
 module _ (it : OneMore) (all : WereKnown it) where
   open it use {prior, prior.{script, records as front}}

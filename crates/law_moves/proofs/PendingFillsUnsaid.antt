@@ -1,40 +1,19 @@
 -- A fill that a server had pending when it was last at the place that the cell's link has by what is chosen: no letter says that its entry is there.
-use Rattle.std.proofs.Common.{◌≡◌, ◌++◌, ℕ, true, List, [], ◌∷◌, Some}
-use Rattle.std.proofs.Common.{refl, sym, ap, ◌∙◌, subst, inl, inr, append_assoc}
-use Rattle.std.proofs.lemmas.List.{append-nil}
-use Rattle.petal_base.specs.declared.cell.Cell.{Cell}
-use Rattle.petal_command.specs.declared.command.Command.{Command}
-use Rattle.petal_table.specs.Table.{at}
-use Rattle.petal_table.proofs.Rows.{at-empty}
-use Rattle.petal_msg.specs.declared.body.Body.TheVariants as body
-use Rattle.petal_msg.specs.declared.letter.Letter.{Letter}
-use Rattle.spec_rules.specs.Boots.{raised}
-use Rattle.spec_rules.specs.Crossing.{crossed}
-use Rattle.spec_rules.specs.Server.{PairState, Pairs, Server}
-use Rattle.spec_rules.specs.Store.{cell_cmp}
-use Rattle.spec_rules.specs.World.{server_state}
-use Rattle.spec_rules.specs.Writes.{is_clients}
-use Rattle.spec_rules.proofs.Settled.{settling}
-use Rattle.spec_rules.proofs.Tests.{none_some, same_or_apart, true_false}
-use Rattle.spec_history.specs.declared.record.Record.{Record}
-use Rattle.law_steps.specs.DidStep.{Handled, own_place}
-use Rattle.law_steps.proofs.FillsByJobs.{Fills, Stood, Writes, did_come}
-use Rattle.law_steps.proofs.KindsInHistories.{proposed_pairs}
-use Rattle.law_steps.proofs.Records.{split_last}
-use Rattle.law_jobs.proofs.Runs.{At}
-use Rattle.law_copies.specs.Visits.{WasThere, is_at}
-use Rattle.law_copies.proofs.VisitsAfterSteps.{at_by}
+use Rattle.law_moves.proofs.Imports.{[], ◌++◌, ◌∙◌, ◌∷◌, ◌≡◌, At, Cell, Command, Fills, Handled, Letter, List, OneMore, PairState, Pairs, Record, Server}
+use Rattle.law_moves.proofs.Imports.{Some, Stood, WasThere, Writes, ap, append-nil, append_assoc, at, at-empty, at_by, cell_cmp, crossed, did_come, ends_of}
+use Rattle.law_moves.proofs.Imports.{inl, inr, is_at, is_clients, none_some, own_place, proposed_pairs, raised, refl, same_or_apart, server_state, settling}
+use Rattle.law_moves.proofs.Imports.{split_last, subst, sym, true, true_false, ℕ}
 use Rattle.law_moves.specs.Fills.{WasFilled}
 use Rattle.law_moves.proofs.LeavingCellsGainNothing.{before}
 use Rattle.law_moves.proofs.AllKeptOfMoves.{AreUnsaid, Known, WereKnown}
 use Rattle.law_moves.proofs.PendingFills.{by_itself, new_unsaid, posted_says}
 use Rattle.law_moves.proofs.PlacesAreVisits.{same_rest}
-use Rattle.law_moves.proofs.StepsTellEntries.{Awakes, Before, Enters, HasGone, IsPosted, Is_blanked, Other, Posted, Raises, Rests, Starts_ballot, Works}
-use Rattle.law_moves.proofs.StepsTellEntries.{gone, not_new, sent, mine_whole}
+use Rattle.law_moves.proofs.StepsTellEntries.{Awakes, Before, Enters, HasGone, IsPosted, Is_blanked, Other, Posted, Raises, Rests, Starts_ballot, Works, gone}
+use Rattle.law_moves.proofs.StepsTellEntries.{not_new, sent, mine_whole}
 use Rattle.law_moves.proofs.ToldEntriesAreThere.{no_other}
 use Rattle.law_moves.proofs.PendingFillsUnsaidByStep.{unsaid_new, unsaid_there}
-use Rattle.law_epochs.proofs.EpochScenes.{OneMore, ends_of}
 use Rattle.law_moves.proofs.MoveScenes.{FillAtPlace}
+use Rattle.petal_msg.specs.declared.body.Body.TheVariants as body
 
 module _ (it : OneMore) (all : WereKnown it) where
   open it use {prior.{script, records as front}, own}

@@ -1,58 +1,25 @@
 -- A fill that a server had pending when it was at the place that the cell's link has by what is chosen, before a step: no letter of the step says that its
 -- entry is there.
-use Rattle.std.proofs.Common.{◌≡◌, ◌≢◌, ◌≤◌, ◌==◌, ◌⊎◌, ℕ, Bool, true, false, List, Option, Some, None, is_some}
-use Rattle.std.proofs.Common.{sym, ap, ◌∙◌, subst, inl, inr, arith}
-use Rattle.std.specs.Prelude.{option_and_then}
-use Rattle.std.specs.Ordering.{nat_cmp}
-use Rattle.global_tables.specs.declared.link.LinkRow.{LinkRow}
-use Rattle.global_tables.specs.declared.link.LinkState.TheVariants.{Both, Only}
-use Rattle.petal_base.specs.Cells.{cell_of}
-use Rattle.petal_base.specs.declared.cell.Cell.{Cell}
-use Rattle.petal_base.specs.declared.cell.Key.{Key}
-use Rattle.petal_command.specs.declared.command.Command.{Command}
-use Rattle.petal_table.specs.Table.{at}
-use Rattle.petal_table.proofs.Rows.{at-empty}
-use Rattle.petal_msg.specs.declared.body.Body.TheVariants as body
-use Rattle.petal_msg.specs.declared.letter.Letter.{Letter}
-use Rattle.petal_msg.specs.declared.operation.Pending.{Pending}
-use Rattle.spec_state.specs.CellState.{cell_link, row_lead}
-use Rattle.spec_rules.specs.Progress.{has_proposed}
-use Rattle.spec_rules.specs.Server.{PairState, Pairs, Server}
-use Rattle.spec_rules.specs.State.{is_in, leads_link}
-use Rattle.spec_rules.specs.Store.{Store, cell_cmp, chain_in}
-use Rattle.spec_rules.specs.World.{World, blank_joins_in, chosen_log, server_state}
-use Rattle.spec_rules.proofs.Tests.{by_bool, is_the_one, same_numbers, same_or_apart, same_some, true_false}
-use Rattle.spec_history.specs.Claims.{IsPrefix}
-use Rattle.spec_history.specs.Steps.{AreSteps}
-use Rattle.law_state.specs.Homes.{stage_at}
-use Rattle.law_state.proofs.CellsByLinkRows.{IsHeldBy, IsInBoth, link_led_by}
-use Rattle.law_state.proofs.Leaves.{either_true}
-use Rattle.law_log.proofs.LogInHistories.{history_grows, history_is_firm}
-use Rattle.law_steps.specs.DidStep.{Handled, own_place}
-use Rattle.law_steps.specs.Operations.{IsStaged, progress}
-use Rattle.law_steps.proofs.Fronts.{front_itself, front_on}
-use Rattle.law_steps.proofs.WhoLeads.{stage_live}
-use Rattle.law_steps.proofs.TakenUpAlone.{taking}
-use Rattle.law_jobs.proofs.Runs.{At}
-use Rattle.law_copies.specs.GoodCopies.{pair_at}
-use Rattle.law_copies.specs.Pair.{far}
-use Rattle.law_copies.specs.Visits.{IsLinked, WasThere, half, is_at, place_by}
-use Rattle.law_copies.proofs.ServedAtLaterFronts.{same_only}
-use Rattle.law_copies.proofs.PlacesByFronts.{at_most_or_above, linked_between, one_row, places_up}
-use Rattle.law_copies.proofs.VisitsAfterSteps.{IsAt, at_by, is_at_so}
+use Rattle.law_moves.proofs.Imports.{◌==◌, ◌∙◌, ◌≡◌, ◌≢◌, ◌≤◌, ◌⊎◌, AreSteps, At, Bool, Both, Cell, Command, Handled, IsAt, IsHeldBy, IsInBoth, IsLinked}
+use Rattle.law_moves.proofs.Imports.{IsPrefix, IsStaged, Key, Letter, LinkRow, List, None, OneMore, Only, Option, PairState, Pairs, Pending, Run, Server}
+use Rattle.law_moves.proofs.Imports.{Some, Store, WasThere, World, ap, arith, at, at-empty, at_by, at_most_or_above, blank_joins_in, by_bool, cell_cmp}
+use Rattle.law_moves.proofs.Imports.{cell_link, cell_of, chain_in, chosen_log, cut, either_true, ends_of, false, far, front_itself, front_on, half}
+use Rattle.law_moves.proofs.Imports.{has_proposed, history_grows, history_is_firm, inl, inr, is_at, is_at_so, is_in, is_some, is_the_one, leads_link}
+use Rattle.law_moves.proofs.Imports.{link_led_by, linked_between, nat_cmp, one_row, option_and_then, own_place, pair_at, place_by, places_up, progress}
+use Rattle.law_moves.proofs.Imports.{row_lead, same_numbers, same_only, same_or_apart, same_some, server_state, stage_at, stage_live, subst, sym, taking}
+use Rattle.law_moves.proofs.Imports.{true, true_false, ℕ}
 use Rattle.law_moves.specs.Fills.{Has, IsFrozen, WasFilled}
 use Rattle.law_moves.proofs.LeavingCellsGainNothing.{before}
 use Rattle.law_moves.proofs.AllKeptOfMoves.{Known, WereKnown}
 use Rattle.law_moves.proofs.LeadsHaveWhatServersHave.{Alone, As_first, Following, IsAfter, led_as}
 use Rattle.law_moves.proofs.PendingFills.{by_itself, posted_says}
 use Rattle.law_moves.proofs.FillLetters.{Asks_copy, Is_done, Is_done_alone, Is_neither, Is_there, Says, is_filled}
-use Rattle.law_moves.proofs.StepsTellEntries.{IsPosted}
-use Rattle.law_moves.proofs.StepsTellEntries.{mine_top, mine_whole}
+use Rattle.law_moves.proofs.StepsTellEntries.{IsPosted, mine_top, mine_whole}
 use Rattle.law_moves.proofs.EqualCopies.{frozen_on}
 use Rattle.law_moves.proofs.ToldEntriesAreThere.{filled_key, told_already}
 use Rattle.law_moves.proofs.MoveWorlds.{chosen_twins, facts_at, good, own_counts, rests, steady_at, up, was_seen}
-use Rattle.law_epochs.proofs.EpochScenes.{Run, OneMore, cut, ends_of}
 use Rattle.law_moves.proofs.MoveScenes.{FillAtPlace, LeadsAt}
+use Rattle.petal_msg.specs.declared.body.Body.TheVariants as body
 
 module _ (it : OneMore) (all : WereKnown it) where
   open it use {prior, prior.{script, sound, records as front}}

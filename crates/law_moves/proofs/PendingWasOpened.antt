@@ -1,13 +1,6 @@
 -- A client's write that is pending was opened by some of what is chosen.
-use Rattle.std.proofs.Common.{◌≡◌, ◌≤◌, ℕ, true, Some, length, arith}
-use Rattle.petal_base.specs.declared.cell.Cell.{Cell}
-use Rattle.petal_table.specs.Table.{at}
-use Rattle.petal_msg.specs.declared.operation.Pending.{Pending}
-use Rattle.spec_rules.specs.Store.{cell_cmp}
-use Rattle.spec_rules.specs.Writes.{is_clients}
-use Rattle.law_steps.proofs.Fronts.{front_long}
-use Rattle.law_epochs.proofs.PendingIsInTime.{opened_by, was_opened}
-use Rattle.law_epochs.proofs.EpochScenes.{Run, end_of}
+use Rattle.law_moves.proofs.Imports.{◌≡◌, ◌≤◌, Cell, Pending, Run, Some, arith, at, cell_cmp, end_of, front_long, is_clients, length, opened_by, true}
+use Rattle.law_moves.proofs.Imports.{was_opened, ℕ}
 
 module _ (h : Run) (n : ℕ) (cell : Cell) (op : Pending) where
   open h use {script, sound, records, legal}

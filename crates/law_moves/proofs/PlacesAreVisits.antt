@@ -1,26 +1,9 @@
 -- After each legal history two copies are kept so that what a server was at each place is told: where it was at a place, it is one of the visits there,
 -- with the operations that it had.
-use Rattle.std.proofs.Common.{◌≡◌, ◌++◌, ℕ, true, if◌then◌else◌, List, [], ◌∷◌, Some, sym, ap, ◌∙◌, subst, inl, inr, arith}
-use Rattle.std.specs.Prelude.{is_some}
-use Rattle.petal_base.specs.declared.cell.Cell.{Cell}
-use Rattle.script_lines.specs.declared.script.Script.{Script}
-use Rattle.spec_state.specs.State.{start as first_state}
-use Rattle.spec_history.specs.Steps.{AreSteps}
-use Rattle.spec_history.specs.Sound.{IsSound}
-use Rattle.spec_history.specs.declared.record.Record.{Record}
-use Rattle.spec_rules.specs.Server.{PairState, Pairs}
-use Rattle.spec_rules.specs.World.{chosen_log, counted, setting_of, start}
-use Rattle.spec_rules.proofs.Tests.{by_bool, none_some, some_or_none, true_false}
-use Rattle.law_state.proofs.EntriesOnlyAdd.{start_plain}
-use Rattle.law_state.proofs.LaterDisks.{past_link}
-use Rattle.law_steps.proofs.Records.{none_before_none, split_last}
-use Rattle.law_jobs.proofs.Runs.{by_run, run_of, At}
-use Rattle.law_copies.specs.GoodCopies.{Good}
-use Rattle.law_copies.specs.Visits.{WasThere, is_at}
-use Rattle.law_copies.proofs.CopiesInHistories.{start_good, step_goes}
-use Rattle.law_copies.proofs.VisitsAfterSteps.{at_by}
-use Rattle.law_epochs.proofs.EpochScenes.{OneMore, ends_of}
-use Rattle.law_epochs.proofs.FirstNewPlace.{one_in_other}
+use Rattle.law_moves.proofs.Imports.{[], if◌then◌else◌, ◌++◌, ◌∙◌, ◌∷◌, ◌≡◌, AreSteps, At, Cell, Good, IsSound, List, OneMore, PairState, Pairs, Record}
+use Rattle.law_moves.proofs.Imports.{Script, Some, WasThere, ap, arith, at_by, by_bool, by_run, chosen_log, counted, ends_of, first_state, inl, inr, is_at}
+use Rattle.law_moves.proofs.Imports.{is_some, none_before_none, none_some, one_in_other, past_link, run_of, setting_of, some_or_none, split_last, start}
+use Rattle.law_moves.proofs.Imports.{start_good, start_plain, step_goes, subst, sym, true, true_false, ℕ}
 
 abbrev GoodAt : Script → List Record → Type 0
 GoodAt script records =

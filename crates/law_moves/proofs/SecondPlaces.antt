@@ -1,41 +1,13 @@
 -- A second server that runs, by a front by which it is In, at the place that the link has by that front: nobody who serves the cell has been further, and where
 -- the server has been at the place it is there.
-use Rattle.std.proofs.Common.{◌≡◌, ◌≤◌, ◌==◌, ℕ, true, false, List, Option, Some}
-use Rattle.std.proofs.Common.{sym, ap, ◌∙◌, subst, inl, inr, arith}
-use Rattle.std.specs.Option.{option_map_or}
-use Rattle.global_tables.specs.Link.{has_server}
-use Rattle.global_tables.specs.declared.link.LinkRow.{LinkRow}
-use Rattle.petal_base.specs.declared.cell.Cell.{Cell}
-use Rattle.petal_command.specs.declared.command.Command.{Command}
-use Rattle.petal_table.specs.Table.{at}
-use Rattle.spec_state.specs.CellState.{serves}
-use Rattle.spec_state.specs.State.{inc_of}
-use Rattle.spec_rules.specs.Server.{PairState}
-use Rattle.spec_rules.specs.State.{is_in}
-use Rattle.spec_rules.specs.Store.{cell_cmp}
-use Rattle.spec_rules.specs.World.{counted, server_state}
-use Rattle.spec_rules.proofs.Tests.{same_some}
-use Rattle.spec_history.specs.Claims.{IsPrefix}
-use Rattle.law_state.specs.Homes.{stage_at}
-use Rattle.law_state.specs.LinkChanges.{StaysSo}
-use Rattle.law_state.specs.LinkRows.{ByBoth, ByNone, ByOne}
-use Rattle.law_state.proofs.CaughtsMadeBoth.{log_both_place}
-use Rattle.law_state.proofs.Ages.{up_some}
-use Rattle.law_state.proofs.LoneHolders.{alone_row}
-use Rattle.law_state.proofs.GrownStates.{alone_not_both, lost_not_both}
-use Rattle.law_state.proofs.Roles.{secondary_is_one}
-use Rattle.law_state.proofs.Steady.{front_plain, log_steady}
-use Rattle.law_steps.specs.Operations.{progress}
-use Rattle.law_steps.proofs.Fronts.{front_on}
-use Rattle.law_steps.proofs.Ties.{running_fronts, stays_both}
-use Rattle.law_copies.specs.GoodCopies.{AreTwins, Good, pair_at}
-use Rattle.law_copies.specs.Pair.{far}
-use Rattle.law_copies.specs.Visits.{HasReached, IsLinked, half, place_by, store_by}
-use Rattle.law_copies.proofs.ServedAtLaterFronts.{serves_alone}
-use Rattle.law_copies.proofs.PlacesByFronts.{fronts_meet, linked_between, one_place, one_row, places_up}
+use Rattle.law_moves.proofs.Imports.{◌==◌, ◌∙◌, ◌≡◌, ◌≤◌, AreTwins, ByBoth, ByNone, ByOne, Cell, Command, Good, HasReached, IsLinked, IsPrefix, LinkRow, List}
+use Rattle.law_moves.proofs.Imports.{OneMore, Option, PairState, Some, StaysSo, alone_row, ap, arith, at, cell_cmp, counted, ends_of, false, far, front_on}
+use Rattle.law_moves.proofs.Imports.{front_plain, fronts_meet, half, has_server, inc_of, inl, inr, is_in, linked_between, log_both_place, log_steady}
+use Rattle.law_moves.proofs.Imports.{lost_not_both, one_place, one_row, option_map_or, pair_at, place_by, places_up, progress, running_fronts, same_some}
+use Rattle.law_moves.proofs.Imports.{secondary_is_one, server_state, serves, serves_alone, stage_at, stays_both, store_by, subst, sym, true, up_some, ℕ}
+use Rattle.law_state.proofs.GrownStates.{alone_not_both}
 use Rattle.law_moves.proofs.StepsTellEntries.{knows_now}
 use Rattle.law_moves.proofs.MoveWorlds.{good, up}
-use Rattle.law_epochs.proofs.EpochScenes.{OneMore, ends_of}
 use Rattle.law_moves.proofs.MoveScenes.{IsSecondAt}
 
 module _ (it : OneMore) where

@@ -1,58 +1,22 @@
 -- What a job of a server may change of a cell whose link the server serves, by its own state or by a later one by which it is In still: it puts an operation
 -- that it has pending, or what the lead asked it to put. No copy changes it: by the later state the server serves the link, so a Caught stands between
 -- the two, which the holder had started at the server's own place, and nothing was left to copy then.
-use Rattle.std.proofs.Common.{◌≡◌, ◌≤◌, ◌==◌, ℕ, Bool, true, false, List, [], ◌∷◌, Option, Some, refl, sym, ap, ◌∙◌, subst, inl, inr, arith}
-use Rattle.std.specs.Option.{option_map_or}
-use Rattle.std.specs.Ordering.{nat_cmp}
-use Rattle.global_tables.specs.Link.{other_of}
-use Rattle.global_tables.specs.declared.link.LinkRow.{LinkRow}
-use Rattle.global_tables.specs.declared.link.LinkState.TheVariants.{Only}
-use Rattle.petal_base.specs.Cells.{cell_of}
-use Rattle.petal_base.specs.declared.cell.Cell.{Cell}
-use Rattle.petal_base.specs.declared.cell.Key.{Key}
-use Rattle.petal_command.specs.declared.command.Command.{Command}
-use Rattle.petal_table.specs.Table.{Table, at, put}
-use Rattle.petal_msg.specs.Kinds.{about}
-use Rattle.petal_msg.specs.declared.body.Body.{Body}
-use Rattle.petal_msg.specs.declared.body.Body.TheVariants as body
-use Rattle.petal_msg.specs.declared.copying.Copying.{Copying}
-use Rattle.petal_msg.specs.declared.copying.LastCopy.{LastCopy}
-use Rattle.petal_msg.specs.declared.operation.Far.TheVariants as far
-use Rattle.petal_msg.specs.declared.operation.Pending.{Pending}
-use Rattle.spec_state.specs.CellState.{serves}
-use Rattle.spec_state.specs.Command.{is_alone, state_after}
-use Rattle.spec_rules.specs.Copies.{cell_holder}
-use Rattle.spec_rules.specs.Progress.{copying_on, last_copy}
-use Rattle.spec_rules.specs.Server.{JobResult, PairState}
-use Rattle.spec_rules.specs.State.{id_of, is_alone_on, is_in, is_second, live}
-use Rattle.spec_rules.specs.Store.{Chain, Store, Stored, cell_cmp, chain_in, chains_with}
-use Rattle.spec_rules.specs.World.{Setting, World, chosen_state, kept, server_state}
-use Rattle.spec_rules.specs.Writes.{is_clients, last_on}
-use Rattle.spec_rules.proofs.Tests.{by_bool, none_some, number_itself, same_numbers, same_some, true_false}
-use Rattle.spec_history.specs.Claims.{IsPrefix}
-use Rattle.law_log.proofs.LogInHistories.{chosen_caught_was}
-use Rattle.law_state.specs.LaterStates.{IsServing}
-use Rattle.law_state.specs.Homes.{stage_at}
-use Rattle.law_state.specs.StartedBallots.{is_flagged}
-use Rattle.law_state.specs.Steady.{IsSteady}
-use Rattle.law_state.proofs.LoneHolders.{alone_row}
-use Rattle.law_steps.specs.Did.{Did}
-use Rattle.law_steps.specs.DidStep.{Handled, IsSeated, own_place}
-use Rattle.law_steps.proofs.Fronts.{front_itself}
-use Rattle.law_steps.proofs.WhoLeads.{stage_live}
-use Rattle.law_steps.proofs.OperationsRest.{same_cell_or_apart}
-use Rattle.law_steps.proofs.TakenUpAlone.{taking}
-use Rattle.law_copies.specs.CopyProgress.{AreCopying, HasSent, IsCaught, IsLeft, IsTold, links_of}
-use Rattle.law_copies.specs.Visits.{AliveIn, IsLinked, place_by}
-use Rattle.law_jobs.proofs.ChainsApart.{chain_apart, chain_put}
-use Rattle.law_copies.proofs.ServedAtLaterFronts.{alone_or_flagged, holder_is_one, other_than, serves_alone, unseen_beyond}
-use Rattle.law_copies.proofs.OtherIsNotHolder.{IsOther, held_by, other_apart}
-use Rattle.law_copies.proofs.PlacesByFronts.{at_most_or_above}
-use Rattle.law_epochs.proofs.EpochsInHistories.{running_timely}
-use Rattle.law_moves.proofs.JobsChangeOneChain.{A_copy, An_asked, An_own, CopiesSo, Is_dropped, Is_dropped_first, Is_put, NeverDead, Nothing_new}
-use Rattle.law_moves.proofs.JobsChangeOneChain.{Of_the_dead, StoresSo, copied_apart, did_stores}
+use Rattle.law_moves.proofs.Imports.{[], ◌==◌, ◌∙◌, ◌∷◌, ◌≡◌, ◌≤◌, AliveIn, AreCopying, Body, Bool, Cell, Chain, Command, Copying, Did, Handled, HasSent}
+use Rattle.law_moves.proofs.Imports.{IsCaught, IsLeft, IsLinked, IsOther, IsPrefix, IsSeated, IsServing, IsSteady, IsTold, JobResult, Key, LastCopy, LinkRow}
+use Rattle.law_moves.proofs.Imports.{List, Only, Option, PairState, Pending, Run, Setting, Some, Store, Stored, Table, World, about, alone_or_flagged}
+use Rattle.law_moves.proofs.Imports.{alone_row, ap, arith, at, at_most_or_above, by_bool, cell_cmp, cell_holder, cell_of, chain_apart, chain_in, chain_put}
+use Rattle.law_moves.proofs.Imports.{chains_with, chosen_caught_was, chosen_state, copying_on, end_of, false, front_itself, held_by, id_of, inl, inr}
+use Rattle.law_moves.proofs.Imports.{is_alone, is_alone_on, is_clients, is_flagged, is_in, is_second, kept, last_copy, last_on, live, nat_cmp, none_some}
+use Rattle.law_moves.proofs.Imports.{number_itself, option_map_or, other_apart, other_of, other_than, own_place, place_by, put, refl, running_timely}
+use Rattle.law_moves.proofs.Imports.{same_cell_or_apart, same_numbers, same_some, server_state, serves, serves_alone, stage_at, stage_live, state_after}
+use Rattle.law_moves.proofs.Imports.{subst, sym, taking, true, true_false, unseen_beyond, ℕ}
+use Rattle.law_copies.specs.CopyProgress.{links_of}
+use Rattle.law_copies.proofs.ServedAtLaterFronts.{holder_is_one}
+use Rattle.law_moves.proofs.JobsChangeOneChain.{A_copy, An_asked, An_own, CopiesSo, Is_dropped, Is_dropped_first, Is_put, NeverDead, Nothing_new, Of_the_dead}
+use Rattle.law_moves.proofs.JobsChangeOneChain.{StoresSo, copied_apart, did_stores}
 use Rattle.law_moves.proofs.MoveWorlds.{firm, good, own_counts, rests, steady_at, up}
-use Rattle.law_epochs.proofs.EpochScenes.{Run, end_of}
+use Rattle.petal_msg.specs.declared.body.Body.TheVariants as body
+use Rattle.petal_msg.specs.declared.operation.Far.TheVariants as far
 
 -- no fill is pending at a server that runs but while its cell comes
 abbrev pub AreOpenedComing : Setting → World → Type 0

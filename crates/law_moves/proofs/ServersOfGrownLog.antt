@@ -1,52 +1,19 @@
 -- Who serves a link at a front of what is chosen after a step, after what was chosen before it: a server that served it then, or the other server of
 -- one that held it alone, by a Caught right after what was chosen then. That one's holder had started the ballot, so the two copies are equal.
-use Rattle.std.proofs.Common.{◌≡◌, ◌≢◌, ◌<◌, ◌++◌, ◌==◌, ◌&&◌, ◌||◌, ◌⊎◌, ℕ, Bool, true, false, List, [], ◌∷◌, length}
-use Rattle.std.proofs.Common.{length-append, Some, refl, sym, ap, ◌∙◌, subst, inl, inr, arith}
-use Rattle.std.specs.Prelude.{if◌then◌else◌}
-use Rattle.std.specs.Option.{option_map_or}
-use Rattle.global_tables.specs.Link.{blanked_state, has_server, other_of, row_blanked}
-use Rattle.global_tables.specs.declared.link.LinkRow.{LinkRow}
-use Rattle.global_tables.specs.declared.link.LinkState.{LinkState}
-use Rattle.global_tables.specs.declared.link.LinkState.TheVariants.{Both, Lost, Only}
-use Rattle.petal_base.specs.declared.cell.Cell.{Cell}
-use Rattle.petal_command.specs.declared.command.Command.{Command}
-use Rattle.petal_command.specs.declared.command.Command.TheVariants.{Caught, Join, Leave}
-use Rattle.petal_table.specs.Table.{at}
-use Rattle.petal_table.proofs.Rows.{at-empty}
-use Rattle.spec_state.specs.CellState.{cell_link, serves}
-use Rattle.petal_msg.specs.declared.copying.Progress.{Progress}
-use Rattle.spec_rules.specs.Server.{Copies, PairState, Server, no_copies}
-use Rattle.spec_rules.specs.State.{State, id_of, link_cmp}
-use Rattle.spec_rules.specs.Store.{Chain, Store, chain_in}
-use Rattle.spec_rules.specs.World.{Setting, World, blank_joins_in, chosen_log, counted_by, kept_by}
-use Rattle.spec_rules.proofs.Tests.{by_bool, number_itself, same_or_apart, true_false}
-use Rattle.spec_history.specs.Claims.{IsPrefix}
-use Rattle.spec_history.specs.Steps.{AreSteps}
-use Rattle.spec_history.specs.declared.record.Record.{Record}
-use Rattle.law_log.specs.ProposedCommands.{WasStarted}
-use Rattle.law_log.proofs.LogInHistories.{chosen_caught_was, history_grows, history_is_firm}
-use Rattle.law_state.specs.LaterStates.{IsServing}
-use Rattle.law_state.specs.Joins.{HasJoinedSince}
-use Rattle.law_state.specs.LinkChanges.{By_caught, By_join, By_leave, IsCaughtBy, IsCaughtIn, IsCaughtStill, IsTouchedBy, row_joined}
-use Rattle.law_state.specs.Plain.{IsPlainLog}
-use Rattle.law_state.specs.StartedBallots.{is_flagged}
-use Rattle.law_state.specs.LinkRows.{ByBoth, ByNone, ByOne}
-use Rattle.law_state.specs.Steady.{IsSteady}
-use Rattle.law_state.proofs.CaughtsMadeBoth.{log_alone, log_lost}
-use Rattle.law_state.proofs.GrownStates.{one_before}
-use Rattle.law_state.proofs.Steady.{front_plain, log_steady}
-use Rattle.law_state.proofs.EntriesTouchLinks.{log_touched}
-use Rattle.law_steps.proofs.Fronts.{front_itself, front_long, front_more, front_on, one_front}
-use Rattle.law_steps.proofs.Records.{split_last}
-use Rattle.law_copies.proofs.EmptyJoins.{joined_where, stands_in}
-use Rattle.law_jobs.proofs.Runs.{At, before_part}
-use Rattle.law_copies.specs.GoodCopies.{Good}
-use Rattle.law_copies.specs.Visits.{AliveIn, IsLast, IsLinked, place_by}
-use Rattle.law_copies.proofs.ServedAtLaterFronts.{holder_is_one, other_than, same_only, serves_alone, serves_its}
-use Rattle.law_copies.proofs.PlacesByFronts.{alive_on, linked_between, places_up, rows_later, state_next}
+use Rattle.law_moves.proofs.Imports.{[], if◌then◌else◌, ◌&&◌, ◌++◌, ◌<◌, ◌==◌, ◌||◌, ◌∙◌, ◌∷◌, ◌≡◌, ◌≢◌, ◌⊎◌, AliveIn, AreSteps, At, Bool, Both, ByBoth}
+use Rattle.law_moves.proofs.Imports.{ByNone, ByOne, By_caught, By_join, By_leave, Caught, Cell, Chain, Command, Copies, Good, HasJoinedSince, IsCaughtBy}
+use Rattle.law_moves.proofs.Imports.{IsCaughtIn, IsCaughtStill, IsLast, IsLinked, IsPlainLog, IsPrefix, IsServing, IsSteady, IsTouchedBy, Join, Leave}
+use Rattle.law_moves.proofs.Imports.{LinkRow, LinkState, List, Lost, OneMore, Only, PairState, Progress, Record, Server, Setting, Some, State, Store}
+use Rattle.law_moves.proofs.Imports.{WasStarted, World, alive_on, ap, arith, at, at-empty, before_part, blank_joins_in, blanked_state, by_bool, cell_link}
+use Rattle.law_moves.proofs.Imports.{chain_in, chosen_caught_was, chosen_log, counted_by, ends_of, false, front_itself, front_long, front_more, front_on}
+use Rattle.law_moves.proofs.Imports.{front_plain, has_server, history_grows, history_is_firm, id_of, inl, inr, is_flagged, joined_where, kept_by, length}
+use Rattle.law_moves.proofs.Imports.{length-append, link_cmp, linked_between, log_alone, log_lost, log_steady, log_touched, no_copies, number_itself}
+use Rattle.law_moves.proofs.Imports.{one_before, one_front, option_map_or, other_of, other_than, place_by, places_up, refl, row_blanked, row_joined}
+use Rattle.law_moves.proofs.Imports.{rows_later, same_only, same_or_apart, serves, serves_alone, serves_its, split_last, stands_in, state_next, subst, sym}
+use Rattle.law_moves.proofs.Imports.{true, true_false, ℕ}
+use Rattle.law_copies.proofs.ServedAtLaterFronts.{holder_is_one}
 use Rattle.law_moves.proofs.StepsTellEntries.{Awakes, Enters, HasGone, Is_blanked, Raises, Rests, Starts_ballot, Works, gone, knows, middle}
 use Rattle.law_moves.proofs.MoveWorlds.{row_serving}
-use Rattle.law_epochs.proofs.EpochScenes.{OneMore, ends_of}
 
 -- nobody who serves a link has been at a later place than the one by all that is chosen
 pub top_last : (setting : Setting) (records : List Record) (top : List Command) (w : World) → IsPlainLog setting.servers top

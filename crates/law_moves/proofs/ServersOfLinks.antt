@@ -1,19 +1,9 @@
 -- Who serves a cell's link: its lead, its authority, and in Both each of its two servers.
-use Rattle.std.proofs.Common.{◌≡◌, ℕ, true, Some, None, sym, ap, ◌∙◌, inl, inr}
-use Rattle.std.specs.Prelude.{if◌then◌else◌, option_and_then}
-use Rattle.global_tables.specs.Link.{has_server}
-use Rattle.global_tables.specs.declared.link.LinkRow.{LinkRow}
-use Rattle.global_tables.specs.declared.link.LinkState.TheVariants.{Only}
-use Rattle.petal_base.specs.declared.cell.Cell.{Cell}
-use Rattle.spec_history.specs.Claims.{Matters}
-use Rattle.spec_state.specs.CellState.{cell_link, row_lead, serves}
-use Rattle.spec_rules.specs.State.{State, authority, first, lead, live, row_authority, second}
-use Rattle.spec_rules.proofs.Tests.{by_bool, none_some, number_itself, same_some}
-use Rattle.law_state.specs.LaterStates.{IsServing}
-use Rattle.law_state.specs.LinkRows.{ByBoth, ByNone, ByOne}
-use Rattle.law_state.specs.Steady.{IsSteady}
-use Rattle.law_state.proofs.CellsByLinkRows.{IsHeldBy, IsInBoth, first_by, led_by, link_led_by, second_by}
-use Rattle.law_state.proofs.Roles.{holder_is_one, primary_is_one, secondary_is_one}
+use Rattle.law_moves.proofs.Imports.{if◌then◌else◌, ◌∙◌, ◌≡◌, ByBoth, ByNone, ByOne, Cell, IsHeldBy, IsInBoth, IsServing, IsSteady, LinkRow, Matters, None}
+use Rattle.law_moves.proofs.Imports.{Only, Some, State, ap, authority, by_bool, cell_link, first, first_by, has_server, holder_is_one, inl, inr, led_by}
+use Rattle.law_moves.proofs.Imports.{link_led_by, live, none_some, number_itself, option_and_then, primary_is_one, row_authority, row_lead, same_some, second}
+use Rattle.law_moves.proofs.Imports.{second_by, secondary_is_one, serves, sym, true, ℕ}
+use Rattle.spec_rules.specs.State.{lead}
 
 pub both_serves : (state : State) (cell : Cell) (n : ℕ) (b : IsInBoth state cell) → has_server n b.row ≡ true → IsServing state n cell
 both_serves state cell n b has = record { row = b.row; is = b.is; one_of = has; so = ap (serves n b.row) b.so ∙ has }

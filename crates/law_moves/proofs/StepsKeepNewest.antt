@@ -1,56 +1,24 @@
 -- Each step keeps that what a new map has of a block, and what letters tell of it, is newest.
-use Rattle.std.proofs.Common.{◌≡◌, ◌≤◌, ℕ, List, true, false, length, Option, Some, refl, sym, ap, ◌∙◌, subst, inl, inr, arith}
-use Rattle.petal_base.specs.Cells.{cell_of, key_at}
-use Rattle.petal_base.specs.declared.cell.Cell.{Cell}
-use Rattle.petal_command.specs.declared.command.Command.{Command}
-use Rattle.petal_msg.specs.declared.body.Body.{Body}
-use Rattle.petal_msg.specs.declared.letter.Letter.{Letter}
-use Rattle.petal_msg.specs.declared.operation.OpKind.TheVariants as kind
-use Rattle.petal_msg.specs.declared.operation.Pending.{Pending}
-use Rattle.petal_table.specs.Table.{Table, at}
-use Rattle.spec_state.specs.CellState.{source}
-use Rattle.spec_rules.specs.Blanked.{BeforeBlank}
-use Rattle.spec_rules.specs.Crossing.{crossed}
-use Rattle.spec_rules.specs.Lists.{In}
-use Rattle.spec_rules.specs.Server.{PairState, Post, Server}
-use Rattle.spec_rules.specs.State.{State}
-use Rattle.spec_rules.specs.Store.{Chain, Store, cell_cmp}
-use Rattle.spec_rules.specs.Writes.{is_clients}
-use Rattle.spec_rules.specs.World.{World, blank_joins_in, chosen_log, chosen_state, kept, server_state, start}
-use Rattle.spec_rules.proofs.Settled.{settling}
-use Rattle.spec_rules.proofs.Tests.{all_put, by_bool, same_some, true_false}
-use Rattle.spec_history.specs.Claims.{IsPrefix}
-use Rattle.law_state.specs.Homes.{stage_at}
-use Rattle.law_state.proofs.Steady.{log_below}
-use Rattle.law_state.proofs.TwinsAreOfOneDisk.{log_comes}
-use Rattle.law_steps.specs.ComingCells.{WasComing}
-use Rattle.law_steps.specs.DidLead.{IsNextFill}
-use Rattle.law_steps.specs.DidStep.{Blanks, Handled, Happens, Serves, Turns, own_place}
-use Rattle.law_steps.specs.Operations.{A_fill, A_write, IsOpenedFor}
-use Rattle.law_steps.proofs.EntriesReachComingCells.{comes_after, start_comes}
-use Rattle.law_steps.proofs.MovesAreOfComingCells.{next_comes}
-use Rattle.law_steps.proofs.WorldsAreFirm.{always_firm}
-use Rattle.law_steps.proofs.Fronts.{below_itself, front_itself, front_on}
-use Rattle.law_steps.proofs.KindsInHistories.{last_happens, own_plain, start_rests}
-use Rattle.law_copies.proofs.StoreJobs.{ballot_store}
-use Rattle.law_copies.proofs.PlacesByFronts.{fronts_meet}
+use Rattle.law_moves.proofs.Imports.{◌∙◌, ◌≡◌, ◌≤◌, A_fill, A_write, AreWithin, BeforeBlank, Blanks, Body, Cell, Chain, Command, Handled, Happens, In}
+use Rattle.law_moves.proofs.Imports.{IsMoverOwn, IsNextFill, IsOpenedFor, IsPrefix, IsWithin, Letter, List, OfKey, OneMore, Option, PairState, Pending, Post}
+use Rattle.law_moves.proofs.Imports.{Server, Serves, Some, State, Store, Table, Turns, WasComing, World, all_put, always_firm, ap, arith, at, ballot_store}
+use Rattle.law_moves.proofs.Imports.{below_itself, blank_joins_in, by_bool, cell_cmp, cell_of, chosen_log, chosen_state, comes_after, crossed, did_kept}
+use Rattle.law_moves.proofs.Imports.{did_said, ends_of, false, front_itself, front_on, fronts_meet, inl, inr, is_clients, kept, key_at, last_happens, length}
+use Rattle.law_moves.proofs.Imports.{log_below, log_comes, mover_store, next_comes, none_within, of_key_on, of_no_key, own_place, own_plain, refl, resting}
+use Rattle.law_moves.proofs.Imports.{same_some, server_state, settling, source, stage_at, start, start_comes, start_rests, subst, sym, true, true_false}
+use Rattle.law_moves.proofs.Imports.{was_opened, ℕ}
 use Rattle.law_epochs.proofs.EntriesNeverEarly.{kept_by}
-use Rattle.law_epochs.proofs.PendingIsInTime.{was_opened}
-use Rattle.law_epochs.proofs.EntriesAfterJobs.{did_kept}
-use Rattle.law_epochs.proofs.ReportedHaveNoPending.{resting}
-use Rattle.law_epochs.proofs.KeysToldByJobs.{IsMoverOwn, did_said, mover_store}
-use Rattle.law_epochs.proofs.EntryPredicates.{AreWithin, IsWithin, OfKey, none_within, of_key_on, of_no_key}
 use Rattle.law_moves.proofs.FrozenIsWhatCounted.{frozen_same}
 use Rattle.law_moves.proofs.AllKeptOfMoves.{WasKnown}
 use Rattle.law_moves.proofs.NewestOfMovingCells.{at_coming, frozen_newest, has_left}
 use Rattle.law_moves.proofs.NewestByLetters.{AllNewest, IsNewest}
 use Rattle.law_moves.proofs.MovedRegionsHaveAll.{facts, plain}
-use Rattle.law_moves.proofs.StepsTellEntries.{Awakes, Before, Enters, HasGone, Is_blanked, Other, Posted, Raises, Rests, Starts_ballot, Works}
-use Rattle.law_moves.proofs.StepsTellEntries.{chosen_on, gone, knows, knows_now, sent}
+use Rattle.law_moves.proofs.StepsTellEntries.{Awakes, Before, Enters, HasGone, Is_blanked, Other, Posted, Raises, Rests, Starts_ballot, Works, chosen_on}
+use Rattle.law_moves.proofs.StepsTellEntries.{gone, knows, knows_now, sent}
 use Rattle.law_moves.proofs.EntryLettersKept.{frozen_on, next_frozen}
 use Rattle.law_moves.proofs.FrozenEpochs.{frozen_then}
 use Rattle.law_moves.proofs.LeadsWereTold.{HasTold, lift, told_before, told_now}
-use Rattle.law_epochs.proofs.EpochScenes.{OneMore, ends_of}
+use Rattle.petal_msg.specs.declared.operation.OpKind.TheVariants as kind
 
 module _ (it : OneMore) (known : WasKnown it) (old : AllNewest (ends_of it).setting (ends_of it).w) where
   open it use {prior, prior.{script, sound, records as front}, legal}

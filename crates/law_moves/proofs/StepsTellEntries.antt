@@ -1,53 +1,15 @@
 -- What a step of a history may have done to each server, and which letters it sent that tell of entries.
-use Rattle.std.proofs.Common.{◌≡◌, ◌≢◌, ◌≤◌, ◌+◌, ◌++◌, ◌==◌, ℕ, Bool, true, false, List, [], ◌∷◌, Option, Some, length}
-use Rattle.std.proofs.Common.{refl, sym, ap, ◌∙◌, subst, inl, inr, arith}
-use Rattle.std.specs.List.{range_with_len}
-use Rattle.std.specs.Prelude.{filter, not}
-use Rattle.petal_command.specs.declared.command.Command.{Command}
-use Rattle.petal_command.specs.declared.command.Command.TheVariants.{Join}
-use Rattle.petal_msg.specs.Kinds.{subject_of}
-use Rattle.petal_msg.specs.declared.body.Body.{Body}
+use Rattle.law_moves.proofs.Imports.{[], ◌++◌, ◌+◌, ◌==◌, ◌∙◌, ◌∷◌, ◌≡◌, ◌≢◌, ◌≤◌, Acted, AreSteps, At, BeforeBlank, Blanks, Body, Bool, By_ballot, By_entry}
+use Rattle.law_moves.proofs.Imports.{By_job, Command, Did, Ends, Fails, Firm, Goes, Good, Handled, Happens, In, IsPrefix, IsSeated, IsSound, JobResult, Join}
+use Rattle.law_moves.proofs.Imports.{Letter, List, Log, OneMore, Option, Post, Record, Script, Sender, Server, Serves, Serving, Some, Starts, State, Stays}
+use Rattle.law_moves.proofs.Imports.{Step, Turns, Wakes, Worked, World, after, all_put, always_firm, ap, arith, asked_none, awake, before_last, below_itself}
+use Rattle.law_moves.proofs.Imports.{blank_joins_in, blanked, chosen_log, chosen_state, client_sender, counted_by, crossed, down_posts, ends_of, false}
+use Rattle.law_moves.proofs.Imports.{filter, first_incs, front_itself, front_more, front_on, front_plain, good_after, history_grows, history_is_firm}
+use Rattle.law_moves.proofs.Imports.{in-append, in_former, in_later, inl, inr, is_in, is_of_entries, join_was_wanted, kept, last_happens, length, letters_of}
+use Rattle.law_moves.proofs.Imports.{log_rev, logged_none, longer, not, own_place, proposed, put_apart, put_at, put_same, raised, range_with_len, refl}
+use Rattle.law_moves.proofs.Imports.{run_of, said, said_to_all, same_or_apart, sender, server_state, settled_by, since, stamped, state_after, step_goes}
+use Rattle.law_moves.proofs.Imports.{subject_of, subst, sym, true, true_false, turned_asks, who_is_in, without_rev, ℕ}
 use Rattle.petal_msg.specs.declared.body.Body.TheVariants as body
-use Rattle.petal_msg.specs.declared.letter.Letter.{Letter}
-use Rattle.script_lines.specs.declared.script.Script.{Script}
-use Rattle.spec_state.specs.Command.{state_after}
-use Rattle.spec_rules.specs.Blanked.{BeforeBlank}
-use Rattle.spec_rules.specs.Boots.{awake, blanked, raised}
-use Rattle.spec_rules.specs.Clients.{client_sender}
-use Rattle.spec_rules.specs.Crossing.{crossed, settled_by}
-use Rattle.spec_rules.specs.Jobs.{Acted, down_posts}
-use Rattle.spec_rules.specs.Lists.{In, put_at}
-use Rattle.spec_rules.specs.Log.{Log}
-use Rattle.spec_rules.specs.Returns.{proposed}
-use Rattle.spec_rules.specs.Server.{JobResult, Post, Sender, Server, letters_of, sender}
-use Rattle.spec_rules.specs.State.{State, is_in}
-use Rattle.spec_rules.specs.World.{World, blank_joins_in, kept, chosen_log, chosen_state, counted_by, server_state, stamped}
-use Rattle.spec_rules.specs.declared.step.Step.{Step}
-use Rattle.spec_rules.proofs.ListLemmas.{in-append, in_former, in_later, put_apart, put_same}
-use Rattle.spec_rules.proofs.Tests.{all_put, same_or_apart, true_false}
-use Rattle.spec_history.specs.Claims.{IsPrefix}
-use Rattle.spec_history.specs.Steps.{AreSteps}
-use Rattle.spec_history.specs.Sound.{IsSound}
-use Rattle.spec_history.specs.declared.record.Record.{Record}
-use Rattle.law_state.specs.Firm.{Firm}
-use Rattle.law_state.proofs.Incarnations.{who_is_in}
-use Rattle.law_state.proofs.Steady.{front_plain, log_rev}
-use Rattle.law_log.proofs.LogInHistories.{first_incs, history_grows, history_is_firm, join_was_wanted}
-use Rattle.law_log.proofs.ProposersInSchedule.{said_to_all}
-use Rattle.law_steps.specs.Did.{Did}
-use Rattle.law_steps.specs.DidStep.{Handled, Happens, Serves, Blanks, Turns, IsSeated, Starts, Worked, By_job, By_ballot, By_entry, Serving}
-use Rattle.law_steps.specs.DidStep.{Goes, Ends, Stays, Wakes, Fails, own_place, without_rev}
-use Rattle.law_steps.proofs.WorldsAreFirm.{always_firm}
-use Rattle.law_steps.proofs.Fronts.{below_itself, front_itself, front_more, front_on}
-use Rattle.law_steps.proofs.KindsInHistories.{last_happens}
-use Rattle.law_steps.proofs.Letters.{said}
-use Rattle.law_steps.proofs.ClientLetters.{turned_asks}
-use Rattle.law_jobs.proofs.Runs.{At, after, longer, run_of, since}
-use Rattle.law_copies.proofs.StoresAlongRecords.{before_last}
-use Rattle.law_copies.specs.GoodCopies.{Good}
-use Rattle.law_copies.proofs.CopiesInHistories.{good_after, step_goes}
-use Rattle.law_epochs.proofs.EntryPredicates.{asked_none, is_of_entries, logged_none}
-use Rattle.law_epochs.proofs.EpochScenes.{OneMore, ends_of}
 
 module _ (it : OneMore) where
   open it use {prior, prior.{script, sound, records as front}, own, legal}

@@ -1,55 +1,21 @@
 -- Where a region was leaving before a step, each letter that asks a second server to put is of an operation that it has followed still: none is sent
 -- from then on.
-use Rattle.std.proofs.Common.{◌≡◌, ◌≤◌, ◌+◌, ◌++◌, ◌||◌, ℕ, true, false, List, [], ◌∷◌, Some, None}
-use Rattle.std.proofs.Common.{refl, sym, ap, ◌∙◌, subst, inl, inr, arith}
-use Rattle.std.specs.Prelude.{cond, not}
-use Rattle.std.specs.Option.{option_map_or}
-use Rattle.global_tables.specs.declared.link.LinkRow.{LinkRow}
-use Rattle.petal_base.specs.Cells.{cell_of}
-use Rattle.petal_base.specs.declared.cell.Cell.{Cell}
-use Rattle.petal_base.specs.declared.cell.Key.{Key}
-use Rattle.petal_command.specs.declared.command.Command.{Command}
-use Rattle.petal_table.specs.Table.{at}
-use Rattle.petal_table.proofs.Rows.{at-where}
-use Rattle.petal_msg.specs.Kinds.{subject_of}
-use Rattle.petal_msg.specs.declared.body.Body.{Body}
-use Rattle.petal_msg.specs.declared.body.Body.TheVariants as body
-use Rattle.spec_state.specs.CellState.{cell_link}
+use Rattle.law_moves.proofs.Imports.{[], ◌++◌, ◌+◌, ◌||◌, ◌∙◌, ◌∷◌, ◌≡◌, ◌≤◌, Body, Cell, Command, Handled, In, IsLinked, IsPrefix, Key, LinkRow, List, None}
+use Rattle.law_moves.proofs.Imports.{OneMore, PairState, Pairs, Server, Some, State, ap, arith, at, at-where, both_true, by_bool, cell_cmp, cell_cmp_same}
+use Rattle.law_moves.proofs.Imports.{cell_link, cell_of, cond, crossed, did_follow, dies, ends_cell, ends_of, false, front_on, front_within, inl, inr}
+use Rattle.law_moves.proofs.Imports.{is_between, is_clients, is_in, is_of_entries, live, live_stage, not, option_map_or, own_place, place_by, place_of_later}
+use Rattle.law_moves.proofs.Imports.{place_touched, places_grow, progress, proposed, proposed_pairs, refl, running_timely, server_state, settled_by, settling}
+use Rattle.law_moves.proofs.Imports.{some_or_none, stage_at, stage_live, state_next, subject_of, subst, sym, touches, touches_cell, true, true_false, ℕ}
 use Rattle.spec_state.specs.Command.{after}
-use Rattle.spec_state.specs.Place.{touches}
-use Rattle.spec_rules.specs.Crossing.{crossed, dies, ends_cell, settled_by, touches_cell}
-use Rattle.spec_rules.specs.Returns.{proposed}
-use Rattle.spec_rules.specs.Lists.{In}
-use Rattle.spec_rules.specs.Server.{PairState, Pairs, Server}
-use Rattle.spec_rules.specs.State.{State, is_in, live}
-use Rattle.spec_rules.specs.Store.{cell_cmp}
-use Rattle.spec_rules.specs.World.{server_state}
-use Rattle.spec_rules.specs.Writes.{is_clients}
-use Rattle.spec_rules.proofs.CellTables.{cell_cmp_same}
-use Rattle.spec_rules.proofs.Settled.{settling}
-use Rattle.spec_rules.proofs.Tests.{both_true, by_bool, some_or_none, true_false}
-use Rattle.spec_history.specs.Claims.{IsPrefix}
-use Rattle.law_state.specs.Homes.{stage_at}
-use Rattle.law_state.proofs.EntriesTouchLinks.{places_grow}
-use Rattle.law_steps.specs.DidStep.{Handled, is_between, own_place}
-use Rattle.law_steps.specs.Operations.{progress}
-use Rattle.law_steps.proofs.Fronts.{front_on, front_within}
-use Rattle.law_steps.proofs.KindsInHistories.{proposed_pairs}
-use Rattle.law_steps.proofs.WhoLeads.{live_stage, stage_live}
-use Rattle.law_copies.specs.Visits.{IsLinked, place_by}
-use Rattle.law_copies.proofs.PlacesByFronts.{place_of_later, place_touched, state_next}
-use Rattle.law_epochs.proofs.EpochsInHistories.{running_timely}
-use Rattle.law_epochs.proofs.EntryPredicates.{is_of_entries}
-use Rattle.law_jobs.proofs.CountsGrow.{did_follow}
 use Rattle.law_moves.proofs.ServedCellChanges.{never_dead}
 use Rattle.law_moves.proofs.LeavingCellsGainNothing.{before}
 use Rattle.law_moves.proofs.AllKeptOfMoves.{Known, WereKnown}
 use Rattle.law_moves.proofs.FillLetters.{Asks_copy, Is_done, Is_done_alone, Is_neither, Is_there, Says, did_says, is_replicate}
-use Rattle.law_moves.proofs.StepsTellEntries.{Awakes, Before, Enters, HasGone, IsPosted, Is_blanked, Other, Posted, Raises, Rests, Starts_ballot}
-use Rattle.law_moves.proofs.StepsTellEntries.{Works, gone, here, sent}
+use Rattle.law_moves.proofs.StepsTellEntries.{Awakes, Before, Enters, HasGone, IsPosted, Is_blanked, Other, Posted, Raises, Rests, Starts_ballot, Works, gone}
+use Rattle.law_moves.proofs.StepsTellEntries.{here, sent}
 use Rattle.law_moves.proofs.MoveWorlds.{good, rests, up}
-use Rattle.law_epochs.proofs.EpochScenes.{OneMore, ends_of}
 use Rattle.law_moves.proofs.MoveScenes.{AsksToPut, IsSecondAt}
+use Rattle.petal_msg.specs.declared.body.Body.TheVariants as body
 
 replicate_key : {number other v1 v2 : ℕ} {key one : Key} {b1 b2 : List ℕ} → body.Replicate number key v1 b1 ≡ body.Replicate other one v2 b2 → key ≡ one
 replicate_key e = cc

@@ -1,35 +1,10 @@
 -- A step keeps that what was told to be at the new map is there; and what is told in the step is: its lead has it, with nothing under way or with its
 -- second server after it; or the region has moved on, and all of it was told before.
-use Rattle.std.proofs.Common.{◌≡◌, ◌≤◌, ℕ, true, false, List, Option, Some, is_some, sym, ap, ◌∙◌, subst, inl, inr, arith}
-use Rattle.petal_base.specs.Cells.{cell_of}
-use Rattle.petal_base.specs.declared.cell.Cell.{Cell}
-use Rattle.petal_base.specs.declared.cell.Key.{Key}
-use Rattle.petal_command.specs.declared.command.Command.{Command}
-use Rattle.petal_table.specs.Table.{at}
-use Rattle.petal_msg.specs.Kinds.{subject_of}
-use Rattle.petal_msg.specs.declared.body.Body.{Body}
-use Rattle.petal_msg.specs.declared.body.Body.TheVariants as body
-use Rattle.petal_msg.specs.declared.letter.Letter.{Letter}
-use Rattle.petal_msg.specs.declared.operation.OpKind.TheVariants as kind
-use Rattle.petal_msg.specs.declared.operation.Pending.{Pending}
-use Rattle.petal_msg.specs.declared.operation.Stage.{Stage}
-use Rattle.spec_rules.specs.Blanked.{BeforeBlank, kept_store}
-use Rattle.spec_rules.specs.Server.{Server}
-use Rattle.spec_rules.specs.State.{is_in, leads_link}
-use Rattle.spec_rules.specs.Store.{Chain, Store, cell_cmp, chain_in}
-use Rattle.spec_rules.specs.World.{chosen_state, kept, kept_by, server_state}
-use Rattle.spec_rules.specs.Writes.{is_clients}
-use Rattle.spec_rules.proofs.Tests.{true_false}
-use Rattle.spec_history.specs.Claims.{IsPrefix}
-use Rattle.law_state.specs.LaterStates.{IsServing}
-use Rattle.law_state.specs.Homes.{stage_at}
-use Rattle.law_steps.specs.DidStep.{Handled, own_place}
-use Rattle.law_steps.proofs.Fronts.{front_itself, front_on}
-use Rattle.law_steps.proofs.WhoLeads.{stage_live}
-use Rattle.law_steps.proofs.TakenUpAlone.{taking}
-use Rattle.law_copies.proofs.StoreHistories.{in_counts}
-use Rattle.law_copies.proofs.PlacesByFronts.{at_most_or_above, fronts_meet}
-use Rattle.law_epochs.proofs.EntryPredicates.{is_of_entries}
+use Rattle.law_moves.proofs.Imports.{◌∙◌, ◌≡◌, ◌≤◌, BeforeBlank, Body, Cell, Chain, Command, Handled, IsPrefix, IsServing, Key, Letter, List, OneMore, Option}
+use Rattle.law_moves.proofs.Imports.{Pending, Run, Server, Some, Stage, Store, ap, arith, at, at_most_or_above, cell_cmp, cell_of, chain_in, chosen_state}
+use Rattle.law_moves.proofs.Imports.{end_of, ends_of, false, front_itself, front_on, fronts_meet, in_counts, inl, inr, is_clients, is_in, is_of_entries}
+use Rattle.law_moves.proofs.Imports.{is_some, kept, kept_by, kept_store, leads_link, own_place, server_state, stage_at, stage_live, subject_of, subst, sym}
+use Rattle.law_moves.proofs.Imports.{taking, true, true_false, ℕ}
 use Rattle.law_moves.specs.Fills.{Has, IsFrozen, IsThere, WasFilled}
 use Rattle.law_moves.proofs.ServedCellChanges.{never_dead}
 use Rattle.law_moves.proofs.ServersOfGrownLog.{It_came, It_did, same_joins, served_before}
@@ -40,8 +15,9 @@ use Rattle.law_moves.proofs.MovedRegionsHaveAll.{AllMoved, over_told}
 use Rattle.law_moves.proofs.FillLetters.{Asks_copy, Is_done, Is_done_alone, Is_neither, Is_there, Says, did_says, is_filled}
 use Rattle.law_moves.proofs.StepsTellEntries.{Before, Goes_on, HasStore, IsPosted, Is_bare, Other, Posted, here, sent, stored, mine_top}
 use Rattle.law_moves.proofs.MoveWorlds.{facts_at, own_counts, rests, runs_on, serving_on, steady_at, up}
-use Rattle.law_epochs.proofs.EpochScenes.{Run, OneMore, end_of, ends_of}
 use Rattle.law_moves.proofs.MoveScenes.{LeadsAt}
+use Rattle.petal_msg.specs.declared.body.Body.TheVariants as body
+use Rattle.petal_msg.specs.declared.operation.OpKind.TheVariants as kind
 
 -- a frozen entry of a region that has gone on was told to be there
 pub told_already : (h : Run) → AllMoved (end_of h).setting (end_of h).w → (rev : ℕ) (key : Key) (bytes : List ℕ)

@@ -1,31 +1,12 @@
 -- The two-copy rule in a region that is on its way follows from what is kept of moves.
-use Rattle.std.proofs.Common.{◌≡◌, ◌≤◌, ℕ, List, true, false, Some, sym, ap, ◌∙◌, subst, inl, arith}
-use Rattle.global_tables.specs.Region.{region_of}
-use Rattle.global_tables.specs.declared.link.LinkRow.{LinkRow}
-use Rattle.petal_base.specs.Cells.{cell_of, key_at}
-use Rattle.petal_base.specs.declared.cell.Cell.{Cell}
-use Rattle.petal_base.specs.declared.cell.Key.{Key}
-use Rattle.spec_state.specs.CellState.{cell_link, noted, source}
-use Rattle.spec_rules.specs.State.{State, authority, coming, leaving}
-use Rattle.spec_rules.specs.Store.{Chain, chain_in}
-use Rattle.spec_rules.specs.World.{chosen_state, kept}
-use Rattle.spec_rules.proofs.Tests.{by_bool, same_some}
-use Rattle.spec_history.specs.Claims.{HasNewer, IsFilledFrom, Matters, Moves}
-use Rattle.law_state.specs.Homes.{HasStage, stage_at}
-use Rattle.law_state.specs.Steady.{IsSteady}
-use Rattle.law_state.proofs.EntriesOnlyAdd.{log_plain}
-use Rattle.law_state.proofs.LinksAreNoted.{log_noted}
-use Rattle.law_state.proofs.Steady.{log_steady}
-use Rattle.law_state.proofs.EntriesTouchLinks.{map_of}
-use Rattle.law_state.proofs.TwinsAreOfOneDisk.{log_comes, source_same}
-use Rattle.law_steps.proofs.Fronts.{front_itself}
-use Rattle.law_epochs.proofs.EpochsInHistories.{running_timely}
-use Rattle.law_epochs.proofs.ReportedHaveNoPending.{resting}
+use Rattle.law_moves.proofs.Imports.{◌∙◌, ◌≡◌, ◌≤◌, Cell, Chain, HasNewer, HasStage, IsFilledFrom, IsSteady, Key, LinkRow, List, Matters, Moves, Run, Some}
+use Rattle.law_moves.proofs.Imports.{State, ap, arith, authority, by_bool, cell_link, cell_of, chain_in, chosen_state, coming, end_of, false, front_itself}
+use Rattle.law_moves.proofs.Imports.{inl, kept, key_at, leaving, log_comes, log_noted, log_plain, log_steady, map_of, noted, region_of, resting}
+use Rattle.law_moves.proofs.Imports.{running_timely, same_some, source, source_same, stage_at, subst, sym, true, ℕ}
 use Rattle.law_moves.specs.Fills.{AreFilled, Has, IsFrozen, WasFilled}
 use Rattle.law_moves.specs.FrozenCopies.{AreStill}
 use Rattle.law_moves.proofs.MovedRegionsHaveAll.{all_plain, facts, link_slot, moved_filled, on_own_link}
 use Rattle.law_moves.proofs.ServersOfLinks.{authority_serves, first_serves, matters_serves, second_serves}
-use Rattle.law_epochs.proofs.EpochScenes.{Run, end_of}
 
 module _ (it : Run) (still : AreStill (end_of it).setting (end_of it).w) (filled : AreFilled (end_of it).setting (end_of it).w) where
   open it use {script, sound, records, legal}

@@ -1,30 +1,11 @@
 -- What the new map has of a region that is on its way, and what still comes. All of it is told by the letters that say that an entry is there:
 -- what such a letter tells of stays there; a fill is under way only of an entry of which none was sent; and a link is noted after letters of
 -- all its entries.
-use Rattle.std.specs.Prelude.{◌≡◌, ◌<◌, ◌≤◌, ◌++◌, ◌∷◌, [], ℕ, true, false, List, length, Some, None, is_some}
-use Rattle.std.specs.Ordering.{nat_cmp}
-use Rattle.global_tables.specs.Region.{region_of}
-use Rattle.global_tables.specs.declared.link.LinkRow.{LinkRow}
-use Rattle.petal_base.specs.Cells.{cell_of, key_at}
-use Rattle.petal_base.specs.declared.cell.Cell.{Cell}
-use Rattle.petal_base.specs.declared.cell.Key.{Key}
-use Rattle.petal_command.specs.declared.command.Command.{Command}
-use Rattle.petal_command.specs.declared.command.Command.TheVariants.{Moved}
-use Rattle.petal_table.specs.Table.{at}
+use Rattle.law_moves.specs.Imports.{[], ◌++◌, ◌<◌, ◌∷◌, ◌≡◌, ◌≤◌, Cell, Chain, Command, HasNewer, In, IsFilledFrom, IsPrefix, IsServing, Key, Letter, LinkRow}
+use Rattle.law_moves.specs.Imports.{List, Moved, None, Pending, Setting, Some, World, at, cell_cmp, cell_link, cell_of, chain_in, chosen_log, chosen_state}
+use Rattle.law_moves.specs.Imports.{comes_before, false, id_of, is_clients, is_in, is_some, kept, key_at, length, link_cmp, nat_cmp, region_of, source}
+use Rattle.law_moves.specs.Imports.{stage_at, state_after, target, true, ℕ}
 use Rattle.petal_msg.specs.declared.body.Body.TheVariants as body
-use Rattle.petal_msg.specs.declared.letter.Letter.{Letter}
-use Rattle.petal_msg.specs.declared.operation.Pending.{Pending}
-use Rattle.spec_history.specs.Claims.{HasNewer, IsFilledFrom, IsPrefix}
-use Rattle.spec_rules.specs.Fills.{comes_before}
-use Rattle.spec_rules.specs.Lists.{In}
-use Rattle.spec_rules.specs.State.{id_of, is_in, link_cmp}
-use Rattle.spec_rules.specs.Store.{Chain, cell_cmp, chain_in}
-use Rattle.spec_rules.specs.World.{Setting, World, chosen_log, chosen_state, kept}
-use Rattle.spec_rules.specs.Writes.{is_clients}
-use Rattle.spec_state.specs.CellState.{cell_link, source, target}
-use Rattle.spec_state.specs.Command.{state_after}
-use Rattle.law_state.specs.LaterStates.{IsServing}
-use Rattle.law_state.specs.Homes.{stage_at}
 
 -- the chain has an entry of this epoch
 abbrev pub Has : Chain → ℕ → Type 0

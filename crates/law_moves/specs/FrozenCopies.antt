@@ -1,14 +1,6 @@
 -- The copies of a cell that is leaving: whoever serves its link has what was frozen when its region's fence took effect.
-use Rattle.std.specs.Prelude.{◌≡◌, ◌≤◌, ℕ, true, List, Some, None}
-use Rattle.petal_base.specs.declared.cell.Cell.{Cell}
-use Rattle.petal_command.specs.declared.command.Command.{Command}
-use Rattle.spec_history.specs.Claims.{IsPrefix}
-use Rattle.spec_state.specs.Command.{state_after}
-use Rattle.spec_rules.specs.State.{is_in}
-use Rattle.spec_rules.specs.Store.{chain_in}
-use Rattle.spec_rules.specs.World.{Setting, World, chosen_log, chosen_state, kept}
-use Rattle.law_state.specs.LaterStates.{IsServing}
-use Rattle.law_state.specs.Homes.{stage_at}
+use Rattle.law_moves.specs.Imports.{◌≡◌, ◌≤◌, Cell, Command, IsPrefix, IsServing, List, None, Setting, Some, World, chain_in, chosen_log, chosen_state, is_in}
+use Rattle.law_moves.specs.Imports.{kept, stage_at, state_after, true, ℕ}
 
 pub record AreStill (setting : Setting) (w : World) : Type 0 where
   -- by what is chosen: each copy that counts

@@ -1,17 +1,6 @@
 -- What of a link that moves is known to be at the new map, by what the old lead remembers.
-use Rattle.std.specs.Prelude.{◌≡◌, ℕ, true, false, Option, Some, is_some}
-use Rattle.std.specs.Ordering.{nat_cmp}
-use Rattle.global_tables.specs.Region.{region_of}
-use Rattle.global_tables.specs.declared.link.LinkRow.{LinkRow}
-use Rattle.petal_base.specs.Cells.{key_at}
-use Rattle.petal_base.specs.declared.cell.Cell.{Cell}
-use Rattle.petal_base.specs.declared.cell.Key.{Key}
-use Rattle.petal_table.specs.Table.{at}
-use Rattle.spec_rules.specs.Fills.{comes_before, comes_next, keys_in}
-use Rattle.spec_rules.specs.Lists.{In}
-use Rattle.spec_rules.specs.Server.{PairState}
-use Rattle.spec_rules.specs.State.{State, id_of, is_on, link_cmp}
-use Rattle.spec_rules.specs.Store.{chain_in}
+use Rattle.law_moves.specs.Imports.{◌≡◌, Cell, In, Key, LinkRow, Option, PairState, Some, State, at, chain_in, comes_before, comes_next, false, id_of, is_on}
+use Rattle.law_moves.specs.Imports.{is_some, key_at, keys_in, link_cmp, nat_cmp, region_of, true, ℕ}
 
 -- the store has an entry of this epoch
 abbrev pub IsKept : PairState → Cell → ℕ → Type 0

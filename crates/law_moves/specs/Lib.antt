@@ -1,3 +1,4 @@
+pub mod Imports
 pub mod LeftToMove
 pub mod FrozenCopies
 pub mod Fills

@@ -1,21 +1,9 @@
 -- A server forgets no ballot that it has started for a Caught, until it applies an entry or boots.
-use Rattle.std.proofs.Common.{◌≡◌, ℕ, ◌∷◌, [], true, length, length-append, refl, sym, ap, ◌∙◌, arith}
-use Rattle.std.specs.Prelude.{unwrap_or}
-use Rattle.global_tables.specs.declared.link.LinkRow.{LinkRow}
-use Rattle.petal_msg.specs.declared.body.Body.{Body}
-use Rattle.petal_table.specs.Table.{at}
-use Rattle.spec_rules.specs.Log.{Log}
-use Rattle.spec_rules.specs.Progress.{no_progress, progress_on}
-use Rattle.spec_rules.specs.Server.{PairState, Copies, JobContext, JobResult}
-use Rattle.spec_rules.specs.State.{id_of, link_cmp}
-use Rattle.spec_rules.specs.World.{Setting, World, server_state}
-use Rattle.law_state.specs.StartedBallots.{is_flagged}
-use Rattle.law_log.proofs.CaughtsWanted.{kept_proposed}
-use Rattle.law_log.proofs.BallotFlags.{same_caught}
-use Rattle.law_steps.specs.Did.{Did, Ignores, Refuses, By_read, By_lead, By_second, By_holder, By_other, By_filler, By_sweep}
-use Rattle.law_steps.specs.DidStep.{Handled, Worked, By_job, By_ballot, By_entry, own_place}
-use Rattle.law_steps.proofs.CopyFrames.{of_holder, of_other}
-use Rattle.law_steps.proofs.Subjects.{of_filler, of_lead, of_read, of_second, of_sweep}
+use Rattle.law_requests.proofs.Imports.{[], ◌∙◌, ◌∷◌, ◌≡◌, Body, By_ballot, By_entry, By_filler, By_holder, By_job, By_lead, By_other, By_read, By_second}
+use Rattle.law_requests.proofs.Imports.{By_sweep, Copies, Did, Handled, Ignores, JobContext, JobResult, LinkRow, Log, PairState, Refuses, Setting, Worked}
+use Rattle.law_requests.proofs.Imports.{World, ap, arith, at, id_of, is_flagged, kept_proposed, length, length-append, link_cmp, no_progress, of_filler}
+use Rattle.law_requests.proofs.Imports.{of_holder, of_lead, of_other, of_read, of_second, of_sweep, own_place, progress_on, refl, same_caught, server_state}
+use Rattle.law_requests.proofs.Imports.{sym, true, unwrap_or, ℕ}
 
 module _ (heard : Body → Type 0) (here : JobContext) (own : PairState) where
   by_copies : (new : PairState) (row : LinkRow) → new.copies ≡ own.copies → (progress_on new row).caught ≡ (progress_on own row).caught

@@ -1,55 +1,28 @@
 -- Each kind of step of a client keeps what is known of requests.
-use Rattle.std.proofs.Common.{◌≡◌, ◌≤◌, ◌<◌, ◌+◌, ◌-◌, ◌++◌, ℕ, List, [], ◌∷◌, Bool, true, false, Option, Some, None, length, refl}
-use Rattle.std.proofs.Common.{ap, sym, ◌∙◌, subst, inl, inr, arith, append_assoc}
-use Rattle.std.specs.Prelude.{slice_get, if◌then◌else◌, is_some}
-use Rattle.petal_base.specs.declared.cell.Cell.{Cell}
-use Rattle.petal_msg.specs.Kinds.{subject_of}
-use Rattle.petal_msg.specs.declared.body.Body.{Body}
-use Rattle.petal_msg.specs.declared.body.Body.TheVariants as body
-use Rattle.petal_msg.specs.declared.letter.Actor.{Actor}
-use Rattle.petal_msg.specs.declared.letter.Actor.TheVariants as actor
-use Rattle.petal_msg.specs.declared.letter.Letter.{Letter}
-use Rattle.petal_msg.specs.declared.operation.Ending.{Ending}
-use Rattle.petal_msg.specs.declared.operation.Ending.TheVariants as ending
-use Rattle.script_lines.specs.Pattern.{pattern_block}
-use Rattle.script_lines.specs.declared.answer.Answer.{Answer}
-use Rattle.script_lines.specs.declared.answer.Answer.TheVariants as answer
-use Rattle.script_lines.specs.declared.request.Line.{Line}
-use Rattle.script_lines.specs.declared.request.Pattern.{Pattern}
-use Rattle.script_lines.specs.declared.request.Request.TheVariants as request
-use Rattle.spec_state.specs.CellState.{cell_asked}
-use Rattle.spec_state.specs.Command.{state_after}
-use Rattle.spec_state.specs.declared.answer.DiskView.{DiskView}
-use Rattle.spec_history.specs.Claims.{IsPrefix}
-use Rattle.spec_rules.specs.Lists.{In}
-use Rattle.petal_command.specs.declared.command.Command.{Command}
-use Rattle.spec_rules.specs.State.{State, find, lead, is_in, is_lead}
-use Rattle.spec_rules.specs.Server.{Post}
-use Rattle.spec_rules.specs.Writes.{ended}
-use Rattle.spec_rules.specs.Clients.{Client, Asked, Reaction, Sight, is_read, is_write, command_of, refusal, write_refusal}
-use Rattle.spec_rules.specs.World.{Setting, World, lines_of, chosen_log}
-use Rattle.spec_rules.proofs.ListLemmas.{put_same}
-use Rattle.spec_rules.proofs.Tests.{by_bool, is_the_so, same_or_apart, same_some, some_or_none, none_some, true_false}
-use Rattle.law_state.specs.Firm.{Firm}
-use Rattle.law_state.specs.Plain.{IsPlainLog}
-use Rattle.law_state.proofs.Ages.{in_once}
-use Rattle.law_state.proofs.EntriesOnlyAdd.{log_plain}
-use Rattle.law_state.proofs.Steady.{log_rev, front_plain}
-use Rattle.law_steps.specs.DidStep.{Heard}
-use Rattle.law_steps.specs.DidClient.{Turned, Says, Of_the_log, A_write, A_read, OnlySays, IsSame, WasSent, As_it_was, Anew, StaysOpen, IsCalled, IsReason}
-use Rattle.law_steps.specs.DidClient.{By_verdict, By_witness, IsJudged, IsSeenAs, Stops_it, Stops_at, Fails_it, Starts_it, Blanks_it, Has_no_space, Is_settled, Goes_on}
-use Rattle.law_steps.specs.DidClient.{Is_told, Begins, Reads, Shown, Judges, line_by}
-use Rattle.law_steps.specs.DidClient as turns
-use Rattle.law_steps.proofs.Fronts.{front_itself, front_long, front_more, front_on, front_within}
+use Rattle.law_requests.proofs.Imports.{[], if◌then◌else◌, ◌++◌, ◌+◌, ◌-◌, ◌<◌, ◌∙◌, ◌∷◌, ◌≡◌, ◌≤◌, A_read, A_write, Actor, Anew, Answer, As_it_was, Asked}
+use Rattle.law_requests.proofs.Imports.{Begins, Blanks_it, Body, Bool, By_verdict, By_witness, Cell, Client, Command, DiskView, Ending, Fails_it, Firm}
+use Rattle.law_requests.proofs.Imports.{Goes_on, Has_no_space, Heard, In, IsCalled, IsJudged, IsPlainLog, IsPrefix, IsReason, IsSame, IsSeenAs, Is_settled}
+use Rattle.law_requests.proofs.Imports.{Is_told, Judges, Letter, Line, List, None, Of_the_log, OnlySays, Option, Pattern, Post, Reaction, Reads, Says}
+use Rattle.law_requests.proofs.Imports.{Setting, Shown, Sight, Some, Starts_it, State, StaysOpen, Stops_at, Stops_it, Turned, WasSent, World, ap}
+use Rattle.law_requests.proofs.Imports.{append_assoc, arith, by_bool, cell_asked, chosen_log, command_of, ended, false, find, found_epoch, front_itself}
+use Rattle.law_requests.proofs.Imports.{front_long, front_more, front_on, front_plain, front_within, in_once, inl, inr, is_in, is_lead, is_read, is_some}
+use Rattle.law_requests.proofs.Imports.{is_the_so, is_write, lead, length, line_by, lines_of, log_plain, log_rev, none_some, pattern_block, put_same, refl}
+use Rattle.law_requests.proofs.Imports.{refusal, same_or_apart, same_some, slice_get, some_or_none, state_after, subject_of, subst, sym, true, true_false}
+use Rattle.law_requests.proofs.Imports.{write_refusal, ℕ}
 use Rattle.law_requests.specs.AskedRequests.{HasItsWay, IsWrite, IsAsked, IsOpenFrom, WasToldAt}
 use Rattle.law_requests.specs.KnownRequests.{Lives, Seen, seen, IsLate, Is_past, Had_no_lead, Had_another, IsSent, EndKnown, EndKnownAt, Known, AskingBy}
-use Rattle.law_state.proofs.NamedCells.{found_epoch}
 use Rattle.law_requests.proofs.WritesAtLaterFronts.{write_stays}
 use Rattle.law_requests.proofs.RequestsKnownLater.{one_cell, logged_untold, untold}
 use Rattle.law_requests.proofs.LeadsAtTwoPlaces.{led_stage}
 use Rattle.law_requests.proofs.IncarnationsGoOn.{dones_rise, lives_still}
 use Rattle.law_requests.proofs.OpenWhileRunning.{chosen_front}
 use Rattle.law_requests.proofs.ClientStepsKeepRequests.{Closed, TurnOk, seen_with}
+use Rattle.petal_msg.specs.declared.body.Body.TheVariants as body
+use Rattle.petal_msg.specs.declared.letter.Actor.TheVariants as actor
+use Rattle.petal_msg.specs.declared.operation.Ending.TheVariants as ending
+use Rattle.script_lines.specs.declared.answer.Answer.TheVariants as answer
+use Rattle.script_lines.specs.declared.request.Request.TheVariants as request
+use Rattle.law_steps.specs.DidClient as turns
 
 -- a write of a disk that is found is refused only where its cell has no lead
 refused_unled : (state : State) (told : Bool) (name : List ℕ) (block : ℕ) (pattern : Pattern) (disk : DiskView) (given : Answer) → find state name ≡ Some disk

@@ -1,25 +1,8 @@
 -- A step of a client keeps what is known of requests.
-use Rattle.std.proofs.Common.{◌≡◌, ◌≤◌, ℕ, true, List, Some, length, sym, ap, ◌∙◌, subst, ◌⊎◌, inl, inr, arith}
-use Rattle.petal_base.specs.declared.cell.Cell.{Cell}
-use Rattle.petal_table.specs.Table.{at}
-use Rattle.petal_msg.specs.declared.body.Body.{Body}
-use Rattle.petal_msg.specs.declared.operation.Pending.{Pending}
-use Rattle.petal_msg.specs.declared.letter.Actor.{Actor}
-use Rattle.petal_msg.specs.declared.letter.Letter.{Letter}
-use Rattle.spec_history.specs.Claims.{IsPrefix}
-use Rattle.spec_rules.specs.Lists.{In, put_at}
-use Rattle.spec_rules.specs.State.{is_in}
-use Rattle.spec_rules.specs.Server.{Post, letters_of}
-use Rattle.spec_rules.specs.Store.{cell_cmp}
-use Rattle.spec_rules.specs.Writes.{Wanted, is_clients}
-use Rattle.spec_rules.specs.Clients.{Client, Asked, Reaction, client_sender}
-use Rattle.spec_rules.specs.World.{Setting, World, reacts, server_state, stamped}
-use Rattle.spec_rules.proofs.ListLemmas.{in-append, in_later}
-use Rattle.spec_rules.proofs.Tests.{all_put}
-use Rattle.law_steps.specs.DidStep.{IsOnward}
-use Rattle.law_steps.proofs.Fronts.{front_itself, front_long, front_on, front_same}
-use Rattle.law_steps.proofs.KindsInHistories.{own_plain}
-use Rattle.law_steps.proofs.Letters.{said}
+use Rattle.law_requests.proofs.Imports.{◌∙◌, ◌≡◌, ◌≤◌, ◌⊎◌, Actor, Asked, Body, Cell, Client, In, IsOnward, IsPrefix, Letter, List, Pending, Post, Reaction}
+use Rattle.law_requests.proofs.Imports.{Setting, Some, Wanted, World, all_put, ap, arith, at, cell_cmp, client_sender, front_itself, front_long, front_on}
+use Rattle.law_requests.proofs.Imports.{front_same, in-append, in_later, inl, inr, is_clients, is_in, length, letters_of, own_plain, put_at, reacts, said}
+use Rattle.law_requests.proofs.Imports.{server_state, stamped, subst, sym, true, ℕ}
 use Rattle.law_requests.specs.AskedRequests.{HasItsWay, IsAsked, IsOpenFrom}
 use Rattle.law_requests.specs.KnownRequests.{Lives, Seen, lives_after, seen, done_by, AreLate, IsSent, Known, PendingFor, asked_for, AskingBy}
 use Rattle.law_requests.proofs.ServerStepsKeepRequests.{Scene}

@@ -1,17 +1,6 @@
 -- What a job shows of the requests that it ends: no operation that is left is of one of them.
-use Rattle.std.proofs.Common.{◌≡◌, ◌≤◌, ◌+◌, ℕ, true, Some, length, ap, ◌∙◌, sym, subst, ◌⊎◌, inl, inr, arith}
-use Rattle.petal_base.specs.declared.cell.Cell.{Cell}
-use Rattle.petal_table.specs.Table.{at}
-use Rattle.petal_msg.specs.declared.operation.Pending.{Pending}
-use Rattle.spec_rules.specs.State.{State}
-use Rattle.spec_rules.specs.Store.{cell_cmp}
-use Rattle.spec_rules.specs.Server.{PairState}
-use Rattle.spec_rules.specs.Writes.{Wanted, is_clients}
-use Rattle.spec_rules.specs.World.{Setting, World, server_state}
-use Rattle.spec_rules.proofs.Tests.{none_some}
-use Rattle.spec_history.specs.Claims.{IsPrefix}
-use Rattle.law_steps.proofs.KindsInHistories.{own_plain}
-use Rattle.law_steps.proofs.Restages.{Was}
+use Rattle.law_requests.proofs.Imports.{◌+◌, ◌∙◌, ◌≡◌, ◌≤◌, ◌⊎◌, Cell, IsPrefix, PairState, Pending, Setting, Some, State, Wanted, Was, World, ap, arith, at}
+use Rattle.law_requests.proofs.Imports.{cell_cmp, inl, inr, is_clients, length, none_some, own_plain, server_state, subst, sym, true, ℕ}
 use Rattle.law_requests.specs.AskedRequests.{IsWrite}
 use Rattle.law_requests.specs.KnownRequests.{done_by, asked_for, AskingBy}
 use Rattle.law_requests.proofs.WritesAtLaterFronts.{write_stays}

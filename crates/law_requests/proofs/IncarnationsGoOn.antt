@@ -1,13 +1,6 @@
 -- What is known of incarnations goes on with each step of a server.
-use Rattle.std.proofs.Common.{◌≡◌, ◌≢◌, ◌≤◌, ◌<◌, ◌==◌, ℕ, true, if◌then◌else◌, ap, ◌∙◌, subst, sym, inl, inr, arith}
-use Rattle.global_tables.specs.declared.link.LinkRow.{LinkRow}
-use Rattle.spec_history.specs.Claims.{IsPrefix}
-use Rattle.spec_rules.specs.Server.{Server}
-use Rattle.spec_rules.specs.State.{id_of}
-use Rattle.spec_rules.specs.World.{World}
-use Rattle.spec_rules.proofs.Tests.{by_bool, number_itself, same_numbers, same_or_apart}
-use Rattle.law_state.specs.StartedBallots.{is_flagged}
-use Rattle.law_steps.proofs.Fronts.{front_on}
+use Rattle.law_requests.proofs.Imports.{if◌then◌else◌, ◌<◌, ◌==◌, ◌∙◌, ◌≡◌, ◌≢◌, ◌≤◌, IsPrefix, LinkRow, Server, World, ap, arith, by_bool, front_on, id_of}
+use Rattle.law_requests.proofs.Imports.{inl, inr, is_flagged, number_itself, same_numbers, same_or_apart, subst, sym, true, ℕ}
 use Rattle.law_requests.specs.KnownRequests.{Lives, AreLives, done_by, lives_after}
 use Rattle.law_requests.proofs.RequestsKnownLater.{one_log}
 

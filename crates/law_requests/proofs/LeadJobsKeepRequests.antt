@@ -1,35 +1,12 @@
 -- Each kind of job keeps what is known of requests: by what it is done with, what it leaves pending, and what it says.
-use Rattle.std.proofs.Common.{◌≡◌, ◌≤◌, ◌+◌, ℕ, List, true, false, Some, None, refl, ap, sym, ◌∙◌, subst, inl, inr, arith, length, ◌⊎◌}
-use Rattle.std.specs.Ordering.{nat_cmp}
-use Rattle.petal_base.specs.declared.cell.Cell.{Cell}
-use Rattle.petal_table.specs.Table.{at, put, Table}
-use Rattle.petal_table.proofs.Rows.{at_same, at_apart}
-use Rattle.petal_command.specs.declared.command.Command.{Command}
-use Rattle.petal_msg.specs.Kinds.{Refused, is_refused, subject_of, is_logged}
-use Rattle.petal_msg.specs.declared.body.Body.{Body}
-use Rattle.petal_msg.specs.declared.body.Body.TheVariants as body
-use Rattle.petal_msg.specs.declared.letter.Actor.{Actor}
-use Rattle.petal_msg.specs.declared.letter.Actor.TheVariants as actor
-use Rattle.petal_msg.specs.declared.operation.Ending.{Ending}
-use Rattle.petal_msg.specs.declared.operation.Ending.TheVariants as ending
-use Rattle.petal_msg.specs.declared.operation.Finished.{Finished}
-use Rattle.petal_msg.specs.declared.operation.OpKind.TheVariants as kind
-use Rattle.petal_msg.specs.declared.operation.Pending.{Pending}
-use Rattle.spec_history.specs.Claims.{IsPrefix}
-use Rattle.spec_state.specs.Command.{state_after}
-use Rattle.spec_rules.specs.Lists.{In}
-use Rattle.spec_rules.specs.Log.{rev_of}
-use Rattle.spec_rules.specs.State.{held, is_in, is_lead, coming}
-use Rattle.spec_rules.specs.Store.{cell_cmp}
-use Rattle.spec_rules.specs.Server.{PairState, JobContext, Post, JobResult}
-use Rattle.spec_rules.specs.Writes.{Wanted, is_clients, is_writes_held, ended}
-use Rattle.spec_rules.specs.World.{Setting, World}
-use Rattle.spec_rules.proofs.Tests.{none_some, same_or_apart, true_false}
-use Rattle.law_state.proofs.Steady.{log_rev}
-use Rattle.law_steps.specs.Operations.{done_to}
-use Rattle.law_steps.specs.Did.{is_not_here, Did}
-use Rattle.law_steps.specs.DidStep.{Handled, IsSeated, own_place}
-use Rattle.law_steps.proofs.Fronts.{front_itself, front_same}
+use Rattle.law_requests.proofs.Imports.{◌+◌, ◌∙◌, ◌≡◌, ◌≤◌, ◌⊎◌, Actor, Alone_has, Body, Both_have, By_operation, Cell, Command, Did, Ending, Ends_fill}
+use Rattle.law_requests.proofs.Imports.{Finished, For_a_fill, For_a_write, Had_no_slot, Handled, HasCome, HasEnded, HasFinished, In, IsFinishedFor, IsNew}
+use Rattle.law_requests.proofs.Imports.{IsPlainLog, IsPrefix, IsSeated, Is_dead, Is_declined, Is_done, Is_new, JobContext, JobResult, List, Moves, Moves_on}
+use Rattle.law_requests.proofs.Imports.{None, None_new, PairState, Pending, Post, Refused, Repeats, Setting, Shows_nothing, Some, Stood, Table, Wanted, Was}
+use Rattle.law_requests.proofs.Imports.{World, ap, arith, at, at_apart, at_same, cell_cmp, coming, did_come, did_finish, done_to, ended, false, front_itself}
+use Rattle.law_requests.proofs.Imports.{front_same, held, inl, inr, is_clients, is_in, is_lead, is_logged, is_not_here, is_refused, is_writes_held, length}
+use Rattle.law_requests.proofs.Imports.{letters_of_job, log_rev, nat_cmp, none_some, own_place, own_plain, put, refl, rev_of, same_or_apart, state_after}
+use Rattle.law_requests.proofs.Imports.{subject_of, subst, sym, true, true_false, was_same, was_taken, ℕ}
 use Rattle.law_requests.specs.AskedRequests.{IsWrite, IsOpen, IsRead}
 use Rattle.law_requests.specs.KnownRequests.{Lives, LedBy, seen, done_by, WriteKnown, Known, asked_for, IsUsed, Has_finished, AskingBy, NothingKnown}
 use Rattle.law_requests.specs.KnownRequests.{ReadKnown}
@@ -37,16 +14,12 @@ use Rattle.law_requests.proofs.EndedRequestsLeaveNothing.{write_now}
 use Rattle.law_requests.proofs.ServerStepsKeepRequests.{Ends, Tells, SaysOk, JobTells, Scene, same_want}
 use Rattle.law_requests.proofs.RequestsKnownLater.{tells_request, logged_untold, one_log}
 use Rattle.law_requests.proofs.OpenWhileRunning.{IsUnleft, PendingHere, here_led, late_where, own_front, open_running, pending_here, unleft_now}
-use Rattle.law_state.specs.Plain.{IsPlainLog}
 use Rattle.law_requests.proofs.WritesAtLaterFronts.{coming_untold}
-use Rattle.law_steps.proofs.KindsInHistories.{own_plain}
-use Rattle.law_steps.specs.DidLead.{IsNew}
-use Rattle.law_steps.proofs.Restages.{Was, was_same, was_taken}
-use Rattle.law_jobs.specs.Effects.{Alone_has, Both_have, By_operation, For_a_fill, For_a_write, Had_no_slot, HasEnded, Is_dead, Is_declined}
-use Rattle.law_jobs.specs.Effects.{IsFinishedFor}
-use Rattle.law_jobs.specs.Sayings.{Ends_fill, Moves, Moves_on, Repeats, Says, Shows_nothing}
-use Rattle.law_jobs.proofs.JobsSay.{letters_of_job}
-use Rattle.law_jobs.proofs.OperationsCome.{HasCome, HasFinished, Is_done, Is_new, None_new, Stood, did_come, did_finish}
+use Rattle.law_jobs.specs.Sayings.{Says}
+use Rattle.petal_msg.specs.declared.body.Body.TheVariants as body
+use Rattle.petal_msg.specs.declared.letter.Actor.TheVariants as actor
+use Rattle.petal_msg.specs.declared.operation.Ending.TheVariants as ending
+use Rattle.petal_msg.specs.declared.operation.OpKind.TheVariants as kind
 use Rattle.law_jobs.specs.Sayings as says
 
 -- a job tells what it leaves, and says nothing else of requests

@@ -1,37 +1,13 @@
 -- Who leads a cell at an earlier and at a later place of the log.
-use Rattle.std.proofs.Common.{◌≡◌, ◌≤◌, ◌==◌, ℕ, List, Bool, true, false, Some, None, if◌then◌else◌, sym, ap, ◌∙◌, subst, ◌⊎◌, inl, inr, arith}
-use Rattle.std.specs.Prelude.{option_and_then}
-use Rattle.std.specs.Option.{option_map_or}
-use Rattle.petal_base.specs.declared.cell.Cell.{Cell}
-use Rattle.global_tables.specs.Link.{has_server, other_of}
-use Rattle.global_tables.specs.declared.link.LinkRow.{LinkRow}
-use Rattle.global_tables.specs.declared.link.LinkState.TheVariants.{Lost, Only}
-use Rattle.petal_command.specs.declared.command.Command.{Command}
-use Rattle.spec_history.specs.Claims.{IsPrefix}
-use Rattle.spec_state.specs.CellState.{cell_link, row_lead}
-use Rattle.spec_state.specs.Command.{state_after}
-use Rattle.spec_state.specs.Place.{places_from}
-use Rattle.spec_state.specs.State.{inc_of, is_up, start}
-use Rattle.spec_rules.specs.State.{State, lead, leaving, live, is_in, is_lead, is_alone_on}
-use Rattle.spec_rules.proofs.Tests.{by_bool, is_the_one, is_the_so, none_some, same_numbers, same_some, some_or_none, true_false}
-use Rattle.law_state.specs.LaterStates.{HasLater, IsBelow}
-use Rattle.law_state.specs.Homes.{HasDied, HasStage, stage_at}
-use Rattle.law_state.specs.LinkChanges.{IsCaughtBy, StaysSo}
-use Rattle.law_state.specs.Plain.{IsPlainLog}
-use Rattle.law_state.specs.LinkRows.{IsServed, ByBoth, ByNone, ByOne}
-use Rattle.law_state.specs.Steady.{IsSteady}
-use Rattle.law_state.proofs.CaughtsMadeBoth.{log_alone}
-use Rattle.law_state.proofs.Ages.{in_up}
-use Rattle.law_state.proofs.LoneHolders.{alone_row, alone_not_both, lead_alone, so_alone}
-use Rattle.law_state.proofs.CellsByLinkRows.{alone_leads as alone_leads_link, both_leads, lead_is, led_by, led_so, lost_leads}
-use Rattle.law_state.proofs.EntriesOnlyAdd.{log_plain}
-use Rattle.law_state.proofs.GrownStates.{alone_not_both as alone_row_not_both, lost_not_alone}
-use Rattle.law_state.proofs.Homes.{has_stage}
-use Rattle.law_state.proofs.Leaves.{both_up, either_true}
-use Rattle.law_state.proofs.Roles.{primary_is_one, secondary_is_one}
-use Rattle.law_state.proofs.Steady.{front_plain, log_below, log_steady}
-use Rattle.law_state.proofs.EntriesTouchLinks.{same_place}
-use Rattle.law_steps.proofs.Fronts.{front_more, front_on}
+use Rattle.law_requests.proofs.Imports.{if◌then◌else◌, ◌==◌, ◌∙◌, ◌≡◌, ◌≤◌, ◌⊎◌, Bool, ByBoth, ByNone, ByOne, Cell, Command, HasDied, HasLater, HasStage}
+use Rattle.law_requests.proofs.Imports.{IsBelow, IsCaughtBy, IsPlainLog, IsPrefix, IsServed, IsSteady, LinkRow, List, Lost, None, Only, Some, State, StaysSo}
+use Rattle.law_requests.proofs.Imports.{alone_leads_link, alone_row, alone_row_not_both, ap, arith, both_leads, both_up, by_bool, cell_link, either_true}
+use Rattle.law_requests.proofs.Imports.{false, front_more, front_on, front_plain, has_server, has_stage, in_up, inc_of, inl, inr, is_alone_on, is_in, is_lead}
+use Rattle.law_requests.proofs.Imports.{is_the_one, is_the_so, is_up, lead, lead_alone, lead_is, leaving, led_by, led_so, live, log_alone, log_below}
+use Rattle.law_requests.proofs.Imports.{log_plain, log_steady, lost_leads, lost_not_alone, none_some, option_and_then, option_map_or, other_of, places_from}
+use Rattle.law_requests.proofs.Imports.{primary_is_one, row_lead, same_numbers, same_place, same_some, secondary_is_one, so_alone, some_or_none, stage_at}
+use Rattle.law_requests.proofs.Imports.{start, state_after, subst, sym, true, true_false, ℕ}
+use Rattle.law_state.proofs.LoneHolders.{alone_not_both}
 use Rattle.law_requests.specs.KnownRequests.{LedBy}
 
 pub same_only : {n m : ℕ} {one other : Bool} → Only n one ≡ Only m other → n ≡ m

@@ -1,3 +1,4 @@
+pub mod Imports
 pub mod WritesAtLaterFronts
 pub mod RequestsKnownLater
 pub mod LeadsAtTwoPlaces

@@ -1,38 +1,18 @@
 -- Where the request of a pending operation is open still, also after its server has stopped: until the server runs again, nobody puts the
 -- cell's link in Both again without it.
-use Rattle.std.proofs.Common.{◌≡◌, ◌≤◌, ℕ, Bool, List, true, false, Some, None, sym, ap, ◌∙◌, subst, inl, inr, arith}
-use Rattle.std.specs.Prelude.{option_map}
-use Rattle.petal_base.specs.declared.cell.Cell.{Cell}
-use Rattle.global_tables.specs.declared.link.LinkRow.{LinkRow}
-use Rattle.global_tables.specs.Link.{has_server}
-use Rattle.global_tables.specs.declared.link.LinkState.TheVariants.{Both, Lost, Only}
-use Rattle.petal_command.specs.declared.command.Command.{Command}
-use Rattle.spec_history.specs.Claims.{IsPrefix}
-use Rattle.spec_state.specs.CellState.{cell_link}
-use Rattle.spec_state.specs.Command.{state_after}
-use Rattle.spec_state.specs.State.{is_up}
-use Rattle.spec_rules.specs.State.{State, lead, is_in, is_lead, primary, secondary, in_both, is_alone_on}
-use Rattle.spec_rules.specs.Writes.{Wanted}
-use Rattle.spec_rules.specs.World.{Setting, World, server_state, chosen_log, chosen_state}
-use Rattle.spec_rules.proofs.Tests.{by_bool, is_the_one, is_the_so, none_some, same_or_apart, same_some, true_false}
-use Rattle.law_state.specs.LaterStates.{HasLater}
-use Rattle.law_state.specs.Firm.{Firm}
-use Rattle.law_state.specs.Homes.{HasDied, stage_at}
-use Rattle.law_state.specs.LinkRows.{IsServed, ByBoth, ByNone, ByOne}
-use Rattle.law_state.specs.Steady.{IsSteady}
-use Rattle.law_state.proofs.Ages.{age_in, in_age, in_up, up_some}
-use Rattle.law_state.proofs.LoneHolders.{alone_left, alone_row, both_row}
-use Rattle.law_state.proofs.CellsByLinkRows.{led_by}
-use Rattle.law_state.proofs.GrownStates.{alone_not_both, lost_not_both}
-use Rattle.law_state.proofs.Leaves.{both_up}
-use Rattle.law_state.proofs.Steady.{front_plain, log_below, log_steady}
-use Rattle.law_steps.proofs.Fronts.{front_itself, front_on}
-use Rattle.law_steps.proofs.KindsInHistories.{chosen_steady, own_below, own_steady}
+use Rattle.law_requests.proofs.Imports.{◌∙◌, ◌≡◌, ◌≤◌, Bool, Both, ByBoth, ByNone, ByOne, Cell, Command, Firm, HasDied, HasLater, IsPrefix, IsServed}
+use Rattle.law_requests.proofs.Imports.{IsSteady, LinkRow, List, Lost, None, Only, Setting, Some, State, Wanted, World, age_in, alone_left, alone_not_both}
+use Rattle.law_requests.proofs.Imports.{alone_row, ap, arith, both_row, both_up, by_bool, cell_link, chosen_log, chosen_state, chosen_steady, false}
+use Rattle.law_requests.proofs.Imports.{front_itself, front_on, front_plain, has_server, in_age, in_both, in_up, inl, inr, is_alone_on, is_in, is_lead}
+use Rattle.law_requests.proofs.Imports.{is_the_one, is_the_so, is_up, lead, led_by, log_below, log_steady, lost_not_both, none_some, option_map, own_below}
+use Rattle.law_requests.proofs.Imports.{own_steady, primary, same_or_apart, same_some, secondary, server_state, stage_at, state_after, subst, sym, true}
+use Rattle.law_requests.proofs.Imports.{true_false, up_some, ℕ}
 use Rattle.law_requests.specs.AskedRequests.{IsOpen}
 use Rattle.law_requests.specs.KnownRequests.{Lives, seen, LedBy, IsLate, Is_past, Had_no_lead, Had_another}
 use Rattle.law_requests.specs.OpenRequests.{NoOtherHolds, IsStill}
 use Rattle.law_requests.proofs.RequestsKnownLater.{either_front}
-use Rattle.law_requests.proofs.LeadsAtTwoPlaces.{HasOwnLink, held_out, held_while, leader_alone, led_stage, no_lead_on, one_lead, own_link, own_link_on, takes_later}
+use Rattle.law_requests.proofs.LeadsAtTwoPlaces.{HasOwnLink, held_out, held_while, leader_alone, led_stage, no_lead_on, one_lead, own_link, own_link_on}
+use Rattle.law_requests.proofs.LeadsAtTwoPlaces.{takes_later}
 use Rattle.law_requests.proofs.OpenWhileRunning.{PendingHere, RemembersCaughts, here_along, here_led, in_between, open_or, open_still}
 
 -- whoever is In by a front of what is chosen is so with an incarnation that ran

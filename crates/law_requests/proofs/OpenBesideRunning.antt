@@ -1,31 +1,11 @@
 -- Where the request of an operation is open still beside a server that runs: that one has the cell's link in Both by its own state, at
 -- the place up to which the operation's incarnation is known to have led the cell, and the cell has not been left by what is chosen. That
 -- incarnation may have stopped, and be forgotten.
-use Rattle.std.proofs.Common.{◌≡◌, ◌≤◌, ◌<◌, ℕ, List, true, Some, sym, ap, ◌∙◌, subst, ◌⊎◌, inl, inr, arith}
-use Rattle.global_tables.specs.Link.{has_server}
-use Rattle.global_tables.specs.declared.link.LinkRow.{LinkRow}
-use Rattle.global_tables.specs.declared.link.LinkState.TheVariants.{Both}
-use Rattle.petal_command.specs.declared.command.Command.{Command}
-use Rattle.spec_history.specs.Claims.{IsPrefix}
-use Rattle.spec_state.specs.CellState.{cell_link, serves}
-use Rattle.spec_state.specs.Command.{state_after}
-use Rattle.spec_state.specs.Place.{places_from}
-use Rattle.spec_state.specs.State.{start}
-use Rattle.spec_rules.specs.State.{State, is_in, is_alone_on}
-use Rattle.spec_rules.specs.Writes.{Wanted}
-use Rattle.spec_rules.specs.World.{Setting, World, server_state, chosen_log, chosen_state}
-use Rattle.spec_rules.proofs.Tests.{is_the_one, none_some, true_false}
-use Rattle.law_state.specs.Firm.{Firm}
-use Rattle.law_state.specs.Homes.{stage_at}
-use Rattle.law_state.specs.LinkChanges.{StaysSo}
-use Rattle.law_state.specs.Steady.{IsSteady}
-use Rattle.law_state.proofs.Ages.{in_up}
-use Rattle.law_state.proofs.LoneHolders.{both_not_alone, so_both}
-use Rattle.law_state.proofs.Steady.{front_plain, log_below, log_steady}
-use Rattle.law_state.proofs.EntriesTouchLinks.{places_grow, same_place}
-use Rattle.law_steps.proofs.Fronts.{front_itself, front_on}
-use Rattle.law_steps.proofs.KindsInHistories.{runs_at}
-use Rattle.law_steps.proofs.Ties.{running_fronts, stays_both}
+use Rattle.law_requests.proofs.Imports.{◌<◌, ◌∙◌, ◌≡◌, ◌≤◌, ◌⊎◌, Both, Command, Firm, IsPrefix, IsSteady, LinkRow, List, Setting, Some, State, StaysSo}
+use Rattle.law_requests.proofs.Imports.{Wanted, World, ap, arith, both_not_alone, cell_link, chosen_log, chosen_state, front_itself, front_on, front_plain}
+use Rattle.law_requests.proofs.Imports.{has_server, in_up, inl, inr, is_alone_on, is_in, is_the_one, log_below, log_steady, none_some, places_from}
+use Rattle.law_requests.proofs.Imports.{places_grow, running_fronts, runs_at, same_place, server_state, serves, so_both, stage_at, start, state_after}
+use Rattle.law_requests.proofs.Imports.{stays_both, subst, sym, true, true_false, ℕ}
 use Rattle.law_requests.specs.AskedRequests.{IsOpen}
 use Rattle.law_requests.specs.KnownRequests.{Lives, seen, LedBy, IsLate, Is_past, Had_no_lead, Had_another, PendingFor}
 use Rattle.law_requests.proofs.RequestsKnownLater.{either_front, one_log}

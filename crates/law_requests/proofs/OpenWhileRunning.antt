@@ -1,48 +1,15 @@
 -- Where the request of a pending operation is open still: its server has led the cell since it opened it. The cell has not been left since, since
 -- the server would have reported to the fence of its region before, with no such operation pending.
-use Rattle.std.proofs.Common.{◌≡◌, ◌≤◌, ◌<◌, ◌+◌, ◌++◌, ℕ, List, ◌∷◌, [], true, false, Some, length, ap, sym, ◌∙◌, subst, ◌⊎◌, inl, inr, arith}
-use Rattle.std.specs.Prelude.{nat_le, if◌then◌else◌}
-use Rattle.std.proofs.lemmas.Bool.{cases_lt}
-use Rattle.std.proofs.lemmas.Bool.Decides.{nat_tests}
-use Rattle.petal_base.specs.declared.cell.Cell.{Cell}
-use Rattle.global_tables.specs.Link.{other_of}
-use Rattle.global_tables.specs.declared.link.LinkRow.{LinkRow}
-use Rattle.petal_command.specs.declared.command.Command.{Command}
-use Rattle.petal_command.specs.declared.command.Command.TheVariants.{Caught, Drained}
-use Rattle.petal_msg.specs.declared.operation.Pending.{Pending}
-use Rattle.petal_table.specs.Table.{at}
-use Rattle.spec_history.specs.Claims.{IsPrefix}
-use Rattle.spec_state.specs.CellState.{cell_link}
-use Rattle.spec_state.specs.Command.{state_after}
-use Rattle.spec_state.specs.Place.{places_from}
-use Rattle.spec_state.specs.State.{start}
-use Rattle.spec_rules.specs.Progress.{has_proposed}
-use Rattle.spec_rules.specs.State.{held, id_of, is_in, is_lead}
-use Rattle.spec_rules.specs.Store.{cell_cmp}
-use Rattle.spec_rules.specs.Writes.{Wanted, is_clients, is_writes_held}
-use Rattle.spec_rules.specs.World.{Setting, World, server_state, chosen_log, chosen_state}
-use Rattle.spec_rules.proofs.Tests.{by_bool, is_the_one, none_some, true_false}
-use Rattle.law_state.specs.LaterStates.{HasComeSecond}
-use Rattle.law_state.specs.Firm.{Firm}
-use Rattle.law_state.specs.Homes.{epoch_at, era_at, stage_at}
-use Rattle.law_state.specs.Plain.{IsPlainLog}
-use Rattle.law_state.specs.StartedBallots.{is_flagged}
-use Rattle.law_state.proofs.CaughtsMadeBoth.{log_alone}
-use Rattle.law_state.proofs.Ages.{between, in_once}
-use Rattle.law_state.proofs.Eras.{era_low}
-use Rattle.law_state.proofs.GrownStates.{alone_not_both, lost_not_both}
-use Rattle.law_state.proofs.ErasRiseAfterReports.{log_unheld}
-use Rattle.law_state.proofs.Roles.{log_roles}
-use Rattle.law_state.proofs.Steady.{front_plain, log_below}
-use Rattle.law_state.proofs.EntriesTouchLinks.{places_grow}
-use Rattle.law_steps.specs.Ready.{Rests}
-use Rattle.law_steps.proofs.Fronts.{front_itself, front_long, front_more, front_on, one_front}
-use Rattle.law_steps.proofs.KindsInHistories.{runs_now}
-use Rattle.law_steps.proofs.WhoLeads.{lead_links}
-use Rattle.law_steps.proofs.HeldBackForCaughts.{held_as_flag}
+use Rattle.law_requests.proofs.Imports.{[], if◌then◌else◌, ◌++◌, ◌+◌, ◌<◌, ◌∙◌, ◌∷◌, ◌≡◌, ◌≤◌, ◌⊎◌, Caught, Cell, Command, Drained, Firm, HasComeSecond}
+use Rattle.law_requests.proofs.Imports.{IsPlainLog, IsPrefix, LinkRow, List, Pending, Rests, Setting, Some, Wanted, World, alone_not_both, ap, arith, at}
+use Rattle.law_requests.proofs.Imports.{between, by_bool, cases_lt, cell_cmp, cell_link, chosen_log, chosen_state, epoch_at, era_at, era_low, false}
+use Rattle.law_requests.proofs.Imports.{front_itself, front_long, front_more, front_on, front_plain, has_proposed, held, held_as_flag, id_of, in_once, inl}
+use Rattle.law_requests.proofs.Imports.{inr, is_clients, is_flagged, is_in, is_lead, is_the_one, is_writes_held, lead_links, length, log_alone, log_below}
+use Rattle.law_requests.proofs.Imports.{log_roles, log_unheld, lost_not_both, nat_le, nat_tests, none_some, one_front, other_of, places_from, places_grow}
+use Rattle.law_requests.proofs.Imports.{runs_now, server_state, stage_at, start, state_after, subst, sym, true, true_false, ℕ}
 use Rattle.law_requests.specs.AskedRequests.{IsOpen}
-use Rattle.law_requests.specs.KnownRequests.{Lives, seen, IsAt, LedBy, IsLate, Is_past, Had_no_lead, Had_another, IsLedAlong}
-use Rattle.law_requests.specs.KnownRequests.{PendingFor, asked_for, AskingBy, KnowsReports}
+use Rattle.law_requests.specs.KnownRequests.{Lives, seen, IsAt, LedBy, IsLate, Is_past, Had_no_lead, Had_another, IsLedAlong, PendingFor, asked_for, AskingBy}
+use Rattle.law_requests.specs.KnownRequests.{KnowsReports}
 use Rattle.law_requests.proofs.RequestsKnownLater.{either_front, one_log}
 use Rattle.law_requests.proofs.LeadsAtTwoPlaces.{led_at_place, led_stage, one_lead, same_only, stage_by}
 

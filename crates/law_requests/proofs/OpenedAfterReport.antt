@@ -1,21 +1,9 @@
 -- A write that is pending was opened where no fence held its cell's writes, and after the report.
-use Rattle.std.proofs.Common.{◌≡◌, ◌++◌, ℕ, List, [], ◌∷◌, Some, refl, sym, subst, ◌∙◌, arith}
-use Rattle.std.proofs.lemmas.List.{append-nil}
-use Rattle.petal_command.specs.declared.command.Command.{Command}
-use Rattle.petal_table.specs.Table.{at}
-use Rattle.spec_rules.specs.Jobs.{here_of}
-use Rattle.spec_rules.specs.Store.{cell_cmp}
-use Rattle.petal_command.specs.declared.command.Command.TheVariants.{Drained}
-use Rattle.script_lines.specs.declared.script.Script.{Script}
-use Rattle.spec_rules.specs.World.{Setting, World, chosen_log, server_state, setting_of, start}
-use Rattle.law_log.specs.ProposedCommands.{WasDraining}
-use Rattle.law_log.proofs.ReportsWanted.{report_among}
-use Rattle.spec_rules.proofs.Tests.{true_false}
-use Rattle.spec_history.specs.Claims.{AreHeldAlong, IsPrefix, ReportsHold, WritesNothingSince}
-use Rattle.spec_history.specs.Steps.{AreSteps, world_after}
-use Rattle.spec_history.specs.Sound.{IsSound}
-use Rattle.spec_history.specs.declared.record.Record.{Record}
-use Rattle.law_steps.proofs.Fronts.{front_itself, front_on, front_within}
+use Rattle.law_requests.proofs.Imports.{[], ◌++◌, ◌∙◌, ◌∷◌, ◌≡◌, AreHeldAlong, AreSteps, Command, Drained, IsPrefix, IsSound, List, Record, ReportsHold}
+use Rattle.law_requests.proofs.Imports.{Script, Setting, Some, WasDraining, World, WritesNothingSince, append-nil, arith, at, cell_cmp, chosen_log}
+use Rattle.law_requests.proofs.Imports.{front_itself, front_on, front_within, here_of, refl, report_among, server_state, setting_of, subst, sym, true_false}
+use Rattle.law_requests.proofs.Imports.{world_after, ℕ}
+use Rattle.spec_rules.specs.World.{start}
 use Rattle.law_requests.specs.KnownRequests.{AskingBy, KnowsReports, Lives}
 use Rattle.law_requests.proofs.PendingHoldsReports.{held_write}
 use Rattle.law_requests.proofs.RequestsInHistories.{asking_along, reports_known}

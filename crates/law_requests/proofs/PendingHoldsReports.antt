@@ -1,21 +1,7 @@
 -- A client's write that is pending on a cell of which the active fence holds the writes keeps its server from a report.
-use Rattle.std.proofs.Common.{◌≡◌, ◌||◌, ◌&&◌, [], ◌∷◌, Bool, true, cond, Some, refl, sym, ap, ◌∙◌, subst}
-use Rattle.std.specs.List.{list_any}
-use Rattle.std.specs.BTreeMap.{is_at}
-use Rattle.std.specs.Map.{lookup}
-use Rattle.std.specs.Ordering.{is_eq}
-use Rattle.std.specs.declared.cmp.Ordering.{Ordering}
-use Rattle.std.specs.declared.cmp.Ordering.TheVariants.{Less, Equal, Greater}
-use Rattle.petal_base.specs.declared.cell.Cell.{Cell}
-use Rattle.petal_table.specs.Table.{Table, at}
-use Rattle.petal_msg.specs.declared.operation.Pending.{Pending}
-use Rattle.spec_rules.specs.Draining.{has_held_write}
-use Rattle.spec_rules.specs.Server.{PairState}
-use Rattle.spec_rules.specs.State.{State, held}
-use Rattle.spec_rules.specs.Store.{cell_cmp}
-use Rattle.spec_rules.specs.Writes.{is_clients, is_writes_held}
-use Rattle.spec_rules.proofs.CellTables.{cell_cmp_same}
-use Rattle.spec_rules.proofs.Tests.{by_bool, none_some, same_some}
+use Rattle.law_requests.proofs.Imports.{[], ◌&&◌, ◌||◌, ◌∙◌, ◌∷◌, ◌≡◌, Bool, Cell, Equal, Greater, Less, Ordering, PairState, Pending, Some, State, Table, ap}
+use Rattle.law_requests.proofs.Imports.{at, by_bool, cell_cmp, cell_cmp_same, cond, has_held_write, held, is_at, is_clients, is_eq, is_writes_held, list_any}
+use Rattle.law_requests.proofs.Imports.{lookup, none_some, refl, same_some, subst, sym, true}
 
 tied : (r : Ordering) → is_eq r ≡ true → r ≡ Equal
 tied Less e = cc

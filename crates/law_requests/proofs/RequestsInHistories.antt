@@ -1,54 +1,24 @@
 -- What is known of requests holds after every legal history, and the rule of requests follows.
-use Rattle.std.proofs.Common.{◌≡◌, ◌≢◌, ◌≤◌, ◌<◌, ◌++◌, ℕ, List, [], ◌∷◌, Option, Some, None, true, false, length, refl, ap, sym}
-use Rattle.std.proofs.Common.{◌∙◌, subst, ◌⊎◌, inl, inr, arith}
-use Rattle.std.specs.Ordering.{nat_cmp}
-use Rattle.petal_base.specs.declared.cell.Cell.{Cell}
-use Rattle.petal_table.specs.Table.{at}
-use Rattle.petal_table.proofs.Rows.{at-empty}
-use Rattle.petal_msg.specs.declared.body.Body.{Body}
-use Rattle.petal_msg.specs.declared.letter.Letter.{Letter}
-use Rattle.petal_msg.specs.declared.operation.Finished.{Finished}
-use Rattle.petal_msg.specs.declared.operation.Pending.{Pending}
-use Rattle.petal_command.specs.declared.command.Command.{Command}
-use Rattle.petal_command.specs.declared.command.Command.TheVariants.{Join}
-use Rattle.spec_state.specs.Command.{state_after}
-use Rattle.spec_state.specs.declared.answer.Hold.TheVariants.{No, Writes, All}
-use Rattle.script_lines.specs.declared.script.Script.{Script}
-use Rattle.spec_rules.specs.Lists.{In}
-use Rattle.spec_rules.specs.Draining.{has_held_write}
-use Rattle.spec_rules.specs.Log.{rev_of}
-use Rattle.spec_rules.specs.Server.{Server}
-use Rattle.spec_rules.specs.State.{Hold, State, held, is_in, is_lead}
-use Rattle.spec_rules.specs.Store.{cell_cmp}
-use Rattle.spec_rules.specs.Writes.{Wanted, is_clients, is_writes_held}
-use Rattle.spec_rules.specs.World.{Setting, World, start, setting_of, chosen_log, chosen_state, server_state}
-use Rattle.spec_rules.proofs.ListLemmas.{in_former}
-use Rattle.spec_rules.proofs.Tests.{both_true, by_bool, none_some, same_or_apart, true_false}
-use Rattle.spec_history.specs.Claims.{IsPrefix, Requests, IsOver, IsLateAt, HasFinished}
-use Rattle.spec_history.specs.Steps.{AreSteps, world_after}
-use Rattle.spec_history.specs.Sound.{IsSound}
-use Rattle.spec_history.specs.declared.record.Record.{Record}
-use Rattle.law_state.specs.Firm.{Firm}
-use Rattle.law_state.proofs.Incarnations.{who_is_in}
-use Rattle.law_state.proofs.Steady.{front_plain}
-use Rattle.law_log.specs.ProposedCommands.{WasDraining}
-use Rattle.law_log.proofs.LogInHistories.{chosen_caught_was, history_is_firm, join_was_wanted, report_was_made}
-use Rattle.law_steps.specs.DidStep.{Happens}
-use Rattle.law_steps.specs.Operations.{done_to}
-use Rattle.law_steps.specs.Ready.{Ready, Rests}
-use Rattle.law_steps.proofs.Fronts.{below_itself, front_itself, front_long, front_on, front_same, one_front}
-use Rattle.law_steps.proofs.KindsInHistories.{chosen_below}
-use Rattle.law_steps.proofs.Records.{none_before_none, split_last, split_one}
-use Rattle.law_steps.proofs.WakingGoesOn.{may_wake}
-use Rattle.law_jobs.proofs.Runs.{At, OneMore, after, by_run, firm_in, grown_in, happened_in, longer, more_of, ready_in, rests_in, run_of, setting_in}
+use Rattle.law_requests.proofs.Imports.{[], ◌++◌, ◌<◌, ◌∙◌, ◌∷◌, ◌≡◌, ◌≢◌, ◌≤◌, ◌⊎◌, All, AreSteps, At, Body, Cell, Command, Finished, Firm, Happens, Hold}
+use Rattle.law_requests.proofs.Imports.{In, IsLateAt, IsOver, IsPrefix, IsSound, Join, Letter, List, No, None, OneMore, Option, Pending, Ready, Record}
+use Rattle.law_requests.proofs.Imports.{Requests, Rests, Script, Server, Setting, Some, State, Wanted, WasDraining, World, Writes, after, ap, arith, at}
+use Rattle.law_requests.proofs.Imports.{at-empty, below_itself, both_true, by_bool, by_run, cell_cmp, chosen_below, chosen_caught_was, chosen_log}
+use Rattle.law_requests.proofs.Imports.{chosen_state, done_to, false, firm_in, front_itself, front_long, front_on, front_plain, front_same, grown_in}
+use Rattle.law_requests.proofs.Imports.{happened_in, has_held_write, held, history_is_firm, in_former, inl, inr, is_clients, is_in, is_lead, is_writes_held}
+use Rattle.law_requests.proofs.Imports.{join_was_wanted, length, longer, may_wake, more_of, nat_cmp, none_before_none, none_some, one_front, ready_in, refl}
+use Rattle.law_requests.proofs.Imports.{report_was_made, rests_in, rev_of, run_of, same_or_apart, server_state, setting_in, setting_of, split_last, split_one}
+use Rattle.law_requests.proofs.Imports.{state_after, subst, sym, true, true_false, who_is_in, world_after, ℕ}
+use Rattle.spec_rules.specs.World.{start}
+use Rattle.spec_history.specs.Claims.{HasFinished}
 use Rattle.law_requests.specs.AskedRequests.{IsOpen}
-use Rattle.law_requests.specs.KnownRequests.{Lives, LedBy, lives_after, seen, done_by, WriteKnown, Known, IsUsed, Has_pending}
-use Rattle.law_requests.specs.KnownRequests.{Has_finished, asked_for, AskingBy, Asking, KnowsReports}
+use Rattle.law_requests.specs.KnownRequests.{Lives, LedBy, lives_after, seen, done_by, WriteKnown, Known, IsUsed, Has_pending, Has_finished, asked_for}
+use Rattle.law_requests.specs.KnownRequests.{AskingBy, Asking, KnowsReports}
 use Rattle.law_requests.specs.OpenRequests.{AreOpen}
 use Rattle.law_requests.proofs.PendingHoldsReports.{held_write}
 use Rattle.law_requests.proofs.RequestsKnownLater.{one_log}
 use Rattle.law_requests.proofs.IncarnationsGoOn.{IsSince, no_earlier, ran_now, since_on}
-use Rattle.law_requests.proofs.OpenWhileRunning.{IsUnleft, PendingHere, RemembersCaughts, chosen_front, late_where, own_front, open_running, pending_here, unleft_now}
+use Rattle.law_requests.proofs.OpenWhileRunning.{IsUnleft, PendingHere, RemembersCaughts, chosen_front, late_where, own_front, open_running, pending_here}
+use Rattle.law_requests.proofs.OpenWhileRunning.{unleft_now}
 use Rattle.law_requests.proofs.StepsKeepRequests.{GoesOn, happens_asking, happens_later}
 use Rattle.law_requests.proofs.OpenAfterStop.{HadPending, HaveRun, open_in_both, open_led, open_secondary}
 

@@ -1,32 +1,14 @@
 -- What was known of requests is known later.
-use Rattle.std.proofs.Common.{◌≡◌, ◌≤◌, ℕ, Bool, true, false, List, Option, ap, sym, ◌∙◌, ◌⊎◌, inl, inr, arith, refl}
-use Rattle.std.proofs.lemmas.Bool.{cases_lt}
-use Rattle.std.specs.Prelude.{length}
-use Rattle.petal_base.specs.declared.cell.Cell.{Cell}
-use Rattle.petal_command.specs.declared.command.Command.{Command}
-use Rattle.petal_msg.specs.Kinds.{Subject, Answered, Logged, Read_asked, Refused, Write_asked, is_logged, subject_of}
-use Rattle.petal_msg.specs.declared.body.Body.{Body}
-use Rattle.petal_msg.specs.declared.body.Body.TheVariants as body
-use Rattle.petal_msg.specs.declared.letter.Actor.{Actor}
-use Rattle.petal_msg.specs.declared.letter.Actor.TheVariants as actor
-use Rattle.petal_msg.specs.declared.letter.Letter.{Letter}
-use Rattle.script_lines.specs.Requests.{names}
-use Rattle.script_lines.specs.declared.request.Line.{Line}
-use Rattle.script_lines.specs.declared.request.Request.{Request}
-use Rattle.script_lines.specs.declared.request.Request.TheVariants as request
-use Rattle.spec_history.specs.Claims.{IsPrefix}
-use Rattle.spec_state.specs.CellState.{cell_asked}
-use Rattle.spec_rules.specs.Lists.{In}
-use Rattle.spec_rules.specs.State.{State, find}
-use Rattle.spec_rules.specs.Writes.{Wanted}
-use Rattle.spec_rules.specs.Clients.{Client, Asked}
-use Rattle.spec_rules.specs.World.{Setting}
-use Rattle.spec_rules.proofs.Tests.{same_some, true_false}
-use Rattle.law_state.specs.Plain.{IsPlainLog}
-use Rattle.law_steps.proofs.Fronts.{front_itself, front_long, front_on, front_within, one_front}
+use Rattle.law_requests.proofs.Imports.{◌∙◌, ◌≡◌, ◌≤◌, ◌⊎◌, Actor, Answered, Asked, Body, Bool, Cell, Client, Command, In, IsPlainLog, IsPrefix, Letter, Line}
+use Rattle.law_requests.proofs.Imports.{List, Logged, Option, Read_asked, Refused, Request, Setting, State, Subject, Wanted, Write_asked, ap, arith, cases_lt}
+use Rattle.law_requests.proofs.Imports.{cell_asked, false, find, front_itself, front_long, front_on, front_within, inl, inr, is_logged, length, names}
+use Rattle.law_requests.proofs.Imports.{one_front, refl, same_some, subject_of, sym, true, true_false, ℕ}
 use Rattle.law_requests.specs.AskedRequests.{IsWrite, IsOpen, IsOpenFrom, HasItsWay, WasToldAt}
-use Rattle.law_requests.specs.KnownRequests.{Seen, IsLate, Is_past, Had_no_lead, Had_another, IsLedAlong, AreLate, IsSent, WriteKnown}
-use Rattle.law_requests.specs.KnownRequests.{EndKnownAt, NothingKnownAt, Known, PendingFor}
+use Rattle.law_requests.specs.KnownRequests.{Seen, IsLate, Is_past, Had_no_lead, Had_another, IsLedAlong, AreLate, IsSent, WriteKnown, EndKnownAt}
+use Rattle.law_requests.specs.KnownRequests.{NothingKnownAt, Known, PendingFor}
+use Rattle.petal_msg.specs.declared.body.Body.TheVariants as body
+use Rattle.petal_msg.specs.declared.letter.Actor.TheVariants as actor
+use Rattle.script_lines.specs.declared.request.Request.TheVariants as request
 
 -- of two fronts of one log one stands at the front of the other
 pub either_front : (one two whole : List Command) → IsPrefix one whole → IsPrefix two whole → IsPrefix one two ⊎ IsPrefix two one

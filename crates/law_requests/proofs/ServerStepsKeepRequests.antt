@@ -1,37 +1,17 @@
 -- A step of a server keeps what is known of requests.
-use Rattle.std.proofs.Common.{◌≡◌, ◌≢◌, ◌≤◌, ◌<◌, ◌+◌, ℕ, List, true, Some, None, length, ap, sym, ◌∙◌, subst, ◌⊎◌, inl, inr, arith}
-use Rattle.petal_base.specs.declared.cell.Cell.{Cell}
-use Rattle.petal_table.specs.Table.{at}
-use Rattle.petal_msg.specs.declared.body.Body.{Body}
-use Rattle.petal_msg.specs.declared.body.Body.TheVariants as body
-use Rattle.petal_msg.specs.declared.letter.Actor.{Actor}
-use Rattle.petal_msg.specs.declared.letter.Actor.TheVariants as actor
-use Rattle.petal_msg.specs.declared.letter.Letter.{Letter}
-use Rattle.petal_msg.specs.declared.operation.Pending.{Pending}
-use Rattle.spec_history.specs.Claims.{IsPrefix}
-use Rattle.spec_rules.specs.Lists.{In}
-use Rattle.spec_rules.specs.Log.{state_in}
-use Rattle.spec_rules.specs.State.{State, is_in}
-use Rattle.spec_rules.specs.Writes.{is_clients}
-use Rattle.spec_rules.specs.Store.{cell_cmp}
-use Rattle.spec_rules.specs.Server.{PairState, Server}
-use Rattle.spec_rules.specs.Jobs.{Acted}
-use Rattle.spec_rules.specs.World.{Setting, World, acts, server_state, stamped}
-use Rattle.spec_rules.specs.declared.step.Step.{Step}
-use Rattle.spec_rules.proofs.ListLemmas.{put_same, put_apart, in-append, in_later}
-use Rattle.spec_rules.proofs.Tests.{all_put, all_put_apart}
-use Rattle.law_state.specs.Firm.{Firm}
-use Rattle.law_state.specs.Plain.{IsPlainLog}
-use Rattle.law_steps.specs.Ready.{Rests}
-use Rattle.law_steps.proofs.Fronts.{front_itself, front_on, front_same}
-use Rattle.law_steps.proofs.KindsInHistories.{own_plain}
-use Rattle.law_steps.proofs.Restages.{IsSame, Was, was_same}
+use Rattle.law_requests.proofs.Imports.{◌+◌, ◌<◌, ◌∙◌, ◌≡◌, ◌≢◌, ◌≤◌, ◌⊎◌, Acted, Actor, Body, Cell, Firm, In, IsPlainLog, IsPrefix, Letter, List, None}
+use Rattle.law_requests.proofs.Imports.{PairState, Pending, Rests, Server, Setting, Some, State, Step, Was, World, acts, all_put, all_put_apart, ap, arith}
+use Rattle.law_requests.proofs.Imports.{at, cell_cmp, front_itself, front_on, front_same, in-append, in_later, inl, inr, is_clients, is_in, length, own_plain}
+use Rattle.law_requests.proofs.Imports.{put_apart, put_same, server_state, stamped, state_in, subst, sym, true, was_same, ℕ}
+use Rattle.law_steps.proofs.Restages.{IsSame}
 use Rattle.law_requests.specs.AskedRequests.{IsWrite, IsOpen}
-use Rattle.law_requests.specs.KnownRequests.{Lives, LedBy, lives_after, seen, done_by, EndKnownAt, NothingKnownAt, Known, KnownLetter, asked_for}
-use Rattle.law_requests.specs.KnownRequests.{IsLedAlong, PendingFor, IsUsed, Has_pending, AskingBy, KnowsReports}
+use Rattle.law_requests.specs.KnownRequests.{Lives, LedBy, lives_after, seen, done_by, EndKnownAt, NothingKnownAt, Known, KnownLetter, asked_for, IsLedAlong}
+use Rattle.law_requests.specs.KnownRequests.{PendingFor, IsUsed, Has_pending, AskingBy, KnowsReports}
 use Rattle.law_requests.proofs.RequestsKnownLater.{Later, known_later, pending_further, way_later}
 use Rattle.law_requests.proofs.IncarnationsGoOn.{Lived, done_now, dones_rise, lived_on, lives_still, ran_same}
 use Rattle.law_requests.proofs.OpenWhileRunning.{PendingHere}
+use Rattle.petal_msg.specs.declared.body.Body.TheVariants as body
+use Rattle.petal_msg.specs.declared.letter.Actor.TheVariants as actor
 
 -- ### What a job shows
 

@@ -1,42 +1,11 @@
 -- What a step leaves of the server that takes it, as requests need it: it goes on as it was, or boots, and what it has pending is known of.
-use Rattle.std.proofs.Common.{◌≡◌, ◌≤◌, ◌<◌, ◌+◌, ℕ, [], ◌∷◌, true, false, Some, refl, ap, sym, ◌∙◌, subst, inl, inr, arith}
-use Rattle.std.specs.Option.{option_map_or}
-use Rattle.std.specs.Ordering.{nat_cmp}
-use Rattle.petal_base.specs.declared.cell.Cell.{Cell}
-use Rattle.petal_table.specs.Table.{at}
-use Rattle.petal_table.proofs.Rows.{at-empty}
-use Rattle.petal_command.specs.declared.command.Command.{Command}
-use Rattle.petal_msg.specs.declared.copying.Progress.{Progress}
-use Rattle.petal_msg.specs.declared.operation.Pending.{Pending}
-use Rattle.spec_state.specs.Command.{state_after}
-use Rattle.spec_history.specs.Claims.{IsPrefix}
-use Rattle.spec_rules.specs.Boots.{awake, blanked, raised}
-use Rattle.spec_rules.specs.Crossing.{crossed, settled_by}
-use Rattle.spec_rules.specs.Jobs.{Acted}
-use Rattle.spec_rules.specs.Lists.{In}
-use Rattle.spec_rules.specs.Log.{Log, state_in}
-use Rattle.spec_rules.specs.Server.{PairState, Copies, Pairs, Server, JobResult, no_pairs}
-use Rattle.spec_rules.specs.State.{id_of, is_in, link_cmp}
-use Rattle.spec_rules.specs.Store.{cell_cmp}
-use Rattle.spec_rules.specs.Writes.{Wanted}
-use Rattle.spec_rules.specs.World.{chosen_log, server_state}
-use Rattle.spec_rules.specs.declared.step.Step.{Step}
-use Rattle.spec_rules.proofs.Settled.{settling}
-use Rattle.spec_rules.proofs.Tests.{none_some, true_false}
-use Rattle.law_state.specs.Plain.{IsPlainLog}
-use Rattle.law_state.specs.StartedBallots.{is_flagged}
-use Rattle.law_state.proofs.Steady.{front_plain}
-use Rattle.law_steps.specs.DidStep.{Serving, Goes, Ends, Stays, Wakes, Fails, Worked, By_job, By_ballot}
-use Rattle.law_steps.specs.DidStep.{By_entry, served_so, stopped_so, own_place}
-use Rattle.law_steps.specs.Operations.{done_to}
-use Rattle.law_steps.specs.Ready.{Ready}
-use Rattle.law_steps.specs.WakingServers.{AllMayWake}
-use Rattle.law_steps.proofs.Fronts.{front_itself, front_on, front_same}
-use Rattle.law_steps.proofs.KindsInHistories.{own_plain, runs_at}
-use Rattle.law_steps.proofs.KindsInHistories.{proposed_pairs}
-use Rattle.law_steps.proofs.Restages.{was_same}
-use Rattle.law_requests.specs.KnownRequests.{LedBy, done_by, IsLedAlong}
-use Rattle.law_requests.specs.KnownRequests.{asked_for, IsUsed, Has_pending, Has_finished}
+use Rattle.law_requests.proofs.Imports.{[], ◌+◌, ◌<◌, ◌∙◌, ◌∷◌, ◌≡◌, ◌≤◌, Acted, AllMayWake, By_ballot, By_entry, By_job, Cell, Command, Copies, Ends, Fails}
+use Rattle.law_requests.proofs.Imports.{Goes, In, IsPlainLog, IsPrefix, JobResult, Log, PairState, Pairs, Pending, Progress, Ready, Server, Serving, Some}
+use Rattle.law_requests.proofs.Imports.{Stays, Step, Wakes, Wanted, Worked, ap, arith, at, at-empty, awake, blanked, cell_cmp, chosen_log, crossed, done_to}
+use Rattle.law_requests.proofs.Imports.{false, front_itself, front_on, front_plain, front_same, id_of, inl, inr, is_flagged, is_in, link_cmp, nat_cmp}
+use Rattle.law_requests.proofs.Imports.{no_pairs, none_some, option_map_or, own_place, own_plain, proposed_pairs, raised, refl, runs_at, served_so}
+use Rattle.law_requests.proofs.Imports.{server_state, settled_by, settling, state_after, state_in, stopped_so, subst, sym, true, true_false, was_same, ℕ}
+use Rattle.law_requests.specs.KnownRequests.{LedBy, done_by, IsLedAlong, asked_for, IsUsed, Has_pending, Has_finished}
 use Rattle.law_requests.proofs.EndedRequestsLeaveNothing.{bound_now, pending_new, rises}
 use Rattle.law_requests.proofs.ServerStepsKeepRequests.{Scene, IsSettled, IsStepped}
 use Rattle.law_requests.proofs.LeadJobsKeepRequests.{Shows, job_tells, kept_tells}

@@ -1,50 +1,20 @@
 -- What is known of requests is kept by each step.
-use Rattle.std.proofs.Common.{◌≡◌, ◌≢◌, ◌<◌, ◌==◌, ℕ, Bool, List, true, false, Some, length, refl, ap, sym, ◌∙◌, subst, inl, arith}
-use Rattle.std.specs.Prelude.{filter, not}
-use Rattle.std.specs.List.{range_with_len}
-use Rattle.petal_base.specs.declared.cell.Cell.{Cell}
-use Rattle.petal_table.specs.Table.{at}
-use Rattle.petal_msg.specs.Kinds.{subject_of}
-use Rattle.petal_msg.specs.declared.body.Body.{Body}
-use Rattle.petal_msg.specs.declared.body.Body.TheVariants as body
-use Rattle.petal_msg.specs.declared.letter.Actor.{Actor}
-use Rattle.petal_msg.specs.declared.letter.Actor.TheVariants as actor
-use Rattle.petal_msg.specs.declared.letter.Letter.{Letter}
-use Rattle.petal_msg.specs.declared.operation.Pending.{Pending}
-use Rattle.spec_history.specs.Claims.{IsPrefix}
-use Rattle.spec_rules.specs.Boots.{awake, blanked, raised, stays, wakes}
-use Rattle.spec_rules.specs.Jobs.{Acted, down_posts}
-use Rattle.spec_rules.specs.Lists.{In}
-use Rattle.spec_rules.specs.Log.{rev_of}
-use Rattle.spec_rules.specs.Server.{Post, Sender, sender, letters_of}
-use Rattle.spec_rules.specs.State.{State, servers_of}
-use Rattle.spec_rules.specs.Store.{cell_cmp}
-use Rattle.spec_rules.specs.Writes.{Wanted, is_clients}
-use Rattle.spec_rules.specs.World.{Setting, World, acts, reacts, server_state, stamped}
-use Rattle.spec_rules.specs.declared.step.Step.{Step}
-use Rattle.spec_rules.specs.declared.step.Step.TheVariants.{Blank}
-use Rattle.spec_rules.specs.Clients.{Reaction, client_sender}
-use Rattle.spec_rules.proofs.ListLemmas.{in_later}
-use Rattle.law_log.proofs.ProposersInSchedule.{said_to_all}
-use Rattle.law_state.specs.Firm.{Firm}
-use Rattle.law_state.specs.Plain.{IsPlainLog}
-use Rattle.law_state.proofs.Steady.{log_rev}
-use Rattle.law_steps.specs.DidStep.{Happens, Heard, Serves, Blanks, Turns, Serving, Goes, Ends, Stays, Wakes, Fails}
-use Rattle.law_steps.specs.DidStep.{served_so, stopped_so, shown_so, without_rev, own_place}
-use Rattle.law_steps.specs.Ready.{Ready}
-use Rattle.law_steps.specs.DidClient.{Turned}
-use Rattle.law_steps.specs.WakingServers.{AllMayWake}
-use Rattle.law_steps.proofs.Letters.{said}
-use Rattle.law_steps.proofs.Restages.{was_same}
-pub use Rattle.law_steps.proofs.KindsInHistories.{proposed_pairs}
-use Rattle.law_requests.specs.KnownRequests.{Seen, Lives, AreLives, lives_after, seen, Known, KnownLetter, PendingFor}
-use Rattle.law_requests.specs.KnownRequests.{AskingBy, KnowsReports}
+use Rattle.law_requests.proofs.Imports.{◌<◌, ◌==◌, ◌∙◌, ◌≡◌, ◌≢◌, Acted, Actor, AllMayWake, Blank, Blanks, Body, Bool, Cell, Ends, Fails, Firm, Goes, Happens}
+use Rattle.law_requests.proofs.Imports.{Heard, In, IsPlainLog, IsPrefix, Letter, List, Pending, Post, Reaction, Ready, Sender, Serves, Serving, Setting, Some}
+use Rattle.law_requests.proofs.Imports.{State, Stays, Step, Turned, Turns, Wakes, Wanted, World, acts, ap, arith, at, awake, blanked, cell_cmp, client_sender}
+use Rattle.law_requests.proofs.Imports.{down_posts, false, filter, in_later, inl, is_clients, length, letters_of, log_rev, not, own_place, raised}
+use Rattle.law_requests.proofs.Imports.{range_with_len, reacts, refl, rev_of, said, said_to_all, sender, served_so, server_state, servers_of, shown_so}
+use Rattle.law_requests.proofs.Imports.{stamped, stays, stopped_so, subject_of, subst, sym, true, wakes, was_same, without_rev, ℕ}
+use Rattle.law_requests.specs.KnownRequests.{Seen, Lives, AreLives, lives_after, seen, Known, KnownLetter, PendingFor, AskingBy, KnowsReports}
 use Rattle.law_requests.proofs.ServerStepsKeepRequests.{Scene, WasOrNew, goes_on, opened_now, says_known, step_asking, steps}
 use Rattle.law_requests.proofs.RequestsKnownLater.{Later, pending_later, tells_request, untold}
 use Rattle.law_requests.proofs.IncarnationsGoOn.{Lived, done_beside, lives_still}
 use Rattle.law_requests.proofs.ClientKindsKeepRequests.{turn_ok}
 use Rattle.law_requests.proofs.ClientStepsKeepRequests.{TurnOk, seen_with, turn_asking, turn_later}
 use Rattle.law_requests.proofs.StepsGoOnOrBoot.{blanks_step, serves_step, worked_shows, worked_stepped}
+use Rattle.petal_msg.specs.declared.body.Body.TheVariants as body
+use Rattle.petal_msg.specs.declared.letter.Actor.TheVariants as actor
+pub use Rattle.law_steps.proofs.KindsInHistories.{proposed_pairs}
 
 -- time goes on from this world to that one, and each server as the incarnation that it ran as last, or as a new one
 pub record GoesOn (setting : Setting) (w v : World) (lives : Lives) : Type 0 where

@@ -1,20 +1,8 @@
 -- A write of a front is the same at a later one by which its cell takes writes still; and a read of a cell that is coming asks the new map.
-use Rattle.std.proofs.Common.{◌≡◌, ◌≤◌, ℕ, Bool, List, true, false, Some, refl, sym, ap, ◌∙◌, subst, arith}
-use Rattle.petal_base.specs.declared.cell.Cell.{Cell}
-use Rattle.petal_command.specs.declared.command.Command.{Command}
-use Rattle.script_lines.specs.declared.request.Line.{Line}
-use Rattle.spec_history.specs.Claims.{IsPrefix}
-use Rattle.spec_state.specs.CellState.{cell_asked, coming}
-use Rattle.spec_state.specs.Command.{state_after}
-use Rattle.spec_state.specs.declared.answer.DiskView.{DiskView}
-use Rattle.spec_rules.specs.State.{State, find}
-use Rattle.law_state.specs.Homes.{stage_at}
-use Rattle.law_state.specs.Plain.{IsPlainLog}
-use Rattle.law_state.proofs.EntriesOnlyAdd.{log_plain}
-use Rattle.law_state.proofs.Homes.{has_stage}
-use Rattle.law_state.proofs.NamedCells.{asked_only, made_for, told_settled_at}
-use Rattle.law_state.proofs.Owners.{disk_on}
-use Rattle.law_state.proofs.Steady.{front_plain, log_below, log_grown}
+use Rattle.law_requests.proofs.Imports.{◌∙◌, ◌≡◌, ◌≤◌, Bool, Cell, Command, DiskView, IsPlainLog, IsPrefix, Line, List, Some, State, ap, arith, asked_only}
+use Rattle.law_requests.proofs.Imports.{cell_asked, disk_on, false, find, front_plain, has_stage, log_below, log_grown, log_plain, made_for, refl, stage_at}
+use Rattle.law_requests.proofs.Imports.{state_after, subst, sym, told_settled_at, true, ℕ}
+use Rattle.spec_state.specs.CellState.{coming}
 use Rattle.law_requests.specs.AskedRequests.{IsRead, IsWrite}
 
 -- ### By a log

@@ -1,19 +1,9 @@
 -- What a client's request of a number is, by the script and by the state at which it is sent.
-use Rattle.std.specs.Prelude.{◌≡◌, ◌≤◌, ◌<◌, ℕ, Bool, true, false, List, Option, Some, length}
-use Rattle.petal_base.specs.declared.cell.Cell.{Cell}
-use Rattle.script_lines.specs.Pattern.{pattern_block}
-use Rattle.script_lines.specs.declared.request.Line.{Line}
-use Rattle.script_lines.specs.declared.request.Pattern.{Pattern}
+use Rattle.law_requests.specs.Imports.{◌<◌, ◌≡◌, ◌≤◌, Asked, Bool, Cell, Client, DiskView, In, Letter, Line, List, Option, Pattern, Some, State, cell_asked}
+use Rattle.law_requests.specs.Imports.{epoch_for, false, find, length, line_by, pattern_block, true, ℕ}
 use Rattle.script_lines.specs.declared.request.Request.TheVariants as request
 use Rattle.petal_msg.specs.declared.body.Body.TheVariants as body
 use Rattle.petal_msg.specs.declared.letter.Actor.TheVariants as actor
-use Rattle.petal_msg.specs.declared.letter.Letter.{Letter}
-use Rattle.spec_state.specs.CellState.{cell_asked}
-use Rattle.spec_state.specs.declared.answer.DiskView.{DiskView}
-use Rattle.spec_rules.specs.Lists.{In}
-use Rattle.spec_rules.specs.State.{State, find}
-use Rattle.spec_rules.specs.Clients.{Client, Asked, epoch_for}
-use Rattle.law_steps.specs.DidClient.{line_by}
 
 -- the client's line of this number asks for a write
 pub record AsksWrite (lines : List Line) (client seq : ℕ) : Type 0 where

@@ -1,28 +1,11 @@
 -- What is kept of requests: of those that are open, pending or finished, and of the letters that speak of them.
-use Rattle.std.specs.Prelude.{◌≡◌, ◌≤◌, ◌<◌, ◌⊎◌, ◌+◌, ◌++◌, ◌==◌, ℕ, Bool, true, false, if◌then◌else◌, List, [], ◌∷◌, Some, None, length}
-use Rattle.std.specs.Ordering.{nat_cmp}
-use Rattle.petal_base.specs.declared.cell.Cell.{Cell}
-use Rattle.petal_command.specs.declared.command.Command.{Command}
-use Rattle.petal_command.specs.declared.command.Command.TheVariants.{Drained}
-use Rattle.petal_table.specs.Table.{at}
-use Rattle.petal_msg.specs.declared.body.Body.{Body}
-use Rattle.petal_msg.specs.declared.body.Body.TheVariants as body
-use Rattle.petal_msg.specs.declared.letter.Actor.{Actor}
-use Rattle.petal_msg.specs.declared.letter.Actor.TheVariants as actor
-use Rattle.petal_msg.specs.declared.letter.Letter.{Letter}
-use Rattle.petal_msg.specs.declared.operation.Pending.{Pending}
-use Rattle.spec_history.specs.Claims.{IsPrefix}
-use Rattle.spec_state.specs.Command.{state_after}
-use Rattle.spec_rules.specs.Lists.{In}
-use Rattle.spec_rules.specs.State.{State, coming, held, lead, is_in, is_lead}
-use Rattle.spec_rules.specs.Store.{cell_cmp}
-use Rattle.spec_rules.specs.Server.{PairState}
-use Rattle.spec_rules.specs.Writes.{Wanted, is_clients, is_writes_held}
-use Rattle.spec_rules.specs.Clients.{Client, Asked}
-use Rattle.spec_rules.specs.World.{Setting, World, chosen_log, server_state}
-use Rattle.law_state.specs.Epochs.{epoch_at}
-use Rattle.law_steps.specs.Operations.{done_to}
+use Rattle.law_requests.specs.Imports.{[], if◌then◌else◌, ◌++◌, ◌+◌, ◌<◌, ◌==◌, ◌∷◌, ◌≡◌, ◌≤◌, ◌⊎◌, Actor, Asked, Body, Bool, Cell, Client, Command, Drained}
+use Rattle.law_requests.specs.Imports.{In, IsPrefix, Letter, List, None, PairState, Pending, Setting, Some, State, Wanted, World, at, cell_cmp, chosen_log}
+use Rattle.law_requests.specs.Imports.{coming, done_to, epoch_at, false, held, is_clients, is_in, is_lead, is_writes_held, lead, length, nat_cmp}
+use Rattle.law_requests.specs.Imports.{server_state, state_after, true, ℕ}
 use Rattle.law_requests.specs.AskedRequests.{IsWrite, IsRead, IsAsked, IsOpenFrom, HasItsWay, WasToldAt}
+use Rattle.petal_msg.specs.declared.body.Body.TheVariants as body
+use Rattle.petal_msg.specs.declared.letter.Actor.TheVariants as actor
 
 -- what is known of clients, which letters were sent, which entries each server has applied, also before it stopped, and above which number
 -- each of its incarnations has finished each client's requests

@@ -1,3 +1,4 @@
+pub mod Imports
 pub mod AskedRequests
 pub mod KnownRequests
 pub mod OpenRequests

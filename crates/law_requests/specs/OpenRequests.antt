@@ -1,14 +1,8 @@
 -- Where the request of a pending operation is open still.
-use Rattle.std.specs.Prelude.{◌≡◌, ◌≢◌, ℕ, true, false, Some}
-use Rattle.petal_base.specs.declared.cell.Cell.{Cell}
-use Rattle.petal_table.specs.Table.{at}
-use Rattle.petal_msg.specs.declared.operation.Pending.{Pending}
-use Rattle.spec_rules.specs.State.{is_in, lead, is_alone_on}
-use Rattle.spec_rules.specs.State as state
-use Rattle.spec_rules.specs.Store.{cell_cmp}
-use Rattle.spec_rules.specs.Writes.{is_clients}
-use Rattle.spec_rules.specs.World.{Setting, World, server_state, chosen_state}
+use Rattle.law_requests.specs.Imports.{◌≡◌, ◌≢◌, Cell, Pending, Setting, Some, World, at, cell_cmp, chosen_state, false, is_alone_on, is_clients, is_in, lead}
+use Rattle.law_requests.specs.Imports.{server_state, true, ℕ}
 use Rattle.law_requests.specs.AskedRequests.{IsOpen}
+use Rattle.spec_rules.specs.State as state
 
 -- no server but this one holds the cell's link alone, by its own state
 abbrev pub NoOtherHolds : Setting → World → ℕ → Cell → Type 0

@@ -1,15 +1,7 @@
 -- What a server that has reported to a fence doesn't have pending.
-use Rattle.std.specs.Prelude.{◌≡◌, ◌++◌, ℕ, true, List, [], ◌∷◌, Some}
-use Rattle.petal_base.specs.declared.cell.Cell.{Cell}
-use Rattle.petal_command.specs.declared.command.Command.{Command}
-use Rattle.petal_command.specs.declared.command.Command.TheVariants.{Drained}
-use Rattle.petal_msg.specs.declared.operation.Pending.{Pending}
-use Rattle.petal_table.specs.Table.{at}
-use Rattle.spec_rules.specs.Store.{cell_cmp}
-use Rattle.spec_rules.specs.Writes.{is_clients}
-use Rattle.spec_rules.specs.World.{Setting, World, chosen_log}
+use Rattle.law_requests.specs.Imports.{[], ◌++◌, ◌∷◌, ◌≡◌, Cell, Command, Drained, IsPrefix, List, Pending, Setting, Some, World, at, cell_cmp, chosen_log}
+use Rattle.law_requests.specs.Imports.{is_clients, true, ℕ}
 pub use Rattle.spec_history.specs.Claims.{AreHeldAlong}
-use Rattle.spec_history.specs.Claims.{IsPrefix}
 
 -- where a running server's report to a fence is chosen, nothing of a client is pending there on a cell whose writes were held from the state at
 -- the report's place up to the server's own

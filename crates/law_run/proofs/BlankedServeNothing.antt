@@ -1,32 +1,11 @@
 -- A server that came back with nothing serves none of its links until the other server has filled it.
-use Rattle.std.proofs.Common.{◌≡◌, ◌++◌, ◌==◌, ℕ, Bool, List, [], ◌∷◌, true, false, Some, sym, ap, ◌∙◌, ◌⊎◌, inl, inr}
-use Rattle.std.specs.Prelude.{◌&&◌, ◌||◌, if◌then◌else◌}
-use Rattle.std.proofs.lemmas.Grind.{fold-append}
-use Rattle.petal_base.specs.declared.cell.Cell.{Cell}
-use Rattle.petal_command.specs.declared.command.Command.{Command}
-use Rattle.petal_command.specs.declared.command.Command.TheVariants.{Join, Leave, Caught}
-use Rattle.global_tables.specs.Link.{blanked_state, has_server, other_of, row_blanked}
-use Rattle.global_tables.specs.declared.link.LinkRow.{LinkRow}
-use Rattle.global_tables.specs.declared.link.LinkState.TheVariants.{Lost, Only}
-use Rattle.spec_state.specs.CellState.{cell_link, serves}
-use Rattle.spec_state.specs.Command.{after, state_after}
-use Rattle.spec_state.specs.Place.{touches}
+use Rattle.law_run.proofs.Imports.{[], if◌then◌else◌, ◌&&◌, ◌++◌, ◌==◌, ◌||◌, ◌∙◌, ◌∷◌, ◌≡◌, ◌⊎◌, Bool, ByBoth, ByNone, ByOne, By_caught, By_join, By_leave}
+use Rattle.law_run.proofs.Imports.{Caught, Cell, Command, HasJoinedSince, HasLater, IsCaughtStill, IsPlainLog, IsPrefix, Join, Leave, LinkRow, List, Lost}
+use Rattle.law_run.proofs.Imports.{Only, Some, State, ap, blank_joins_from, blanked_state, by_bool, cell_link, false, fold-append, front_more, front_on}
+use Rattle.law_run.proofs.Imports.{front_plain, has_server, inl, inr, joined_where, log_alone, log_below, log_lost, log_steady, log_touched, none_some}
+use Rattle.law_run.proofs.Imports.{one_before, other_of, row_blanked, row_joined, same_or_apart, serves, state_after, sym, touches, true, ℕ}
+use Rattle.spec_state.specs.Command.{after}
 use Rattle.spec_state.specs.State.{start}
-use Rattle.spec_rules.specs.Blanked.{blank_joins_from}
-use Rattle.spec_rules.specs.State.{State}
-use Rattle.spec_rules.proofs.Tests.{by_bool, none_some, same_or_apart}
-use Rattle.spec_history.specs.Claims.{IsPrefix}
-use Rattle.law_state.specs.LaterStates.{HasLater}
-use Rattle.law_state.specs.Joins.{HasJoinedSince}
-use Rattle.law_state.specs.LinkChanges.{By_leave, By_join, By_caught, IsCaughtStill, row_joined}
-use Rattle.law_state.specs.Plain.{IsPlainLog}
-use Rattle.law_state.specs.LinkRows.{ByBoth, ByOne, ByNone}
-use Rattle.law_state.proofs.CaughtsMadeBoth.{log_alone, log_lost}
-use Rattle.law_state.proofs.GrownStates.{one_before}
-use Rattle.law_state.proofs.Steady.{front_plain, log_below, log_steady}
-use Rattle.law_state.proofs.EntriesTouchLinks.{log_touched}
-use Rattle.law_steps.proofs.Fronts.{front_more, front_on}
-use Rattle.law_copies.proofs.EmptyJoins.{joined_where}
 
 -- ### Where it joined
 

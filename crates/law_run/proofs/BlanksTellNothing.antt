@@ -1,32 +1,11 @@
 -- A stopped server's device is made blank: the store from before counts on, so that the machine is told nothing.
-use Rattle.std.proofs.Common.{◌≡◌, ◌==◌, ◌++◌, ℕ, [], true, false, Option, Some, None, refl, sym, ap, ◌∙◌, subst, inl, inr, is_some}
+use Rattle.law_run.proofs.Imports.{[], if◌then◌else◌, ◌++◌, ◌==◌, ◌∙◌, ◌≡◌, BeforeBlank, Blank, Cell, DiskRow, Firm, IsLinked, None, Option, Pending, Plain}
+use Rattle.law_run.proofs.Imports.{Server, Setting, Some, Store, World, acts, all_put_apart, ap, at, authority, blank_joins_in, blanked, bytes_of, cell_cmp}
+use Rattle.law_run.proofs.Imports.{chain_in, change_by, chosen_log, chosen_same, chosen_state, content_at, content_where, counted, disk_at, drop, entry_at}
+use Rattle.law_run.proofs.Imports.{entry_by, entry_of, false, flat_map, freezes, freezes_on, has_content_at, has_content_where, in_both, inl, inr, is_some}
+use Rattle.law_run.proofs.Imports.{kept, kept_store, length, make_of, makes, map, named_cell, nat_cmp, number_itself, old_cell, option_and_then, put_apart}
+use Rattle.law_run.proofs.Imports.{put_same, refl, same_or_apart, state_after, state_in, stays, subst, sym, takes, told_with, true, true_false, ℕ}
 use Rattle.law_run.proofs.ContentsByCells.{entry_named, entry_over, has_named, has_over, is_between}
-use Rattle.std.specs.List.{flat_map}
-use Rattle.std.specs.Prelude.{drop, if◌then◌else◌, length, map, option_and_then}
-use Rattle.std.specs.Ordering.{nat_cmp}
-use Rattle.petal_base.specs.declared.cell.Cell.{Cell}
-use Rattle.petal_table.specs.Table.{at}
-use Rattle.global_tables.specs.Disk.{disk_at}
-use Rattle.global_tables.specs.declared.disk.DiskRow.{DiskRow}
-use Rattle.spec_machine.specs.Machine.{Plain}
-use Rattle.petal_msg.specs.declared.operation.Pending.{Pending}
-use Rattle.spec_state.specs.CellState.{named_cell}
-use Rattle.spec_state.specs.Command.{state_after}
-use Rattle.spec_rules.specs.Blanked.{BeforeBlank, kept_store}
-use Rattle.spec_rules.specs.Boots.{blanked, stays}
-use Rattle.spec_rules.specs.Log.{state_in}
-use Rattle.spec_rules.specs.Server.{Server}
-use Rattle.spec_rules.specs.State.{authority, in_both}
-use Rattle.spec_rules.specs.Store.{Store, bytes_of, cell_cmp, chain_in, entry_at}
-use Rattle.spec_rules.specs.World.{Setting, World, acts, blank_joins_in, chosen_log, chosen_state, counted, kept}
-use Rattle.spec_rules.specs.declared.step.Step.TheVariants.{Blank}
-use Rattle.spec_rules.proofs.ListLemmas.{put_apart, put_same}
-use Rattle.spec_rules.proofs.Tests.{all_put_apart, number_itself, same_or_apart, true_false}
-use Rattle.spec_history.specs.Contents.{content_at, content_where, entry_by, entry_of, has_content_at, has_content_where, old_cell}
-use Rattle.spec_history.specs.Events.{change_by, freezes, freezes_on, makes, make_of, takes, told_with}
-use Rattle.law_state.specs.Firm.{Firm}
-use Rattle.law_steps.proofs.ServerStepKinds.{chosen_same}
-use Rattle.law_copies.specs.Visits.{IsLinked}
 use Rattle.law_run.specs.MachineTies.{Follow, HasCounted, Is_counted, Is_followed, Is_told}
 use Rattle.law_run.proofs.ChosenDisks.{disks_now, rows_in}
 use Rattle.law_run.proofs.StoresThatCount.{frozen_stays}

@@ -1,31 +1,11 @@
 -- What is chosen in a world, as a later state tells it; and its disks, with the cells under which their blocks are named.
-use Rattle.std.proofs.Common.{◌≡◌, ◌≤◌, ◌==◌, ℕ, List, true, false, Some, sym, ap, ◌∙◌, ◌⊎◌, inl, inr, arith}
-use Rattle.std.specs.Prelude.{if◌then◌else◌, is_some, option_and_then, option_map, slice_get}
-use Rattle.petal_base.specs.declared.cell.Cell.{Cell}
-use Rattle.global_tables.specs.Map.{disk_of, tuple_of}
-use Rattle.global_tables.specs.declared.disk.DiskRow.{DiskRow}
-use Rattle.global_tables.specs.declared.disk.Move.{Move}
-use Rattle.global_tables.specs.declared.map.MapRow.{MapRow}
-use Rattle.spec_state.specs.CellState.{has_map, named_cell, owner, view_of}
-use Rattle.spec_state.specs.declared.answer.DiskView.{DiskView}
-use Rattle.spec_rules.specs.Lists.{In}
-use Rattle.spec_rules.specs.State.{State, authority, find}
-use Rattle.spec_rules.specs.Store.{bytes_of}
-use Rattle.spec_rules.specs.World.{Setting, World, chosen_state, counted}
-use Rattle.spec_rules.proofs.Tests.{by_bool, same_numbers, same_some, some_or_none}
-use Rattle.spec_history.specs.Contents.{content_at, content_where, entry_before, entry_of, has_content_at, has_content_where, old_cell}
-use Rattle.law_state.specs.LaterStates.{IsBelow}
-use Rattle.law_state.specs.Disks.{AreDisks}
-use Rattle.law_state.specs.Firm.{Firm}
-use Rattle.law_state.specs.Homes.{epoch_at, stage_at, stage_by, stage_under}
-use Rattle.law_state.specs.Steady.{IsSteady}
-use Rattle.law_state.specs.Tables.{IsPlainState, IsGrown}
-use Rattle.law_state.proofs.Disks.{log_disks}
-use Rattle.law_state.proofs.EntriesOnlyAdd.{log_plain}
-use Rattle.law_state.proofs.Owners.{epoch_in, epoch_is, home_later, map_made, no_home, stage_in, stage_is}
-use Rattle.law_state.proofs.ListLookups.{found_at, get_in, in_get}
-use Rattle.law_state.proofs.LaterDisks.{HasRowLater, known_row, stays_row}
-use Rattle.law_state.proofs.Steady.{viewed}
+use Rattle.law_run.proofs.Imports.{if◌then◌else◌, ◌==◌, ◌∙◌, ◌≡◌, ◌≤◌, ◌⊎◌, AreDisks, Cell, DiskRow, DiskView, Firm, HasRowLater, In, IsBelow, IsGrown}
+use Rattle.law_run.proofs.Imports.{IsPlainState, IsSteady, List, MapRow, Move, Setting, Some, State, World, ap, arith, authority, by_bool, bytes_of}
+use Rattle.law_run.proofs.Imports.{chosen_state, content_at, content_where, counted, entry_before, entry_of, epoch_at, epoch_in, epoch_is, false, find}
+use Rattle.law_run.proofs.Imports.{found_at, get_in, has_content_at, has_content_where, has_map, home_later, in_get, inl, inr, is_some, known_row, log_disks}
+use Rattle.law_run.proofs.Imports.{log_plain, map_made, named_cell, no_home, old_cell, option_and_then, option_map, owner, same_numbers, same_some, slice_get}
+use Rattle.law_run.proofs.Imports.{some_or_none, stage_at, stage_by, stage_in, stage_is, stage_under, stays_row, sym, true, tuple_of, view_of, viewed, ℕ}
+use Rattle.global_tables.specs.Map.{disk_of}
 use Rattle.law_run.proofs.ContentsByCells.{IsHomed, entry_named, entry_over, has_named, has_over, is_between, is_named, lives_apart, comes_between}
 use Rattle.law_run.proofs.ContentsByCells.{named_homed, old_cell_homed, is_old_cell, leaves_between}
 

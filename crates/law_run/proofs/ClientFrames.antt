@@ -1,41 +1,10 @@
 -- What a client's step has to show so that servers and clients stay tied to the plain machine.
-use Rattle.std.proofs.Common.{◌≡◌, ◌≢◌, ◌≤◌, ◌<◌, ◌+◌, ℕ, List, [], Bool, true, false, Some, refl, sym, ap, ◌∙◌, subst, ◌⊎◌, inl, inr, arith}
-use Rattle.spec_machine.specs.declared.event.Event.{Event}
-use Rattle.std.specs.List.{flat_map}
-use Rattle.spec_rules.specs.Writes.{is_clients}
-use Rattle.std.specs.Ordering.{nat_cmp}
-use Rattle.petal_base.specs.declared.cell.Cell.{Cell}
-use Rattle.std.specs.Prelude.{map}
-use Rattle.petal_table.specs.Table.{at}
-use Rattle.global_tables.specs.declared.disk.DiskRow.{DiskRow}
-use Rattle.spec_machine.specs.Machine.{Plain, disk_of, open_of}
-use Rattle.petal_msg.specs.declared.body.Body.{Body}
-use Rattle.petal_msg.specs.declared.body.Body.TheVariants as body
-use Rattle.petal_msg.specs.declared.letter.Actor.{Actor}
-use Rattle.petal_msg.specs.declared.letter.Actor.TheVariants as actor
-use Rattle.petal_msg.specs.declared.letter.Letter.{Letter}
-use Rattle.petal_msg.specs.declared.operation.Ending.TheVariants as ending
-use Rattle.petal_msg.specs.declared.operation.Finished.{Finished}
-use Rattle.petal_msg.specs.declared.operation.Pending.{Pending}
-use Rattle.script_lines.specs.declared.request.Line.{Line}
-use Rattle.spec_rules.specs.Lists.{In}
-use Rattle.spec_rules.specs.Store.{Chain, cell_cmp, chain_in}
-use Rattle.spec_rules.specs.Server.{Post, letters_of}
-use Rattle.spec_rules.specs.Clients.{Client, Reaction, client_sender}
-use Rattle.spec_rules.specs.World.{Setting, World, reacts, stamped, chosen_state, counted, kept}
-use Rattle.spec_rules.proofs.ListLemmas.{in-append}
-use Rattle.spec_history.specs.Contents.{content_where, has_content_where}
-use Rattle.spec_history.specs.Events.{open_write, write_asked, change_by, freezes, takes, makes, make_of, look_of}
-use Rattle.spec_history.specs.declared.record.Record.{Record}
-use Rattle.law_steps.specs.Operations.{done_to}
-use Rattle.law_steps.specs.DidStep.{Heard}
-use Rattle.law_steps.specs.DidClient.{Turned}
-use Rattle.law_steps.proofs.Letters.{said}
-use Rattle.law_steps.proofs.ClientLetters.{is_ask, turned_asks}
-use Rattle.spec_rules.proofs.Tests.{true_false, all_put_apart}
-use Rattle.law_copies.specs.Pair.{owns_of}
-use Rattle.law_requests.specs.AskedRequests.{IsOpen}
-use Rattle.law_requests.specs.KnownRequests.{Known, EndKnownAt, seen}
+use Rattle.law_run.proofs.Imports.{[], ◌+◌, ◌<◌, ◌∙◌, ◌≡◌, ◌≢◌, ◌≤◌, ◌⊎◌, Actor, Body, Bool, Cell, Chain, Client, DiskRow, EndKnownAt, Event, Finished, Heard}
+use Rattle.law_run.proofs.Imports.{In, IsOpen, Known, Letter, Line, List, Pending, Plain, Post, Reaction, Record, Setting, Some, Turned, World, all_put_apart}
+use Rattle.law_run.proofs.Imports.{ap, arith, at, cell_cmp, chain_in, change_by, chosen_state, client_sender, content_where, counted, disk_of, done_to, false}
+use Rattle.law_run.proofs.Imports.{flat_map, freezes, has_content_where, in-append, inl, inr, is_ask, is_clients, kept, letters_of, look_of, make_of, makes}
+use Rattle.law_run.proofs.Imports.{map, nat_cmp, open_of, open_write, owns_of, reacts, refl, said, seen, stamped, subst, sym, takes, true, true_false}
+use Rattle.law_run.proofs.Imports.{turned_asks, write_asked, ℕ}
 use Rattle.law_run.specs.WritesGoOn.{IsMindful, held_in, is_held, Seat}
 use Rattle.law_run.specs.MachineTies.{HasCounted, Is_told, Is_followed, Is_counted, Follow}
 use Rattle.law_run.proofs.ChosenDisks.{rows_in, disks_now}
@@ -45,6 +14,9 @@ use Rattle.law_run.proofs.DisksMade.{drop_all}
 use Rattle.law_run.proofs.ListMembers.{all_empty}
 use Rattle.law_run.proofs.ContentChanges.{no_takes}
 use Rattle.law_run.proofs.RunScenes.{Followed}
+use Rattle.petal_msg.specs.declared.body.Body.TheVariants as body
+use Rattle.petal_msg.specs.declared.letter.Actor.TheVariants as actor
+use Rattle.petal_msg.specs.declared.operation.Ending.TheVariants as ending
 
 -- ### What clients send has no data
 

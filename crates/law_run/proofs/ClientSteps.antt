@@ -1,48 +1,28 @@
 -- What the machine is told of a client's step is allowed, and keeps it tied to the world.
-use Rattle.std.proofs.Common.{◌≡◌, ◌<◌, ◌+◌, ℕ, List, [], ◌∷◌, ◌++◌, Bool, true, false, Option, Some, None, refl, sym, ap}
-use Rattle.std.proofs.Common.{◌∙◌, subst, ◌⊎◌, inl, inr, arith, is_some}
-use Rattle.spec_state.specs.CellState.{cell_asked}
-use Rattle.std.specs.List.{flat_map}
-use Rattle.std.specs.Prelude.{if◌then◌else◌, length}
-use Rattle.spec_machine.specs.declared.event.Event.{Event}
-use Rattle.spec_machine.specs.declared.event.Event.TheVariants.{Begin, End}
-use Rattle.spec_machine.specs.declared.event.Write.{Write}
-use Rattle.spec_machine.specs.declared.event.WriteEnd.{WriteEnd}
-use Rattle.spec_machine.specs.declared.event.WriteEnd.TheVariants as write_end
-use Rattle.spec_machine.specs.declared.state.Open.{Open}
-use Rattle.spec_machine.specs.Machine.{open_of}
-use Rattle.spec_machine.specs.Run.{Obeys, May, MayEnd, IsOpen as IsUnderWay, after, replay}
-use Rattle.petal_msg.specs.declared.body.Body.TheVariants as body
-use Rattle.petal_msg.specs.declared.letter.Actor.TheVariants as actor
-use Rattle.petal_msg.specs.declared.operation.Ending.{Ending}
-use Rattle.petal_msg.specs.declared.operation.Ending.TheVariants as ending
-use Rattle.petal_command.specs.declared.command.Command.{Command}
-use Rattle.spec_state.specs.Command.{state_after}
-use Rattle.spec_state.specs.declared.answer.DiskView.{DiskView}
-use Rattle.script_lines.specs.declared.answer.Answer.{Answer}
-use Rattle.script_lines.specs.declared.answer.Answer.TheVariants as answer
-use Rattle.script_lines.specs.declared.request.Line.{Line}
-use Rattle.script_lines.specs.declared.request.Request.{Request}
-use Rattle.script_lines.specs.declared.request.Request.TheVariants as request
-use Rattle.spec_rules.specs.State.{State, find, lead}
-use Rattle.spec_rules.specs.Writes.{ended}
-use Rattle.spec_rules.specs.Clients.{Client, Asked, Reaction, answers, Sight, is_read, is_write, command_of, refusal, write_refusal}
-use Rattle.spec_rules.specs.World.{World, reacts, next_line}
-use Rattle.spec_rules.proofs.ListLemmas.{put_same}
-use Rattle.spec_history.specs.Events as events
-use Rattle.spec_history.specs.Events.{open_write, write_asked, write_by, begun, end_by, end_of, change_by, freezes, takes, makes, told_with}
-use Rattle.law_steps.specs.DidStep.{Heard}
-use Rattle.law_steps.specs.DidClient.{StaysOpen, IsCalled, OnlySays, IsReason, By_verdict, By_witness, IsJudged, Goes_on, Begins, Reads, Ends, Shown, Judges}
-use Rattle.law_steps.specs.DidClient.{IsSeenAs, Stops_it, Stops_at, Fails_it, Starts_it, Blanks_it, Has_no_space, Is_settled, answer_of, Is_told}
-use Rattle.spec_rules.proofs.Tests.{by_bool, same_some, none_some}
-use Rattle.law_requests.specs.AskedRequests.{IsOpen}
+use Rattle.law_run.proofs.Imports.{[], if◌then◌else◌, ◌++◌, ◌+◌, ◌<◌, ◌∙◌, ◌∷◌, ◌≡◌, ◌⊎◌, Answer, Asked, Begin, Begins, Blanks_it, Bool, By_verdict}
+use Rattle.law_run.proofs.Imports.{By_witness, Client, Command, DiskView, End, Ending, Event, Fails_it, Goes_on, Has_no_space, Heard, IsCalled, IsJudged}
+use Rattle.law_run.proofs.Imports.{IsOpen, IsReason, IsSeenAs, IsUnderWay, Is_settled, Is_told, Judges, Line, List, May, MayEnd, None, Obeys, OnlySays, Open}
+use Rattle.law_run.proofs.Imports.{Option, Reaction, Reads, Request, Shown, Sight, Some, Starts_it, State, StaysOpen, Stops_at, Stops_it, World, Write}
+use Rattle.law_run.proofs.Imports.{WriteEnd, after, answer_of, answers, ap, arith, begun, by_bool, cell_asked, change_by, command_of, end_by, end_of, ended}
+use Rattle.law_run.proofs.Imports.{false, find, flat_map, freezes, inl, inr, is_read, is_some, is_write, length, makes, next_line, none_some, open_of}
+use Rattle.law_run.proofs.Imports.{open_write, put_same, reacts, refl, refusal, replay, same_some, state_after, subst, sym, takes, told_with, true}
+use Rattle.law_run.proofs.Imports.{write_asked, write_by, write_refusal, ℕ}
+use Rattle.spec_rules.specs.State.{lead}
+use Rattle.law_steps.specs.DidClient.{Ends}
 use Rattle.law_run.specs.WritesGoOn.{held_in, is_held, Seat}
 use Rattle.law_run.specs.MachineTies.{Follow}
 use Rattle.law_run.proofs.ChosenDisks.{rows_in}
 use Rattle.law_run.proofs.Machine.{disks_after, after_mindful, begin_seat, begin_others, end_seat, end_others}
 use Rattle.law_run.proofs.ContentChanges.{open_own}
-use Rattle.law_run.proofs.ClientFrames.{ClientStep, TurnFollow, Turn, after_turn, no_looks, unwritten, nothing_taken, nothing_made}
-use Rattle.law_run.proofs.ClientFrames.{nothing_frozen, turn_follow, look_here}
+use Rattle.law_run.proofs.ClientFrames.{ClientStep, TurnFollow, Turn, after_turn, no_looks, unwritten, nothing_taken, nothing_made, nothing_frozen}
+use Rattle.law_run.proofs.ClientFrames.{turn_follow, look_here}
+use Rattle.spec_machine.specs.declared.event.WriteEnd.TheVariants as write_end
+use Rattle.petal_msg.specs.declared.body.Body.TheVariants as body
+use Rattle.petal_msg.specs.declared.letter.Actor.TheVariants as actor
+use Rattle.petal_msg.specs.declared.operation.Ending.TheVariants as ending
+use Rattle.script_lines.specs.declared.answer.Answer.TheVariants as answer
+use Rattle.script_lines.specs.declared.request.Request.TheVariants as request
+use Rattle.spec_history.specs.Events as events
 
 -- how a write ends that a reply ends so
 abbrev ends_as : Ending → WriteEnd

@@ -1,29 +1,13 @@
 -- What the machine is told of contents that change.
-use Rattle.std.proofs.Common.{◌≡◌, ◌<◌, ◌==◌, ◌&&◌, ◌||◌, not, Bool, ℕ, List, [], ◌∷◌, true, false, Option, Some, None}
-use Rattle.std.proofs.Common.{refl, sym, ap, ◌∙◌, subst, ◌⊎◌, inl, inr, arith}
-use Rattle.std.specs.Prelude.{map}
-use Rattle.std.specs.List.{range_with_len, filter_map, flat_map}
-use Rattle.std.proofs.lemmas.Cmp.{nat_list_eq_equiv}
-use Rattle.petal_base.specs.declared.cell.Cell.{Cell}
-use Rattle.petal_table.specs.Table.{at}
-use Rattle.global_tables.specs.declared.disk.DiskRow.{DiskRow}
-use Rattle.spec_machine.specs.declared.event.Event.{Event}
-use Rattle.spec_machine.specs.declared.event.Event.TheVariants.{Take}
-use Rattle.spec_machine.specs.declared.event.Write.{Write}
-use Rattle.spec_machine.specs.Machine.{same_bytes}
-use Rattle.script_lines.specs.declared.request.Request.{Request}
+use Rattle.law_run.proofs.Imports.{[], ◌&&◌, ◌<◌, ◌==◌, ◌||◌, ◌∙◌, ◌∷◌, ◌≡◌, ◌⊎◌, Asked, Bool, Cell, Chain, Change, DiskRow, Event, In, List, None, Option}
+use Rattle.law_run.proofs.Imports.{Request, Some, Take, World, Write, after_step, all_there, ap, arith, at, before_step, blocks_in, blocks_of, both_true}
+use Rattle.law_run.proofs.Imports.{by_bool, cell_cmp, cell_cmp_same, changed_blocks, false, filter_map, flat_map, had_content, has_content_next, in_flat_map}
+use Rattle.law_run.proofs.Imports.{inl, inr, is_changed, map, nat_list_eq_equiv, nat_lists_same, none_some, not, number_itself, open_write, range_with_len}
+use Rattle.law_run.proofs.Imports.{refl, same_bytes, same_numbers, same_some, subst, sym, taken, taker, takes, takes_on, true, true_false, with_first}
+use Rattle.law_run.proofs.Imports.{write_asked, write_by, writes_so, ℕ}
+use Rattle.law_run.proofs.ListMembers.{all_empty, into_map, of_map, into_flat_map, into_range, into_filter, of_filter, none_pass, into_filter_map}
+use Rattle.law_run.proofs.ListMembers.{of_filter_map, found_one, row_at, key_at, put_key}
 use Rattle.script_lines.specs.declared.request.Request.TheVariants as request
-use Rattle.spec_rules.specs.Lists.{In}
-use Rattle.spec_rules.specs.Store.{Chain, cell_cmp}
-use Rattle.spec_rules.specs.Clients.{Asked}
-use Rattle.spec_rules.specs.World.{World}
-use Rattle.spec_rules.proofs.CellTables.{cell_cmp_same}
-use Rattle.spec_history.specs.Events.{Change, before_step, after_step, had_content, has_content_next, open_write, write_by, write_asked, blocks_of, blocks_in}
-use Rattle.spec_history.specs.Events.{changed_blocks, is_changed, writes_so, taker, taken, takes_on, takes, all_there, with_first}
-use Rattle.spec_rules.proofs.Tests.{by_bool, true_false, both_true, same_numbers, number_itself, nat_lists_same, none_some, same_some}
-use Rattle.law_steps.proofs.TicksAskAgain.{in_flat_map}
-use Rattle.law_run.proofs.ListMembers.{all_empty, into_map, of_map, into_flat_map, into_range, into_filter, of_filter, none_pass}
-use Rattle.law_run.proofs.ListMembers.{into_filter_map, of_filter_map, found_one, row_at, key_at, put_key}
 
 unlike : (xs ys : List ℕ) → xs ≡ ys → not (same_bytes xs ys) ≡ false
 unlike xs ys e = ap (λ zs. not (same_bytes xs zs)) (sym e) ∙ ap not (nat_list_eq_equiv.refl xs)

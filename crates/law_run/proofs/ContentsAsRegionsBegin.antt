@@ -1,28 +1,10 @@
 -- What is chosen grows: by which cells a block's content is told after a step, and before it. A region that begins its way has what counted at the
 -- old map, and one that has come has at the new one all that was frozen.
-use Rattle.std.proofs.Common.{◌≡◌, ◌≤◌, ◌&&◌, ◌||◌, not, ℕ, Bool, true, false, Option, Some, None, is_some}
-use Rattle.std.proofs.Common.{refl, sym, ap, ◌∙◌, ◌⊎◌, inl, inr, arith}
-use Rattle.std.proofs.lemmas.Bool.{cases_lt}
-use Rattle.std.specs.Prelude.{if◌then◌else◌, option_and_then, option_map}
-use Rattle.petal_base.specs.declared.cell.Cell.{Cell}
-use Rattle.global_tables.specs.Disk.{disk_at}
-use Rattle.global_tables.specs.declared.disk.DiskRow.{DiskRow}
-use Rattle.spec_state.specs.CellState.{has_map, named_cell}
-use Rattle.spec_rules.specs.Lists.{In}
-use Rattle.spec_rules.specs.State.{authority, leaving}
-use Rattle.spec_rules.specs.Store.{Chain, Stored, bytes_of, chain_in, entry_at}
-use Rattle.spec_rules.specs.World.{begins_to_leave, chain_that_counts, counted, kept}
-use Rattle.spec_rules.proofs.Tests.{by_bool, none_some, same_some, true_false}
-use Rattle.spec_history.specs.Contents.{content_at, entry_before, entry_by, entry_of, first_entry, has_content_at, old_cell}
-use Rattle.law_state.specs.Disks.{AreDisks}
-use Rattle.law_state.specs.Homes.{HasStage, stage_at}
-use Rattle.law_state.specs.Tables.{IsPlainState}
-use Rattle.law_state.proofs.LinksAreNoted.{log_twins}
-use Rattle.law_state.proofs.Owners.{disk_on, map_made}
-use Rattle.law_state.proofs.ListLookups.{get_in}
-use Rattle.law_state.proofs.LaterDisks.{HasRowLater}
-use Rattle.law_steps.proofs.MovesAreOfComingCells.{stage_facts}
-use Rattle.law_moves.specs.Fills.{Has}
+use Rattle.law_run.proofs.Imports.{if◌then◌else◌, ◌&&◌, ◌||◌, ◌∙◌, ◌≡◌, ◌≤◌, ◌⊎◌, AreDisks, Bool, Cell, Chain, DiskRow, Has, HasRowLater, HasStage, In}
+use Rattle.law_run.proofs.Imports.{IsPlainState, None, Option, Some, Stored, ap, arith, authority, begins_to_leave, by_bool, bytes_of, cases_lt, chain_in}
+use Rattle.law_run.proofs.Imports.{chain_that_counts, content_at, counted, disk_at, disk_on, entry_at, entry_before, entry_by, entry_of, false, first_entry}
+use Rattle.law_run.proofs.Imports.{get_in, has_content_at, has_map, inl, inr, is_some, kept, leaving, log_twins, map_made, named_cell, none_some, not}
+use Rattle.law_run.proofs.Imports.{old_cell, option_and_then, option_map, refl, same_some, stage_at, stage_facts, sym, true, true_false, ℕ}
 use Rattle.law_run.proofs.ChosenDisks.{HasDisk, cell_comes, cell_leaves, cell_lives, cell_named, cell_old, content_is, disk_here, disks_now, has_content_is}
 use Rattle.law_run.proofs.ChosenDisks.{later_row, named_comes, named_high, named_low, named_map_is, old_leaves, plain_now, rows_in}
 use Rattle.law_run.proofs.MachineTakesWrites.{now_has, now_kept}

@@ -1,53 +1,19 @@
 -- Which content a read asks for, by what is chosen: that of a disk's block at an epoch that it has, or has had.
-use Rattle.petal_msg.specs.declared.body.Body.{Body}
-use Rattle.petal_msg.specs.declared.body.Body.TheVariants as body
-use Rattle.petal_msg.specs.declared.letter.Actor.TheVariants as actor
-use Rattle.spec_state.specs.CellState.{serves, cell_asked, has_map, view_of}
-use Rattle.spec_rules.specs.State.{is_in, leaving, readable, State, snapshot}
-use Rattle.spec_rules.specs.Store.{Store, chain_in}
-use Rattle.spec_rules.specs.World.{server_state, Setting, World, chosen_log, chosen_state}
-use Rattle.spec_rules.proofs.Tests.{number_itself, none_some, same_some, some_or_none}
-use Rattle.spec_history.specs.Events.{asks_old, job_asks_old, reads_old}
-use Rattle.law_state.specs.LaterStates.{IsServing, HasLaterView, IsBelow}
-use Rattle.law_state.proofs.CellsByLinkRows.{read_by}
-use Rattle.law_steps.specs.DidStep.{Handled}
-use Rattle.law_steps.proofs.Fronts.{front_on, one_front}
-use Rattle.law_steps.proofs.KindsInHistories.{own_steady}
-use Rattle.law_copies.specs.Pair.{owns_of}
-use Rattle.law_copies.proofs.ServedAtLaterFronts.{holder_is_one}
-use Rattle.law_requests.specs.KnownRequests.{Known, ReadKnown, seen}
+use Rattle.law_run.proofs.Imports.{◌∙◌, ◌≡◌, ◌≤◌, ◌⊎◌, AreDisks, Body, Bool, Cell, Command, DiskRow, DiskView, Firm, Handled, HasLaterView, Holds, In}
+use Rattle.law_run.proofs.Imports.{IsBelow, IsGrown, IsPlainState, IsPrefix, IsRead, IsServing, Known, Line, List, MayLook, None, Option, PlainDisk}
+use Rattle.law_run.proofs.Imports.{PlainSnapshot, ReadKnown, Setting, Snapshot, Some, State, Store, World, ap, arith, asks_old, cell_asked, chain_in}
+use Rattle.law_run.proofs.Imports.{chosen_log, chosen_state, disk_at, disk_on, epoch_at, epoch_for, false, front_on, front_plain, get_in, has_map}
+use Rattle.law_run.proofs.Imports.{holder_is_one, inl, inr, is_in, job_asks_old, leaving, log_below, log_disks, log_grown, log_plain, map_made, none_some}
+use Rattle.law_run.proofs.Imports.{number_itself, one_front, option_and_then, option_map, own_steady, owns_of, read_by, readable, reads_old, refl, same_some}
+use Rattle.law_run.proofs.Imports.{seen, server_state, serves, snapshot, snapshot_named, some_or_none, state_after, subst, sym, true, view_of, ℕ}
 use Rattle.law_run.proofs.EntryAtEpoch.{AreUpTo}
 use Rattle.law_run.proofs.GroundGives.{kept_up_to}
-use Rattle.std.proofs.Common.{◌≡◌, ◌≤◌, ℕ, Bool, List, true, false, Option, Some, None, refl, sym, ap, ◌∙◌, subst, ◌⊎◌, inl, inr, arith}
-use Rattle.std.specs.Prelude.{option_and_then, option_map}
-use Rattle.petal_base.specs.declared.cell.Cell.{Cell}
-use Rattle.petal_command.specs.declared.command.Command.{Command}
-use Rattle.global_tables.specs.Disk.{disk_at, snapshot_named}
-use Rattle.global_tables.specs.declared.disk.DiskRow.{DiskRow}
-use Rattle.global_tables.specs.declared.disk.Snapshot.{Snapshot}
-use Rattle.spec_machine.specs.Run.{MayLook}
-use Rattle.spec_machine.specs.declared.state.PlainDisk.{PlainDisk}
-use Rattle.spec_machine.specs.declared.state.PlainSnapshot.{PlainSnapshot}
-use Rattle.spec_state.specs.Command.{state_after}
-use Rattle.spec_state.specs.declared.answer.DiskView.{DiskView}
-use Rattle.script_lines.specs.declared.request.Line.{Line}
-use Rattle.spec_rules.specs.Clients.{epoch_for}
-use Rattle.spec_rules.specs.Lists.{In}
-use Rattle.spec_history.specs.Claims.{Holds, IsPrefix}
-use Rattle.law_state.specs.Disks.{AreDisks}
-use Rattle.law_state.specs.Firm.{Firm}
-use Rattle.law_state.specs.Homes.{epoch_at}
-use Rattle.law_state.specs.Tables.{IsGrown, IsPlainState}
-use Rattle.law_state.proofs.Disks.{log_disks}
-use Rattle.law_state.proofs.EntriesOnlyAdd.{log_plain}
-use Rattle.law_state.proofs.Owners.{disk_on, map_made}
-use Rattle.law_state.proofs.ListLookups.{get_in}
-use Rattle.law_state.proofs.Steady.{front_plain, log_below, log_grown}
-use Rattle.law_requests.specs.AskedRequests.{IsRead}
 use Rattle.law_run.proofs.ChosenDisks.{HasDisk, IsFound, disks_now, epoch_here, found_row, left_apart, named_map_is, plain_now, rows_in}
 use Rattle.law_run.proofs.ContentsByCells.{asked_named, asked_read, read_has}
 use Rattle.law_run.proofs.SnapshotsAreChosen.{snapshot_found}
 use Rattle.law_run.proofs.RunScenes.{Grounded}
+use Rattle.petal_msg.specs.declared.body.Body.TheVariants as body
+use Rattle.petal_msg.specs.declared.letter.Actor.TheVariants as actor
 
 -- the content of the disk, at no epoch above its own, or that of a snapshot
 pub data AsksFor (row : DiskRow) (epoch : ℕ) : Option (List ℕ) → Type 0 where

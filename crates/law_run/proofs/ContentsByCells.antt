@@ -1,23 +1,9 @@
 -- A block's content is told by the cell under which requests name it and, between two maps, by what was frozen.
-use Rattle.std.proofs.Common.{◌≡◌, ◌≤◌, ◌==◌, ◌&&◌, ◌||◌, ℕ, Bool, true, false, Option, Some, None, is_some, refl, sym, ap, ◌∙◌, subst, arith}
-use Rattle.std.specs.Prelude.{if◌then◌else◌, option_map}
-use Rattle.petal_base.specs.declared.cell.Cell.{Cell}
-use Rattle.global_tables.specs.Disk.{disk_at}
-use Rattle.global_tables.specs.Region.{region_of}
-use Rattle.global_tables.specs.declared.disk.DiskRow.{DiskRow}
-use Rattle.global_tables.specs.declared.disk.Move.{Move}
-use Rattle.global_tables.specs.declared.disk.RegionState.{RegionState}
-use Rattle.global_tables.specs.declared.disk.RegionState.TheVariants.{Old, Fenced, New}
-use Rattle.spec_state.specs.CellState.{cell_asked, has_map, is_fenced, map_asked, move_region, named_cell, named_map, old_map}
-use Rattle.spec_state.specs.CellState.{read_cell, read_map, region_at, view_of}
-use Rattle.spec_state.specs.State.{leaves}
-use Rattle.spec_state.specs.declared.answer.DiskView.{DiskView}
-use Rattle.spec_rules.specs.State.{State, authority}
-use Rattle.spec_rules.specs.Store.{Stored}
-use Rattle.spec_rules.specs.World.{World}
-use Rattle.spec_rules.proofs.Tests.{by_bool, number_itself, same_numbers, true_false}
-use Rattle.spec_history.specs.Contents.{entry_at_home, entry_before, entry_of, first_entry, has_at_home, home_of, old_cell}
-use Rattle.law_state.specs.Homes.{new_stage, old_stage, stage_under}
+use Rattle.law_run.proofs.Imports.{if◌then◌else◌, ◌&&◌, ◌==◌, ◌||◌, ◌∙◌, ◌≡◌, ◌≤◌, Bool, Cell, DiskRow, DiskView, Fenced, Move, New, None, Old, Option}
+use Rattle.law_run.proofs.Imports.{RegionState, Some, State, Stored, World, ap, arith, authority, by_bool, cell_asked, disk_at, entry_at_home, entry_before}
+use Rattle.law_run.proofs.Imports.{entry_of, false, first_entry, has_at_home, has_map, home_of, is_fenced, is_some, leaves, map_asked, move_region}
+use Rattle.law_run.proofs.Imports.{named_cell, named_map, new_stage, number_itself, old_cell, old_map, old_stage, option_map, read_cell, read_map, refl}
+use Rattle.law_run.proofs.Imports.{region_at, region_of, same_numbers, stage_under, subst, sym, true, true_false, view_of, ℕ}
 
 -- ### Contents
 

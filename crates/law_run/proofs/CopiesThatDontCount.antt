@@ -1,41 +1,16 @@
 -- A copy changes the chain of a cell only at a server whose copy doesn't count: the other server of the link holds it alone, and has the
 -- block left to copy.
-use Rattle.std.proofs.Common.{◌≡◌, ◌≢◌, ◌==◌, ◌||◌, ℕ, Bool, List, [], ◌∷◌, true, Option, Some, refl, sym, ap, ◌∙◌, subst, ◌⊎◌, inl, inr, arith}
-use Rattle.global_tables.specs.Link.{has_server, other_of}
-use Rattle.global_tables.specs.declared.link.LinkRow.{LinkRow}
-use Rattle.global_tables.specs.declared.link.LinkState.TheVariants.{Both, Only, Lost}
-use Rattle.petal_base.specs.declared.cell.Cell.{Cell}
-use Rattle.petal_command.specs.declared.command.Command.{Command}
-use Rattle.petal_table.specs.Table.{Table}
-use Rattle.petal_msg.specs.Kinds.{about}
-use Rattle.petal_msg.specs.declared.body.Body.{Body}
-use Rattle.petal_msg.specs.declared.body.Body.TheVariants as body
-use Rattle.petal_msg.specs.declared.copying.LastCopy.{LastCopy}
-use Rattle.spec_history.specs.Claims.{IsPrefix}
-use Rattle.spec_rules.specs.Copies.{epochs_beyond}
-use Rattle.spec_rules.specs.Server.{PairState}
-use Rattle.spec_rules.specs.State.{State, authority, id_of, live}
-use Rattle.spec_rules.specs.Store.{Chain}
-use Rattle.spec_rules.specs.World.{chosen_log, chosen_state, kept, server_state}
-use Rattle.spec_rules.proofs.Tests.{by_bool, none_some, same_numbers, same_some}
-use Rattle.law_state.specs.LinkRows.{IsLater}
-use Rattle.law_state.specs.StartedBallots.{is_flagged}
-use Rattle.law_state.proofs.Caughts.{alone_by}
-use Rattle.law_state.proofs.CellsByLinkRows.{alone_authority, dead_authority, lost_authority}
-use Rattle.law_steps.specs.DidStep.{Handled, own_place}
-use Rattle.law_steps.proofs.Fronts.{front_itself}
-use Rattle.law_steps.proofs.KindsInHistories.{own_steady}
-use Rattle.law_copies.specs.CopyProgress.{AreCopying, IsCaught, IsLastCopy, IsLeft, IsTold, IsTrimming, HasSent, links_of}
-use Rattle.law_copies.specs.Pair.{owns_of}
-use Rattle.law_copies.specs.LoneSteps.{IsLeftBy}
-use Rattle.law_copies.specs.Visits.{IsLinked, place_by, AliveIn}
-use Rattle.law_copies.proofs.LastCopies.{of_last, past_last, past_of}
-use Rattle.law_copies.proofs.ServedAtLaterFronts.{alone_or_flagged, been_below, holder_is_one, other_than, unseen_beyond}
-use Rattle.law_copies.proofs.OtherIsNotHolder.{IsOther, held_by, other_apart}
-use Rattle.law_copies.proofs.PlacesByFronts.{fronts_meet, one_row, places_up, rows_later, alive_on, linked_alive}
-use Rattle.law_moves.proofs.JobsChangeOneChain.{CopiesSo, Is_put, Is_dropped, Is_dropped_first, PutsCopy}
+use Rattle.law_run.proofs.Imports.{[], ◌==◌, ◌||◌, ◌∙◌, ◌∷◌, ◌≡◌, ◌≢◌, ◌⊎◌, AliveIn, AreCopying, Body, Bool, Both, Cell, Chain, Command, CopiesSo, Handled}
+use Rattle.law_run.proofs.Imports.{HasSent, IsCaught, IsLastCopy, IsLater, IsLeft, IsLeftBy, IsLinked, IsOther, IsPrefix, IsTold, IsTrimming, Is_dropped}
+use Rattle.law_run.proofs.Imports.{Is_dropped_first, Is_put, LastCopy, LinkRow, List, Lost, Only, Option, PairState, PutsCopy, Some, State, Table, about}
+use Rattle.law_run.proofs.Imports.{alive_on, alone_authority, alone_by, alone_or_flagged, ap, arith, authority, been_below, by_bool, chosen_log, chosen_state}
+use Rattle.law_run.proofs.Imports.{dead_authority, epochs_beyond, front_itself, fronts_meet, has_server, held_by, holder_is_one, id_of, inl, inr, is_flagged}
+use Rattle.law_run.proofs.Imports.{kept, linked_alive, links_of, live, lost_authority, none_some, of_last, one_row, other_apart, other_of, other_than}
+use Rattle.law_run.proofs.Imports.{own_place, own_steady, owns_of, past_last, past_of, place_by, places_up, refl, rows_later, same_numbers, same_some}
+use Rattle.law_run.proofs.Imports.{server_state, subst, sym, true, unseen_beyond, ℕ}
 use Rattle.law_run.proofs.OwnPlacesAreLatest.{IsSharing, visit_here, alive_here}
 use Rattle.law_run.proofs.RunScenes.{Grounded}
+use Rattle.petal_msg.specs.declared.body.Body.TheVariants as body
 
 -- ### The block is left to copy at the holder
 

@@ -1,41 +1,16 @@
 -- A server's put of the copy that counts gives a block the bytes of a write under way; one of another copy changes no content.
-use Rattle.std.proofs.Common.{◌≡◌, ℕ, true, Some, sym, ap, ◌∙◌, subst, inl, inr}
-use Rattle.std.proofs.Common.{None, false, arith}
-use Rattle.law_steps.proofs.MovesAreOfComingCells.{stage_facts}
-use Rattle.spec_rules.specs.Writes.{is_clients}
-use Rattle.law_state.specs.Homes.{stage_at, epoch_at}
-use Rattle.std.specs.Ordering.{nat_cmp}
-use Rattle.petal_base.specs.declared.cell.Cell.{Cell}
-use Rattle.petal_base.specs.Cells.{cell_of}
-use Rattle.petal_table.specs.Table.{at}
-use Rattle.spec_machine.specs.Machine.{Plain}
-use Rattle.spec_machine.specs.Run.{replay}
-use Rattle.petal_msg.specs.declared.operation.Pending.{Pending}
-use Rattle.spec_state.specs.CellState.{named_cell}
-use Rattle.spec_rules.specs.State.{authority}
-use Rattle.spec_rules.specs.Store.{Stored, cell_cmp, chain_in, chains_with}
-use Rattle.spec_rules.specs.World.{chosen_log, counted}
-use Rattle.spec_rules.proofs.Tests.{same_or_apart, same_some, some_or_none, none_some, by_bool, true_false}
-use Rattle.law_state.specs.LaterStates.{IsSecondary}
-use Rattle.law_state.proofs.CellsByLinkRows.{both_authority, alone_authority}
-use Rattle.law_state.proofs.Roles.{log_roles}
-use Rattle.law_steps.proofs.Fronts.{front_on}
-use Rattle.law_steps.proofs.KindsInHistories.{runs_now}
-use Rattle.law_copies.specs.WaitingStores.{IsOwn}
-use Rattle.law_copies.specs.Visits.{IsLinked, place_by, AliveIn}
-use Rattle.law_jobs.proofs.ChainsApart.{chain_apart}
-use Rattle.law_copies.proofs.PlacesByFronts.{one_row, dead_not}
-use Rattle.law_requests.specs.AskedRequests.{IsOpen}
-use Rattle.law_requests.specs.KnownRequests.{asked_for}
-use Rattle.law_requests.proofs.OpenBesideRunning.{open_beside}
-use Rattle.law_requests.proofs.OpenWhileRunning.{open_running, pending_here}
+use Rattle.law_run.proofs.Imports.{◌∙◌, ◌≡◌, A_copy, AliveIn, An_asked, An_own, Cell, Drops, IsLinked, IsOpen, IsOwn, IsSecondary, None, Nothing_new}
+use Rattle.law_run.proofs.Imports.{Of_the_dead, Pending, Plain, PutsAsked, PutsCopy, Some, Stored, StoresSo, alone_authority, ap, arith, asked_for, at}
+use Rattle.law_run.proofs.Imports.{authority, both_authority, by_bool, cell_cmp, cell_of, chain_apart, chain_in, chains_with, chosen_log, copied_apart}
+use Rattle.law_run.proofs.Imports.{counted, dead_not, epoch_at, false, front_on, inl, inr, is_clients, log_roles, named_cell, nat_cmp, none_some, one_row}
+use Rattle.law_run.proofs.Imports.{open_beside, open_running, pending_here, place_by, replay, runs_now, same_or_apart, same_some, some_or_none, stage_at}
+use Rattle.law_run.proofs.Imports.{stage_facts, subst, sym, true, true_false, ℕ}
 use Rattle.law_run.specs.WritesGoOn.{is_held, Onward}
-use Rattle.law_moves.proofs.JobsChangeOneChain.{StoresSo, Nothing_new, An_own, An_asked, A_copy, PutsAsked, PutsCopy, copied_apart, Drops, Of_the_dead}
 use Rattle.law_run.proofs.CopiesThatDontCount.{copied_uncounted}
 use Rattle.law_run.proofs.MachineTakesWrites.{Taken, all_given, takes_of}
 use Rattle.law_run.proofs.ServerFrames.{OwnFollow, SaysOk}
-use Rattle.law_run.proofs.GroundGives.{Followed, followed, followed_epoch, followed_recalled, remembered, write_of, alive_or_dead, dropped_same, followed_comes}
-use Rattle.law_run.proofs.GroundGives.{followed_frozen, followed_lacks, followed_timely, pending_timely, pending_write}
+use Rattle.law_run.proofs.GroundGives.{Followed, followed, followed_epoch, followed_recalled, remembered, write_of, alive_or_dead, dropped_same}
+use Rattle.law_run.proofs.GroundGives.{followed_comes, followed_frozen, followed_lacks, followed_timely, pending_timely, pending_write}
 use Rattle.law_run.proofs.OpenWritesAreOnDisks.{Placed, placed}
 use Rattle.law_run.proofs.LeadPutsThatCount.{PutHeld}
 use Rattle.law_run.proofs.OwnPlacesAreLatest.{op_seat, lives_now, second_shares}

@@ -1,48 +1,14 @@
 -- What is chosen grows: whose copy of a cell counts after the step, and what becomes of its entries. Where the cell's second server leaves, and
 -- the first one is one put ahead, the first one's write is taken; and where a link is in Both again, or held by the other server, the copies are equal.
-use Rattle.std.proofs.Common.{◌≡◌, ◌<◌, ◌+◌, ◌==◌, ◌++◌, ℕ, Bool, [], ◌∷◌, true, false, Some, None, is_some, refl, sym, ap, ◌∙◌, subst, ◌⊎◌}
-use Rattle.std.proofs.Common.{inl, inr, arith, ◌≢◌, ◌≤◌, length}
-use Rattle.std.specs.Ordering.{nat_cmp}
-use Rattle.law_steps.proofs.MovesAreOfComingCells.{stage_facts}
-use Rattle.spec_rules.specs.Writes.{is_clients}
-use Rattle.law_moves.specs.InTime.{IsTimely}
-use Rattle.law_moves.specs.Fills.{IsFrozen}
-use Rattle.law_state.specs.Homes.{stage_at, epoch_at}
-use Rattle.std.specs.Prelude.{unwrap_or}
-use Rattle.global_tables.specs.Link.{has_server, other_of}
-use Rattle.petal_base.specs.declared.cell.Cell.{Cell}
-use Rattle.petal_table.specs.Table.{at, put}
-use Rattle.global_tables.specs.declared.link.LinkRow.{LinkRow}
-use Rattle.global_tables.specs.declared.link.LinkState.TheVariants.{Both, Lost, Only}
-use Rattle.petal_msg.specs.declared.operation.Pending.{Pending}
-use Rattle.spec_state.specs.CellState.{serves}
-use Rattle.spec_rules.specs.State.{authority, is_alone_on, live}
-use Rattle.spec_rules.specs.Store.{Chain, Store, Stored, cell_cmp, chain_in, entry_at, version_of}
-use Rattle.spec_rules.specs.Server.{PairState}
-use Rattle.spec_rules.specs.World.{counted, counted_by, kept}
-use Rattle.spec_rules.proofs.Tests.{by_bool, none_some, number_itself, same_numbers, same_or_apart, some_or_none}
-use Rattle.spec_history.specs.Claims.{one_put_ahead}
-use Rattle.spec_history.specs.Contents.{entry_by, entry_of}
-use Rattle.law_state.specs.LinkChanges.{IsCaughtStill}
-use Rattle.law_state.specs.Plain.{IsPlainLog}
-use Rattle.law_state.specs.LinkRows.{ByBoth, ByOne, ByNone, IsLater}
-use Rattle.law_state.specs.Steady.{IsSteady}
-use Rattle.law_state.proofs.CaughtsMadeBoth.{log_alone, log_lost}
-use Rattle.law_state.proofs.LoneHolders.{so_alone}
-use Rattle.law_state.proofs.CellsByLinkRows.{alone_authority, both_authority, lost_authority}
-use Rattle.law_state.proofs.GrownStates.{one_before}
-use Rattle.law_state.proofs.Roles.{primary_is_one, secondary_is_one}
-use Rattle.law_steps.proofs.Fronts.{front_itself, front_more, front_on, front_long}
-use Rattle.law_steps.proofs.KindsInHistories.{chosen_steady}
-use Rattle.law_copies.specs.GoodCopies.{Good, AreTwins, pair_at}
-use Rattle.law_copies.specs.Pair.{far, owns_of, pair_of}
-use Rattle.law_copies.specs.Visits.{IsLast, IsLinked, half, place_by, AliveIn, WasThere}
-use Rattle.law_copies.proofs.ServedAtLaterFronts.{holder_is_one, other_than}
-use Rattle.law_copies.proofs.PlacesByFronts.{one_row, places_up, rows_later, linked_alive}
-use Rattle.law_requests.specs.AskedRequests.{IsOpen}
-use Rattle.law_requests.specs.KnownRequests.{asked_for}
-use Rattle.law_requests.proofs.LeadsAtTwoPlaces.{same_only}
-use Rattle.law_requests.proofs.OpenWhileRunning.{open_at_place}
+use Rattle.law_run.proofs.Imports.{[], ◌++◌, ◌+◌, ◌<◌, ◌==◌, ◌∙◌, ◌∷◌, ◌≡◌, ◌≢◌, ◌≤◌, ◌⊎◌, AliveIn, AreTwins, Bool, Both, ByBoth, ByNone, ByOne, Cell, Chain}
+use Rattle.law_run.proofs.Imports.{Good, IsCaughtStill, IsFrozen, IsLast, IsLater, IsLinked, IsOpen, IsPlainLog, IsSteady, IsTimely, LinkRow, Lost, None}
+use Rattle.law_run.proofs.Imports.{Only, PairState, Pending, Some, Store, Stored, WasThere, alone_authority, ap, arith, asked_for, at, authority}
+use Rattle.law_run.proofs.Imports.{both_authority, by_bool, cell_cmp, chain_in, chosen_steady, counted, counted_by, entry_at, entry_by, entry_of, epoch_at}
+use Rattle.law_run.proofs.Imports.{false, far, front_itself, front_long, front_more, front_on, half, has_server, holder_is_one, inl, inr, is_alone_on}
+use Rattle.law_run.proofs.Imports.{is_clients, is_some, kept, length, linked_alive, live, log_alone, log_lost, lost_authority, nat_cmp, none_some}
+use Rattle.law_run.proofs.Imports.{number_itself, one_before, one_put_ahead, one_row, open_at_place, other_of, other_than, owns_of, pair_at, pair_of}
+use Rattle.law_run.proofs.Imports.{place_by, places_up, primary_is_one, put, refl, rows_later, same_numbers, same_only, same_or_apart, secondary_is_one}
+use Rattle.law_run.proofs.Imports.{serves, so_alone, some_or_none, stage_at, stage_facts, subst, sym, true, unwrap_or, version_of, ℕ}
 use Rattle.law_run.specs.MachineTies.{IsRemembered}
 use Rattle.law_run.proofs.ChosenDisks.{disks_now, plain_now, named_epoch}
 use Rattle.law_run.proofs.EntryAtEpoch.{entry_below, entry_put}

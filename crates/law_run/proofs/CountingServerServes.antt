@@ -1,18 +1,7 @@
 -- The server whose copy of a cell counts serves the cell's link.
-use Rattle.std.proofs.Common.{◌≡◌, ◌==◌, ℕ, true, Some, sym, ap, ◌∙◌, inl, inr}
-use Rattle.petal_base.specs.declared.cell.Cell.{Cell}
-use Rattle.global_tables.specs.Link.{has_server}
-use Rattle.spec_state.specs.CellState.{serves}
-use Rattle.spec_rules.specs.State.{State, authority}
-use Rattle.spec_rules.specs.World.{Setting, World, chosen_state}
-use Rattle.spec_rules.proofs.Tests.{none_some, number_itself, same_some}
-use Rattle.law_state.specs.LaterStates.{IsServing}
-use Rattle.law_state.specs.Firm.{Firm}
-use Rattle.law_state.specs.LinkRows.{ByBoth, ByOne, ByNone}
-use Rattle.law_state.specs.Steady.{IsSteady}
-use Rattle.law_state.proofs.CellsByLinkRows.{alone_authority, both_authority, lost_authority}
-use Rattle.law_state.proofs.Roles.{primary_is_one, secondary_is_one}
-use Rattle.law_steps.proofs.KindsInHistories.{chosen_steady}
+use Rattle.law_run.proofs.Imports.{◌==◌, ◌∙◌, ◌≡◌, ByBoth, ByNone, ByOne, Cell, Firm, IsServing, IsSteady, Setting, Some, State, World, alone_authority, ap}
+use Rattle.law_run.proofs.Imports.{authority, both_authority, chosen_state, chosen_steady, has_server, inl, inr, lost_authority, none_some, number_itself}
+use Rattle.law_run.proofs.Imports.{primary_is_one, same_some, secondary_is_one, serves, sym, true, ℕ}
 use Rattle.law_run.proofs.CopiesThatDontCount.{counted_lives}
 
 pub counting_serves : (state : State) → IsSteady state → (cell : Cell) (n : ℕ) → authority state cell ≡ Some n → IsServing state n cell

@@ -1,46 +1,22 @@
 -- What a server's step sends: which letters have data, and that one ends a write as written only where that has had its bytes.
-use Rattle.std.proofs.Common.{◌≡◌, ℕ, List, [], ◌∷◌, Bool, true, false, refl, sym, ap, ◌∙◌, subst, inl, inr}
-use Rattle.std.specs.Prelude.{map, filter, not, ◌==◌}
-use Rattle.std.specs.List.{range_with_len}
-use Rattle.spec_machine.specs.Machine.{Plain}
-use Rattle.petal_msg.specs.Kinds.{Subject, Answered, Glanced, Refused, about, is_logged, is_refused, subject_of}
-use Rattle.petal_msg.specs.declared.body.Body.{Body}
-use Rattle.petal_msg.specs.declared.body.Body.TheVariants as body
-use Rattle.petal_msg.specs.declared.letter.Actor.TheVariants as actor
-use Rattle.petal_msg.specs.declared.letter.Letter.{Letter}
-use Rattle.petal_msg.specs.declared.operation.Ending.{Ending}
-use Rattle.petal_msg.specs.declared.operation.Ending.TheVariants as ending
-use Rattle.petal_msg.specs.declared.operation.Finished.{Finished}
-use Rattle.petal_msg.specs.declared.operation.OpKind.{OpKind}
-use Rattle.petal_msg.specs.declared.operation.OpKind.TheVariants as kind
-use Rattle.petal_msg.specs.declared.operation.Pending.{Pending}
-use Rattle.spec_rules.specs.Ballots.{post_of}
-use Rattle.spec_rules.specs.Jobs.{down_posts}
-use Rattle.spec_rules.specs.Lists.{In}
-use Rattle.spec_rules.specs.Server.{PairState, JobContext, Post, Sender, JobResult, letters_of}
-use Rattle.spec_rules.specs.Writes.{ended, ends, gives_back, old_lead, without_pending}
-use Rattle.spec_rules.specs.World.{stamped}
-use Rattle.spec_rules.proofs.Tests.{same_some, true_false}
-use Rattle.law_steps.specs.DidLead.{DidLead, Asks, An_entry_to_move, Of_the_log, Asks_for, Repeats, Is_full}
-use Rattle.law_steps.specs.DidLead.{Gives_up, Opens, Closes, Closes_alone}
-use Rattle.law_steps.specs.DidLead.{Opens_fill, Has_fill, Has_no_room, Goes_on_dead}
-use Rattle.law_steps.specs.DidSecond.{DidSecond}
-use Rattle.law_steps.specs.Did.{Did, IsRefusal, Ignores, Refuses, By_read, By_lead, By_second, By_holder, By_other, By_filler, By_sweep}
-use Rattle.law_steps.proofs.CopyFrames.{of_holder, of_other}
-use Rattle.law_steps.specs.DidStep.{own_place}
-use Rattle.law_steps.proofs.Letters.{said, one_post, posted}
-use Rattle.law_steps.proofs.Subjects.{of_filler, of_second, of_sweep}
-use Rattle.law_jobs.specs.Sayings as says
-use Rattle.law_jobs.specs.Sayings.{Ends_fill, Moves, Moves_on, Says, to_client}
-use Rattle.law_jobs.proofs.JobsSay.{letters_of_job}
-use Rattle.law_copies.specs.Pair.{owns_of}
-use Rattle.law_requests.specs.AskedRequests.{IsOpen}
+use Rattle.law_run.proofs.Imports.{[], ◌==◌, ◌∙◌, ◌∷◌, ◌≡◌, An_entry_to_move, Answered, Asks, Asks_for, Body, Bool, By_filler, By_holder, By_lead, By_other}
+use Rattle.law_run.proofs.Imports.{By_read, By_second, By_sweep, Closes, Closes_alone, Did, DidLead, DidSecond, Ending, Ends_fill, Finished, Gives_up}
+use Rattle.law_run.proofs.Imports.{Glanced, Goes_on_dead, Has_fill, Has_no_room, Ignores, In, IsOpen, IsRefusal, Is_full, JobContext, JobResult, Letter, List}
+use Rattle.law_run.proofs.Imports.{Moves, Moves_on, NeverDead, Of_the_log, OpKind, Opens, Opens_fill, PairState, Pending, Plain, Post, Refused, Refuses}
+use Rattle.law_run.proofs.Imports.{Repeats, Says, Sender, Subject, about, ap, down_posts, ended, ends, false, filter, gives_back, inl, inr, is_logged}
+use Rattle.law_run.proofs.Imports.{is_refused, letters_of, letters_of_job, map, not, of_filler, of_holder, of_other, of_second, of_sweep, old_lead, one_post}
+use Rattle.law_run.proofs.Imports.{own_place, owns_of, post_of, posted, range_with_len, refl, said, same_some, stamped, subject_of, subst, sym, to_client}
+use Rattle.law_run.proofs.Imports.{true, true_false, without_pending, ℕ}
 use Rattle.law_run.specs.WritesGoOn.{is_held, Onward}
-use Rattle.law_moves.proofs.JobsChangeOneChain.{NeverDead}
 use Rattle.law_run.proofs.ReadsLookWhereSent.{is_looked}
 use Rattle.law_run.proofs.Machine.{held_onward}
 use Rattle.law_run.proofs.LeadPutsThatCount.{finish_held}
 use Rattle.law_run.proofs.EventsOfServerSteps.{ServerStep, ends_of}
+use Rattle.petal_msg.specs.declared.body.Body.TheVariants as body
+use Rattle.petal_msg.specs.declared.letter.Actor.TheVariants as actor
+use Rattle.petal_msg.specs.declared.operation.Ending.TheVariants as ending
+use Rattle.petal_msg.specs.declared.operation.OpKind.TheVariants as kind
+use Rattle.law_jobs.specs.Sayings as says
 
 -- a letter ends a write as written
 abbrev pub is_written : Body → Bool

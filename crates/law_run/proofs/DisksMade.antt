@@ -1,25 +1,8 @@
 -- Disks that are made: the machine makes those that a step chose, each with zeros and without snapshots.
-use Rattle.std.proofs.Common.{◌≡◌, ◌≢◌, ◌++◌, ℕ, List, [], ◌∷◌, length, cond, Some, None, refl, sym, ap, ◌∙◌, subst, inl, inr, append_assoc}
-use Rattle.std.specs.Prelude.{drop, map, unwrap_or}
-use Rattle.std.specs.Ordering.{nat_cmp}
-use Rattle.std.proofs.lemmas.List.{append-nil}
-use Rattle.petal_base.specs.Block.{zero_block}
-use Rattle.petal_table.proofs.Rows.{at-empty}
-use Rattle.global_tables.specs.Disk.{named, same_name}
-use Rattle.global_tables.specs.declared.disk.DiskRow.{DiskRow}
-use Rattle.spec_machine.specs.declared.event.Event.{Event}
-use Rattle.spec_machine.specs.declared.event.Event.TheVariants.{Make}
-use Rattle.spec_machine.specs.Machine.{Plain, content}
-use Rattle.spec_machine.specs.Run.{Obeys, after, replay}
-use Rattle.spec_rules.specs.Lists.{In}
-use Rattle.spec_rules.specs.World.{Setting, World}
-use Rattle.spec_rules.proofs.ListLemmas.{in-append}
-use Rattle.spec_rules.proofs.Tests.{by_bool, none_some, some_or_none, true_false}
-use Rattle.spec_history.specs.Claims.{AreSnapshots, Holds}
-use Rattle.spec_history.specs.Contents.{content_at, has_content_at}
-use Rattle.spec_history.specs.Events.{make_of}
-use Rattle.law_state.proofs.LaterDisks.{AreFresh}
-use Rattle.law_state.proofs.ListLookups.{find_front, find_after, get_in, none_find, text_itself}
+use Rattle.law_run.proofs.Imports.{[], ◌++◌, ◌∙◌, ◌∷◌, ◌≡◌, ◌≢◌, AreFresh, AreSnapshots, DiskRow, Event, Holds, In, List, Make, None, Obeys, Plain, Setting}
+use Rattle.law_run.proofs.Imports.{Some, World, after, ap, append-nil, append_assoc, at-empty, by_bool, cond, content, content_at, drop, find_after}
+use Rattle.law_run.proofs.Imports.{find_front, get_in, has_content_at, in-append, inl, inr, length, make_of, map, named, nat_cmp, none_find, none_some, refl}
+use Rattle.law_run.proofs.Imports.{replay, same_name, some_or_none, subst, sym, text_itself, true_false, unwrap_or, zero_block, ℕ}
 use Rattle.law_run.specs.WritesGoOn.{Onward}
 use Rattle.law_run.specs.MachineTies.{Stores}
 use Rattle.law_run.proofs.Machine.{after_mindful, make_same, make_others, make_onward, new_disk, onward_itself, onward_joined}

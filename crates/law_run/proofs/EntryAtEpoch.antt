@@ -1,18 +1,7 @@
 -- Which entry of a chain that rises is that of an epoch: after a put, and where no entry is of a later epoch.
-use Rattle.std.proofs.Common.{◌≡◌, ◌≤◌, ◌<◌, ◌+◌, ℕ, [], ◌∷◌, Bool, true, false, cond, Option, Some, None, refl, sym, ap, ◌∙◌, inl, inr, arith}
-use Rattle.std.proofs.lemmas.Bool.Decides.{nat_tests}
-use Rattle.std.specs.Prelude.{nat_le, max}
-use Rattle.std.specs.declared.cmp.Ordering.TheVariants.{Less, Equal, Greater}
-use Rattle.std.specs.BTreeMap.{insert_entry, is_at}
-use Rattle.std.specs.Cmp.{ranked}
-use Rattle.std.specs.Map.{lookup}
-use Rattle.std.specs.Ordering.{is_eq, match_ordering, nat_cmp}
-use Rattle.petal_table.specs.Table.{at, put}
-use Rattle.petal_table.proofs.Rows.{at_same}
-use Rattle.spec_rules.specs.Lists.{In}
-use Rattle.spec_rules.specs.Store.{Chain, Stored, entry_at, or_else, version_of}
-use Rattle.spec_rules.proofs.Tests.{none_some, same_some}
-use Rattle.law_steps.specs.Ready.{IsRising}
+use Rattle.law_run.proofs.Imports.{[], ◌+◌, ◌<◌, ◌∙◌, ◌∷◌, ◌≡◌, ◌≤◌, Bool, Chain, Equal, Greater, In, IsRising, Less, None, Option, Some, Stored, ap, arith}
+use Rattle.law_run.proofs.Imports.{at, at_same, cond, entry_at, false, inl, inr, insert_entry, is_at, is_eq, lookup, match_ordering, max, nat_cmp, nat_le}
+use Rattle.law_run.proofs.Imports.{nat_tests, none_some, or_else, put, ranked, refl, same_some, sym, true, version_of, ℕ}
 
 over : (a b : ℕ) → b < a → nat_le a b ≡ false
 over a b lt = grind (arith, nat_tests, lt)

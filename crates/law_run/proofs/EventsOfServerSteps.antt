@@ -1,48 +1,12 @@
 -- What the machine is told of a server's step: takes, disks that are made, snapshots that are taken, and looks.
-use Rattle.std.proofs.Common.{◌≡◌, ◌≢◌, ◌<◌, ℕ, List, [], ◌++◌, ◌∷◌, false, Option, Some, None}
-use Rattle.std.proofs.Common.{refl, sym, ap, ◌∙◌, subst, inl, inr, arith}
-use Rattle.std.specs.Prelude.{option_map}
-use Rattle.std.specs.List.{flat_map}
-use Rattle.std.specs.Cmp.{nat_cmp_total}
-use Rattle.petal_msg.specs.declared.letter.Actor.TheVariants as actor
-use Rattle.petal_base.specs.declared.cell.Cell.{Cell}
-use Rattle.global_tables.specs.declared.disk.DiskRow.{DiskRow}
-use Rattle.spec_machine.specs.declared.event.Event.{Event}
-use Rattle.spec_machine.specs.Machine.{Plain}
-use Rattle.spec_machine.specs.Run.{Obeys, replay}
-use Rattle.petal_msg.specs.declared.letter.Letter.{Letter}
-use Rattle.petal_command.specs.declared.command.Command.{Command}
-use Rattle.spec_state.specs.Command.{state_after}
-use Rattle.spec_rules.specs.Blanked.{kept_store}
-use Rattle.spec_rules.specs.Lists.{In}
-use Rattle.spec_rules.specs.Log.{Log}
-use Rattle.spec_rules.specs.State.{State, authority}
-use Rattle.spec_rules.specs.Store.{Chain, Store, chain_in, entry_at}
-use Rattle.spec_rules.specs.Server.{JobResult, JobContext, PairState, Server}
-use Rattle.spec_rules.specs.Jobs.{Acted}
-use Rattle.spec_rules.specs.World.{Setting, World, acts, before_blanks, begins_to_leave, blank_joins_in, chain_that_counts, counted, counted_by, server_state}
-use Rattle.spec_rules.specs.World.{kept, kept_by, stamped, chosen_log, chosen_state}
-use Rattle.spec_rules.specs.declared.step.Step.{Step}
-use Rattle.spec_rules.proofs.ListLemmas.{put_same, put_apart}
-use Rattle.spec_rules.proofs.Tests.{all_put, by_test, none_some, same_or_apart, same_some}
-use Rattle.spec_history.specs.Claims.{IsPrefix}
-use Rattle.spec_history.specs.Contents.{entry_by}
-use Rattle.spec_history.specs.Events.{change_by, freezes, takes, makes, look_of, told_with}
-use Rattle.spec_history.specs.declared.record.Record.{Record}
-use Rattle.law_state.specs.LaterStates.{IsBelow}
-use Rattle.law_state.specs.Firm.{Firm}
-use Rattle.law_state.specs.Homes.{epoch_at, stage_at}
-use Rattle.law_state.specs.Tables.{IsGrown}
-use Rattle.law_state.proofs.Steady.{log_below}
-use Rattle.law_steps.specs.DidStep.{By_ballot, By_entry, By_job, Ends, Fails, Goes, Handled, Serving, Stays, Wakes, Worked, own_place}
-use Rattle.law_steps.proofs.Fronts.{front_itself, front_same}
-use Rattle.law_steps.proofs.TablesOfPuts.{at_row}
-use Rattle.law_steps.specs.WakingServers.{AllMayWake}
-use Rattle.law_copies.specs.WaitingStores.{IsOwn}
-use Rattle.law_copies.specs.GoodCopies.{Good}
-use Rattle.law_copies.specs.Pair.{owns_of}
-use Rattle.law_copies.specs.Visits.{Visits}
-use Rattle.law_moves.specs.EntryEpochs.{AreEarly}
+use Rattle.law_run.proofs.Imports.{[], ◌++◌, ◌<◌, ◌∙◌, ◌∷◌, ◌≡◌, ◌≢◌, Acted, AllMayWake, AreEarly, Body, By_ballot, By_entry, By_job, Cell, Chain, Command}
+use Rattle.law_run.proofs.Imports.{DiskRow, Ends, Event, Fails, Firm, Goes, Good, Handled, In, IsBelow, IsGrown, IsOwn, IsPrefix, JobContext, JobResult}
+use Rattle.law_run.proofs.Imports.{Letter, List, Log, None, Obeys, Option, PairState, Plain, Record, Server, Serving, Setting, Some, State, Stays, Step}
+use Rattle.law_run.proofs.Imports.{Store, Visits, Wakes, Worked, World, acts, all_put, ap, arith, at_row, authority, before_blanks, begins_to_leave}
+use Rattle.law_run.proofs.Imports.{blank_joins_in, by_test, chain_in, chain_that_counts, change_by, chosen_log, chosen_state, counted, counted_by, entry_at}
+use Rattle.law_run.proofs.Imports.{entry_by, epoch_at, false, flat_map, freezes, front_itself, front_same, inl, inr, kept, kept_by, kept_store, log_below}
+use Rattle.law_run.proofs.Imports.{look_of, makes, nat_cmp_total, none_some, option_map, own_place, owns_of, put_apart, put_same, refl, replay, same_or_apart}
+use Rattle.law_run.proofs.Imports.{same_some, server_state, stage_at, stamped, state_after, subst, sym, takes, told_with, ℕ}
 use Rattle.law_run.specs.MachineTies.{Ground, Follow}
 use Rattle.law_run.proofs.ChosenDisks.{Along, rows_in}
 use Rattle.law_run.proofs.StoresThatCount.{of_kept, same_kept, frozen_stays}
@@ -51,7 +15,7 @@ use Rattle.law_run.proofs.ReadsLookWhereSent.{Looked, is_looked, no_look}
 use Rattle.law_run.proofs.Machine.{onward_itself}
 use Rattle.law_run.proofs.ListMembers.{all_empty}
 use Rattle.law_run.proofs.RunScenes.{Followed, Grounded}
-use Rattle.petal_msg.specs.declared.body.Body.{Body}
+use Rattle.petal_msg.specs.declared.letter.Actor.TheVariants as actor
 
 -- two copies after a step, by what was chosen before it: at the places of then, servers have been where they have been after it
 pub record IsMiddle (setting : Setting) (w v : World) (records : List Record) (visits : Visits) : Type 0 where

@@ -1,33 +1,11 @@
 -- What the machine is told of a server's step, put together: takes, then disks that are made, then snapshots that are taken, then looks.
-use Rattle.std.proofs.Common.{◌≡◌, ◌≤◌, ◌==◌, ℕ, List, [], ◌++◌, Bool, true, false, Option, Some, None, is_some, refl}
-use Rattle.std.proofs.Common.{sym, ap, ◌∙◌, subst, inl, inr, arith, length}
-use Rattle.std.specs.Prelude.{map, option_and_then, slice_get}
-use Rattle.std.specs.List.{flat_map}
-use Rattle.std.proofs.lemmas.List.{append-nil}
-use Rattle.std.proofs.lemmas.Option.{slice_get_within}
-use Rattle.petal_base.specs.Block.{zero_block}
-use Rattle.global_tables.specs.Disk.{disk_at, is_disk, named, same_name}
-use Rattle.petal_base.specs.declared.cell.Cell.{Cell}
-use Rattle.spec_state.specs.CellState.{has_map, named_cell}
-use Rattle.global_tables.specs.declared.disk.DiskRow.{DiskRow}
-use Rattle.global_tables.specs.declared.disk.Snapshot.{Snapshot}
-use Rattle.spec_machine.specs.declared.event.Event.{Event}
-use Rattle.spec_machine.specs.Machine.{Plain, disk_of}
-use Rattle.spec_machine.specs.Run.{Obeys, replay}
-use Rattle.spec_rules.specs.Lists.{In}
-use Rattle.spec_rules.specs.State.{State, authority}
-use Rattle.spec_rules.specs.Store.{Chain, Stored, bytes_of, chain_in, entry_at}
-use Rattle.spec_rules.specs.World.{chosen_state, counted, kept}
-use Rattle.spec_rules.proofs.ListLemmas.{in-append, in_former, in_later}
-use Rattle.spec_rules.proofs.Tests.{by_bool, nat_lists_same, same_numbers, some_or_none, same_some}
-use Rattle.spec_history.specs.Claims.{AreSnapshots, Holds}
-use Rattle.spec_history.specs.Contents.{content_at, entry_before, entry_by, entry_of, first_entry, has_content_at, old_cell}
-use Rattle.spec_history.specs.Events.{make_of, snapshots_of, told_with}
-use Rattle.law_state.specs.Disks.{AreDisks}
-use Rattle.law_state.specs.Homes.{epoch_at, stage_at}
-use Rattle.law_state.specs.Tables.{IsLaterDisk, IsPlainState}
-use Rattle.law_state.proofs.ListLookups.{find_none, found_at, get_in, in_get}
-use Rattle.law_state.proofs.LaterDisks.{fresh_rows, later_place, later_rows, old_or_new, stays_row}
+use Rattle.law_run.proofs.Imports.{[], ◌++◌, ◌==◌, ◌∙◌, ◌≡◌, ◌≤◌, AreDisks, AreSnapshots, Bool, Cell, Chain, DiskRow, Event, Holds, In, IsLaterDisk}
+use Rattle.law_run.proofs.Imports.{IsPlainState, List, None, Obeys, Option, Plain, Snapshot, Some, State, Stored, ap, append-nil, arith, authority, by_bool}
+use Rattle.law_run.proofs.Imports.{bytes_of, chain_in, chosen_state, content_at, counted, disk_at, disk_of, entry_at, entry_before, entry_by, entry_of}
+use Rattle.law_run.proofs.Imports.{epoch_at, false, find_none, first_entry, flat_map, found_at, fresh_rows, get_in, has_content_at, has_map, in-append}
+use Rattle.law_run.proofs.Imports.{in_former, in_get, in_later, inl, inr, is_disk, is_some, kept, later_place, later_rows, length, make_of, map, named}
+use Rattle.law_run.proofs.Imports.{named_cell, nat_lists_same, old_cell, old_or_new, option_and_then, refl, replay, same_name, same_numbers, same_some}
+use Rattle.law_run.proofs.Imports.{slice_get, slice_get_within, snapshots_of, some_or_none, stage_at, stays_row, subst, sym, told_with, true, zero_block, ℕ}
 use Rattle.law_run.specs.MachineTies.{Follow, Stores}
 use Rattle.law_run.proofs.ChosenDisks.{rows_in, content_is, disks_now, has_content_is, made_before, named_map_is, old_map_is, plain_now}
 use Rattle.law_run.proofs.EntryAtEpoch.{AreUpTo, entry_later}
@@ -38,7 +16,8 @@ use Rattle.law_run.proofs.DisksMade.{Made, fresh_made, made_all, made_same, new_
 use Rattle.law_run.proofs.ListMembers.{into_map, of_map}
 use Rattle.law_run.proofs.MachineGoesOn.{follow_onward}
 use Rattle.law_run.proofs.SnapshotsAreChosen.{as_of}
-use Rattle.law_run.proofs.EventsOfServerSteps.{LooksTold, ServerStep, ServerTold, TakesTold, ends_of, frozen_early, frozen_empty, looks_here, unput, unput_above}
+use Rattle.law_run.proofs.EventsOfServerSteps.{LooksTold, ServerStep, ServerTold, TakesTold, ends_of, frozen_early, frozen_empty, looks_here, unput}
+use Rattle.law_run.proofs.EventsOfServerSteps.{unput_above}
 
 no_member : {A : Type 0} (x : A) → In x [] → ⊥
 unfolding In

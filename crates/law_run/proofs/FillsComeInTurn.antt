@@ -1,22 +1,7 @@
 -- A fill that comes to the copy that counts comes in its turn: of the frozen chain all that is newer is there, and so is it of all that is there.
-use Rattle.std.proofs.Common.{◌≡◌, ℕ, List, true, Some, None, refl, sym, ap, ◌∙◌, subst, arith}
-use Rattle.std.specs.Ordering.{nat_cmp}
-use Rattle.petal_base.specs.Cells.{cell_of}
-use Rattle.petal_base.specs.declared.cell.Cell.{Cell}
-use Rattle.petal_base.specs.declared.cell.Key.{Key}
-use Rattle.petal_table.specs.Table.{at}
-use Rattle.global_tables.specs.declared.disk.DiskRow.{DiskRow}
-use Rattle.spec_history.specs.Claims.{HasNewer, IsFilledFrom}
-use Rattle.spec_history.specs.Contents.{old_cell}
-use Rattle.spec_state.specs.CellState.{has_map, source}
-use Rattle.spec_rules.specs.Lists.{In}
-use Rattle.spec_rules.specs.State.{State, authority}
-use Rattle.spec_rules.specs.Store.{Chain, chain_in}
-use Rattle.spec_rules.specs.World.{chosen_log, chosen_state, kept}
-use Rattle.law_state.specs.LaterStates.{IsServing}
-use Rattle.law_state.specs.Homes.{stage_at}
-use Rattle.law_steps.specs.Ready.{IsRising}
-use Rattle.law_moves.specs.Fills.{Has, IsFrozen}
+use Rattle.law_run.proofs.Imports.{◌∙◌, ◌≡◌, Cell, Chain, DiskRow, Has, HasNewer, In, IsFilledFrom, IsFrozen, IsRising, IsServing, Key, List, None, Some}
+use Rattle.law_run.proofs.Imports.{State, ap, arith, at, authority, cell_of, chain_in, chosen_log, chosen_state, has_map, kept, nat_cmp, old_cell, refl}
+use Rattle.law_run.proofs.Imports.{source, stage_at, subst, sym, true, ℕ}
 use Rattle.law_run.proofs.ChosenDisks.{disks_now, plain_now, rows_in}
 use Rattle.law_run.proofs.CountingServerServes.{counts_serves}
 use Rattle.law_run.proofs.Overlay.{IsFill}

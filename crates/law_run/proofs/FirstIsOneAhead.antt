@@ -1,11 +1,6 @@
 -- Where two copies of a cell differ, the first server is one put ahead of the second one.
-use Rattle.std.proofs.Common.{◌≡◌, ◌+◌, Bool, true, false, Some, None, refl, ap, subst, ◌⊎◌, inl, inr, arith, ◌≤◌, Option}
-use Rattle.std.proofs.lemmas.Bool.{cases_lt}
-use Rattle.petal_table.specs.Table.{put}
-use Rattle.petal_msg.specs.declared.operation.Pending.{Pending}
-use Rattle.spec_history.specs.Claims.{one_put_ahead}
-use Rattle.law_steps.specs.Operations.{progress}
-use Rattle.law_copies.specs.Pair.{AreCopies, IsAhead, Pair, PairOk, Working, far, number_of}
+use Rattle.law_run.proofs.Imports.{◌+◌, ◌≡◌, ◌≤◌, ◌⊎◌, AreCopies, Bool, IsAhead, None, Option, Pair, PairOk, Pending, Some, Working, ap, arith, cases_lt}
+use Rattle.law_run.proofs.Imports.{false, far, inl, inr, number_of, one_put_ahead, progress, put, refl, subst, true}
 
 -- a pair's operation that is put at the first server
 pub put_ahead : (pair : Pair) (op : Pending) → PairOk pair → pair.pending ≡ Some op → op.stage.put ≡ true

@@ -1,52 +1,20 @@
 -- What follows from the ground on which the run stands: of operations that are remembered, of the epochs of those that are put, and of
 -- entries.
-use Rattle.std.proofs.Common.{◌≡◌, ◌≤◌, ◌+◌, ℕ, List, [], ◌∷◌, true, false, Option, Some, None, refl, sym, ap, ◌∙◌, subst}
-use Rattle.std.proofs.Common.{inl, inr, arith, length, ◌⊎◌, nat_cmp}
-use Rattle.std.proofs.lemmas.Bool.{cases_lt}
-use Rattle.std.specs.Cmp.{nat_cmp_total}
-use Rattle.global_tables.specs.declared.link.LinkRow.{LinkRow}
-use Rattle.petal_base.specs.declared.cell.Cell.{Cell}
-use Rattle.petal_base.specs.declared.cell.Key.{Key}
-use Rattle.petal_base.specs.Cells.{cell_of}
-use Rattle.petal_command.specs.declared.command.Command.{Command}
-use Rattle.petal_command.specs.declared.command.Command.TheVariants.{Caught}
-use Rattle.petal_table.specs.Table.{at}
-use Rattle.petal_table.proofs.Rows.{at-empty}
-use Rattle.petal_msg.specs.declared.body.Body.{Body}
-use Rattle.petal_msg.specs.declared.body.Body.TheVariants as body
-use Rattle.petal_msg.specs.declared.operation.Far.TheVariants as far
-use Rattle.petal_msg.specs.declared.operation.Pending.{Pending}
-use Rattle.spec_rules.specs.Returns.{holds_link, proposed}
-use Rattle.spec_rules.specs.State.{State, is_in, link_named, live}
-use Rattle.spec_rules.specs.Store.{Chain, Store, cell_cmp, chain_in}
-use Rattle.spec_rules.specs.Server.{PairState, JobContext}
-use Rattle.spec_rules.specs.World.{Setting, World, chosen_log, chosen_state, kept, server_state}
-use Rattle.spec_rules.specs.Writes.{is_clients}
-use Rattle.spec_rules.proofs.Tests.{none_some, true_false}
-use Rattle.law_state.specs.Homes.{epoch_at, stage_at}
-use Rattle.law_state.specs.Steady.{IsSteady}
-use Rattle.law_steps.specs.DidStep.{Handled, own_place}
-use Rattle.law_steps.specs.Operations.{progress}
-use Rattle.law_steps.proofs.Fronts.{front_itself, front_long, front_on}
-use Rattle.law_steps.proofs.MovesAreOfComingCells.{stage_facts}
-use Rattle.law_steps.proofs.KindsInHistories.{own_below, own_plain, runs_now}
-use Rattle.law_steps.proofs.OperationsRest.{same_cell_or_apart}
-use Rattle.law_steps.proofs.TakenUpAlone.{taking}
-use Rattle.law_steps.proofs.TablesOfPuts.{at_row}
-use Rattle.law_copies.specs.Pair.{IsPutting, owns_of}
-use Rattle.law_copies.specs.Visits.{AliveIn, IsLinked, half, place_by, WasThere}
-use Rattle.law_requests.specs.AskedRequests.{IsWrite}
-use Rattle.law_requests.specs.KnownRequests.{AskingBy, Lives, PendingFor, asked_for, seen}
-use Rattle.law_requests.proofs.WritesAtLaterFronts.{write_stays}
-use Rattle.law_moves.specs.EntryEpochs.{AreEarly}
-use Rattle.law_moves.specs.InTime.{IsTimely}
-use Rattle.law_moves.specs.Fills.{IsFrozen}
+use Rattle.law_run.proofs.Imports.{[], ◌+◌, ◌∙◌, ◌∷◌, ◌≡◌, ◌≤◌, ◌⊎◌, AliveIn, AreEarly, AskingBy, Body, Caught, Cell, Chain, Command, Drops, Handled}
+use Rattle.law_run.proofs.Imports.{IsFrozen, IsLinked, IsPutting, IsSteady, IsTimely, IsWrite, JobContext, Key, LinkRow, List, Lives, NeverDead, None, Option}
+use Rattle.law_run.proofs.Imports.{PairState, Pending, PendingFor, PutsAsked, Setting, Some, State, Store, WasThere, World, ap, arith, asked_for, at}
+use Rattle.law_run.proofs.Imports.{at-empty, at_row, cases_lt, cell_cmp, cell_of, chain_in, chosen_log, chosen_state, epoch_at, false, front_itself}
+use Rattle.law_run.proofs.Imports.{front_long, front_on, half, holds_link, inl, inr, is_clients, is_in, kept, length, link_named, live, nat_cmp}
+use Rattle.law_run.proofs.Imports.{nat_cmp_total, none_some, own_below, own_place, own_plain, owns_of, place_by, progress, proposed, refl, runs_now}
+use Rattle.law_run.proofs.Imports.{same_cell_or_apart, seen, server_state, stage_at, stage_facts, subst, sym, taking, true, true_false, write_stays, ℕ}
 use Rattle.law_run.specs.MachineTies.{Ground, IsRemembered, Is_pending, Was_pending}
-use Rattle.law_moves.proofs.JobsChangeOneChain.{Drops, NeverDead, PutsAsked}
 use Rattle.law_run.proofs.StoresThatCount.{of_kept}
 use Rattle.law_run.proofs.EntryAtEpoch.{AreUpTo}
-use Rattle.law_run.proofs.OwnPlacesAreLatest.{IsSharing, alive_here, heard_shared, op_lives, op_seat, second_shares, sharing_last, store_there, visit_here, own_there}
+use Rattle.law_run.proofs.OwnPlacesAreLatest.{IsSharing, alive_here, heard_shared, op_lives, op_seat, second_shares, sharing_last, store_there, visit_here}
+use Rattle.law_run.proofs.OwnPlacesAreLatest.{own_there}
 use Rattle.law_run.proofs.RunScenes.{Grounded}
+use Rattle.petal_msg.specs.declared.body.Body.TheVariants as body
+use Rattle.petal_msg.specs.declared.operation.Far.TheVariants as far
 
 link_store : (mine : PairState) (o : Option LinkRow) → (holds_link mine o).store ≡ mine.store
 link_store mine None = refl

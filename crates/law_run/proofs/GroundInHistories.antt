@@ -1,48 +1,16 @@
 -- The ground of a legal history is there at its beginning, and each step of it keeps it.
-use Rattle.std.proofs.Common.{◌≡◌, ℕ, List, [], ◌∷◌, ◌++◌, Option, Some, refl, sym, ap, ◌∙◌, subst, true, ◌⊎◌, inl, inr}
-use Rattle.std.specs.Prelude.{max, fold, map}
-use Rattle.std.specs.List.{flat_map, range_with_len}
-use Rattle.petal_base.specs.declared.cell.Cell.{Cell}
-use Rattle.petal_command.specs.declared.command.Command.{Command}
-use Rattle.petal_command.specs.declared.command.Command.TheVariants.{Caught}
-use Rattle.spec_paxos.specs.Chosen.{vote_place, chosen_from}
-use Rattle.spec_state.specs.Command.{state_after}
-use Rattle.script_lines.specs.declared.script.Script.{Script}
-use Rattle.spec_rules.specs.Lists.{In}
-use Rattle.spec_rules.specs.State.{State, is_in}
-use Rattle.spec_rules.specs.Server.{PairState}
-use Rattle.spec_rules.specs.World.{Setting, World, blank_joins_in, counted, start, setting_of}
-use Rattle.spec_rules.specs.World.{server_state, chosen_log, chosen_state, devices}
-use Rattle.spec_rules.proofs.Tests.{by_test, none_some, same_some}
-use Rattle.spec_history.specs.Claims.{IsPrefix}
-use Rattle.spec_history.specs.Steps.{Follows, AreSteps, stepped, world_after}
-use Rattle.spec_history.specs.Sound.{IsSound}
-use Rattle.spec_history.specs.declared.record.Record.{Record}
-use Rattle.law_state.specs.Firm.{Firm}
-use Rattle.law_state.specs.Plain.{IsPlainLog}
-use Rattle.law_state.specs.Steady.{IsSteady}
-use Rattle.law_state.specs.Tables.{IsGrown}
-use Rattle.law_state.proofs.EntriesOnlyAdd.{log_plain}
-use Rattle.law_state.proofs.Steady.{log_steady, log_below, log_grown}
-use Rattle.law_steps.specs.DidStep.{Happens}
-use Rattle.law_steps.specs.Ready.{Ready}
-use Rattle.law_steps.proofs.KindsInHistories.{rests_next, happens, world_more}
-use Rattle.law_steps.specs.WakingServers.{AllMayWake}
-use Rattle.law_copies.specs.WaitingStores.{IsOwn}
-use Rattle.law_copies.proofs.StoreHistories.{in_counts, in_own}
-use Rattle.law_copies.specs.GoodCopies.{Good}
-use Rattle.law_copies.specs.Visits.{is_at, place_by}
-use Rattle.law_copies.proofs.CopiesInHistories.{KeepsOn, start_good, start_visits, step_goes}
-use Rattle.law_copies.proofs.ServedAtLaterFronts.{AllStarted}
-use Rattle.law_copies.proofs.VisitsAfterSteps.{at_by, seen}
-use Rattle.law_requests.specs.KnownRequests.{KnowsReports, lives_after}
-use Rattle.law_steps.proofs.Fronts.{front_on}
-use Rattle.law_steps.proofs.WakingGoesOn.{may_wake}
-use Rattle.law_jobs.proofs.Runs.{At, OneMore, Run, after, by_run, firm_in, firm_then, follows_in, grown_in, grown_then, longer, rests_in, run_of, setting_in, stepped_in}
-use Rattle.law_requests.proofs.RequestsInHistories.{AskingAlong, first_lives, more_lives, one_more, reports_known, start_along, start_asking, start_lives}
-use Rattle.law_requests.proofs.StepsKeepRequests.{happens_asking, happens_later}
-use Rattle.law_log.proofs.LogInHistories.{chosen_caught_was}
-use Rattle.law_moves.proofs.EpochHistories.{early_after, pending_timely, place_timely, second_timely}
+use Rattle.law_run.proofs.Imports.{[], ◌++◌, ◌∙◌, ◌∷◌, ◌≡◌, ◌⊎◌, AllMayWake, AllStarted, AreSteps, AskingAlong, At, Caught, Cell, Command, Firm, Follows}
+use Rattle.law_run.proofs.Imports.{Good, Happens, In, IsGrown, IsOwn, IsPlainLog, IsPrefix, IsSound, IsSteady, KeepsOn, KnowsReports, List, OneMore, Option}
+use Rattle.law_run.proofs.Imports.{PairState, Ready, Record, Run, Script, Setting, Some, State, World, ap, at_by, blank_joins_in, by_run, by_test}
+use Rattle.law_run.proofs.Imports.{chosen_caught_was, chosen_from, chosen_log, chosen_state, counted, devices, early_after, firm_in, firm_then, first_lives}
+use Rattle.law_run.proofs.Imports.{flat_map, fold, follows_in, front_on, grown_in, grown_then, happens, happens_asking, happens_later, in_counts, in_own, inl}
+use Rattle.law_run.proofs.Imports.{inr, is_in, lives_after, log_below, log_grown, log_plain, log_steady, longer, map, max, may_wake, more_lives, none_some}
+use Rattle.law_run.proofs.Imports.{one_more, pending_timely, place_by, place_timely, range_with_len, refl, reports_known, rests_in, rests_next, run_of}
+use Rattle.law_run.proofs.Imports.{same_some, second_timely, server_state, setting_in, setting_of, start, start_along, start_asking, start_good, start_lives}
+use Rattle.law_run.proofs.Imports.{start_visits, state_after, step_goes, stepped, stepped_in, subst, sym, true, vote_place, world_after, world_more, ℕ}
+use Rattle.law_copies.specs.Visits.{is_at}
+use Rattle.law_copies.proofs.VisitsAfterSteps.{seen}
+use Rattle.law_jobs.proofs.Runs.{after}
 use Rattle.law_run.specs.MachineTies.{Ground, KnowEpochs, KnowMoves}
 use Rattle.law_run.proofs.MovesKnown.{moves_known}
 use Rattle.law_run.proofs.ChosenDisks.{Along}

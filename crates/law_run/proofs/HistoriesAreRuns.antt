@@ -1,47 +1,16 @@
 -- Every legal history is a run of the plain machine.
-use Rattle.std.proofs.Common.{◌≡◌, ℕ, List, [], ◌∷◌, ◌++◌, Option, Some, refl, sym, ap, ◌∙◌, subst, append_assoc}
-use Rattle.std.proofs.lemmas.List.{append-nil}
-use Rattle.std.specs.List.{flat_map}
-use Rattle.std.specs.Ordering.{nat_cmp}
-use Rattle.petal_table.proofs.Rows.{at-empty}
-use Rattle.global_tables.specs.declared.disk.DiskRow.{DiskRow}
-use Rattle.petal_command.specs.declared.command.Command.{Command}
-use Rattle.spec_machine.specs.declared.event.Event.{Event}
-use Rattle.spec_machine.specs.Machine.{Plain, blank}
-use Rattle.spec_machine.specs.Run.{Obeys, replay}
-use Rattle.petal_msg.specs.declared.letter.Actor.{Actor}
-use Rattle.petal_msg.specs.declared.letter.Actor.TheVariants as actor
-use Rattle.spec_state.specs.Command.{state_after}
-use Rattle.script_lines.specs.declared.script.Script.{Script}
-use Rattle.spec_rules.specs.Lists.{In}
-use Rattle.spec_rules.specs.State.{State}
-use Rattle.spec_rules.specs.Store.{cell_cmp}
-use Rattle.spec_rules.specs.World.{Setting, World, acts, reacts, step, start, setting_of, server_step, client_step, next_line}
-use Rattle.spec_rules.specs.World.{server_state, client_state, chosen_log, MayActor}
-use Rattle.spec_rules.specs.declared.step.Step.{Step}
-use Rattle.spec_rules.specs.declared.step.Step.TheVariants.{Blank, Call}
-use Rattle.spec_rules.proofs.Tests.{none_some}
-use Rattle.spec_history.specs.Claims.{AreHeld, IsPrefix, Law, SnapshotsStay, machine_after}
-use Rattle.spec_history.specs.Events.{begins, ended, ends, open_write, change_by, freezes, takes, makes, told, told_from}
-use Rattle.spec_history.specs.Events.{told_with, joined, events_of, IsRunOf, look_of}
-use Rattle.spec_history.specs.Steps.{Follows, AreSteps, AreStepsFrom, stepped}
-use Rattle.spec_history.specs.Sound.{IsSound}
-use Rattle.spec_history.specs.declared.record.Record.{Record}
-use Rattle.law_state.specs.Moments.{IsMoment}
-use Rattle.law_state.specs.Plain.{IsPlainLog}
-use Rattle.law_steps.proofs.KindsInHistories.{own_steady, front_legal}
-use Rattle.law_steps.proofs.ServerStepKinds.{server_serves}
-use Rattle.law_steps.proofs.ClientStepKinds.{is_call, client_turns}
-use Rattle.law_jobs.proofs.Runs.{At, Run, after, at_moment, before_part, firm_in, firm_then, follows_in, grown_then, longer, run_of, setting_in, stepped_in}
-use Rattle.law_copies.proofs.StoreHistories.{always_empty}
-use Rattle.law_copies.proofs.MarksPrecedePuts.{marks_first}
-use Rattle.law_copies.proofs.TwoCopyRules.{copies_after, covered_after}
-use Rattle.law_requests.proofs.RequestsInHistories.{requests_after}
-use Rattle.law_requests.proofs.OpenedAfterReport.{reports_hold}
-use Rattle.law_log.proofs.LogInHistories.{history_agrees, history_grows, out_has_stopped}
+use Rattle.law_run.proofs.Imports.{[], ◌++◌, ◌∙◌, ◌∷◌, ◌≡◌, Actor, AreHeld, AreSteps, AreStepsFrom, At, Blank, Call, Command, DiskRow, Event, Follows, In}
+use Rattle.law_run.proofs.Imports.{IsMoment, IsPlainLog, IsPrefix, IsRunOf, IsSound, Law, Letter, List, MayActor, Obeys, Option, Plain, Record, Run, Script}
+use Rattle.law_run.proofs.Imports.{Setting, SnapshotsStay, Some, State, Step, World, acts, always_empty, ap, append-nil, append_assoc, at-empty, at_moment}
+use Rattle.law_run.proofs.Imports.{before_part, begins, blank, cell_cmp, change_by, chosen_log, client_state, client_step, client_turns, copies_after}
+use Rattle.law_run.proofs.Imports.{covered_after, events_of, firm_in, firm_then, flat_map, follows_in, freezes, front_legal, grown_then, history_agrees}
+use Rattle.law_run.proofs.Imports.{history_grows, is_call, joined, longer, look_of, machine_after, makes, marks_first, nat_cmp, next_line, none_some}
+use Rattle.law_run.proofs.Imports.{open_write, out_has_stopped, own_steady, reacts, refl, replay, reports_hold, requests_after, rule_after, run_of}
+use Rattle.law_run.proofs.Imports.{server_serves, server_state, server_step, setting_in, setting_of, start, state_after, step, stepped, stepped_in, subst}
+use Rattle.law_run.proofs.Imports.{sym, takes, told, told_from, told_with, ℕ}
+use Rattle.spec_history.specs.Events.{ended, ends}
+use Rattle.law_jobs.proofs.Runs.{after}
 use Rattle.law_run.specs.MachineTies.{Follow, Ground}
-use Rattle.law_moves.proofs.KnownOfMoves.{rule_after}
-use Rattle.petal_msg.specs.declared.letter.Letter.{Letter}
 use Rattle.law_run.proofs.ChosenDisks.{Along, rows_in}
 use Rattle.law_run.proofs.ClientFrames.{ClientStep}
 use Rattle.law_run.proofs.ClientSteps.{begins_by, turn_told}
@@ -55,6 +24,7 @@ use Rattle.law_run.proofs.EventsOfServerSteps.{IsMiddle, ServesAt}
 use Rattle.law_run.proofs.SnapshotsNeverChange.{contents_still}
 use Rattle.law_run.proofs.GroundInHistories.{along_at, footed_on, footing_after, grown_at, none_chosen}
 use Rattle.law_run.proofs.RunScenes.{Followed}
+use Rattle.petal_msg.specs.declared.letter.Actor.TheVariants as actor
 
 -- ### Steps, where the chosen logs are fronts of one
 

@@ -1,52 +1,25 @@
 -- What a job of a cell's first server, or of its only one, leaves pending and finished: the write of what is put where it counts, or is closed,
 -- has had its bytes.
-use Rattle.std.proofs.Common.{◌≡◌, ◌≢◌, ◌≤◌, ◌+◌, ℕ, Bool, true, false, Some, refl, sym, ap, ◌∙◌, subst, inl, inr, Option, None}
-use Rattle.spec_rules.specs.Fills.{fill_operation}
-use Rattle.std.specs.Ordering.{nat_cmp}
-use Rattle.busy_marks.specs.declared.marks.MarkKind.TheVariants.{Busy, Stale}
-use Rattle.global_tables.specs.declared.link.LinkRow.{LinkRow}
-use Rattle.petal_base.specs.declared.cell.Cell.{Cell}
-use Rattle.petal_base.specs.declared.cell.Key.{Key}
-use Rattle.petal_base.specs.Cells.{cell_of}
-use Rattle.petal_table.specs.Table.{Table, at, put}
-use Rattle.spec_machine.specs.Machine.{Plain}
-use Rattle.petal_msg.specs.declared.body.Body.TheVariants as body
-use Rattle.petal_msg.specs.declared.operation.Ending.TheVariants as ending
-use Rattle.petal_msg.specs.declared.operation.Finished.{Finished}
-use Rattle.petal_msg.specs.declared.operation.Pending.{Pending}
-use Rattle.petal_msg.specs.declared.operation.Stage.{Stage}
-use Rattle.spec_rules.specs.State.{authority, in_both, is_alone_on}
-use Rattle.spec_rules.specs.Store.{Chain, Store, Stored, cell_cmp, chain_in, chains_with, version_of}
-use Rattle.spec_rules.specs.Server.{PairState, JobResult}
-use Rattle.spec_rules.specs.Writes.{operation, puts, with_reserved, with_paired, with_mark_at, is_clients, gives_back, without_pending}
-use Rattle.spec_rules.specs.World.{chosen_state, kept}
-use Rattle.spec_rules.proofs.CellTables.{cell_same, cell_apart}
-use Rattle.spec_rules.proofs.Tests.{same_some, true_false}
-use Rattle.law_state.proofs.LoneHolders.{alone_not_both, so_both}
-use Rattle.law_state.proofs.Roles.{secondary_is_one}
-use Rattle.law_steps.specs.Operations.{answering, putting}
-use Rattle.law_steps.specs.DidLead.{DidLead, Taken, Gives_up, Opens, Marks, Puts, Unmarks, Closes, Opens_alone, Marks_alone}
-use Rattle.law_steps.specs.DidLead.{Puts_alone, Unmarks_alone, Closes_alone, Opens_fill, Opens_fill_alone, Goes_on_dead}
-use Rattle.law_steps.proofs.Restages.{stood}
-use Rattle.law_steps.proofs.OperationsRest.{same_cell_or_apart}
-use Rattle.law_steps.proofs.Subjects.{of_ending}
-use Rattle.law_steps.proofs.TakenUpAlone.{taking}
-use Rattle.law_jobs.specs.Effects.{Alone_has, Both_have, By_operation, Had_no_slot, Is_dead, Is_declined, IsFinishedFor}
-use Rattle.law_copies.specs.Pair.{AreCopies, PairOk, Working, far, pair_of}
-use Rattle.law_copies.specs.Visits.{IsLinked, half}
-use Rattle.law_jobs.proofs.ChainsApart.{chain_apart, chain_put}
-use Rattle.law_requests.specs.AskedRequests.{IsOpen}
+use Rattle.law_run.proofs.Imports.{◌+◌, ◌∙◌, ◌≡◌, ◌≢◌, ◌≤◌, A_copy, Alone_has, An_asked, An_own, AreCopies, Bool, Both_have, Busy, By_operation, Cell, Chain}
+use Rattle.law_run.proofs.Imports.{Closes, Closes_alone, DidLead, Finished, Gives_up, Goes_on_dead, Had_no_slot, IsFinishedFor, IsLinked, IsOpen, Is_dead}
+use Rattle.law_run.proofs.Imports.{Is_declined, JobResult, Key, LinkRow, Marks, Marks_alone, NeverDead, None, Nothing_new, Of_the_dead, Opens, Opens_alone}
+use Rattle.law_run.proofs.Imports.{Opens_fill, Opens_fill_alone, Option, PairOk, PairState, Pending, Plain, Puts, Puts_alone, Some, Stage, Stale, Store}
+use Rattle.law_run.proofs.Imports.{Stored, StoresSo, Table, Taken, Unmarks, Unmarks_alone, Working, alone_not_both, answering, ap, at, authority, cell_apart}
+use Rattle.law_run.proofs.Imports.{cell_cmp, cell_of, cell_same, chain_apart, chain_in, chain_put, chains_with, chosen_state, false, far, fill_operation}
+use Rattle.law_run.proofs.Imports.{gives_back, half, in_both, inl, inr, is_alone_on, is_clients, kept, lead_stores, nat_cmp, of_ending, operation, pair_of}
+use Rattle.law_run.proofs.Imports.{put, puts, putting, refl, same_cell_or_apart, same_some, secondary_is_one, so_both, stood, subst, sym, taking, true}
+use Rattle.law_run.proofs.Imports.{true_false, version_of, with_mark_at, with_paired, with_reserved, without_pending, ℕ}
 use Rattle.law_run.specs.WritesGoOn.{is_held, Onward}
 use Rattle.law_run.specs.MachineTies.{HasCounted, Is_told, Is_followed, Is_counted}
-use Rattle.law_moves.proofs.JobsChangeOneChain.{NeverDead, StoresSo, Nothing_new, An_own, An_asked, A_copy, Of_the_dead}
-use Rattle.law_moves.proofs.JobsChangeOneChain.{lead_stores}
 use Rattle.law_run.proofs.ServerFrames.{kept_finished, own_counted}
 use Rattle.law_run.proofs.EntryAtEpoch.{not_ahead}
 use Rattle.law_run.proofs.GroundGives.{Followed}
 use Rattle.law_run.proofs.Machine.{held_onward}
-use Rattle.law_run.proofs.OwnPlacesAreLatest.{IsSharing, first_ok, heard_shared, op_alone, op_shared, peer, place_of}
-use Rattle.law_run.proofs.OwnPlacesAreLatest.{shared_or_alone, shared_store, store_there}
+use Rattle.law_run.proofs.OwnPlacesAreLatest.{IsSharing, first_ok, heard_shared, op_alone, op_shared, peer, place_of, shared_or_alone, shared_store}
+use Rattle.law_run.proofs.OwnPlacesAreLatest.{store_there}
 use Rattle.law_run.proofs.EventsOfServerSteps.{ServerStep, ends_of, grounded}
+use Rattle.petal_msg.specs.declared.body.Body.TheVariants as body
+use Rattle.petal_msg.specs.declared.operation.Ending.TheVariants as ending
 
 module _ (this : ServerStep) (k : Plain) where
   open ends_of this use {own, here, hears}

@@ -1,48 +1,18 @@
 -- What is chosen grows: where a cell's second server leaves, and the first one is one put ahead, the machine takes the first one's write; all
 -- else that is told of a block is as before. Of a link that is Lost nothing is told.
-use Rattle.std.proofs.Common.{◌≡◌, ◌+◌, ℕ, Bool, true, false, Some, None, is_some, refl, sym, ap, ◌∙◌, subst, ◌⊎◌}
-use Rattle.std.proofs.Common.{inl, inr, arith, ◌≤◌, ◌&&◌, ◌||◌, Option}
-use Rattle.std.specs.Ordering.{nat_cmp}
-use Rattle.petal_base.specs.Cells.{cell_of}
-use Rattle.spec_rules.specs.Writes.{is_clients}
-use Rattle.law_state.specs.Homes.{stage_at}
-use Rattle.law_state.specs.Tables.{IsPlainState}
-use Rattle.law_state.specs.Disks.{AreDisks}
+use Rattle.law_run.proofs.Imports.{◌&&◌, ◌+◌, ◌||◌, ◌∙◌, ◌≡◌, ◌≤◌, ◌⊎◌, AreDisks, Bool, Cell, DiskRow, In, IsLinked, IsOpen, IsPlainState, Letter, None}
+use Rattle.law_run.proofs.Imports.{Option, PairOk, Pending, Server, Some, Store, Stored, all_put_apart, ap, arith, at, authority, by_bool, bytes_of, cases_lt}
+use Rattle.law_run.proofs.Imports.{cell_cmp, cell_of, chain_in, change_by, counted, entry_at, entry_before, entry_by, entry_of, false, far, first_entry}
+use Rattle.law_run.proofs.Imports.{front_itself, half, has_map, inl, inr, is_clients, is_some, kept, leader_alone, named_cell, nat_cmp, none_some, old_cell}
+use Rattle.law_run.proofs.Imports.{one_put_ahead, one_row, option_and_then, own_below, owns_of, pair_of, place_by, put, refl, replay, same_some, so_both}
+use Rattle.law_run.proofs.Imports.{stage_at, subject_of, subst, sym, true, true_false, ℕ}
 use Rattle.law_run.proofs.ContentsAsRegionsBegin.{IsNow, By_both, By_entry, HasAll, high_after, is_now}
 use Rattle.law_run.proofs.FillsComeInTurn.{ComesTo, fill_there, frozen_old}
 use Rattle.law_run.proofs.Overlay.{come_over, fill_same}
 use Rattle.law_run.proofs.ContentsByCells.{entry_over, has_over, is_between}
-use Rattle.std.proofs.lemmas.Bool.{cases_lt}
-use Rattle.std.specs.Prelude.{option_and_then}
-use Rattle.petal_base.specs.declared.cell.Cell.{Cell}
-use Rattle.petal_table.specs.Table.{at, put}
-use Rattle.global_tables.specs.declared.disk.DiskRow.{DiskRow}
-use Rattle.spec_machine.specs.Run.{replay}
-use Rattle.petal_msg.specs.Kinds.{subject_of}
-use Rattle.petal_msg.specs.declared.letter.Letter.{Letter}
-use Rattle.petal_msg.specs.declared.operation.Pending.{Pending}
-use Rattle.spec_state.specs.CellState.{has_map, named_cell}
-use Rattle.spec_rules.specs.Lists.{In}
-use Rattle.spec_rules.specs.State.{authority}
-use Rattle.spec_rules.specs.Store.{Store, Stored, cell_cmp, chain_in, entry_at, bytes_of}
-use Rattle.spec_rules.specs.Server.{Server}
-use Rattle.spec_rules.specs.World.{counted, kept}
-use Rattle.spec_rules.proofs.Tests.{all_put_apart, by_bool, none_some, same_some, true_false}
-use Rattle.spec_history.specs.Claims.{one_put_ahead}
-use Rattle.spec_history.specs.Contents.{entry_before, entry_by, entry_of, first_entry, old_cell}
-use Rattle.spec_history.specs.Events.{change_by}
-use Rattle.law_state.proofs.LoneHolders.{so_both}
-use Rattle.law_steps.proofs.Fronts.{front_itself}
-use Rattle.law_steps.proofs.KindsInHistories.{own_below}
-use Rattle.law_copies.specs.Pair.{PairOk, far, owns_of, pair_of}
-use Rattle.law_copies.specs.Visits.{IsLinked, half, place_by}
-use Rattle.law_copies.proofs.PlacesByFronts.{one_row}
-use Rattle.law_requests.specs.AskedRequests.{IsOpen}
-use Rattle.law_requests.proofs.LeadsAtTwoPlaces.{leader_alone}
 use Rattle.law_run.specs.WritesGoOn.{is_held}
 use Rattle.law_run.specs.MachineTies.{Is_followed}
-use Rattle.law_run.proofs.ChosenDisks.{rows_in, disks_now, plain_now, cell_comes, content_is, has_content_is}
-use Rattle.law_run.proofs.ChosenDisks.{named_low, named_map_is, one_row_of, named_high}
+use Rattle.law_run.proofs.ChosenDisks.{rows_in, disks_now, plain_now, cell_comes, content_is, has_content_is, named_low, named_map_is, one_row_of, named_high}
 use Rattle.law_run.proofs.MachineTakesWrites.{IsGiven, AreGiven, Taken, all_given, given_held, takes_of, was_kept, now_has, now_kept, StaysAt, was_has}
 use Rattle.law_run.proofs.ServerFrames.{AreKept, Runs, CountsOk, kept_before, kept_own}
 use Rattle.law_run.proofs.EventsPutTogether.{assembled}
@@ -53,9 +23,9 @@ use Rattle.law_run.proofs.EventsOfServerSteps.{ServerStep, ServerTold, ends_of, 
 use Rattle.law_run.proofs.OwnPlacesAreLatest.{chosen_store, chosen_twins, half_store, op_leads, shared_before, visit_here, alive_here, op_high}
 use Rattle.law_run.proofs.FirstIsOneAhead.{put_ahead}
 use Rattle.law_run.proofs.ContentChanges.{block_there}
-use Rattle.law_run.proofs.CountingAsLogGrows.{steady, IsLeftToFirst, Moves, Stays_there, Is_left, Is_handed_on, Is_lost, moves, entry, was_second, now_first, place}
-use Rattle.law_run.proofs.CountingAsLogGrows.{now_entry, below_entry, was_there, fill_frozen, fill_comes, IsPutAhead, Turns, Is_same, Is_gone, Is_written, Is_filled}
-use Rattle.law_run.proofs.CountingAsLogGrows.{turns, spot, there}
+use Rattle.law_run.proofs.CountingAsLogGrows.{steady, IsLeftToFirst, Moves, Stays_there, Is_left, Is_handed_on, Is_lost, moves, entry, was_second, now_first}
+use Rattle.law_run.proofs.CountingAsLogGrows.{place, now_entry, below_entry, was_there, fill_frozen, fill_comes, IsPutAhead, Turns, Is_same, Is_gone}
+use Rattle.law_run.proofs.CountingAsLogGrows.{Is_written, Is_filled, turns, spot, there}
 
 module _ (this : ServerStep) (same_store : (new this).store.chains ≡ (owns_of this.w this.n).store.chains) where
   open ends_of this use {v, top, chosen, after}

@@ -1,26 +1,12 @@
 -- Letters have names of their own.
-use Rattle.std.proofs.Common.{◌≡◌, ◌≤◌, ◌<◌, ◌+◌, ◌==◌, ◌&&◌, ℕ, List, [], ◌∷◌, ◌++◌, true, false, refl, sym, ap, ◌∙◌, subst, inl, inr, arith}
-use Rattle.petal_msg.specs.declared.letter.Actor.{Actor}
-use Rattle.petal_msg.specs.declared.letter.Actor.TheVariants as actor
-use Rattle.petal_msg.specs.declared.letter.Letter.{Letter}
-use Rattle.script_lines.specs.declared.script.Script.{Script}
-use Rattle.spec_rules.specs.Boots.{awake, blanked, raised, stays, wakes}
-use Rattle.spec_rules.specs.Log.{rev_of}
-use Rattle.spec_rules.specs.Lists.{In}
-use Rattle.spec_rules.specs.State.{State}
-use Rattle.spec_rules.specs.Server.{Post, Sender, letters_of, sender}
-use Rattle.spec_rules.specs.Clients.{client_sender}
-use Rattle.spec_rules.specs.Jobs.{Acted}
-use Rattle.spec_rules.specs.World.{Setting, World, stamped, clock_of, start, setting_of, acts, reacts}
-use Rattle.spec_rules.specs.declared.step.Step.{Step}
-use Rattle.spec_rules.specs.declared.step.Step.TheVariants.{Blank}
-use Rattle.spec_rules.proofs.ListLemmas.{in-append, put_same}
-use Rattle.spec_history.specs.Events.{same_actor, same_name}
-use Rattle.law_steps.specs.DidStep.{Happens, Serves, Blanks, Turns, Serving, Goes, Ends, Stays, Wakes, Fails, served_so}
-use Rattle.law_steps.specs.DidStep.{stopped_so, shown_so, without_rev, own_place}
-use Rattle.law_steps.proofs.Letters.{said}
-use Rattle.spec_rules.proofs.Tests.{both_true, same_numbers, all_put}
+use Rattle.law_run.proofs.Imports.{[], ◌&&◌, ◌++◌, ◌+◌, ◌<◌, ◌==◌, ◌∙◌, ◌∷◌, ◌≡◌, ◌≤◌, Acted, Actor, Blank, Blanks, Ends, Fails, Goes, Happens, In, Letter}
+use Rattle.law_run.proofs.Imports.{List, Post, Script, Sender, Serves, Serving, Setting, State, Stays, Step, Turns, Wakes, World, acts, all_put, ap, arith}
+use Rattle.law_run.proofs.Imports.{awake, blanked, both_true, client_sender, clock_of, false, in-append, inl, inr, letters_of, own_place, put_same, raised}
+use Rattle.law_run.proofs.Imports.{reacts, refl, rev_of, said, same_actor, same_numbers, sender, served_so, setting_of, shown_so, stamped, start, stays}
+use Rattle.law_run.proofs.Imports.{stopped_so, subst, sym, true, wakes, without_rev, ℕ}
+use Rattle.spec_history.specs.Events.{same_name}
 use Rattle.law_run.specs.MachineTies.{Named}
+use Rattle.petal_msg.specs.declared.letter.Actor.TheVariants as actor
 
 pub one_actor : (a b : Actor) → same_actor a b ≡ true → a ≡ b
 one_actor (actor.Server n) (actor.Server k) e = ap actor.Server (same_numbers n k e)

@@ -1,3 +1,4 @@
+pub mod Imports
 pub mod ListMembers
 pub mod Machine
 pub mod SnapshotsAreChosen

@@ -1,19 +1,9 @@
 -- What stands in lists that are made of others, and in tables.
-use Rattle.std.proofs.Common.{◌≡◌, ◌≤◌, ◌<◌, ◌+◌, ℕ, zero, suc, List, [], ◌∷◌, ◌++◌, Bool, true, false, cond, Option, Some}
-use Rattle.std.proofs.Common.{None, refl, sym, ap, ◌∙◌, subst, inl, inr, arith}
-use Rattle.std.specs.Prelude.{map, filter, find}
-use Rattle.std.specs.List.{cons_option, flat_map, filter_map, fold, range_with_len}
-use Rattle.std.specs.declared.cmp.Ordering.{Ordering}
-use Rattle.std.specs.declared.cmp.Ordering.TheVariants.{Less, Equal, Greater}
-use Rattle.std.specs.Ordering.{nat_cmp, is_eq}
-use Rattle.std.specs.Cmp.{ranked}
-use Rattle.std.specs.BTreeMap.{is_at}
-use Rattle.std.specs.Map.{lookup}
-use Rattle.petal_table.specs.Table.{Table, at, put}
-use Rattle.petal_table.proofs.Rows.{at_same, at_apart}
-use Rattle.spec_rules.specs.Lists.{In}
-use Rattle.spec_rules.proofs.ListLemmas.{in_former, in_later}
-use Rattle.spec_rules.proofs.Tests.{none_some, same_or_apart}
+use Rattle.law_run.proofs.Imports.{[], ◌++◌, ◌+◌, ◌<◌, ◌∙◌, ◌∷◌, ◌≡◌, ◌≤◌, Bool, Equal, Greater, In, Less, List, None, Option, Ordering, Some, Table, ap}
+use Rattle.law_run.proofs.Imports.{arith, at, at_apart, at_same, cond, cons_option, false, filter, filter_map, flat_map, fold, in_former, in_later, inl, inr}
+use Rattle.law_run.proofs.Imports.{is_at, is_eq, lookup, map, nat_cmp, none_some, put, range_with_len, ranked, refl, same_or_apart, subst, suc, sym, true}
+use Rattle.law_run.proofs.Imports.{zero, ℕ}
+use Rattle.std.specs.Prelude.{find}
 
 pub into_map : {A B : Type 0} (f : A → B) (xs : List A) (x : A) → In x xs → In (f x) (map f xs)
 unfolding In

@@ -1,34 +1,16 @@
 -- A server's step is of the agreed log, and leaves its part in the pairs and speaks of no request, or it is a boot; or it leaves
 -- what its state device has, so that nothing more is chosen.
-use Rattle.std.proofs.Common.{◌≡◌, ◌+◌, ℕ, List, [], ◌∷◌, false, Option, Some, None, refl, ap, ◌∙◌}
-use Rattle.petal_command.specs.declared.command.Command.{Command}
-use Rattle.petal_msg.specs.Kinds.{subject_of}
-use Rattle.petal_msg.specs.declared.letter.Actor.TheVariants as actor
-use Rattle.petal_msg.specs.declared.letter.Letter.{Letter}
-use Rattle.spec_rules.specs.Ballots.{first_wanted, starts}
-use Rattle.spec_rules.specs.Boots.{awake, boots, raised, stays, wakes}
-use Rattle.spec_rules.specs.Entries.{applies}
-use Rattle.spec_rules.specs.Lists.{In}
-use Rattle.spec_rules.specs.Log.{LogDone, known, next_place, rev_of}
-use Rattle.spec_rules.specs.Server.{Server, JobContext, Sender, letters_of, no_pairs, sender}
-use Rattle.spec_rules.specs.State.{State, servers_of}
-use Rattle.spec_rules.specs.Jobs.{Acted, here_of, works, job_done, crossing, entered, worked, stops, is_overfull, is_log_job}
-use Rattle.spec_rules.specs.Jobs.{voter_of, wanted_by, does, log_does, down_posts}
-use Rattle.spec_rules.specs.World.{server_step, stamped}
-use Rattle.spec_rules.specs.declared.job.Job.{Job}
-use Rattle.spec_rules.specs.declared.job.Job.TheVariants as job
-use Rattle.spec_rules.specs.declared.step.CommitEnd.TheVariants.{Before, After}
-use Rattle.spec_rules.specs.declared.step.Step.{Step}
-use Rattle.spec_rules.specs.declared.step.Step.TheVariants.{Deliver, Work, StopIn, Boot}
-use Rattle.spec_rules.specs.declared.step.WorkEnd.{WorkEnd}
-use Rattle.spec_rules.specs.declared.step.WorkEnd.TheVariants as work_end
-use Rattle.spec_rules.proofs.Tests.{by_test}
-use Rattle.law_steps.specs.DidStep.{without_rev}
-use Rattle.law_steps.proofs.LogJobs.{LogFrame, letter_frame_of, start_frame_of, applied_entry, applied_none}
-use Rattle.law_requests.proofs.StepsKeepRequests.{proposed_pairs}
+use Rattle.law_run.proofs.Imports.{[], ◌+◌, ◌∙◌, ◌∷◌, ◌≡◌, Acted, After, Before, Boot, Command, Deliver, In, Job, JobContext, Letter, List, LogDone, LogFrame}
+use Rattle.law_run.proofs.Imports.{None, Option, Sender, Server, Some, State, Step, StopIn, Work, WorkEnd, ap, applied_entry, applied_none, applies, awake}
+use Rattle.law_run.proofs.Imports.{boots, by_test, crossing, does, down_posts, entered, false, first_wanted, here_of, is_log_job, is_overfull, job_done}
+use Rattle.law_run.proofs.Imports.{known, letter_frame_of, letters_of, log_does, next_place, no_pairs, proposed_pairs, raised, refl, rev_of, said, sender}
+use Rattle.law_run.proofs.Imports.{server_step, servers_of, stamped, start_frame_of, starts, stays, stops, subject_of, voter_of, wakes, wanted_by}
+use Rattle.law_run.proofs.Imports.{without_rev, worked, works, ℕ}
 use Rattle.law_run.proofs.GroundGives.{proposed_store}
 use Rattle.law_run.proofs.DataLetters.{downs_unended, is_reply, logged_unended}
-use Rattle.law_steps.proofs.Letters.{said}
+use Rattle.petal_msg.specs.declared.letter.Actor.TheVariants as actor
+use Rattle.spec_rules.specs.declared.job.Job.TheVariants as job
+use Rattle.spec_rules.specs.declared.step.WorkEnd.TheVariants as work_end
 
 -- what the step has done
 pub data IsOfKind (server : Server) (acted : Acted) : Type 0 where

@@ -1,26 +1,12 @@
 -- What each event does to the machine.
-use Rattle.std.proofs.Common.{◌≡◌, ◌≢◌, ℕ, List, [], ◌∷◌, ◌++◌, Bool, true, false, not, ◌||◌, ◌==◌, cond, Option, Some}
-use Rattle.std.proofs.Common.{None, refl, sym, ap, ◌∙◌, subst, ◌⊎◌, inl, inr}
-use Rattle.std.specs.Prelude.{map, find, option_map, unwrap_or}
-use Rattle.std.specs.Option.{option_or}
-use Rattle.std.specs.Cmp.Lexicographic.{nat_list_eq_equiv}
-use Rattle.std.specs.Ordering.{nat_cmp}
-use Rattle.std.proofs.lemmas.List.Folds.{find-append}
-use Rattle.petal_base.specs.Block.{zero_block}
-use Rattle.petal_table.specs.Table.{Table, put}
-use Rattle.petal_table.proofs.Rows.{at_same, at_apart}
-use Rattle.global_tables.specs.declared.disk.DiskRow.{DiskRow}
-use Rattle.spec_machine.specs.declared.event.Event.{Event}
-use Rattle.spec_machine.specs.declared.event.Event.TheVariants.{Make, Begin, Take, End, Look}
-use Rattle.spec_machine.specs.declared.event.Write.{Write}
-use Rattle.spec_machine.specs.declared.event.WriteEnd.{WriteEnd}
-use Rattle.spec_machine.specs.declared.state.PlainDisk.{PlainDisk}
-use Rattle.spec_machine.specs.declared.state.Open.{Open}
-use Rattle.spec_machine.specs.Machine.{Plain, same_bytes, is_named, content, disk_of, open_of, is_of, but_of, stands, has_content, remembers, with_disk}
-use Rattle.spec_machine.specs.Run.{IsOpen, Obeys, after, changed, written, replay}
-use Rattle.spec_rules.specs.Lists.{In}
-use Rattle.spec_rules.proofs.Tests.{by_bool, same_or_apart, same_some, none_some, some_or_none, same_numbers, number_itself, nat_lists_same, true_false}
-use Rattle.spec_history.specs.Claims.{AreSnapshots, Holds}
+use Rattle.law_run.proofs.Imports.{[], ◌++◌, ◌==◌, ◌||◌, ◌∙◌, ◌∷◌, ◌≡◌, ◌≢◌, ◌⊎◌, AreSnapshots, Begin, Bool, DiskRow, End, Event, Holds, In, List, Look, Make}
+use Rattle.law_run.proofs.Imports.{None, Obeys, Open, Option, Plain, PlainDisk, Some, Table, Take, Write, WriteEnd, after, ap, at_apart, at_same, but_of}
+use Rattle.law_run.proofs.Imports.{by_bool, changed, cond, content, disk_of, false, find-append, has_content, inl, inr, is_named, is_of, map, nat_cmp}
+use Rattle.law_run.proofs.Imports.{nat_list_eq_equiv, nat_lists_same, none_some, not, number_itself, open_of, option_map, option_or, put, refl, remembers}
+use Rattle.law_run.proofs.Imports.{replay, same_bytes, same_numbers, same_or_apart, same_some, some_or_none, stands, subst, sym, true, true_false, unwrap_or}
+use Rattle.law_run.proofs.Imports.{with_disk, written, zero_block, ℕ}
+use Rattle.std.specs.Prelude.{find}
+use Rattle.spec_machine.specs.Run.{IsOpen}
 use Rattle.law_run.specs.WritesGoOn.{IsMindful, held_in, Onward, Seat}
 
 pub Obeys-append : (m : Plain) (es fs : List Event) → Obeys m es → Obeys (replay m es) fs → Obeys m (es ++ fs)

@@ -1,9 +1,5 @@
 -- The machine goes on while no write begins or ends: what was tied to it stays tied.
-use Rattle.std.proofs.Common.{List}
-use Rattle.global_tables.specs.declared.disk.DiskRow.{DiskRow}
-use Rattle.spec_machine.specs.Machine.{Plain}
-use Rattle.spec_rules.specs.World.{Setting, World}
-use Rattle.spec_history.specs.Events.{open_write}
+use Rattle.law_run.proofs.Imports.{DiskRow, List, Plain, Setting, World, open_write}
 use Rattle.law_run.specs.WritesGoOn.{Onward}
 use Rattle.law_run.specs.MachineTies.{Follow, Stores}
 use Rattle.law_run.proofs.Machine.{seat_onward, held_onward}

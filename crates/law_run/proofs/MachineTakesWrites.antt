@@ -1,16 +1,7 @@
 -- Where each content that changes in a server's step is that of a write under way, the machine takes those writes.
-use Rattle.std.proofs.Common.{◌≡◌, ◌<◌, ℕ, Bool, List, true, Some, sym, ap, ◌∙◌, subst, ◌⊎◌, inl, inr}
-use Rattle.global_tables.specs.Disk.{named}
-use Rattle.global_tables.specs.declared.disk.DiskRow.{DiskRow}
-use Rattle.spec_machine.specs.declared.event.Event.{Event}
-use Rattle.spec_machine.specs.declared.event.Write.{Write}
-use Rattle.spec_machine.specs.Machine.{Plain, content, disk_of, open_of}
-use Rattle.spec_machine.specs.Run.{IsOpen as IsUnderWay, Obeys, replay}
-use Rattle.spec_rules.specs.Lists.{In}
-use Rattle.spec_rules.specs.World.{chosen_state, counted}
-use Rattle.spec_rules.proofs.Tests.{none_some, same_some}
-use Rattle.spec_history.specs.Contents.{content_at, content_where, has_content_at, has_content_where}
-use Rattle.spec_history.specs.Events.{Change, change_by, before_step, blocks_in, had_content, open_write, takes}
+use Rattle.law_run.proofs.Imports.{◌<◌, ◌∙◌, ◌≡◌, ◌⊎◌, Bool, Change, DiskRow, Event, In, IsUnderWay, List, Obeys, Plain, Some, Write, ap, before_step}
+use Rattle.law_run.proofs.Imports.{blocks_in, change_by, chosen_state, content, content_at, content_where, counted, disk_of, had_content, has_content_at}
+use Rattle.law_run.proofs.Imports.{has_content_where, inl, inr, named, none_some, open_of, open_write, replay, same_some, subst, sym, takes, true, ℕ}
 use Rattle.law_run.specs.WritesGoOn.{held_in, Onward, Seat}
 use Rattle.law_run.specs.MachineTies.{Stores}
 use Rattle.law_run.proofs.ChosenDisks.{rows_in, disks_now}

@@ -1,47 +1,15 @@
 -- What is known of moves after each legal history.
-use Rattle.std.proofs.Common.{◌≡◌, ◌≤◌, ◌++◌, ◌⊎◌, ℕ, List, [], ◌∷◌, Bool, true, false, Option, Some, None, refl, sym, ap}
-use Rattle.std.proofs.Common.{◌∙◌, subst, inl, inr, arith, is_some}
-use Rattle.std.specs.Prelude.{option_map, if◌then◌else◌}
-use Rattle.std.specs.Ordering.{nat_cmp}
-use Rattle.std.proofs.lemmas.Bool.{cases_lt}
-use Rattle.petal_base.specs.Cells.{cell_of}
-use Rattle.petal_base.specs.declared.cell.Cell.{Cell}
-use Rattle.petal_command.specs.declared.command.Command.TheVariants.{Drained}
-use Rattle.petal_msg.specs.declared.letter.Actor.{Actor}
-use Rattle.petal_msg.specs.declared.letter.Actor.TheVariants as actor
-use Rattle.petal_msg.specs.declared.operation.Pending.{Pending}
-use Rattle.spec_state.specs.Command.{state_after}
-use Rattle.petal_table.specs.Table.{at}
-use Rattle.law_steps.specs.Ready.{IsRising}
-use Rattle.script_lines.specs.declared.script.Script.{Script}
-use Rattle.spec_rules.specs.Reads.{is_all_held}
-use Rattle.spec_rules.specs.Server.{Pairs}
-use Rattle.spec_rules.specs.State.{State, held, is_in, authority}
-use Rattle.spec_rules.specs.Store.{Chain, cell_cmp, chain_in}
-use Rattle.spec_rules.specs.World.{Setting, World, begins_to_leave, chain_that_counts, chosen_log, chosen_state, kept, server_state, setting_of, start, step}
-use Rattle.spec_rules.specs.declared.step.Step.{Step}
-use Rattle.spec_rules.proofs.Tests.{none_some, same_some, true_false}
-use Rattle.spec_history.specs.Claims.{IsPrefix}
-use Rattle.spec_history.specs.Steps.{AreSteps, stepped}
-use Rattle.spec_history.specs.Sound.{IsSound}
-use Rattle.spec_history.specs.declared.record.Record.{Record}
-use Rattle.law_log.proofs.LogInHistories.{history_is_firm}
-use Rattle.law_state.specs.Firm.{Firm}
-use Rattle.law_state.specs.Homes.{stage_at}
-use Rattle.law_state.proofs.ErasRiseAfterReports.{log_unread}
-use Rattle.law_steps.proofs.WorldsAreFirm.{always_firm}
-use Rattle.law_steps.proofs.Fronts.{front_long, one_front, front_itself}
-use Rattle.law_steps.proofs.KindsInHistories.{front_legal, rests_after, runs_now, start_rests, world_more}
-use Rattle.law_jobs.proofs.Runs.{At, after, by_run, run_of, setting_in}
-use Rattle.law_copies.specs.Visits.{WasThere}
-use Rattle.law_copies.proofs.CopiesInHistories.{good_after}
-use Rattle.law_requests.proofs.RequestsInHistories.{asking_along, reports_known}
-use Rattle.law_moves.proofs.KnownOfMoves.{comes_after, dead_frozen, filling_after, over_after}
-use Rattle.law_moves.proofs.MovesInHistories.{known_after}
-use Rattle.law_moves.proofs.FillsAtSeconds.{second_after}
-use Rattle.law_steps.proofs.TablesOfPuts.{at_row}
-use Rattle.std.specs.Cmp.{nat_cmp_total}
+use Rattle.law_run.proofs.Imports.{[], if◌then◌else◌, ◌++◌, ◌∙◌, ◌∷◌, ◌≡◌, ◌≤◌, ◌⊎◌, Actor, AreSteps, At, Bool, Cell, Chain, Drained, Firm, IsPrefix}
+use Rattle.law_run.proofs.Imports.{IsRising, IsSound, List, None, Option, Pairs, Pending, Record, Script, Setting, Some, State, Step, WasThere, World}
+use Rattle.law_run.proofs.Imports.{always_firm, ap, arith, asking_along, at, at_row, authority, begins_to_leave, by_run, cases_lt, cell_cmp, cell_of}
+use Rattle.law_run.proofs.Imports.{chain_in, chain_that_counts, chosen_log, chosen_state, comes_after, dead_frozen, false, filling_after, front_itself}
+use Rattle.law_run.proofs.Imports.{front_legal, front_long, good_after, held, history_is_firm, inl, inr, is_all_held, is_in, is_some, kept, known_after}
+use Rattle.law_run.proofs.Imports.{log_unread, nat_cmp, nat_cmp_total, none_some, one_front, option_map, over_after, refl, reports_known, rests_after, run_of}
+use Rattle.law_run.proofs.Imports.{runs_now, same_some, second_after, server_state, setting_in, setting_of, stage_at, start, start_rests, state_after, step}
+use Rattle.law_run.proofs.Imports.{stepped, subst, sym, true, true_false, world_more, ℕ}
+use Rattle.law_jobs.proofs.Runs.{after}
 use Rattle.law_run.specs.MachineTies.{IsFrozenSo, KnowMoves}
+use Rattle.petal_msg.specs.declared.letter.Actor.TheVariants as actor
 
 -- ### Steps
 

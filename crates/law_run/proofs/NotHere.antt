@@ -1,44 +1,11 @@
 -- A server that says that the new map has nothing: what the old map answers then is what the machine has.
-use Rattle.spec_history.specs.Contents.{old_cell, entry_of}
-use Rattle.spec_history.specs.Claims.{IsPrefix}
-use Rattle.law_state.specs.Tables.{IsPlainState}
-use Rattle.law_state.specs.Disks.{AreDisks}
-use Rattle.law_steps.specs.Ready.{IsRising}
-use Rattle.std.specs.Ordering.{nat_cmp}
-use Rattle.std.proofs.Common.{◌≡◌, ◌≤◌, ◌++◌, ℕ, List, [], ◌∷◌, Bool, true, false, Option, Some, None, is_some, refl, sym}
-use Rattle.std.proofs.Common.{ap, ◌∙◌, subst, inl, inr, arith, option_and_then}
-use Rattle.std.specs.List.{flat_map}
-use Rattle.std.proofs.lemmas.Bool.{cases_lt}
-use Rattle.petal_base.specs.declared.cell.Cell.{Cell}
-use Rattle.petal_msg.specs.declared.body.Body.{Body}
-use Rattle.petal_msg.specs.declared.body.Body.TheVariants as body
-use Rattle.petal_msg.specs.declared.letter.Actor.TheVariants as actor
-use Rattle.petal_msg.specs.declared.letter.Letter.{Letter}
-use Rattle.spec_state.specs.CellState.{cell_asked, has_map, named_cell, source}
-use Rattle.spec_state.specs.Command.{state_after}
-use Rattle.petal_table.specs.Table.{at}
-use Rattle.script_lines.specs.declared.request.Line.{Line}
-use Rattle.script_lines.specs.declared.request.Request.TheVariants as request
-use Rattle.spec_rules.specs.Clients.{epoch_for}
-use Rattle.spec_rules.specs.Lists.{In}
-use Rattle.spec_rules.specs.State.{State, coming, is_lead, leaving, find}
-use Rattle.spec_rules.specs.Store.{Chain, Store, Stored, bytes_of, cell_cmp, chain_in, entry_at}
-use Rattle.spec_rules.specs.World.{chosen_log, chosen_state, counted, kept, server_state, World}
-use Rattle.spec_rules.proofs.Tests.{by_bool, none_some, same_some, true_false}
-use Rattle.spec_history.specs.Events.{NotThere, look_for, look_for_data, look_of, old_data}
-use Rattle.spec_history.specs.Steps.{AreStepsFrom}
-use Rattle.law_state.specs.Homes.{HasStage, epoch_at, stage_at}
-use Rattle.law_state.proofs.Disks.{log_disks}
-use Rattle.law_state.proofs.EntriesOnlyAdd.{log_plain}
-use Rattle.law_state.proofs.Steady.{log_rev}
-use Rattle.law_steps.specs.DidRead.{IsReadable}
-use Rattle.law_steps.specs.DidStep.{Handled, own_place}
-use Rattle.law_steps.proofs.MovesAreOfComingCells.{stage_facts}
-use Rattle.law_steps.proofs.Fronts.{front_itself, front_on, one_front}
-use Rattle.law_steps.proofs.KindsInHistories.{own_below, own_plain}
-use Rattle.law_copies.specs.Pair.{owns_of}
-use Rattle.law_moves.specs.Fills.{Has}
-use Rattle.law_requests.specs.AskedRequests.{IsRead}
+use Rattle.law_run.proofs.Imports.{[], ◌++◌, ◌∙◌, ◌∷◌, ◌≡◌, ◌≤◌, AreDisks, AreStepsFrom, Body, Bool, Cell, Chain, Handled, Has, HasStage, In, IsPlainState}
+use Rattle.law_run.proofs.Imports.{IsPrefix, IsRead, IsReadable, IsRising, Letter, Line, List, None, NotThere, Option, Some, State, Store, Stored, World, ap}
+use Rattle.law_run.proofs.Imports.{arith, at, by_bool, bytes_of, cases_lt, cell_asked, cell_cmp, chain_in, chosen_log, chosen_state, coming, counted}
+use Rattle.law_run.proofs.Imports.{entry_at, entry_of, epoch_at, epoch_for, false, find, flat_map, front_itself, front_on, has_map, inl, inr, is_lead}
+use Rattle.law_run.proofs.Imports.{is_some, kept, leaving, log_disks, log_plain, log_rev, look_for, look_for_data, look_of, named_cell, nat_cmp, none_some}
+use Rattle.law_run.proofs.Imports.{old_cell, old_data, one_front, option_and_then, own_below, own_place, own_plain, owns_of, refl, same_some, server_state}
+use Rattle.law_run.proofs.Imports.{source, stage_at, stage_facts, state_after, subst, sym, true, true_false, ℕ}
 use Rattle.law_run.proofs.ChosenDisks.{cell_comes, cell_lives, cell_old, content_is, disks_now, has_content_is, plain_now}
 use Rattle.law_run.proofs.MachineTakesWrites.{was_has, was_kept}
 use Rattle.law_run.proofs.EntryAtEpoch.{AreUpTo}
@@ -51,6 +18,9 @@ use Rattle.law_run.proofs.ReadersHaveContents.{IsReading, entry_is, now_high, no
 use Rattle.law_run.proofs.ReadsShowContents.{AreCalm, all_looked, look_may, nothing_looked, of, row_has, same_above, same_chain}
 use Rattle.law_run.proofs.SourceCells.{source_here, source_stays}
 use Rattle.law_run.proofs.EventsOfServerSteps.{LooksTold, ServerStep, ends_of, frozen_same, grounded, later_world, letters, look_here}
+use Rattle.petal_msg.specs.declared.body.Body.TheVariants as body
+use Rattle.petal_msg.specs.declared.letter.Actor.TheVariants as actor
+use Rattle.script_lines.specs.declared.request.Request.TheVariants as request
 
 -- two reads of one request by the same state differ in whether the client was told to ask the old map
 record IsTwin (state : State) {lines : List Line} {client seq : ℕ} {told told_old : Bool} {cell old : Cell} {epoch epoch_old : ℕ}

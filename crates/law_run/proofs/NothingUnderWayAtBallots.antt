@@ -1,56 +1,16 @@
 -- A server at work that has started a ballot for a Caught has nothing under way on the link: an operation would be held, and a copy was closed.
 -- And the two copies are equal while nothing touches the link.
-use Rattle.std.proofs.Common.{◌≡◌, ◌≢◌, ◌==◌, ◌⊎◌, ◌++◌, ℕ, Bool, List, true, false, Option, Some, None, refl, sym, ap, ◌∙◌, subst, inl, inr, arith}
-use Rattle.std.specs.Option.{option_map_or}
-use Rattle.global_tables.specs.declared.link.LinkState.{LinkState}
-use Rattle.global_tables.specs.declared.link.LinkState.TheVariants.{Both, Lost, Only}
-use Rattle.petal_base.specs.declared.cell.Cell.{Cell}
-use Rattle.petal_table.specs.Table.{at}
-use Rattle.global_tables.specs.Link.{other_of}
-use Rattle.global_tables.specs.declared.link.LinkRow.{LinkRow}
-use Rattle.petal_command.specs.declared.command.Command.{Command}
-use Rattle.spec_state.specs.CellState.{cell_link}
-use Rattle.spec_state.specs.Command.{is_alone, state_after}
-use Rattle.script_lines.specs.declared.script.Script.{Script}
-use Rattle.spec_rules.specs.Progress.{copying_on, has_proposed}
-use Rattle.spec_state.specs.State.{inc_of}
-use Rattle.spec_rules.specs.Server.{PairState, Server}
-use Rattle.spec_rules.specs.State.{State, id_of, is_in, live}
-use Rattle.spec_rules.specs.Store.{Store, cell_cmp, chain_in}
-use Rattle.spec_rules.specs.World.{Setting, World, chosen_log, chosen_state, counted, server_state, setting_of, start}
-use Rattle.spec_rules.proofs.Tests.{both_true, none_some, same_numbers, same_or_apart, some_or_none, true_false}
-use Rattle.spec_history.specs.Claims.{AreCaughtUp, AreInAsThen, CopiesStayEqual, CopiesWaitEqual, HasAppliedNone, HasEqualCopies, IsCatching}
-use Rattle.spec_history.specs.Claims.{IsPrefix, is_at_work, place_in}
-use Rattle.spec_history.specs.Steps.{AreSteps, world_after}
-use Rattle.spec_history.specs.Sound.{IsSound}
-use Rattle.spec_history.specs.declared.record.Record.{Record}
-use Rattle.law_log.proofs.LogInHistories.{history_agrees, history_grows, history_is_firm}
-use Rattle.law_requests.proofs.RequestsInHistories.{asking_along}
-use Rattle.law_state.specs.Homes.{HasDied}
-use Rattle.law_state.specs.LinkChanges.{StaysSo}
-use Rattle.law_state.specs.Plain.{IsPlainLog}
-use Rattle.law_state.specs.LinkRows.{IsBetween}
-use Rattle.law_state.proofs.CaughtsMadeBoth.{log_held_or_both}
-use Rattle.law_state.proofs.Ages.{in_once}
-use Rattle.law_state.proofs.Leaves.{other_between}
-use Rattle.law_state.proofs.Steady.{front_plain, log_steady}
-use Rattle.law_state.proofs.EntriesTouchLinks.{places_grow, same_place}
-use Rattle.law_steps.proofs.Fronts.{front_itself, front_on}
-use Rattle.law_copies.specs.GoodCopies.{pair_at}
-use Rattle.law_copies.specs.Pair.{PairOk}
-use Rattle.law_copies.specs.Visits.{AliveIn, IsLast, WasThere, place_by, store_by}
-use Rattle.law_copies.proofs.ServedAtLaterFronts.{holder_is_one}
-use Rattle.law_copies.proofs.PlacesByFronts.{alive_on, one_place, one_row, place_of_later, places_up}
-use Rattle.law_copies.proofs.VisitsAfterSteps.{IsAt, at_by}
-use Rattle.law_state.specs.StartedBallots.{is_flagged}
-use Rattle.law_steps.specs.Ready.{Rests}
-use Rattle.law_steps.proofs.WorldsAreFirm.{always_firm}
-use Rattle.law_steps.proofs.KindsInHistories.{front_legal, rests_after, start_rests}
-use Rattle.law_steps.proofs.WhoLeads.{live_stage}
-use Rattle.law_steps.proofs.HeldBackForCaughts.{held_as_flag}
-use Rattle.law_steps.proofs.Records.{split_fronts}
-use Rattle.law_copies.proofs.CopiesInHistories.{KeptAfter, good_after}
-use Rattle.law_copies.proofs.RolesOfWorkers.{other_alone}
+use Rattle.law_run.proofs.Imports.{◌++◌, ◌==◌, ◌∙◌, ◌≡◌, ◌≢◌, ◌⊎◌, AliveIn, AreCaughtUp, AreInAsThen, AreSteps, Bool, Both, Cell, Command, CopiesStayEqual}
+use Rattle.law_run.proofs.Imports.{CopiesWaitEqual, HasAppliedNone, HasDied, HasEqualCopies, IsAt, IsBetween, IsCatching, IsLast, IsPlainLog, IsPrefix}
+use Rattle.law_run.proofs.Imports.{IsSound, KeptAfter, LinkRow, LinkState, List, Lost, None, Only, Option, PairOk, PairState, Record, Rests, Script, Server}
+use Rattle.law_run.proofs.Imports.{Setting, Some, State, StaysSo, Store, WasThere, World, alive_on, always_firm, ap, arith, asking_along, at, at_by}
+use Rattle.law_run.proofs.Imports.{both_true, cell_cmp, cell_link, chain_in, chosen_log, chosen_state, copying_on, counted, false, front_itself, front_legal}
+use Rattle.law_run.proofs.Imports.{front_on, front_plain, good_after, has_proposed, held_as_flag, history_agrees, history_grows, history_is_firm}
+use Rattle.law_run.proofs.Imports.{holder_is_one, id_of, in_once, inc_of, inl, inr, is_alone, is_at_work, is_flagged, is_in, live, live_stage}
+use Rattle.law_run.proofs.Imports.{log_held_or_both, log_steady, none_some, one_place, one_row, option_map_or, other_alone, other_between, other_of, pair_at}
+use Rattle.law_run.proofs.Imports.{place_by, place_in, place_of_later, places_grow, places_up, refl, rests_after, same_numbers, same_or_apart, same_place}
+use Rattle.law_run.proofs.Imports.{server_state, setting_of, some_or_none, split_fronts, start, start_rests, state_after, store_by, subst, sym, true}
+use Rattle.law_run.proofs.Imports.{true_false, world_after, ℕ}
 use Rattle.law_run.proofs.OwnPlacesAreLatest.{equal_pair, unfollowed_halves}
 
 alone_so : (n : ℕ) (s : LinkState) → is_alone n s ≡ true → (whole : Bool) × (s ≡ Only n whole)

@@ -1,47 +1,14 @@
 -- A read that was told that the new map has nothing, and is answered under the old one: whoever answers has what was frozen.
-use Rattle.std.proofs.Common.{◌||◌, ◌≡◌, ◌≤◌, ◌==◌, ◌&&◌, ℕ, List, [], ◌∷◌, Bool, true, Option, Some, None, length}
-use Rattle.std.proofs.Common.{refl, sym, ap, ◌∙◌, subst, ◌⊎◌, inl, inr, arith, not}
-use Rattle.std.specs.Prelude.{if◌then◌else◌, option_map}
-use Rattle.petal_base.specs.declared.cell.Cell.{Cell}
-use Rattle.petal_msg.specs.declared.body.Body.{Body}
-use Rattle.petal_msg.specs.declared.body.Body.TheVariants as body
-use Rattle.petal_msg.specs.declared.letter.Actor.{Actor}
-use Rattle.petal_msg.specs.declared.letter.Actor.TheVariants as actor
-use Rattle.petal_msg.specs.declared.letter.Letter.{Letter}
-use Rattle.spec_rules.specs.Boots.{awake, raised}
-use Rattle.spec_rules.specs.Jobs.{Acted, down_posts}
-use Rattle.spec_rules.specs.Log.{rev_of}
-use Rattle.spec_rules.specs.Lists.{In}
-use Rattle.spec_rules.specs.Server.{JobResult, Post, Sender, letters_of, sender}
-use Rattle.spec_rules.specs.State.{State, leaving, servers_of}
-use Rattle.spec_rules.specs.Store.{chain_in, entry_at, bytes_of}
-use Rattle.spec_rules.specs.World.{Setting, World, acts, chosen_log, chosen_state, server_state, server_step, stamped}
-use Rattle.spec_rules.specs.World.{step, MayActor, begins_to_leave, chain_that_counts}
-use Rattle.spec_rules.specs.declared.step.Step.{Step}
-use Rattle.spec_rules.specs.declared.step.Step.TheVariants.{Blank}
-use Rattle.spec_rules.proofs.ListLemmas.{in_former}
-use Rattle.spec_rules.proofs.Tests.{both_true, by_bool, by_test, none_some, same_numbers, same_some, true_false}
-use Rattle.spec_history.specs.Claims.{IsPrefix}
-use Rattle.spec_history.specs.Events.{NotThere, accepted, data_among, data_of, first_data, old_data, reads_old, same_actor, turns}
-use Rattle.spec_history.specs.Steps.{AreStepsFrom, stepped}
-use Rattle.spec_history.specs.declared.record.Record.{Record}
-use Rattle.law_state.specs.Firm.{Firm}
-use Rattle.law_state.specs.Homes.{epoch_at, stage_at}
-use Rattle.law_state.specs.Steady.{IsSteady}
-use Rattle.law_state.proofs.Steady.{log_below, log_rev}
-use Rattle.law_steps.specs.Did.{By_read, Did}
-use Rattle.law_steps.specs.DidRead.{IsReadable, Not_here, Shows}
-use Rattle.law_steps.specs.DidStep.{By_ballot, By_entry, By_job, Ends, Fails, Goes, Handled, Serving, Stays, Wakes}
-use Rattle.law_steps.specs.DidStep.{own_place, without_rev}
-use Rattle.law_steps.proofs.MovesAreOfComingCells.{stage_facts}
-use Rattle.law_steps.proofs.Fronts.{front_itself, front_on}
-use Rattle.law_steps.proofs.KindsInHistories.{own_plain, own_steady}
-use Rattle.law_steps.proofs.Letters.{one_post, said}
-use Rattle.law_steps.proofs.ServerStepKinds.{server_serves}
-use Rattle.law_copies.specs.Pair.{owns_of}
-use Rattle.law_requests.specs.AskedRequests.{IsRead}
+use Rattle.law_run.proofs.Imports.{[], if◌then◌else◌, ◌&&◌, ◌==◌, ◌||◌, ◌∙◌, ◌∷◌, ◌≡◌, ◌≤◌, ◌⊎◌, Acted, Actor, AreStepsFrom, Blank, Body, Bool, By_ballot}
+use Rattle.law_run.proofs.Imports.{By_entry, By_job, By_read, Cell, Did, Ends, Fails, Firm, Goes, Handled, In, IsPrefix, IsRead, IsReadable, IsSteady}
+use Rattle.law_run.proofs.Imports.{JobResult, Letter, List, MayActor, NeverDead, None, NotThere, Not_here, Option, Post, Record, Sender, Serving, Setting}
+use Rattle.law_run.proofs.Imports.{Shows, Some, State, Stays, Step, Wakes, World, accepted, acts, ap, arith, awake, begins_to_leave, both_true, by_bool}
+use Rattle.law_run.proofs.Imports.{by_test, bytes_of, chain_in, chain_that_counts, chosen_log, chosen_state, data_among, data_of, down_posts, entry_at}
+use Rattle.law_run.proofs.Imports.{epoch_at, first_data, front_itself, front_on, in_former, inl, inr, leaving, length, letters_of, log_below, log_rev}
+use Rattle.law_run.proofs.Imports.{none_some, not, old_data, one_post, option_map, own_place, own_plain, own_steady, owns_of, raised, reads_old, refl, rev_of}
+use Rattle.law_run.proofs.Imports.{said, same_actor, same_numbers, same_some, sender, server_serves, server_state, server_step, servers_of, stage_at}
+use Rattle.law_run.proofs.Imports.{stage_facts, stamped, step, stepped, subst, sym, true, true_false, turns, without_rev, ℕ}
 use Rattle.law_run.specs.MachineTies.{Ground}
-use Rattle.law_moves.proofs.JobsChangeOneChain.{NeverDead}
 use Rattle.law_run.proofs.EntryAtEpoch.{AreUpTo}
 use Rattle.law_run.proofs.GroundGives.{never_dead}
 use Rattle.law_run.proofs.ReadsLookWhereSent.{Accepts, AreGrounded, ground_now, is_looked, who_accepts}
@@ -49,6 +16,8 @@ use Rattle.law_run.proofs.LetterNames.{one_actor}
 use Rattle.law_run.proofs.ContentsAsked.{known_read, own_up_to, reader_serves, reads_old_is}
 use Rattle.law_run.proofs.DataLetters.{IsUnended, downs_unended, glances_unended, logged_unended, quiet_data, unended_no_data}
 use Rattle.law_run.proofs.RunScenes.{Grounded}
+use Rattle.petal_msg.specs.declared.body.Body.TheVariants as body
+use Rattle.petal_msg.specs.declared.letter.Actor.TheVariants as actor
 
 -- ### What a step sends with data
 

@@ -1,23 +1,11 @@
 -- A pending operation whose request is open is its client's write of a block of a disk that is chosen.
-use Rattle.std.proofs.Common.{Some, ap, false, refl, subst, sym, ℕ, ◌<◌, ◌∙◌, ◌≡◌}
-use Rattle.petal_base.specs.declared.cell.Cell.{Cell}
-use Rattle.global_tables.specs.declared.disk.DiskRow.{DiskRow}
-use Rattle.spec_state.specs.CellState.{cell_asked, named_cell}
-use Rattle.spec_machine.specs.declared.event.Write.{Write}
-use Rattle.petal_msg.specs.declared.operation.Pending.{Pending}
-use Rattle.script_lines.specs.Pattern.{pattern_block}
-use Rattle.script_lines.specs.declared.request.Line.{Line}
-use Rattle.script_lines.specs.declared.request.Request.TheVariants as request
-use Rattle.spec_rules.specs.Lists.{In}
-use Rattle.spec_rules.specs.World.{chosen_state, counted}
-use Rattle.spec_history.specs.Events.{blocks_in, open_write, write_asked, write_by}
-use Rattle.law_steps.specs.DidClient.{line_by}
-use Rattle.spec_rules.proofs.Tests.{same_some}
-use Rattle.law_requests.specs.AskedRequests.{IsOpen, IsWrite}
+use Rattle.law_run.proofs.Imports.{◌<◌, ◌∙◌, ◌≡◌, Cell, DiskRow, In, IsOpen, IsWrite, Line, Pending, Some, Write, ap, blocks_in, cell_asked, chosen_state}
+use Rattle.law_run.proofs.Imports.{counted, false, line_by, named_cell, open_write, pattern_block, refl, same_some, subst, sym, write_asked, write_by, ℕ}
 use Rattle.law_run.proofs.ChosenDisks.{rows_in, disks_now, found_row, plain_now}
 use Rattle.law_run.proofs.ContentsByCells.{asked_named}
 use Rattle.law_run.proofs.EventsOfServerSteps.{ServerStep, later_world}
 use Rattle.law_run.proofs.MachineTakesWrites.{IsGiven, StaysAt, now_kept}
+use Rattle.script_lines.specs.declared.request.Request.TheVariants as request
 
 module _ (this : ServerStep) where
   -- the operation's write is its client's open one, of this block

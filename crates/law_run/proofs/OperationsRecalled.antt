@@ -1,39 +1,11 @@
 -- Of what a server has had at the places that count, each operation that was pending is so still, or was known of at an incarnation
 -- that has ended.
-use Rattle.std.proofs.Common.{◌≡◌, ◌<◌, ℕ, true, Some, refl, sym, ap, ◌∙◌, subst, inl, inr, arith, ◌≤◌, List, ◌⊎◌}
-use Rattle.spec_state.specs.Command.{state_after}
-use Rattle.spec_rules.specs.Writes.{is_clients}
-use Rattle.law_steps.proofs.MovesAreOfComingCells.{stage_facts}
-use Rattle.law_state.specs.Homes.{HasStage}
-use Rattle.global_tables.specs.declared.link.LinkRow.{LinkRow}
-use Rattle.global_tables.specs.declared.link.LinkState.TheVariants.{Both}
-use Rattle.petal_base.specs.declared.cell.Cell.{Cell}
-use Rattle.petal_command.specs.declared.command.Command.{Command}
-use Rattle.petal_table.specs.Table.{at}
-use Rattle.petal_msg.specs.declared.operation.Pending.{Pending}
-use Rattle.spec_state.specs.CellState.{cell_link, lead, serves}
-use Rattle.spec_history.specs.Claims.{IsPrefix}
-use Rattle.spec_history.specs.declared.record.Record.{Record}
-use Rattle.spec_rules.specs.Server.{PairState, Pairs}
-use Rattle.spec_rules.specs.State.{State, is_in, is_lead}
-use Rattle.spec_rules.specs.Store.{cell_cmp}
-use Rattle.spec_rules.specs.World.{Setting, World, chosen_log, counted, server_state}
-use Rattle.spec_rules.proofs.Tests.{by_test, is_the_one, number_itself, same_some}
-use Rattle.law_state.specs.Firm.{Firm}
-use Rattle.law_state.specs.Steady.{IsSteady}
-use Rattle.law_state.proofs.CellsByLinkRows.{led_by}
-use Rattle.law_state.proofs.Roles.{primary_is_one}
-use Rattle.law_steps.specs.Ready.{Rests}
-use Rattle.law_steps.proofs.Fronts.{front_itself, front_on}
-use Rattle.law_steps.proofs.KindsInHistories.{own_steady, own_plain}
-use Rattle.law_copies.specs.GoodCopies.{Good}
-use Rattle.law_copies.specs.Pair.{owns_of}
-use Rattle.law_copies.specs.Visits.{IsLast, IsLinked, place_by, AliveIn}
-use Rattle.law_copies.proofs.PlacesByFronts.{fronts_meet, linked_alive, linked_between, one_row, places_up}
-use Rattle.law_requests.specs.KnownRequests.{AskingBy, Has_pending, PendingFor, asked_for, lives_after, seen}
-use Rattle.law_requests.proofs.RequestsKnownLater.{pending_further}
-use Rattle.law_requests.proofs.IncarnationsGoOn.{no_earlier, ran_now}
-use Rattle.law_requests.proofs.StepsKeepRequests.{GoesOn, ended_later}
+use Rattle.law_run.proofs.Imports.{◌<◌, ◌∙◌, ◌≡◌, ◌≤◌, ◌⊎◌, AliveIn, AskingBy, Both, Cell, Command, Firm, GoesOn, Good, HasStage, Has_pending, IsLast}
+use Rattle.law_run.proofs.Imports.{IsLinked, IsPrefix, IsSteady, LinkRow, List, PairState, Pairs, Pending, PendingFor, Record, Rests, Setting, Some, State}
+use Rattle.law_run.proofs.Imports.{World, ap, arith, asked_for, at, by_test, cell_cmp, cell_link, chosen_log, counted, ended_later, front_itself, front_on}
+use Rattle.law_run.proofs.Imports.{fronts_meet, inl, inr, is_clients, is_in, is_lead, is_the_one, lead, led_by, linked_alive, linked_between, lives_after}
+use Rattle.law_run.proofs.Imports.{no_earlier, number_itself, one_row, own_plain, own_steady, owns_of, pending_further, place_by, places_up, primary_is_one}
+use Rattle.law_run.proofs.Imports.{ran_now, refl, same_some, seen, server_state, serves, stage_facts, state_after, subst, sym, true, ℕ}
 use Rattle.law_run.proofs.StepsLeaveServers.{Leaves, As_it_was, In_place, Goes_further, Boots}
 use Rattle.law_run.specs.MachineTies.{AreRemembered, IsRemembered, Is_pending, Was_pending}
 use Rattle.law_run.proofs.RunScenes.{Grounded}

@@ -1,24 +1,9 @@
 -- A block between two maps: its entry is the new map's or, where that has none, the frozen one. A fill that is put in its turn, and that all has
 -- come over, change no entry.
-use Rattle.std.proofs.Common.{◌≡◌, ◌≢◌, ◌≤◌, ◌<◌, ℕ, List, [], ◌∷◌, true, cond, Some, None, is_some, refl}
-use Rattle.std.proofs.Common.{sym, ap, ◌∙◌, inl, inr, arith}
-use Rattle.std.proofs.lemmas.Bool.Decides.{nat_tests}
-use Rattle.std.proofs.lemmas.Bool.{cases_lt}
-use Rattle.std.specs.Prelude.{nat_le}
-use Rattle.std.specs.Cmp.{nat_cmp_total, ranked}
-use Rattle.std.specs.declared.cmp.Ordering.{Ordering}
-use Rattle.std.specs.declared.cmp.Ordering.TheVariants.{Less, Equal, Greater}
-use Rattle.std.specs.Ordering.{is_eq, nat_cmp}
-use Rattle.petal_table.specs.Table.{at, put}
-use Rattle.petal_table.proofs.Rows.{at_apart, at_same}
-use Rattle.spec_rules.specs.Lists.{In}
-use Rattle.spec_rules.specs.Store.{Chain, Stored, bytes_of, entry_at, or_else}
-use Rattle.spec_rules.proofs.Tests.{by_bool, none_some, same_or_apart, same_some, some_or_none, true_false}
-use Rattle.spec_history.specs.Claims.{HasNewer}
-use Rattle.spec_history.specs.Contents.{first_entry}
-use Rattle.law_moves.specs.Fills.{Has}
-use Rattle.law_steps.specs.Ready.{IsRising}
-use Rattle.law_steps.proofs.TablesOfPuts.{at_row, put_rises}
+use Rattle.law_run.proofs.Imports.{[], ◌<◌, ◌∙◌, ◌∷◌, ◌≡◌, ◌≢◌, ◌≤◌, Chain, Equal, Greater, Has, HasNewer, In, IsRising, Less, List, None, Ordering, Some}
+use Rattle.law_run.proofs.Imports.{Stored, ap, arith, at, at_apart, at_row, at_same, by_bool, bytes_of, cases_lt, cond, entry_at, first_entry, inl, inr}
+use Rattle.law_run.proofs.Imports.{is_eq, is_some, nat_cmp, nat_cmp_total, nat_le, nat_tests, none_some, or_else, put, put_rises, ranked, refl, same_or_apart}
+use Rattle.law_run.proofs.Imports.{same_some, some_or_none, sym, true, true_false, ℕ}
 use Rattle.law_run.proofs.EntryAtEpoch.{entry_below, first_so, within}
 use Rattle.law_run.proofs.ListMembers.{row_at}
 

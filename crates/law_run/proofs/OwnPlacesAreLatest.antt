@@ -1,44 +1,16 @@
 -- What a server that runs relies on at its own place of a cell's link: that no server that serves the link has been further, and what the
 -- other server has in memory of the place.
-use Rattle.std.proofs.Common.{◌≡◌, ◌≤◌, ◌++◌, ◌&&◌, ℕ, List, [], ◌∷◌, true, Option, Some, None, refl, sym, ap, ◌∙◌, subst, ◌⊎◌, inl, inr, arith}
-use Rattle.global_tables.specs.Link.{has_server}
-use Rattle.global_tables.specs.declared.link.LinkRow.{LinkRow}
-use Rattle.global_tables.specs.declared.link.LinkState.TheVariants.{Both, Only}
-use Rattle.petal_base.specs.declared.cell.Cell.{Cell}
-use Rattle.petal_command.specs.declared.command.Command.{Command}
-use Rattle.petal_command.specs.declared.command.Command.TheVariants.{Join}
-use Rattle.petal_table.specs.Table.{at}
-use Rattle.petal_table.proofs.Rows.{at-empty}
-use Rattle.petal_msg.specs.Kinds.{about}
-use Rattle.petal_msg.specs.declared.body.Body.{Body}
-use Rattle.petal_msg.specs.declared.operation.Pending.{Pending}
-use Rattle.spec_state.specs.CellState.{lead, serves}
-use Rattle.spec_history.specs.Claims.{IsPrefix}
-use Rattle.spec_rules.specs.Server.{PairState}
-use Rattle.spec_rules.specs.State.{authority, in_both, is_alone_on, is_in, is_lead, is_second, live, second}
-use Rattle.spec_rules.specs.Progress.{has_proposed}
-use Rattle.spec_rules.specs.Store.{Store, cell_cmp, chain_in}
-use Rattle.spec_rules.specs.World.{Setting, blank_joins_in, chosen_log, chosen_state, kept, server_state}
-use Rattle.spec_rules.specs.Writes.{is_clients}
-use Rattle.spec_rules.proofs.Tests.{by_bool, is_the_one, none_some, true_false}
-use Rattle.law_state.specs.Homes.{HasStage, stage_at}
-use Rattle.law_state.specs.Plain.{IsPlainLog}
-use Rattle.law_state.proofs.LoneHolders.{alone_not_both, both_row, so_alone, so_both}
-use Rattle.law_state.proofs.CellsByLinkRows.{IsHeldBy, alone_authority, led_by, second_by}
-use Rattle.law_state.proofs.GrownStates.{one_before}
-use Rattle.law_state.proofs.Roles.{primary_is_one, secondary_is_one}
-use Rattle.law_steps.specs.DidStep.{Handled}
-use Rattle.law_steps.specs.Operations.{IsStaged}
-use Rattle.law_steps.proofs.Fronts.{front_itself, front_more, front_on}
-use Rattle.law_steps.proofs.MovesAreOfComingCells.{stage_facts}
-use Rattle.law_steps.proofs.KindsInHistories.{own_below, own_plain, own_steady, ready_chosen, runs_now}
-use Rattle.law_steps.proofs.WhoLeads.{dead_second, live_stage}
-use Rattle.law_steps.proofs.HeldBackForCaughts.{held_as_flag}
-use Rattle.law_copies.specs.GoodCopies.{AreTwins, pair_at}
-use Rattle.law_copies.specs.Pair.{AreCopies, Known, Pair, PairOk, far, owns_of, pair_of}
-use Rattle.law_copies.specs.Visits.{AliveIn, IsLast, IsLinked, half, place_by}
-use Rattle.law_copies.proofs.ServedAtLaterFronts.{both_last, both_since, holds_since, reached_here}
-use Rattle.law_copies.proofs.PlacesByFronts.{alive_on, linked_alive, linked_between, one_row, place_of_later, place_touched, places_up, rows_later}
+use Rattle.law_run.proofs.Imports.{[], ◌&&◌, ◌++◌, ◌∙◌, ◌∷◌, ◌≡◌, ◌≤◌, ◌⊎◌, AliveIn, AreCopies, AreTwins, Body, Both, Cell, Command, Handled, HasStage}
+use Rattle.law_run.proofs.Imports.{IsHeldBy, IsLast, IsLinked, IsPlainLog, IsPrefix, IsStaged, Join, LinkRow, List, None, Only, Option, Pair, PairOk}
+use Rattle.law_run.proofs.Imports.{PairState, Pending, Setting, Some, Store, about, alive_on, alone_authority, alone_not_both, ap, arith, at, at-empty}
+use Rattle.law_run.proofs.Imports.{authority, blank_joins_in, both_last, both_row, both_since, by_bool, cell_cmp, chain_in, chosen_log, chosen_state}
+use Rattle.law_run.proofs.Imports.{dead_second, far, front_itself, front_more, front_on, half, has_proposed, has_server, held_as_flag, holds_since, in_both}
+use Rattle.law_run.proofs.Imports.{inl, inr, is_alone_on, is_clients, is_in, is_lead, is_second, is_the_one, kept, lead, led_by, linked_alive, linked_between}
+use Rattle.law_run.proofs.Imports.{live, live_stage, none_some, one_before, one_row, own_below, own_plain, own_steady, owns_of, pair_at, pair_of, place_by}
+use Rattle.law_run.proofs.Imports.{place_of_later, place_touched, places_up, primary_is_one, reached_here, ready_chosen, refl, rows_later, runs_now, second}
+use Rattle.law_run.proofs.Imports.{second_by, secondary_is_one, server_state, serves, so_alone, so_both, stage_at, stage_facts, subst, sym, true, true_false}
+use Rattle.law_run.proofs.Imports.{ℕ}
+use Rattle.law_copies.specs.Pair.{Known}
 use Rattle.law_run.proofs.FirstIsOneAhead.{unfollowed_equal}
 use Rattle.law_run.proofs.BlankedServeNothing.{more_joins}
 use Rattle.law_run.proofs.RunScenes.{Grounded}

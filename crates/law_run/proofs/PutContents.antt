@@ -1,42 +1,17 @@
 -- Where nothing is chosen: a put of the copy that counts gives a block the bytes of its write, a fill changes no content, and neither does what
 -- leaves the chains that count.
-use Rattle.std.proofs.Common.{◌≡◌, ◌≢◌, ◌<◌, ℕ, true, Some, is_some, sym, ap, ◌∙◌, subst, inl, inr, ◌&&◌, ◌||◌}
-use Rattle.std.proofs.Common.{Bool, List, Option, None, false, refl, arith}
-use Rattle.std.specs.Prelude.{option_and_then}
-use Rattle.law_steps.proofs.OperationsRest.{same_cell_or_apart}
-use Rattle.spec_rules.specs.Lists.{In}
-use Rattle.law_moves.specs.Fills.{IsFrozen}
-use Rattle.law_state.specs.Homes.{stage_at, epoch_at}
-use Rattle.law_state.specs.Tables.{IsPlainState}
-use Rattle.law_state.specs.Disks.{AreDisks}
+use Rattle.law_run.proofs.Imports.{◌&&◌, ◌<◌, ◌||◌, ◌∙◌, ◌≡◌, ◌≢◌, AliveIn, AreDisks, Bool, Cell, Chain, DiskRow, In, IsFrozen, IsOwn, IsPlainState, IsRising}
+use Rattle.law_run.proofs.Imports.{Key, List, None, Option, Pending, Plain, Some, State, Store, Stored, ap, arith, at, authority, blank_joins_in, bytes_of}
+use Rattle.law_run.proofs.Imports.{cell_cmp, cell_of, cell_same, chain_apart, chain_in, chain_put, chains_with, change_by, chosen_log, chosen_state, counted}
+use Rattle.law_run.proofs.Imports.{entry_at, entry_before, entry_by, entry_of, epoch_at, false, first_entry, inl, inr, is_some, kept, named_cell, nat_cmp}
+use Rattle.law_run.proofs.Imports.{old_cell, option_and_then, put, refl, replay, same_cell_or_apart, stage_at, state_after, subst, sym, true, ℕ}
 use Rattle.law_run.proofs.FillsComeInTurn.{fill_there}
 use Rattle.law_run.proofs.SourceCells.{source_stays}
 use Rattle.law_run.proofs.Overlay.{IsFill, fill_same}
 use Rattle.law_run.proofs.ContentsByCells.{entry_over, has_over, is_between}
-use Rattle.std.specs.Ordering.{nat_cmp}
-use Rattle.petal_base.specs.declared.cell.Cell.{Cell}
-use Rattle.petal_base.specs.declared.cell.Key.{Key}
-use Rattle.petal_base.specs.Cells.{cell_of}
-use Rattle.petal_table.specs.Table.{at, put}
-use Rattle.global_tables.specs.declared.disk.DiskRow.{DiskRow}
-use Rattle.spec_machine.specs.Machine.{Plain}
-use Rattle.spec_machine.specs.Run.{replay}
-use Rattle.petal_msg.specs.declared.operation.Pending.{Pending}
-use Rattle.spec_state.specs.CellState.{named_cell}
-use Rattle.spec_state.specs.Command.{state_after}
-use Rattle.spec_rules.specs.State.{State, authority}
-use Rattle.spec_rules.specs.Store.{Chain, Store, Stored, cell_cmp, chain_in, chains_with, entry_at, bytes_of}
-use Rattle.spec_rules.specs.World.{blank_joins_in, chosen_log, chosen_state, counted, kept}
-use Rattle.spec_rules.proofs.CellTables.{cell_same}
-use Rattle.spec_history.specs.Contents.{entry_before, entry_by, entry_of, first_entry, old_cell}
-use Rattle.spec_history.specs.Events.{change_by}
-use Rattle.law_steps.specs.Ready.{IsRising}
-use Rattle.law_copies.specs.WaitingStores.{IsOwn}
-use Rattle.law_copies.specs.Visits.{AliveIn}
-use Rattle.law_jobs.proofs.ChainsApart.{chain_apart, chain_put}
 use Rattle.law_run.specs.WritesGoOn.{is_held, Onward}
-use Rattle.law_run.proofs.ChosenDisks.{HasDisk, cell_comes, cell_named, content_is, disk_here, disks_now, has_content_is, named_epoch}
-use Rattle.law_run.proofs.ChosenDisks.{named_high, named_map_is, one_row_of, plain_now, rows_in}
+use Rattle.law_run.proofs.ChosenDisks.{HasDisk, cell_comes, cell_named, content_is, disk_here, disks_now, has_content_is, named_epoch, named_high}
+use Rattle.law_run.proofs.ChosenDisks.{named_map_is, one_row_of, plain_now, rows_in}
 use Rattle.law_run.proofs.MachineTakesWrites.{IsGiven, AreGiven, Taken, all_given, given_held, takes_of, was_kept, now_has, now_kept, StaysAt, was_has}
 use Rattle.law_run.proofs.EntryAtEpoch.{entry_below, entry_put}
 use Rattle.law_run.proofs.ServerFrames.{OwnFollow, SaysOk, CountsOk}

@@ -1,30 +1,19 @@
 -- A script that is read is sound.
-use Rattle.std.proofs.Common.{◌≡◌, ◌≤◌, ◌<◌, ◌+◌, ℕ, List, [], ◌∷◌, ◌++◌, Bool, true, false, not, ◌&&◌, ◌==◌, ◌||◌, length, codes, cond, Some}
-use Rattle.std.proofs.Common.{None, Result, Ok, Err, refl, sym, ap, ◌∙◌, subst, inl, inr, arith}
-use Rattle.std.specs.Prelude.{is_some, nat_le}
-use Rattle.std.proofs.lemmas.Bool.Decides.{nat_tests}
-use Rattle.petal_base.specs.Tuple.{is_tuple, tuple_of}
-use Rattle.petal_script.specs.Words.{Word, ◌>>=◌, is_word, or_else, front_word, no_word, one_word, two_words, three_words, four_words}
+use Rattle.law_run.proofs.Imports.{[], ◌&&◌, ◌++◌, ◌+◌, ◌<◌, ◌==◌, ◌>>=◌, ◌||◌, ◌∙◌, ◌∷◌, ◌≡◌, ◌≤◌, BadNumber, BadTuple, Bool, Cause, Does, Err, In, IsSound}
+use Rattle.law_run.proofs.Imports.{Line, List, None, Ok, Pattern, Request, Result, Script, Some, TextLine, Word, a_block, a_byte, a_call, a_device, a_kind}
+use Rattle.law_run.proofs.Imports.{a_name, a_server, a_tuple, ap, arith, asks, boot_of, both_true, by_test, client_request, codes, cond, false, fault_of}
+use Rattle.law_run.proofs.Imports.{filled_of, first_line, four_words, front_word, halves_of, in-append, in_limits, inl, inr, is_accepted, is_some, is_tuple}
+use Rattle.law_run.proofs.Imports.{is_word, length, line_at, lines_after, move_of, nat_le, nat_tests, net_line, nets, no_word, not, numbers_of, one_word}
+use Rattle.law_run.proofs.Imports.{operator_request, pieces, read_of, refl, script_of, servers_line, skipped, snap_of, spread_of, stop_at, stop_of, subst}
+use Rattle.law_run.proofs.Imports.{sym, text_lines, three_words, true, two_words, waits, words_of, write_of, ℕ}
+use Rattle.petal_base.specs.Tuple.{tuple_of}
+use Rattle.petal_script.specs.Words.{or_else}
 use Rattle.petal_script.specs.Number.{number_of}
-use Rattle.petal_script.specs.Fields.{a_name, a_block, a_byte, a_tuple, a_server, a_call, a_device, a_kind, in_limits, numbers_of, version_of}
-use Rattle.petal_script.specs.Client.{spread_of, disk_of, move_of, filled_of, halves_of, write_by, write_of, read_of, snap_of, client_request}
-use Rattle.petal_script.specs.Operator.{stop_at, stop_of, fault_of, boot_of, operator_request}
-use Rattle.petal_script.specs.Script.{TextLine, script_of, text_lines, lines_after, first_line, servers_line, net_line}
-use Rattle.petal_script.specs.Text.{pieces, words_of}
-use Rattle.law_script.specs.Laws.{Does, skipped, nets, waits, asks, Asks, line_at, Follows}
-use Rattle.law_script.proofs.TakenLines.{is_accepted}
-use Rattle.petal_script.specs.declared.cause.Cause.{Cause}
-use Rattle.petal_script.specs.declared.cause.Cause.TheVariants.{BadNumber, BadTuple}
-use Rattle.script_lines.specs.declared.request.Line.{Line}
-use Rattle.script_lines.specs.declared.request.Pattern.{Pattern}
+use Rattle.petal_script.specs.Fields.{version_of}
+use Rattle.petal_script.specs.Client.{disk_of, write_by}
+use Rattle.law_script.specs.Laws.{Asks, Follows}
 use Rattle.script_lines.specs.declared.request.Pattern.TheVariants as pattern
-use Rattle.script_lines.specs.declared.request.Request.{Request}
 use Rattle.script_lines.specs.declared.request.Request.TheVariants as request
-use Rattle.script_lines.specs.declared.script.Script.{Script}
-use Rattle.spec_rules.specs.Lists.{In}
-use Rattle.spec_rules.proofs.ListLemmas.{in-append}
-use Rattle.spec_history.specs.Sound.{IsSound}
-use Rattle.spec_rules.proofs.Tests.{by_test, both_true}
 
 -- what holds of each result that is no fault
 abbrev EachOk : {A : Type 0} → (A → Type 0) → Result A Cause → Type 0

@@ -1,39 +1,13 @@
 -- A server that may read a cell which is not leaving has the copy that counts, and so the contents of the cell's block.
-use Rattle.std.proofs.Common.{◌≡◌, ◌≤◌, ◌==◌, ℕ, List, Bool, true, Option, Some, None, is_some, refl, sym, ap}
-use Rattle.std.proofs.Common.{◌∙◌, subst, inl, inr, arith, false}
-use Rattle.std.proofs.lemmas.Bool.{cases_lt}
-use Rattle.spec_state.specs.CellState.{has_map, named_cell, serves}
-use Rattle.spec_rules.specs.Reads.{is_all_held}
-use Rattle.global_tables.specs.declared.link.LinkState.TheVariants.{Both}
-use Rattle.law_state.specs.Firm.{Firm}
-use Rattle.law_state.specs.Tables.{IsPlainState}
-use Rattle.law_state.specs.Disks.{AreDisks}
-use Rattle.law_state.specs.Homes.{HasStage, stage_at}
-use Rattle.law_state.specs.LinkRows.{ByBoth, ByOne, ByNone}
-use Rattle.law_steps.proofs.MovesAreOfComingCells.{stage_facts}
+use Rattle.law_run.proofs.Imports.{◌==◌, ◌∙◌, ◌≡◌, ◌≤◌, AliveIn, AreDisks, Bool, Both, ByBoth, ByNone, ByOne, Cell, DiskRow, Firm, HasStage, In, IsLinked}
+use Rattle.law_run.proofs.Imports.{IsPlainState, IsServing, Line, LinkRow, List, None, Option, PairOk, PairState, Some, Store, Stored, alone_authority, ap}
+use Rattle.law_run.proofs.Imports.{arith, at, authority, both_authority, both_leads, by_bool, bytes_of, cases_lt, cell_cmp, chain_in, chosen_steady, coming}
+use Rattle.law_run.proofs.Imports.{counted, dead_not, dead_reader, either_true, entry_at, entry_before, entry_by, entry_of, false, front_itself, half}
+use Rattle.law_run.proofs.Imports.{has_map, held, inl, inr, is_all_held, is_in, is_lead, is_some, is_the_so, leads_link, leaving, linked_between, live}
+use Rattle.law_run.proofs.Imports.{log_roles, named_cell, old_cell, one_row, own_below, own_plain, pair_of, place_by, places_up, readable, refl, runs_now}
+use Rattle.law_run.proofs.Imports.{same_numbers, same_some, serves, stage_at, stage_facts, subst, sym, true, true_false, ℕ}
 use Rattle.law_run.proofs.ContentsByCells.{entry_over, has_over, is_between}
 use Rattle.law_run.proofs.ContentsAsked.{reader_serves}
-use Rattle.petal_base.specs.declared.cell.Cell.{Cell}
-use Rattle.petal_table.specs.Table.{at}
-use Rattle.global_tables.specs.declared.disk.DiskRow.{DiskRow}
-use Rattle.global_tables.specs.declared.link.LinkRow.{LinkRow}
-use Rattle.script_lines.specs.declared.request.Line.{Line}
-use Rattle.spec_rules.specs.Lists.{In}
-use Rattle.spec_rules.specs.State.{authority, is_in, is_lead, readable, coming, held, leads_link, leaving, live}
-use Rattle.spec_rules.specs.Store.{Store, cell_cmp, chain_in, entry_at, bytes_of, Stored}
-use Rattle.spec_rules.specs.Server.{PairState}
-use Rattle.spec_rules.specs.World.{counted}
-use Rattle.spec_rules.proofs.Tests.{by_bool, is_the_so, same_numbers, same_some, true_false}
-use Rattle.spec_history.specs.Contents.{entry_before, entry_by, entry_of, old_cell}
-use Rattle.law_state.specs.LaterStates.{IsServing}
-use Rattle.law_state.proofs.CellsByLinkRows.{alone_authority, both_authority, both_leads, dead_reader}
-use Rattle.law_state.proofs.Leaves.{either_true}
-use Rattle.law_state.proofs.Roles.{log_roles}
-use Rattle.law_steps.proofs.Fronts.{front_itself}
-use Rattle.law_steps.proofs.KindsInHistories.{chosen_steady, own_below, runs_now, own_plain}
-use Rattle.law_copies.specs.Pair.{PairOk, pair_of}
-use Rattle.law_copies.specs.Visits.{half, place_by, AliveIn, IsLinked}
-use Rattle.law_copies.proofs.PlacesByFronts.{one_row, places_up, dead_not, linked_between}
 use Rattle.law_run.proofs.OwnPlacesAreLatest.{chosen_store, chosen_twins, equal_pair, visit_here, alive_here}
 use Rattle.law_run.proofs.ChosenDisks.{cell_named, content_is, disks_now, has_content_is, named_comes, plain_now, rows_in}
 use Rattle.law_run.proofs.MachineTakesWrites.{was_kept, was_has}

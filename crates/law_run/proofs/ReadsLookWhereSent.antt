@@ -1,36 +1,18 @@
 -- A read looks where its data are sent: whoever accepts them later had asked for this.
-use Rattle.spec_history.specs.Claims.{IsPrefix}
-use Rattle.spec_rules.specs.World.{chosen_log, Setting, World, step, client_state, MayActor}
-use Rattle.std.proofs.Common.{◌≡◌, ◌==◌, ◌&&◌, ℕ, zero, suc, List, [], ◌∷◌, Bool, true, false, Option, Some, None, refl, sym, ap, ◌∙◌, subst, ◌⊎◌, inl, inr}
-use Rattle.std.specs.Prelude.{slice_get, if◌then◌else◌}
-use Rattle.spec_machine.specs.declared.event.Event.{Event}
-use Rattle.spec_machine.specs.declared.event.Event.TheVariants.{Look}
-use Rattle.spec_machine.specs.Machine.{Plain}
-use Rattle.spec_machine.specs.Run.{MayLook, Obeys, after, replay}
-use Rattle.petal_msg.specs.declared.body.Body.{Body}
-use Rattle.petal_msg.specs.declared.body.Body.TheVariants as body
-use Rattle.petal_msg.specs.declared.letter.Actor.{Actor}
-use Rattle.petal_msg.specs.declared.letter.Actor.TheVariants as actor
-use Rattle.petal_msg.specs.declared.letter.Letter.{Letter}
-use Rattle.script_lines.specs.declared.answer.Answer.TheVariants as answer
-use Rattle.script_lines.specs.declared.request.Line.{Line}
-use Rattle.script_lines.specs.declared.request.Request.{Request}
-use Rattle.script_lines.specs.declared.request.Request.TheVariants as request
-use Rattle.spec_rules.specs.Lists.{In}
-use Rattle.spec_rules.specs.State.{State}
-use Rattle.spec_rules.specs.Clients.{Client, Asked, heard, hears, hears_any, hears_of, counts, is_read}
-use Rattle.spec_rules.specs.declared.step.Step.{Step}
-use Rattle.spec_rules.specs.declared.step.Step.TheVariants.{Deliver}
-use Rattle.spec_rules.proofs.ListLemmas.{in_later, in-append}
-use Rattle.spec_history.specs.Events.{accepted, accepts, data_line, first_of, same_name, look_by, look_for, look_of}
-use Rattle.spec_history.specs.Steps.{AreStepsFrom, stepped}
-use Rattle.spec_history.specs.declared.record.Record.{Record}
-use Rattle.law_steps.specs.DidClient.{line_by}
-use Rattle.spec_rules.proofs.Tests.{by_test, by_bool, both_true, same_some, none_some, same_numbers, true_false}
+use Rattle.law_run.proofs.Imports.{[], if◌then◌else◌, ◌&&◌, ◌==◌, ◌∙◌, ◌∷◌, ◌≡◌, ◌⊎◌, Actor, AreStepsFrom, Asked, Body, Bool, Client, Deliver, Event, In}
+use Rattle.law_run.proofs.Imports.{IsPrefix, Letter, Line, List, Look, MayActor, MayLook, None, Obeys, Option, Plain, Record, Request, Setting, Some, State}
+use Rattle.law_run.proofs.Imports.{Step, World, accepted, accepts, after, ap, both_true, by_bool, by_test, chosen_log, client_state, counts, data_line, false}
+use Rattle.law_run.proofs.Imports.{first_of, heard, hears, hears_any, hears_of, in-append, in_later, inl, inr, is_read, line_by, look_by, look_for, look_of}
+use Rattle.law_run.proofs.Imports.{none_some, refl, replay, same_numbers, same_some, slice_get, step, stepped, subst, suc, sym, true, true_false, zero, ℕ}
+use Rattle.spec_history.specs.Events.{same_name}
 use Rattle.law_run.specs.WritesGoOn.{IsMindful, Onward}
 use Rattle.law_run.specs.MachineTies.{Ground}
 use Rattle.law_run.proofs.Machine.{disks_after, after_mindful, look_onward, onward_itself, onward_joined}
 use Rattle.law_run.proofs.ListMembers.{of_filter}
+use Rattle.petal_msg.specs.declared.body.Body.TheVariants as body
+use Rattle.petal_msg.specs.declared.letter.Actor.TheVariants as actor
+use Rattle.script_lines.specs.declared.answer.Answer.TheVariants as answer
+use Rattle.script_lines.specs.declared.request.Request.TheVariants as request
 
 -- ### Looks
 

@@ -1,44 +1,22 @@
 -- A read's data are those that the machine has.
-use Rattle.std.proofs.Common.{◌≡◌, ℕ, List, [], ◌∷◌, ◌++◌, true, Option, Some, None, refl, sym, ap}
-use Rattle.std.proofs.Common.{◌∙◌, subst, inl, inr, arith, false}
-use Rattle.std.specs.List.{flat_map}
-use Rattle.spec_state.specs.CellState.{has_map}
-use Rattle.law_state.specs.Homes.{epoch_at}
-use Rattle.law_steps.specs.DidRead.{IsReadable}
-use Rattle.spec_machine.specs.declared.event.Event.{Event}
-use Rattle.spec_machine.specs.Machine.{Plain}
+use Rattle.law_run.proofs.Imports.{[], if◌then◌else◌, ◌++◌, ◌∙◌, ◌∷◌, ◌≡◌, Body, Cell, Chain, Command, DiskRow, Event, Handled, In, IsReadable, Letter, Line}
+use Rattle.law_run.proofs.Imports.{List, MayLook, None, Option, Plain, Some, accepted, ap, arith, at, by_bool, bytes_of, cell_cmp, chain_in, chosen_log}
+use Rattle.law_run.proofs.Imports.{coming, entry_at, epoch_at, false, flat_map, has_map, in-append, inl, inr, is_lead, leaving, look_for, look_of, own_place}
+use Rattle.law_run.proofs.Imports.{readable, refl, state_after, subst, sym, true, ℕ}
 use Rattle.law_run.specs.MachineTies.{Follow}
 use Rattle.law_run.specs.WritesGoOn.{IsMindful}
 use Rattle.law_run.proofs.Machine.{onward_itself}
-use Rattle.law_run.proofs.ContentsAsked.{AsksFor, IsAskedAt, IsKnownRead, IsOfDisk, known_read, may_look, of_disk, own_epoch}
-use Rattle.law_run.proofs.ContentsAsked.{own_up_to, reads_old_is, same_disk}
-use Rattle.std.specs.Prelude.{if◌then◌else◌}
-use Rattle.petal_base.specs.declared.cell.Cell.{Cell}
-use Rattle.petal_command.specs.declared.command.Command.{Command}
-use Rattle.petal_table.specs.Table.{at}
-use Rattle.global_tables.specs.declared.disk.DiskRow.{DiskRow}
-use Rattle.spec_machine.specs.Run.{MayLook}
-use Rattle.petal_msg.specs.declared.body.Body.{Body}
-use Rattle.petal_msg.specs.declared.body.Body.TheVariants as body
-use Rattle.petal_msg.specs.declared.letter.Actor.TheVariants as actor
-use Rattle.petal_msg.specs.declared.letter.Letter.{Letter}
-use Rattle.spec_state.specs.Command.{state_after}
-use Rattle.script_lines.specs.declared.request.Line.{Line}
-use Rattle.script_lines.specs.declared.request.Request.TheVariants as request
-use Rattle.spec_rules.specs.Lists.{In}
-use Rattle.spec_rules.specs.State.{is_lead, readable, coming, leaving}
-use Rattle.spec_rules.specs.Store.{cell_cmp, Chain, chain_in, entry_at, bytes_of}
-use Rattle.spec_rules.specs.World.{chosen_log}
-use Rattle.spec_rules.proofs.ListLemmas.{in-append}
-use Rattle.spec_rules.proofs.Tests.{by_bool}
-use Rattle.spec_history.specs.Events.{look_for, look_of, accepted}
-use Rattle.law_steps.specs.DidStep.{Handled, own_place}
+use Rattle.law_run.proofs.ContentsAsked.{AsksFor, IsAskedAt, IsKnownRead, IsOfDisk, known_read, may_look, of_disk, own_epoch, own_up_to, reads_old_is}
+use Rattle.law_run.proofs.ContentsAsked.{same_disk}
 use Rattle.law_run.proofs.ChosenDisks.{HasDisk, disk_here, disks_now, plain_now, rows_in}
 use Rattle.law_run.proofs.ReadsLookWhereSent.{AllLooks, Looked, looked, Accepts, letter_looks}
 use Rattle.law_run.proofs.MachineTakesWrites.{was_kept, now_has, now_kept, was_has}
 use Rattle.law_run.proofs.EntryAtEpoch.{AreUpTo, entry_later}
 use Rattle.law_run.proofs.EventsOfServerSteps.{LooksTold, ServerStep, ends_of, grounded, later_world, letters, look_here}
 use Rattle.law_run.proofs.ReadersHaveContents.{IsReading, now_high, now_low, shown}
+use Rattle.petal_msg.specs.declared.body.Body.TheVariants as body
+use Rattle.petal_msg.specs.declared.letter.Actor.TheVariants as actor
+use Rattle.script_lines.specs.declared.request.Request.TheVariants as request
 pub use Rattle.law_run.proofs.ReadersHaveContents.{data_of}
 
 -- looks that are allowed, one after another

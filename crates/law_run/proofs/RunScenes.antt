@@ -1,9 +1,6 @@
 -- What many lemmas of the run are told of: a world of a legal history with what is known of it.
-use Rattle.spec_rules.specs.State.{State}
-use Rattle.spec_rules.specs.World.{Setting, World}
-use Rattle.law_state.specs.Firm.{Firm}
+use Rattle.law_run.proofs.Imports.{Firm, Plain, Setting, State, World}
 use Rattle.law_run.specs.MachineTies.{Follow, Ground}
-use Rattle.spec_machine.specs.Machine.{Plain}
 use Rattle.law_run.proofs.ChosenDisks.{rows_in, Along}
 
 pub record Grounded : Type 0 where

@@ -1,39 +1,9 @@
 -- What a server's step has to show so that servers and clients stay tied to the plain machine.
-use Rattle.std.proofs.Common.{◌≡◌, ◌≢◌, ℕ, true, Some, refl, sym, ap, ◌∙◌, subst, ◌⊎◌, inl, inr, arith}
-use Rattle.std.specs.Ordering.{nat_cmp}
-use Rattle.global_tables.specs.declared.link.LinkRow.{LinkRow}
-use Rattle.global_tables.specs.declared.link.LinkState.TheVariants.{Both}
-use Rattle.petal_base.specs.declared.cell.Cell.{Cell}
-use Rattle.petal_table.specs.Table.{at}
-use Rattle.petal_table.proofs.Rows.{at-empty}
-use Rattle.spec_machine.specs.Machine.{Plain}
-use Rattle.petal_msg.specs.declared.body.Body.TheVariants as body
-use Rattle.petal_msg.specs.declared.letter.Actor.TheVariants as actor
-use Rattle.petal_msg.specs.declared.letter.Letter.{Letter}
-use Rattle.petal_msg.specs.declared.operation.Ending.TheVariants as ending
-use Rattle.petal_msg.specs.declared.operation.Finished.{Finished}
-use Rattle.petal_msg.specs.declared.operation.Pending.{Pending}
-use Rattle.spec_state.specs.CellState.{serves}
-use Rattle.spec_rules.specs.Lists.{In}
-use Rattle.spec_rules.specs.Log.{state_in}
-use Rattle.spec_rules.specs.State.{authority, in_both}
-use Rattle.spec_rules.specs.Store.{Chain, Store, cell_cmp, chain_in}
-use Rattle.spec_rules.specs.Server.{PairState, Pairs, Server, no_pairs}
-use Rattle.spec_rules.specs.Writes.{is_clients}
-use Rattle.spec_rules.specs.World.{chosen_log, chosen_state, kept, server_state}
-use Rattle.spec_rules.proofs.ListLemmas.{in-append, put_same, put_apart}
-use Rattle.spec_rules.proofs.Tests.{none_some, same_or_apart, same_some}
-use Rattle.spec_history.specs.Claims.{IsPrefix}
-use Rattle.spec_history.specs.Events.{open_write}
-use Rattle.law_state.proofs.LoneHolders.{both_row, so_both}
-use Rattle.law_state.proofs.Roles.{secondary_is_one}
-use Rattle.law_steps.proofs.Fronts.{front_itself}
-use Rattle.law_steps.proofs.KindsInHistories.{own_steady}
-use Rattle.law_copies.specs.WaitingStores.{IsOwn}
-use Rattle.law_copies.specs.Pair.{owns_of}
-use Rattle.law_copies.specs.Visits.{IsLinked, place_by, AliveIn}
-use Rattle.law_copies.proofs.PlacesByFronts.{linked_between, one_row, places_up, rows_later}
-use Rattle.law_requests.specs.AskedRequests.{IsOpen}
+use Rattle.law_run.proofs.Imports.{◌∙◌, ◌≡◌, ◌≢◌, ◌⊎◌, AliveIn, Both, Cell, Chain, Finished, In, IsLinked, IsOpen, IsOwn, IsPrefix, Letter, LinkRow}
+use Rattle.law_run.proofs.Imports.{PairState, Pairs, Pending, Plain, Server, Some, Store, ap, arith, at, at-empty, authority, both_row, cell_cmp, chain_in}
+use Rattle.law_run.proofs.Imports.{chosen_log, chosen_state, front_itself, in-append, in_both, inl, inr, is_clients, kept, linked_between, nat_cmp, no_pairs}
+use Rattle.law_run.proofs.Imports.{none_some, one_row, open_write, own_steady, owns_of, place_by, places_up, put_apart, put_same, refl, rows_later}
+use Rattle.law_run.proofs.Imports.{same_or_apart, same_some, secondary_is_one, server_state, serves, so_both, state_in, subst, sym, true, ℕ}
 use Rattle.law_run.specs.WritesGoOn.{is_held, Onward}
 use Rattle.law_run.specs.MachineTies.{HasCounted, Is_told, Is_followed, Is_counted, Follow, Stores}
 use Rattle.law_run.proofs.StepsLeaveServers.{Leaves, As_it_was, In_place, Goes_further, Boots, serves_leaves}
@@ -43,6 +13,9 @@ use Rattle.law_run.proofs.ChosenDisks.{rows_in}
 use Rattle.law_run.proofs.Machine.{seat_onward, held_onward}
 use Rattle.law_run.proofs.EventsOfServerSteps.{ServerStep, ends_of, grounded, grounded_after, joined_now, joined_then, kept_here, kept_other, letters, new}
 use Rattle.law_run.proofs.EventsOfServerSteps.{logs_grow, logs_within, own_now, own_other}
+use Rattle.petal_msg.specs.declared.body.Body.TheVariants as body
+use Rattle.petal_msg.specs.declared.letter.Actor.TheVariants as actor
+use Rattle.petal_msg.specs.declared.operation.Ending.TheVariants as ending
 
 -- the server runs after the step
 abbrev pub Runs : ServerStep → Type 0

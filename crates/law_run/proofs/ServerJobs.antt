@@ -1,51 +1,21 @@
 -- Each kind of job shows what it has to, where the write of what it has put where it counts has had its bytes.
-use Rattle.std.proofs.Common.{◌≡◌, ◌≢◌, ℕ, true, Some, refl, sym, ap, ◌∙◌, subst, ◌⊎◌, inl, inr}
-use Rattle.law_steps.proofs.WhoLeads.{lead_links}
-use Rattle.law_steps.specs.DidSweep.{Sweeps}
-use Rattle.std.specs.Ordering.{nat_cmp}
-use Rattle.global_tables.specs.declared.link.LinkRow.{LinkRow}
-use Rattle.global_tables.specs.declared.link.LinkState.TheVariants.{Both, Only}
-use Rattle.petal_base.specs.declared.cell.Cell.{Cell}
-use Rattle.petal_base.specs.Cells.{cell_of}
-use Rattle.petal_table.specs.Table.{at}
-use Rattle.spec_machine.specs.Machine.{Plain}
-use Rattle.petal_msg.specs.declared.operation.Ending.TheVariants as ending
-use Rattle.petal_msg.specs.declared.operation.Finished.{Finished}
-use Rattle.petal_msg.specs.declared.operation.Pending.{Pending}
-use Rattle.spec_rules.specs.State.{is_lead, is_second, live}
-use Rattle.spec_rules.specs.Store.{Chain, Store, cell_cmp, chain_in}
-use Rattle.spec_rules.specs.Server.{PairState, JobResult, Pairs}
-use Rattle.spec_rules.specs.Writes.{is_clients}
-use Rattle.spec_rules.specs.World.{chosen_state, kept}
-use Rattle.spec_rules.proofs.Tests.{is_the_one, same_some, true_false}
-use Rattle.law_state.specs.Steady.{IsSteady}
-use Rattle.law_state.proofs.CellsByLinkRows.{led_by, second_by}
-use Rattle.law_steps.specs.DidSecond.{DidSecond, Follows}
-use Rattle.law_steps.specs.DidOther.{DidOther}
-use Rattle.law_steps.specs.Did.{Did, Ignores, Refuses, By_read, By_lead, By_second, By_holder, By_other, By_filler, By_sweep}
-use Rattle.law_steps.specs.DidStep.{IsSeated}
-use Rattle.law_steps.proofs.CopyFrames.{of_holder, of_other}
-use Rattle.law_steps.proofs.KindsInHistories.{own_steady}
-use Rattle.law_steps.proofs.OperationsRest.{same_cell_or_apart}
-use Rattle.law_steps.proofs.Subjects.{of_read, of_second, of_filler}
-use Rattle.law_jobs.proofs.OperationsCome.{did_finish, finished_of}
-use Rattle.law_copies.specs.WaitingStores.{IsOwn}
-use Rattle.law_copies.specs.Pair.{owns_of}
-use Rattle.law_copies.specs.Visits.{AliveIn}
-use Rattle.law_jobs.proofs.ChainsApart.{chain_apart}
-use Rattle.law_copies.proofs.OtherIsNotHolder.{held_not_lead}
-use Rattle.law_requests.proofs.LeadsAtTwoPlaces.{one_lead}
-use Rattle.law_requests.specs.AskedRequests.{IsOpen}
+use Rattle.law_run.proofs.Imports.{◌∙◌, ◌≡◌, ◌≢◌, ◌⊎◌, A_copy, AliveIn, An_asked, An_own, Both, By_filler, By_holder, By_lead, By_other, By_read, By_second}
+use Rattle.law_run.proofs.Imports.{By_sweep, Cell, Chain, Did, DidOther, DidSecond, Drops, Finished, Ignores, IsOpen, IsOwn, IsSeated, IsSteady, JobResult}
+use Rattle.law_run.proofs.Imports.{LinkRow, NeverDead, Nothing_new, Of_the_dead, Only, OtherStores, PairState, Pairs, Pending, Plain, PutsAsked, PutsCopy}
+use Rattle.law_run.proofs.Imports.{PutsOwn, Refuses, Some, Store, StoresSo, Sweeps, ap, at, cell_cmp, cell_of, chain_apart, chain_in, chosen_state}
+use Rattle.law_run.proofs.Imports.{copied_apart, did_finish, did_stores, finished_of, held_not_lead, holder_chains, inl, inr, is_clients, is_lead, is_second}
+use Rattle.law_run.proofs.Imports.{is_the_one, kept, lead_links, led_by, live, nat_cmp, of_filler, of_holder, of_other, of_read, of_second, one_lead}
+use Rattle.law_run.proofs.Imports.{other_changes, own_steady, owns_of, refl, same_cell_or_apart, same_some, second_by, second_stores, subst, swept, sym, true}
+use Rattle.law_run.proofs.Imports.{true_false, ℕ}
+use Rattle.law_steps.specs.DidSecond.{Follows}
 use Rattle.law_run.specs.WritesGoOn.{is_held, Onward}
-use Rattle.law_moves.proofs.JobsChangeOneChain.{Drops, NeverDead, StoresSo, Nothing_new, An_own, An_asked, A_copy, Of_the_dead, OtherStores, PutsAsked, PutsCopy, PutsOwn}
-use Rattle.law_moves.proofs.JobsChangeOneChain.{copied_apart, did_stores, holder_chains, other_changes, second_stores, swept}
 use Rattle.law_run.proofs.CopiesThatDontCount.{copied_unfollowed}
 use Rattle.law_run.proofs.ServerFrames.{OwnFollow}
 use Rattle.law_run.proofs.GroundGives.{dropped_same, followed}
-use Rattle.law_run.proofs.OwnPlacesAreLatest.{IsSharing, one_place_of, op_lead, op_leads, op_seat, place_of}
-use Rattle.law_run.proofs.OwnPlacesAreLatest.{visit_here, alive_here}
+use Rattle.law_run.proofs.OwnPlacesAreLatest.{IsSharing, one_place_of, op_lead, op_leads, op_seat, place_of, visit_here, alive_here}
 use Rattle.law_run.proofs.EventsOfServerSteps.{ServerStep, ends_of, grounded, joined_now, joined_then, kept_here, later_world, new as own_left, own_after}
 use Rattle.law_run.proofs.LeadPutsThatCount.{Held, Counted, PutHeld, was_held, lead_pending, old_finished, finish_held}
+use Rattle.petal_msg.specs.declared.operation.Ending.TheVariants as ending
 
 module _ (this : ServerStep) (k : Plain) where
   open ends_of this use {own, here, hears}

@@ -1,55 +1,28 @@
 -- What the machine is told of a server's step is allowed, and keeps it tied to the world.
+use Rattle.law_run.proofs.Imports.{[], ◌+◌, ◌||◌, ◌∙◌, ◌≡◌, Acted, AreStepsFrom, Body, By_ballot, By_entry, By_job, By_read, Cell, Command, Did, Ends, Fails}
+use Rattle.law_run.proofs.Imports.{Goes, Handled, In, IsSeated, IsSettling, Job, JobContext, JobResult, Letter, Line, List, Log, NeverDead, None, Not_here}
+use Rattle.law_run.proofs.Imports.{Option, PairState, Pairs, Pending, Plain, Post, Sender, Serving, Shows, Some, Stays, Store, Wakes, Worked, World, ap, at}
+use Rattle.law_run.proofs.Imports.{awake, cell_cmp, chain_in, chosen_log, chosen_same, copying_on, crossed, did_stores, down_posts, false, inl, is_some}
+use Rattle.law_run.proofs.Imports.{is_under_way, letters_of, named_cell, own_place, owns_of, proposed_pairs, raised, refl, rev_of, said, sender, served_so}
+use Rattle.law_run.proofs.Imports.{server_state, servers_of, settled_by, settling, stamped, stopped_so, subst, sym, true, true_false, without_rev, ℕ}
 use Rattle.law_run.proofs.GroundGives.{never_dead, proposed_store}
 use Rattle.law_run.proofs.NotHere.{not_here_told}
-use Rattle.law_steps.specs.DidRead.{Not_here, Shows}
 use Rattle.law_run.proofs.ReadsShowContents.{AreCalm, data_of, show_told}
-use Rattle.law_run.proofs.EventsOfServerSteps.{LooksTold, Next, ServerStep, ServerTold, ServesAt, after_step, kept_here, later_world, letters, new, quiet_looks}
-use Rattle.spec_history.specs.Steps.{AreStepsFrom}
-use Rattle.spec_state.specs.CellState.{named_cell}
-use Rattle.std.proofs.Common.{◌≡◌, ◌+◌, ℕ, List, [], true, Some, refl, sym, ap, ◌∙◌, subst, inl, ◌||◌, false, Option, None}
-use Rattle.std.specs.Prelude.{is_some}
-use Rattle.petal_base.specs.declared.cell.Cell.{Cell}
-use Rattle.petal_table.specs.Table.{at}
-use Rattle.spec_machine.specs.Machine.{Plain}
-use Rattle.petal_msg.specs.declared.body.Body.{Body}
-use Rattle.petal_msg.specs.declared.body.Body.TheVariants as body
-use Rattle.petal_msg.specs.declared.letter.Actor.TheVariants as actor
-use Rattle.petal_msg.specs.declared.letter.Letter.{Letter}
-use Rattle.petal_msg.specs.declared.operation.Pending.{Pending}
-use Rattle.script_lines.specs.declared.request.Line.{Line}
-use Rattle.spec_rules.specs.Boots.{awake, raised}
-use Rattle.petal_command.specs.declared.command.Command.{Command}
-use Rattle.spec_rules.specs.Crossing.{crossed, settled_by}
-use Rattle.spec_rules.specs.Jobs.{Acted, down_posts}
-use Rattle.spec_rules.specs.Lists.{In}
-use Rattle.spec_rules.specs.Log.{Log, rev_of}
-use Rattle.spec_rules.specs.Server.{PairState, Pairs, JobContext, Post, Sender, JobResult, sender, letters_of}
-use Rattle.spec_rules.specs.State.{servers_of}
-use Rattle.spec_rules.specs.Progress.{copying_on}
-use Rattle.spec_rules.specs.Store.{Store, cell_cmp, chain_in}
-use Rattle.spec_rules.specs.Writes.{is_under_way}
-use Rattle.spec_rules.specs.World.{World, stamped, chosen_log, server_state}
-use Rattle.spec_rules.specs.declared.job.Job.{Job}
-use Rattle.spec_rules.proofs.Settled.{IsSettling, settling}
-use Rattle.spec_rules.proofs.Tests.{true_false}
-use Rattle.law_steps.specs.Did.{Did, By_read}
-use Rattle.law_steps.specs.DidStep.{Handled, Worked, By_job, By_ballot, By_entry, IsSeated, Serving, Goes, Ends, Stays, Wakes, Fails}
-use Rattle.law_steps.specs.DidStep.{own_place, without_rev, served_so, stopped_so}
-use Rattle.law_steps.proofs.Letters.{said}
-use Rattle.law_steps.proofs.ServerStepKinds.{chosen_same}
-use Rattle.law_copies.specs.Pair.{owns_of}
+use Rattle.law_run.proofs.EventsOfServerSteps.{LooksTold, Next, ServerStep, ServerTold, ServesAt, after_step, kept_here, later_world, letters, new}
+use Rattle.law_run.proofs.EventsOfServerSteps.{quiet_looks}
 use Rattle.law_run.specs.WritesGoOn.{Onward}
-use Rattle.law_moves.proofs.JobsChangeOneChain.{did_stores, NeverDead}
 use Rattle.law_run.proofs.ServerFrames.{AreKept, As_before, Anew, OwnFollow, Runs, SaysOk, kept_own}
 use Rattle.law_run.proofs.LogSteps.{IsOfKind, Of_the_log, Of_a_boot, Of_the_rest}
 use Rattle.law_run.proofs.ReadsLookWhereSent.{is_looked, AreGrounded, who_accepts}
 use Rattle.law_run.proofs.PutContents.{calm_told, joined_same, unchanged}
 use Rattle.law_run.proofs.CountedPutsGiveBytes.{stored_told}
-use Rattle.law_requests.proofs.StepsKeepRequests.{proposed_pairs}
-use Rattle.law_run.proofs.DataLetters.{IsUnended, is_written, did_says, downs_unended, glances_unended, logged_unended, quiet_data, unended_no_data, unended_no_end}
+use Rattle.law_run.proofs.DataLetters.{IsUnended, is_written, did_says, downs_unended, glances_unended, logged_unended, quiet_data, unended_no_data}
+use Rattle.law_run.proofs.DataLetters.{unended_no_end}
 use Rattle.law_run.proofs.ServerJobs.{did_job}
 use Rattle.law_run.proofs.EventsPutTogether.{assembled}
 use Rattle.law_run.proofs.LeavesTakeWrites.{votes_told}
+use Rattle.petal_msg.specs.declared.body.Body.TheVariants as body
+use Rattle.petal_msg.specs.declared.letter.Actor.TheVariants as actor
 
 -- letters that end no request
 module _ (this : ServerStep) (who : Sender) (posts : List Post) (is : letters this ≡ stamped this.stamp (letters_of who 0 posts))

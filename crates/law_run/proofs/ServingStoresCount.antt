@@ -1,25 +1,9 @@
 -- Who serves a cell's link after a step has not come back with nothing in it: its store counts as it did, if what is chosen tells of no
 -- other blank of it.
-use Rattle.std.proofs.Common.{◌≡◌, ◌≤◌, ◌++◌, ℕ, List, [], ◌∷◌, Bool, true, Some, subst, inl, inr, arith}
-use Rattle.petal_base.specs.declared.cell.Cell.{Cell}
-use Rattle.petal_command.specs.declared.command.Command.{Command}
-use Rattle.petal_command.specs.declared.command.Command.TheVariants.{Join}
-use Rattle.global_tables.specs.Link.{has_server, other_of}
-use Rattle.global_tables.specs.declared.link.LinkRow.{LinkRow}
-use Rattle.global_tables.specs.declared.link.LinkState.TheVariants.{Only}
-use Rattle.spec_state.specs.CellState.{serves}
-use Rattle.spec_history.specs.Claims.{IsPrefix}
-use Rattle.spec_rules.specs.Server.{PairState}
-use Rattle.spec_rules.specs.State.{id_of}
-use Rattle.spec_rules.specs.World.{chosen_state}
-use Rattle.spec_rules.proofs.Tests.{true_false}
-use Rattle.law_state.specs.Joins.{HasJoinedSince}
-use Rattle.law_state.specs.LinkChanges.{IsCaughtStill}
-use Rattle.law_state.specs.Plain.{IsPlainLog}
-use Rattle.law_state.specs.StartedBallots.{is_flagged}
-use Rattle.law_steps.proofs.Fronts.{front_itself, front_more, front_on}
-use Rattle.law_copies.specs.Visits.{IsLinked, Visits, place_by, AliveIn}
-use Rattle.law_copies.proofs.PlacesByFronts.{place_of_later, place_touched, places_up, alive_on}
+use Rattle.law_run.proofs.Imports.{[], ◌++◌, ◌∷◌, ◌≡◌, ◌≤◌, AliveIn, Bool, Cell, Command, HasJoinedSince, IsCaughtStill, IsLinked, IsPlainLog, IsPrefix, Join}
+use Rattle.law_run.proofs.Imports.{LinkRow, List, Only, PairState, Some, Visits, alive_on, arith, chosen_state, front_itself, front_more, front_on}
+use Rattle.law_run.proofs.Imports.{has_server, id_of, inl, inr, is_flagged, other_of, place_by, place_of_later, place_touched, places_up, serves, subst, true}
+use Rattle.law_run.proofs.Imports.{true_false, ℕ}
 use Rattle.law_run.proofs.BlankedServeNothing.{IsUncaught, more_joins, serves_none}
 use Rattle.law_run.proofs.EventsOfServerSteps.{ServerStep, ends_of, joined_now, joined_then, logs_within}
 

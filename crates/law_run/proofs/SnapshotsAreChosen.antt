@@ -1,19 +1,9 @@
 -- The machine's snapshots are those of the chosen disks; and a freeze takes one more.
-use Rattle.std.proofs.Common.{◌≡◌, ◌≢◌, ◌≤◌, ◌+◌, ℕ, zero, suc, List, [], ◌∷◌, ◌++◌, Bool, true, Some, None, refl, sym, ap, ◌∙◌}
-use Rattle.std.proofs.Common.{subst, inl, inr, arith, append_assoc, length, cond}
-use Rattle.std.specs.Prelude.{find, map, slice_get}
-use Rattle.std.proofs.lemmas.List.{append-nil, length-append}
-use Rattle.global_tables.specs.Disk.{same_name, snapshot_named}
-use Rattle.global_tables.specs.declared.disk.DiskRow.{DiskRow}
-use Rattle.global_tables.specs.declared.disk.Snapshot.{Snapshot}
-use Rattle.spec_machine.specs.declared.event.Event.{Event}
-use Rattle.spec_machine.specs.declared.state.PlainSnapshot.{PlainSnapshot}
-use Rattle.spec_machine.specs.Machine.{Plain, content, disk_of, is_snap_named}
-use Rattle.spec_machine.specs.Run.{Obeys, after, changed, frozen, replay}
-use Rattle.spec_rules.specs.Lists.{In}
-use Rattle.spec_rules.proofs.Tests.{by_bool, nat_lists_same, none_some, same_some}
-use Rattle.spec_history.specs.Claims.{AreSnapshots, Holds}
-use Rattle.spec_history.specs.Events.{freeze_of}
+use Rattle.law_run.proofs.Imports.{[], ◌++◌, ◌+◌, ◌∙◌, ◌∷◌, ◌≡◌, ◌≢◌, ◌≤◌, AreSnapshots, Bool, DiskRow, Event, Holds, In, List, None, Obeys, Plain}
+use Rattle.law_run.proofs.Imports.{PlainSnapshot, Snapshot, Some, after, ap, append-nil, append_assoc, arith, by_bool, changed, cond, content, disk_of}
+use Rattle.law_run.proofs.Imports.{freeze_of, frozen, inl, inr, is_snap_named, length, length-append, map, nat_lists_same, none_some, refl, replay, same_name}
+use Rattle.law_run.proofs.Imports.{same_some, slice_get, snapshot_named, subst, suc, sym, true, zero, ℕ}
+use Rattle.std.specs.Prelude.{find}
 use Rattle.law_run.specs.WritesGoOn.{IsMindful, Onward}
 use Rattle.law_run.proofs.Machine.{after_mindful, disks_after, onward_by, onward_itself, onward_joined, opened_after, with_apart, with_same}
 

@@ -1,23 +1,7 @@
 -- Snapshots never change: what a later world has of them is what the machine kept.
-use Rattle.std.proofs.Common.{◌≡◌, ◌<◌, ℕ, List, true, Some, sym, ap, ◌∙◌, arith}
-use Rattle.std.specs.Prelude.{slice_get}
-use Rattle.global_tables.specs.declared.disk.DiskRow.{DiskRow}
-use Rattle.global_tables.specs.declared.disk.Snapshot.{Snapshot}
-use Rattle.spec_machine.specs.declared.event.Event.{Event}
-use Rattle.spec_machine.specs.declared.state.PlainDisk.{PlainDisk}
-use Rattle.spec_machine.specs.declared.state.PlainSnapshot.{PlainSnapshot}
-use Rattle.spec_machine.specs.Machine.{Plain, content, disk_of}
-use Rattle.spec_machine.specs.Run.{replay}
-use Rattle.spec_rules.specs.Lists.{In}
-use Rattle.spec_rules.specs.World.{Setting, World, chosen_log, chosen_state}
-use Rattle.spec_rules.proofs.Tests.{same_some}
-use Rattle.spec_history.specs.Claims.{Holds, IsPrefix, IsStill}
-use Rattle.spec_history.specs.Contents.{content_at, has_content_at}
-use Rattle.law_state.specs.Firm.{Firm}
-use Rattle.law_state.specs.Tables.{IsRowAt}
-use Rattle.law_state.proofs.ListLookups.{get_front, get_in, get_within}
-use Rattle.law_state.proofs.LaterDisks.{HasRowLater}
-use Rattle.law_state.proofs.Steady.{log_grown}
+use Rattle.law_run.proofs.Imports.{◌<◌, ◌∙◌, ◌≡◌, DiskRow, Event, Firm, HasRowLater, Holds, In, IsPrefix, IsRowAt, IsStill, List, Plain, PlainDisk}
+use Rattle.law_run.proofs.Imports.{PlainSnapshot, Setting, Snapshot, Some, World, ap, arith, chosen_log, chosen_state, content, content_at, disk_of}
+use Rattle.law_run.proofs.Imports.{get_front, get_in, get_within, has_content_at, log_grown, replay, same_some, slice_get, sym, true, ℕ}
 use Rattle.law_run.specs.MachineTies.{Stores}
 use Rattle.law_run.proofs.ChosenDisks.{later_row, plain_now, rows_in}
 use Rattle.law_run.proofs.SnapshotsTaken.{HasMore, snaps_stay}

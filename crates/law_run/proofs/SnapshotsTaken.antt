@@ -1,27 +1,9 @@
 -- Snapshots that a step takes: of each disk those that it has after the step and had not before. And no event changes a snapshot.
-use Rattle.std.proofs.Common.{◌≡◌, ◌≢◌, ◌≤◌, ℕ, suc, List, [], ◌∷◌, ◌++◌, Bool, Option, Some, refl, sym, ap, ◌∙◌}
-use Rattle.std.proofs.Common.{subst, inl, inr, arith, append_assoc, length}
-use Rattle.global_tables.specs.declared.map.MapRow.{MapRow}
-use Rattle.std.specs.Prelude.{drop, map, slice_get}
-use Rattle.std.specs.List.{flat_map}
-use Rattle.std.proofs.lemmas.List.{append-nil}
-use Rattle.std.proofs.lemmas.Option.{slice_get_within}
-use Rattle.std.proofs.Math.Seq.{drop-append_seam}
-use Rattle.global_tables.specs.Disk.{disk_at}
-use Rattle.global_tables.specs.declared.disk.DiskRow.{DiskRow}
-use Rattle.global_tables.specs.declared.disk.Snapshot.{Snapshot}
-use Rattle.spec_machine.specs.declared.event.Event.{Event}
-use Rattle.spec_machine.specs.declared.event.Event.TheVariants.{Begin, End, Freeze, Look, Make, Take}
-use Rattle.spec_machine.specs.declared.state.PlainDisk.{PlainDisk}
-use Rattle.spec_machine.specs.declared.state.PlainSnapshot.{PlainSnapshot}
-use Rattle.spec_machine.specs.Machine.{Plain, disk_of, is_named, same_bytes, with_disk}
-use Rattle.spec_machine.specs.Run.{Obeys, after, frozen, replay, written}
-use Rattle.spec_rules.specs.Lists.{In}
-use Rattle.spec_rules.proofs.Tests.{by_bool, nat_lists_same, true_false}
-use Rattle.spec_history.specs.Claims.{Holds}
-use Rattle.spec_history.specs.Events.{freeze_of, snapshots_of}
-use Rattle.law_state.specs.Tables.{IsRowAt}
-use Rattle.law_state.proofs.ListLookups.{find_front, get_front, get_in, text_itself}
+use Rattle.law_run.proofs.Imports.{[], ◌++◌, ◌∙◌, ◌∷◌, ◌≡◌, ◌≢◌, ◌≤◌, Begin, Bool, DiskRow, End, Event, Freeze, Holds, In, IsRowAt, List, Look, Make, MapRow}
+use Rattle.law_run.proofs.Imports.{Obeys, Option, Plain, PlainDisk, PlainSnapshot, Snapshot, Some, Take, after, ap, append-nil, append_assoc, arith, by_bool}
+use Rattle.law_run.proofs.Imports.{disk_at, disk_of, drop, drop-append_seam, find_front, flat_map, freeze_of, frozen, get_front, get_in, inl, inr, is_named}
+use Rattle.law_run.proofs.Imports.{length, map, nat_lists_same, refl, replay, same_bytes, slice_get, slice_get_within, snapshots_of, subst, suc, sym}
+use Rattle.law_run.proofs.Imports.{text_itself, true_false, with_disk, written, ℕ}
 use Rattle.law_run.specs.WritesGoOn.{IsMindful, Onward}
 use Rattle.law_run.proofs.Machine.{Obeys-append, disks_after, onward_itself, onward_joined, replay-append, with_apart, with_same}
 use Rattle.law_run.proofs.DisksMade.{drop_all}

@@ -1,27 +1,8 @@
 -- From which cell the entries of a cell that is coming come: it is the same by each state by which it is coming.
-use Rattle.std.proofs.Common.{◌≡◌, ◌==◌, ℕ, List, true, Option, Some, None, refl, sym, ap, ◌∙◌, inl, inr, arith}
-use Rattle.std.specs.Prelude.{if◌then◌else◌, option_and_then, option_map}
-use Rattle.petal_base.specs.declared.cell.Cell.{Cell}
-use Rattle.petal_command.specs.declared.command.Command.{Command}
-use Rattle.global_tables.specs.declared.disk.DiskRow.{DiskRow}
-use Rattle.global_tables.specs.Region.{region_of}
-use Rattle.global_tables.specs.declared.disk.Move.{Move}
-use Rattle.global_tables.specs.declared.disk.RegionState.{RegionState}
-use Rattle.global_tables.specs.declared.disk.RegionState.TheVariants.{Old, Fenced, New}
-use Rattle.spec_history.specs.Claims.{IsPrefix}
-use Rattle.spec_history.specs.Contents.{home_of, old_cell}
-use Rattle.spec_state.specs.CellState.{has_map, is_fenced, move_region, named_cell, named_map, old_map, source, source_in}
-use Rattle.spec_state.specs.Command.{state_after}
-use Rattle.spec_rules.specs.Lists.{In}
-use Rattle.spec_rules.specs.State.{State}
-use Rattle.spec_rules.proofs.Tests.{number_itself, some_or_none, true_false}
-use Rattle.law_state.specs.Disks.{AreDisks}
-use Rattle.law_state.specs.Homes.{stage_at}
-use Rattle.law_state.specs.Plain.{IsPlainLog}
-use Rattle.law_state.specs.Tables.{IsPlainState}
-use Rattle.law_state.proofs.Disks.{log_disks}
-use Rattle.law_state.proofs.EntriesOnlyAdd.{log_plain}
-use Rattle.law_state.proofs.TwinsAreOfOneDisk.{source_same}
+use Rattle.law_run.proofs.Imports.{if◌then◌else◌, ◌==◌, ◌∙◌, ◌≡◌, AreDisks, Cell, Command, DiskRow, Fenced, In, IsPlainLog, IsPlainState, IsPrefix, List}
+use Rattle.law_run.proofs.Imports.{Move, New, None, Old, Option, RegionState, Some, State, ap, arith, has_map, home_of, inl, inr, is_fenced, log_disks}
+use Rattle.law_run.proofs.Imports.{log_plain, move_region, named_cell, named_map, number_itself, old_cell, old_map, option_and_then, option_map, refl}
+use Rattle.law_run.proofs.Imports.{region_of, some_or_none, source, source_in, source_same, stage_at, state_after, sym, true, true_false, ℕ}
 use Rattle.law_run.proofs.ChosenDisks.{cell_comes, cell_named}
 use Rattle.law_run.proofs.ContentsByCells.{is_between}
 

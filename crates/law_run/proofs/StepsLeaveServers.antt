@@ -1,19 +1,8 @@
 -- What a step leaves of a server: its operations, its entries, or both.
-use Rattle.std.proofs.Common.{◌≡◌, ◌<◌, ℕ, [], true, refl, sym, ap, ◌∙◌, subst, inl, inr, arith}
-use Rattle.spec_state.specs.Command.{state_after}
-use Rattle.spec_rules.specs.Boots.{blanked}
-use Rattle.spec_rules.specs.Crossing.{crossed}
-use Rattle.spec_rules.specs.Jobs.{Acted}
-use Rattle.spec_rules.specs.Log.{Log, state_in}
-use Rattle.spec_rules.specs.Server.{PairState, Pairs, Server, JobResult, no_pairs, stopped}
-use Rattle.spec_rules.specs.State.{State, is_in}
-use Rattle.spec_rules.specs.World.{Setting, World, server_state}
-use Rattle.spec_rules.specs.declared.step.Step.{Step}
-use Rattle.spec_rules.proofs.Settled.{settling}
-use Rattle.spec_rules.proofs.Tests.{all_put_apart}
-use Rattle.law_steps.specs.DidStep.{served, Happens, Serves, Blanks, Turns, Serving, Goes, Ends, Stays, Wakes, Fails, Worked}
-use Rattle.law_steps.specs.DidStep.{By_job, By_ballot, By_entry, own_place}
-use Rattle.law_requests.proofs.StepsKeepRequests.{proposed_pairs}
+use Rattle.law_run.proofs.Imports.{[], ◌<◌, ◌∙◌, ◌≡◌, Acted, Blanks, By_ballot, By_entry, By_job, Ends, Fails, Goes, Happens, JobResult, Log, PairState}
+use Rattle.law_run.proofs.Imports.{Pairs, Server, Serves, Serving, Setting, State, Stays, Step, Turns, Wakes, Worked, World, all_put_apart, ap, arith}
+use Rattle.law_run.proofs.Imports.{blanked, crossed, inl, inr, is_in, no_pairs, own_place, proposed_pairs, refl, served, server_state, settling, state_after}
+use Rattle.law_run.proofs.Imports.{state_in, stopped, subst, sym, true, ℕ}
 
 -- its operations and its entries; its entries, where it is In as itself; its operations; or nothing, where it boots
 pub data Leaves (setting : Setting) (n : ℕ) (old new : Server) : Type 0 where

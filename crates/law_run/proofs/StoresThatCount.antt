@@ -1,13 +1,7 @@
 -- The stores that count: each server's own, or the one from before its device was made blank.
-use Rattle.std.proofs.Common.{◌≡◌, ℕ, true, false, Option, Some, None, refl, ◌&&◌, not, Bool, ap, ◌∙◌}
-use Rattle.spec_rules.specs.World.{Setting, World, begins_to_leave, chain_that_counts, chosen_log, chosen_state, frozen_by}
-use Rattle.spec_rules.specs.State.{leaving}
-use Rattle.spec_state.specs.Command.{state_after}
-use Rattle.petal_base.specs.declared.cell.Cell.{Cell}
-use Rattle.std.specs.Prelude.{◌==◌, if◌then◌else◌}
-use Rattle.spec_rules.specs.Blanked.{BeforeBlank, kept_store}
-use Rattle.spec_rules.specs.Store.{Store}
-use Rattle.spec_rules.proofs.Tests.{by_test}
+use Rattle.law_run.proofs.Imports.{if◌then◌else◌, ◌&&◌, ◌==◌, ◌∙◌, ◌≡◌, BeforeBlank, Bool, Cell, None, Option, Setting, Some, Store, World, ap}
+use Rattle.law_run.proofs.Imports.{begins_to_leave, by_test, chain_that_counts, chosen_log, chosen_state, false, frozen_by, kept_store, leaving, not, refl}
+use Rattle.law_run.proofs.Imports.{state_after, true, ℕ}
 
 -- what is so of a server's store, and of the one from before its blank, is so of the one that counts
 pub of_kept : (So : Store → Type 0) (joins : ℕ) (before : Option BeforeBlank) (store : Store) → So store

@@ -1,9 +1,6 @@
 -- What the runs say of the bytes.
-use Rattle.std.proofs.Common.{◌≡◌, ℕ, suc, ◌+◌, List, [], ◌∷◌, refl, ap, sym, ◌∙◌, arith, inl, inr, replicate, ◌++◌}
-use Rattle.std.proofs.lemmas.Bool.{cases_eq, eq-eqb, ne_eqb}
-use Rattle.std.specs.List.{flat_map}
-use Rattle.script_lines.specs.Contents.{runs, onto_run, run_bytes, AreLongest}
-use Rattle.script_lines.specs.declared.run.Run.{Run}
+use Rattle.law_script.proofs.Imports.{[], ◌++◌, ◌+◌, ◌∙◌, ◌∷◌, ◌≡◌, AreLongest, List, Run, ap, arith, cases_eq, eq-eqb, flat_map, inl, inr, ne_eqb, onto_run}
+use Rattle.law_script.proofs.Imports.{refl, replicate, run_bytes, runs, suc, sym, ℕ}
 
 abbrev run_of : ℕ → ℕ → Run
 run_of b n = record { count = n; byte = b }

@@ -1,35 +1,20 @@
 -- What a line is told is the first fault that it has.
-use Rattle.std.proofs.Common.{◌≡◌, ◌≢◌, ℕ, suc, ◌+◌, ◌-◌, Bool, true, false, not, ◌||◌, ◌&&◌, ◌==◌, nat_eq, nat_lt, nat_le, List, [], ◌∷◌, ◌++◌, length, take}
-use Rattle.std.proofs.Common.{drop, slice_index, refl, ap, ◌∙◌, arith, Option, Some, None, Result, Ok, Err, cond, codes, inl, inr}
-use Rattle.std.specs.Option.{is_none, is_some}
-use Rattle.std.specs.List.{list_all, list_any, position, find}
-use Rattle.std.specs.Char.{is_ascii}
-use Rattle.std.proofs.lemmas.Bool.{cases_Bool, ne_eqb}
-use Rattle.petal_base.specs.Name.{is_name}
-use Rattle.petal_base.specs.Tuple.{is_tuple, tuple_of}
-use Rattle.petal_script.specs.Text.{words_of}
-use Rattle.petal_script.specs.Number.{is_number, value}
-use Rattle.petal_script.specs.Words.{Word, ◌>>=◌, or_else, is_word, no_word, one_word, two_words, three_words, four_words}
-use Rattle.petal_script.specs.Fields.{a_name, in_limits, a_server, a_call, numbers_of, a_tuple, version_by, version_of}
-use Rattle.petal_script.specs.Client.{spread_of, disk_of, move_of, filled_of, halves_of, write_of, read_of, snap_of, client_request}
-use Rattle.petal_script.specs.Operator.{stop_at, stop_of, fault_of, boot_of, operator_request}
-use Rattle.petal_script.specs.Script.{TextLine, is_skipped, is_client, servers_line, net_line, adds, later_line, first_line, longest_script, longest_line}
-use Rattle.petal_script.specs.Script.{counted, line_verdict, too_many, no_majority}
+use Rattle.law_script.proofs.Imports.{[], ◌&&◌, ◌++◌, ◌+◌, ◌-◌, ◌==◌, ◌>>=◌, ◌||◌, ◌∙◌, ◌∷◌, ◌≡◌, ◌≢◌, BadLine, BadName, BadNumber, BadTuple, Bool, CallKind}
+use Rattle.law_script.proofs.Imports.{Cause, Err, Fill, Line, List, NoMajority, NoServersLine, None, NotAscii, Ok, Option, Pattern, Ramp, Request, Result}
+use Rattle.law_script.proofs.Imports.{Script, Some, TextLine, TooLong, TooMany, Which, Word, a_call, a_name, a_server, a_tuple, adds, ap, arith, boot_of}
+use Rattle.law_script.proofs.Imports.{cases_Bool, client_request, codes, cond, counted, disk_of, drop, false, fault_of, filled_of, find, first_line}
+use Rattle.law_script.proofs.Imports.{four_words, halves_of, in_limits, inl, inr, is_ascii, is_client, is_name, is_none, is_number, is_skipped, is_some}
+use Rattle.law_script.proofs.Imports.{is_tuple, is_word, later_line, length, line_verdict, list_all, list_any, longest_line, longest_script, move_of, nat_eq}
+use Rattle.law_script.proofs.Imports.{nat_le, nat_lt, ne_eqb, net_line, no_majority, no_word, not, numbers_of, one_word, operator_request, or_else, position}
+use Rattle.law_script.proofs.Imports.{read_of, refl, servers_line, slice_index, snap_of, spread_of, stop_at, stop_of, suc, take, three_words, too_many, true}
+use Rattle.law_script.proofs.Imports.{tuple_of, two_words, value, version_by, version_of, words_of, write_of, ℕ}
 use Rattle.law_script.specs.Faults.{Positions, place, numbers_only, server_place, servers_positions, net_positions, bare_positions, spread_positions}
-use Rattle.law_script.specs.Faults.{write_positions, version_names, read_positions, snap_positions, client_positions, stop_positions, boot_positions, is_device}
-use Rattle.law_script.specs.Faults.{is_kind, fault_positions, operator_positions, line_positions, is_good, bad_name, bad_number, is_unfit, bad_tuple}
-use Rattle.law_script.specs.Faults.{lacks_servers, with_request, lines_with, are_too_many, leave_no_majority, servers_in, has_fault, in_order, told}
-use Rattle.device_faults.specs.declared.which.Which.{Which}
+use Rattle.law_script.specs.Faults.{write_positions, version_names, read_positions, snap_positions, client_positions, stop_positions, boot_positions}
+use Rattle.law_script.specs.Faults.{is_device, is_kind, fault_positions, operator_positions, line_positions, is_good, bad_name, bad_number, is_unfit}
+use Rattle.law_script.specs.Faults.{bad_tuple, lacks_servers, with_request, lines_with, are_too_many, leave_no_majority, servers_in, has_fault, in_order}
+use Rattle.law_script.specs.Faults.{told}
 use Rattle.device_faults.specs.declared.which.Which.TheVariants as devices
-use Rattle.device_faults.specs.declared.plan.CallKind.{CallKind}
 use Rattle.device_faults.specs.declared.plan.CallKind.TheVariants as calls
-use Rattle.script_lines.specs.declared.script.Script.{Script}
-use Rattle.script_lines.specs.declared.request.Line.{Line}
-use Rattle.script_lines.specs.declared.request.Request.{Request}
-use Rattle.script_lines.specs.declared.request.Pattern.{Pattern}
-use Rattle.script_lines.specs.declared.request.Pattern.TheVariants.{Fill, Ramp}
-use Rattle.petal_script.specs.declared.cause.Cause.{Cause}
-use Rattle.petal_script.specs.declared.cause.Cause.TheVariants.{NotAscii, TooLong, NoServersLine, BadLine, BadName, BadNumber, BadTuple, TooMany, NoMajority}
 
 -- ### Steps
 

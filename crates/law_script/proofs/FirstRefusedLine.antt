@@ -1,15 +1,10 @@
 -- The first refused line.
-use Rattle.std.proofs.Common.{◌≡◌, ◌≢◌, ℕ, zero, suc, ◌+◌, ◌-◌, ◌<◌, List, [], ◌∷◌, ◌++◌, length, get_or, slice_get, refl, ap, sym, ◌∙◌}
-use Rattle.std.proofs.Common.{arith, Option, Some, None, Result, Ok, Err, ◌⊎◌, inl, inr, ◌↔◌}
-use Rattle.std.proofs.lemmas.Bool.{cases_eq, eq-eqb, ne_eqb}
-use Rattle.std.specs.List.{onto_first}
-use Rattle.petal_script.specs.Text.{pieces, without_end}
-pub use Rattle.petal_script.proofs.Pieces.{concat-pieces}
-use Rattle.script_lines.specs.declared.script.Script.{Script}
-use Rattle.petal_script.specs.Script.{lines_after, TextLine, Refusal, line_verdict, script_from, script_of, text_lines, goes_on, ended}
+use Rattle.law_script.proofs.Imports.{[], ◌++◌, ◌+◌, ◌-◌, ◌<◌, ◌↔◌, ◌∙◌, ◌∷◌, ◌≡◌, ◌≢◌, ◌⊎◌, Cause, Err, List, NoServersLine, None, Ok, Option, Refusal}
+use Rattle.law_script.proofs.Imports.{Result, Script, Some, TextLine, ap, arith, cases_eq, ended, eq-eqb, get_or, goes_on, inl, inr, length, line_verdict}
+use Rattle.law_script.proofs.Imports.{lines_after, ne_eqb, onto_first, pieces, refl, script_from, script_of, slice_get, suc, sym, text_lines, without_end}
+use Rattle.law_script.proofs.Imports.{zero, ℕ}
 use Rattle.law_script.specs.Laws.{Taken, IsFirstRefused, IsWithoutLines, IsPiece, AreLines}
-use Rattle.petal_script.specs.declared.cause.Cause.{Cause}
-use Rattle.petal_script.specs.declared.cause.Cause.TheVariants.{NoServersLine}
+pub use Rattle.petal_script.proofs.Pieces.{concat-pieces}
 
 -- with a state before the lines
 record RefusedFrom (lines : List TextLine) (start : Option Script) (r : Refusal) : Type 0 where

@@ -1,3 +1,4 @@
+pub mod Imports
 pub mod FirstRefusedLine
 pub mod TakenLines
 pub mod FirstFaults

@@ -1,20 +1,11 @@
 -- What a taken line
-use Rattle.std.proofs.Common.{◌≡◌, ℕ, ◌+◌, Bool, true, false, not, ◌||◌, List, [], ◌∷◌, ◌++◌, length, refl, ap, subst, ◌∙◌, Option, Some}
-use Rattle.std.proofs.Common.{None, Result, Ok, Err, ◌⊎◌, inl, inr, cond, codes, nat_lt}
-use Rattle.std.specs.List.{list_all}
-use Rattle.std.specs.Char.{is_ascii}
-use Rattle.petal_script.specs.Text.{words_of}
-use Rattle.petal_script.specs.Words.{Word, is_word, ◌>>=◌, front_word, no_word}
-use Rattle.petal_script.specs.Client.{client_request}
-use Rattle.petal_script.specs.Operator.{operator_request}
-use Rattle.script_lines.specs.declared.script.Script.{Script}
-use Rattle.petal_script.specs.Script.{TextLine, script_of, text_lines, first_line, line_verdict, later_line, line_by, adds, longest_script, longest_line}
-use Rattle.petal_script.specs.Script.{client_of, is_skipped, too_many, no_majority}
+use Rattle.law_script.proofs.Imports.{[], ◌++◌, ◌+◌, ◌>>=◌, ◌||◌, ◌∙◌, ◌∷◌, ◌≡◌, ◌⊎◌, BadLine, Bool, Cause, Err, List, NoMajority, None, NotAscii, Ok, Option}
+use Rattle.law_script.proofs.Imports.{Request, Result, Script, Some, TextLine, TooLong, TooMany, Word, adds, ap, client_of, client_request, codes, cond}
+use Rattle.law_script.proofs.Imports.{false, first_line, front_word, inl, inr, is_ascii, is_skipped, is_word, later_line, length, line_by, line_verdict}
+use Rattle.law_script.proofs.Imports.{list_all, longest_line, longest_script, nat_lt, no_majority, no_word, not, operator_request, refl, script_of, subst}
+use Rattle.law_script.proofs.Imports.{text_lines, too_many, true, words_of, ℕ}
 use Rattle.law_script.specs.Laws.{Does, skipped, nets, waits, asks, Asks, line_at, Taken, Follows, IsAccepted}
 use Rattle.law_script.proofs.FirstRefusedLine.{is_script}
-use Rattle.petal_script.specs.declared.cause.Cause.{Cause}
-use Rattle.petal_script.specs.declared.cause.Cause.TheVariants.{NotAscii, TooLong, BadLine, TooMany, NoMajority}
-use Rattle.script_lines.specs.declared.request.Request.{Request}
 
 bind_ok : {A B : Type 0} (r : Result A Cause) (f : A → Result B Cause) (y : B) → (r >>= f) ≡ Ok y → (x : A) × (r ≡ Ok x) × (f x ≡ Ok y)
 bind_ok (Ok x) f y is = (x, refl, is)

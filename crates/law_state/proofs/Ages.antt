@@ -1,16 +1,9 @@
 -- Ages of servers: an incarnation that is In is of one age, and one that was In and is In again was In all the time.
-use Rattle.std.proofs.Common.{◌≡◌, ◌≤◌, ◌<◌, ◌+◌, ◌==◌, ℕ, true, false, Option, Some, None, refl, sym, ap, ◌∙◌, arith}
-use Rattle.std.specs.Prelude.{slice_get, option_and_then, nat_lt}
-use Rattle.std.specs.Option.{option_map_or}
-use Rattle.std.proofs.lemmas.Bool.Decides.{nat_tests}
-use Rattle.global_tables.specs.declared.fence.Member.{Member}
-use Rattle.global_tables.specs.declared.fence.Member.TheVariants as member
-use Rattle.global_tables.specs.View.{is_in, inc_in}
-use Rattle.spec_state.specs.Command.{may_join}
-use Rattle.spec_state.specs.State.{inc_of, is_up, is_up_as}
-use Rattle.spec_rules.specs.State.{State}
-use Rattle.spec_rules.proofs.Tests.{by_bool, same_numbers, number_itself, true_false}
+use Rattle.law_state.proofs.Imports.{◌+◌, ◌<◌, ◌==◌, ◌∙◌, ◌≡◌, ◌≤◌, Member, None, Option, Some, State, ap, arith, by_bool, false, inc_in, inc_of, is_in}
+use Rattle.law_state.proofs.Imports.{is_up, is_up_as, may_join, nat_lt, nat_tests, number_itself, option_and_then, option_map_or, refl, same_numbers}
+use Rattle.law_state.proofs.Imports.{slice_get, sym, true, true_false, ℕ}
 use Rattle.law_state.specs.Ages.{age, age_of}
+use Rattle.global_tables.specs.declared.fence.Member.TheVariants as member
 
 in_by : (o : Option Member) (inc : ℕ) → option_map_or (λ present. present == inc) (option_and_then inc_in o) false ≡ true → age o ≡ inc + inc + 1
 in_by None inc e = true_false e refl

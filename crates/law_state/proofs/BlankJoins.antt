@@ -1,14 +1,7 @@
 -- The Joins of a server with an empty store that act, counted along a log.
-use Rattle.std.proofs.Common.{◌≡◌, ◌≤◌, ◌<◌, ◌+◌, ◌++◌, ◌==◌, ◌&&◌, ℕ, List, [], ◌∷◌, true, if◌then◌else◌, refl, sym, ap, ◌∙◌, inl, inr, arith}
-use Rattle.std.specs.Prelude.{fold, slice_get}
-use Rattle.petal_command.specs.declared.command.Command.{Command}
-use Rattle.petal_command.specs.declared.command.Command.TheVariants.{Join}
-use Rattle.spec_history.specs.Claims.{IsPrefix}
-use Rattle.spec_state.specs.Command.{after, may_join, state_after}
-use Rattle.spec_state.specs.State.{start}
-use Rattle.spec_rules.specs.Blanked.{blank_joins_from, joins_blank}
-use Rattle.spec_rules.specs.State.{State}
-use Rattle.spec_rules.proofs.Tests.{both_true, by_bool, number_itself, same_numbers, true_false}
+use Rattle.law_state.proofs.Imports.{[], if◌then◌else◌, ◌&&◌, ◌++◌, ◌+◌, ◌<◌, ◌==◌, ◌∙◌, ◌∷◌, ◌≡◌, ◌≤◌, Command, IsPrefix, Join, List, State, after, ap}
+use Rattle.law_state.proofs.Imports.{arith, blank_joins_from, both_true, by_bool, fold, inl, inr, joins_blank, may_join, number_itself, refl, same_numbers}
+use Rattle.law_state.proofs.Imports.{slice_get, start, state_after, sym, true, true_false, ℕ}
 use Rattle.law_state.specs.Joins.{CountsJoins, HasJoinedSince}
 use Rattle.law_state.proofs.EntriesTouchLinks.{counted}
 

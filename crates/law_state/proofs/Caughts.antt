@@ -1,17 +1,8 @@
 -- A Caught: the link that one server held alone is in Both again. Who is In stays so.
-use Rattle.std.proofs.Common.{◌≡◌, ◌==◌, ◌&&◌, ℕ, Bool, true, false, if◌then◌else◌, Option, Some, None, refl, sym, ap, ◌∙◌, subst, inl, inr}
-use Rattle.std.specs.Prelude.{option_map}
-use Rattle.global_tables.specs.declared.link.LinkRow.{LinkRow}
-use Rattle.global_tables.specs.declared.link.LinkState.{LinkState}
-use Rattle.global_tables.specs.declared.link.LinkState.TheVariants.{Both, Only, Lost}
-use Rattle.global_tables.specs.Link.{is_link, link_at, other_of, row_caught}
-use Rattle.global_tables.specs.Link as links
-use Rattle.spec_state.specs.CellState.{serves}
-use Rattle.petal_command.specs.declared.command.Command.TheVariants.{Caught}
-use Rattle.spec_state.specs.Command.{act, is_alone, may_catch}
-use Rattle.spec_state.specs.Place.{touches}
-use Rattle.spec_state.specs.State.{State, is_up, is_up_as}
-use Rattle.spec_rules.proofs.Tests.{by_bool, by_test, both_true, number_itself, same_numbers, same_some, true_false}
+use Rattle.law_state.proofs.Imports.{if◌then◌else◌, ◌&&◌, ◌==◌, ◌∙◌, ◌≡◌, Bool, Both, Caught, LinkRow, LinkState, Lost, None, Only, Option, Some, act, ap}
+use Rattle.law_state.proofs.Imports.{both_true, by_bool, by_test, false, inl, inr, is_alone, is_link, is_up, is_up_as, link_at, may_catch, number_itself}
+use Rattle.law_state.proofs.Imports.{option_map, other_of, refl, row_caught, same_numbers, same_some, serves, subst, sym, touches, true, true_false, ℕ}
+use Rattle.spec_state.specs.State.{State}
 use Rattle.law_state.specs.Ages.{age_of}
 use Rattle.law_state.specs.LinkRows.{IsHeldOn, IsLater, IsLostOn, IsServed, IsServedBy, IsServedOn, ByBoth, ByNone, ByOne}
 use Rattle.law_state.specs.Tables.{IsPlainState}
@@ -19,6 +10,7 @@ use Rattle.law_state.proofs.Ages.{in_up, no_less}
 use Rattle.law_state.proofs.Fences.{Acted, queued_on, requeued_itself}
 use Rattle.law_state.proofs.GrownStates.{later_itself}
 use Rattle.law_state.proofs.MembershipChanges.{changing, link_changed}
+use Rattle.global_tables.specs.Link as links
 
 -- the state after the link is in Both again
 abbrev pub caught_by : State → (of link : ℕ) → State

@@ -1,25 +1,11 @@
 -- A link that is in Both again: the Caught that made it so stands in the log. And a link's place in Both is told by the incarnations
 -- of its two servers.
-use Rattle.std.proofs.Common.{◌≡◌, ◌+◌, ◌++◌, ◌==◌, ◌&&◌, ℕ, List, [], ◌∷◌, Bool, true, false, if◌then◌else◌, Some, None, refl, sym}
-use Rattle.std.proofs.Common.{ap, ◌∙◌, subst, ◌⊎◌, inl, inr, append_assoc, arith}
-use Rattle.std.specs.Prelude.{fold, slice_get}
-use Rattle.std.proofs.lemmas.Grind.{fold-append}
-use Rattle.petal_base.specs.declared.cell.Cell.{Cell}
-use Rattle.global_tables.specs.declared.link.LinkRow.{LinkRow}
-use Rattle.global_tables.specs.declared.link.LinkState.{LinkState}
-use Rattle.global_tables.specs.declared.link.LinkState.TheVariants.{Both, Only, Lost}
-use Rattle.global_tables.specs.Link.{has_server, is_link, left_state, link_at, other_of, row_left}
-use Rattle.petal_command.specs.declared.command.Command.{Command}
-use Rattle.petal_command.specs.declared.command.Command.TheVariants.{Join, Leave, Caught, MakeDisk, Snap, StartMove, Drained, Moved, Witness}
-use Rattle.spec_history.specs.Claims.{IsPrefix}
-use Rattle.spec_state.specs.CellState.{cell_link, owner}
-use Rattle.spec_state.specs.Command.{act, after, may_catch, may_join, state_after}
-use Rattle.spec_state.specs.Place.{places_from, touches}
-use Rattle.spec_state.specs.State.{inc_of, is_up, is_up_as, start}
-use Rattle.spec_rules.specs.Lists.{In}
-use Rattle.spec_rules.specs.State.{State, is_in}
-use Rattle.spec_rules.proofs.ListLemmas.{in_later}
-use Rattle.spec_rules.proofs.Tests.{both_true, by_bool, none_some, same_numbers, same_some, true_false}
+use Rattle.law_state.proofs.Imports.{[], if◌then◌else◌, ◌&&◌, ◌++◌, ◌+◌, ◌==◌, ◌∙◌, ◌∷◌, ◌≡◌, ◌⊎◌, Bool, Both, Caught, Cell, Command, Drained, In, IsPrefix}
+use Rattle.law_state.proofs.Imports.{Join, Leave, LinkRow, LinkState, List, Lost, MakeDisk, Moved, None, Only, Snap, Some, StartMove, State, Witness, act}
+use Rattle.law_state.proofs.Imports.{after, ap, append_assoc, arith, both_true, by_bool, cell_link, false, fold, fold-append, has_server, in_later, inc_of}
+use Rattle.law_state.proofs.Imports.{inl, inr, is_link, is_up, is_up_as, left_state, link_at, may_catch, may_join, none_some, other_of, owner, places_from}
+use Rattle.law_state.proofs.Imports.{refl, row_left, same_numbers, same_some, slice_get, start, state_after, subst, sym, touches, true, true_false, ℕ}
+use Rattle.spec_rules.specs.State.{is_in}
 use Rattle.law_state.specs.LaterStates.{HasLater}
 use Rattle.law_state.specs.Homes.{HasDied}
 use Rattle.law_state.specs.LinkChanges.{IsCaughtBy, IsCaughtIn, IsCaughtSince, IsCaughtStill, IsHeldStill, IsLostIn, By_caught, By_join, By_leave, StaysSo}

@@ -1,15 +1,8 @@
 -- What a state says of a cell, by the row of its link.
-use Rattle.std.proofs.Common.{◌≡◌, ◌==◌, ◌&&◌, ℕ, Bool, true, false, not, Option, Some, None, is_some, sym, ap, ◌∙◌, subst, ◌⊎◌, inl, inr}
-use Rattle.std.specs.Prelude.{option_map, option_and_then, if◌then◌else◌}
-use Rattle.std.specs.Option.{option_map_or}
-use Rattle.petal_base.specs.declared.cell.Cell.{Cell}
-use Rattle.global_tables.specs.declared.link.LinkRow.{LinkRow}
-use Rattle.global_tables.specs.declared.link.LinkState.TheVariants.{Both, Only, Lost}
-use Rattle.global_tables.specs.Link.{has_server}
-use Rattle.spec_state.specs.State.{is_up}
-use Rattle.spec_state.specs.CellState.{live, leaving, cell_link, row_lead, state_lead, serves}
-use Rattle.spec_rules.specs.State.{State, lead, both, in_both, first, second, authority, readable, row_in_both, row_authority}
-use Rattle.spec_rules.proofs.Tests.{by_bool, both_true, none_some, same_some, same_numbers, some_or_none, true_false}
+use Rattle.law_state.proofs.Imports.{if◌then◌else◌, ◌&&◌, ◌==◌, ◌∙◌, ◌≡◌, ◌⊎◌, Bool, Both, Cell, LinkRow, Lost, None, Only, Option, Some, State, ap}
+use Rattle.law_state.proofs.Imports.{authority, both, both_true, by_bool, cell_link, false, first, has_server, in_both, inl, inr, is_some, is_up, lead}
+use Rattle.law_state.proofs.Imports.{leaving, live, none_some, not, option_and_then, option_map, option_map_or, readable, row_authority, row_in_both}
+use Rattle.law_state.proofs.Imports.{row_lead, same_numbers, same_some, second, serves, some_or_none, state_lead, subst, sym, true, true_false, ℕ}
 use Rattle.law_state.specs.LinkRows.{ByBoth, ByNone, ByOne}
 use Rattle.law_state.specs.Steady.{IsLinked, IsSteady}
 

@@ -1,21 +1,10 @@
 -- The row of one disk is changed: its name and number stay, its map is the one that it had or a later one, and each cell is as far as it was, or
 -- farther.
-use Rattle.std.proofs.Common.{◌≡◌, ◌≢◌, ◌+◌, ◌==◌, ℕ, zero, suc, List, [], ◌∷◌, length, Bool, true, false, cond, Option, Some}
-use Rattle.std.proofs.Common.{None, refl, sym, ap, ◌∙◌, subst, ◌⊎◌, inl, inr, arith}
-use Rattle.std.specs.Prelude.{slice_get, slice_set, option_and_then}
-use Rattle.std.proofs.lemmas.List.{length-set}
-use Rattle.std.proofs.lemmas.Option.{slice_get_within}
-use Rattle.global_tables.specs.declared.disk.DiskRow.{DiskRow}
-use Rattle.global_tables.specs.declared.disk.Move.{Move}
-use Rattle.global_tables.specs.declared.disk.RegionState.TheVariants.{Old}
-use Rattle.global_tables.specs.declared.fence.Fence.{Fence}
-use Rattle.global_tables.specs.Disk.{change, disk_at, is_disk, snapshot_named}
-use Rattle.global_tables.specs.Map.{disk_of}
-use Rattle.spec_state.specs.CellState.{has_map, owner}
-use Rattle.spec_rules.specs.State.{State}
-use Rattle.spec_rules.proofs.Tests.{by_bool, none_some, number_itself, same_numbers, same_or_apart, same_some, true_false}
-use Rattle.law_state.specs.Tables.{HasHome, HasLaterDisk, IsFence, IsForRegion, IsForSnapshot, IsLaterDisk}
-use Rattle.law_state.specs.Tables.{IsRowAt, IsShape, Of_disk, Of_region}
+use Rattle.law_state.proofs.Imports.{[], ◌+◌, ◌==◌, ◌∙◌, ◌∷◌, ◌≡◌, ◌≢◌, ◌⊎◌, Bool, DiskRow, Fence, List, Move, None, Old, Option, Some, State, ap, arith}
+use Rattle.law_state.proofs.Imports.{by_bool, change, cond, disk_at, disk_of, false, has_map, inl, inr, is_disk, length, length-set, none_some, number_itself}
+use Rattle.law_state.proofs.Imports.{option_and_then, owner, refl, same_numbers, same_or_apart, same_some, slice_get, slice_get_within, slice_set}
+use Rattle.law_state.proofs.Imports.{snapshot_named, subst, suc, sym, true, true_false, zero, ℕ}
+use Rattle.law_state.specs.Tables.{HasHome, HasLaterDisk, IsFence, IsForRegion, IsForSnapshot, IsLaterDisk, IsRowAt, IsShape, Of_disk, Of_region}
 use Rattle.law_state.proofs.Fences.{Acted, AreQueued, IsUnsettled, link_kept, snapshot_on, region_on}
 use Rattle.law_state.proofs.GrownStates.{grown_still, later_disk_itself}
 use Rattle.law_state.proofs.Owners.{disk_at_is, kept_by, owner_is, stages_later}

@@ -1,34 +1,17 @@
 -- In a plain state disks, maps and cells belong together, and each server is In, or has left.
-use Rattle.std.proofs.Common.{◌≡◌, ◌<◌, ◌==◌, ℕ, List, [], ◌∷◌, true, false, not, Some, None, is_some, refl, sym, ap, ◌∙◌, subst, inl, inr, arith}
-use Rattle.std.specs.Prelude.{fold, slice_get, option_and_then}
-use Rattle.std.specs.Option.{option_map_or}
-use Rattle.std.proofs.lemmas.Grind.{fold-append}
-use Rattle.std.proofs.lemmas.Option.{slice_get_within}
-use Rattle.petal_base.specs.declared.cell.Cell.{Cell}
-use Rattle.global_tables.specs.Disk.{disk_at, named, is_disk, same_name, snapshot_named}
-use Rattle.global_tables.specs.View.{inc_in}
-use Rattle.global_tables.specs.declared.disk.DiskRow.{DiskRow}
-use Rattle.global_tables.specs.declared.disk.Snapshot.{Snapshot}
-use Rattle.global_tables.specs.declared.fence.Member.TheVariants as member
-use Rattle.petal_command.specs.declared.command.Command.{Command}
-use Rattle.petal_command.specs.declared.command.Command.TheVariants.{Join, Leave, Caught, MakeDisk, Snap, StartMove, Drained, Moved, Witness}
-use Rattle.global_tables.specs.declared.disk.Verdict.TheVariants as Verdict
-use Rattle.spec_state.specs.CellState.{has_map, owner}
-use Rattle.spec_state.specs.Command.{act, after, is_new, may_join, state_after, with_disk}
-use Rattle.spec_state.specs.State.{is_up, is_up_as, latest, start, told}
-use Rattle.spec_rules.specs.Lists.{In}
-use Rattle.spec_rules.specs.State.{State}
-use Rattle.spec_rules.proofs.Tests.{by_bool, by_test, same_some, same_numbers, same_or_apart, number_itself, some_or_none, nat_lists_same, true_false}
-use Rattle.spec_history.specs.Claims.{IsPrefix}
-use Rattle.spec_rules.proofs.ListLemmas.{in_later}
+use Rattle.law_state.proofs.Imports.{[], ◌<◌, ◌==◌, ◌∙◌, ◌∷◌, ◌≡◌, Caught, Cell, Command, DiskRow, Drained, In, IsPrefix, Join, Leave, List, MakeDisk, Moved}
+use Rattle.law_state.proofs.Imports.{None, Snap, Snapshot, Some, StartMove, State, Witness, act, after, ap, arith, by_bool, by_test, disk_at, false, fold}
+use Rattle.law_state.proofs.Imports.{fold-append, has_map, in_later, inc_in, inl, inr, is_disk, is_new, is_some, is_up, is_up_as, latest, may_join, named}
+use Rattle.law_state.proofs.Imports.{nat_lists_same, not, number_itself, option_and_then, option_map_or, owner, refl, same_name, same_numbers, same_or_apart}
+use Rattle.law_state.proofs.Imports.{same_some, slice_get, slice_get_within, snapshot_named, some_or_none, start, state_after, subst, sym, told, true}
+use Rattle.law_state.proofs.Imports.{true_false, with_disk, ℕ}
 use Rattle.law_state.specs.Disks.{AreDisks, AreInOrOut}
 use Rattle.law_state.specs.Plain.{IsPlain, IsPlainLog}
 use Rattle.law_state.specs.Steady.{HasLink}
 use Rattle.law_state.specs.Tables.{IsPlainState}
 use Rattle.law_state.proofs.Ages.{in_once, in_up, up_some}
 use Rattle.law_state.proofs.Caughts.{act_caught}
-use Rattle.law_state.proofs.Joins.{joined_by, was_out}
-use Rattle.law_state.proofs.Joins.{in_beside as joined_beside}
+use Rattle.law_state.proofs.Joins.{joined_by, was_out, in_beside as joined_beside}
 use Rattle.law_state.proofs.MovesOfDisks.{act_moved, act_note, act_start}
 use Rattle.law_state.proofs.Owners.{owned}
 use Rattle.law_state.proofs.ListLookups.{find_here, found_at, get_in, in_get, get_replicate, text_itself}
@@ -37,6 +20,8 @@ use Rattle.law_state.proofs.FencesPass.{in_settled}
 use Rattle.law_state.proofs.SnapsQueueFences.{act_drained, act_snap}
 use Rattle.law_state.proofs.Steady.{front_plain, in_first, linked_owner, unlinked}
 use Rattle.law_state.proofs.EntriesOnlyAdd.{entering, log_plain}
+use Rattle.global_tables.specs.declared.fence.Member.TheVariants as member
+use Rattle.global_tables.specs.declared.disk.Verdict.TheVariants as Verdict
 
 module _ (servers : ℕ) (s : State) (p : IsPlainState servers s) where
   at : (row : DiskRow) → In row s.disks.rows → disk_at s.disks.rows row.id ≡ Some row

@@ -1,22 +1,8 @@
 -- Plain entries keep a state plain, and only add to its tables, but for servers that leave and join, and links that are in Both again.
-use Rattle.std.proofs.Common.{◌≡◌, ◌+◌, ℕ, zero, suc, List, [], ◌∷◌, not, Some, refl, sym, ap, inl, inr, is_some, arith}
-use Rattle.std.specs.Prelude.{fold, replicate, slice_get}
-use Rattle.std.proofs.lemmas.List.{length-replicate}
-use Rattle.global_tables.specs.declared.disk.Verdict.{Verdict}
-use Rattle.global_tables.specs.declared.fence.FenceKind.TheVariants.{Whole}
-use Rattle.global_tables.specs.declared.fence.Member.{Member}
-use Rattle.global_tables.specs.declared.fence.Member.TheVariants as member
-use Rattle.global_tables.specs.declared.link.LinkRow.{LinkRow}
-use Rattle.global_tables.specs.Disk.{named}
-use Rattle.global_tables.specs.View.{last_inc}
-use Rattle.petal_command.specs.declared.command.Command.{Command}
-use Rattle.petal_command.specs.declared.command.Command.TheVariants.{Join, Leave, Caught, MakeDisk, Snap, StartMove, Drained, Moved, Witness}
-use Rattle.spec_state.specs.State.{start, latest, told, is_up_as}
-use Rattle.spec_state.specs.Fence.{settled}
-use Rattle.spec_state.specs.Command.{act, after, is_new, may_join, with_disk, with_fence, with_move, state_after}
-use Rattle.spec_rules.specs.Lists.{In}
-use Rattle.spec_rules.specs.State.{State}
-use Rattle.spec_rules.proofs.Tests.{by_test, none_some, same_some}
+use Rattle.law_state.proofs.Imports.{[], ◌+◌, ◌∷◌, ◌≡◌, Caught, Command, Drained, In, Join, Leave, LinkRow, List, MakeDisk, Member, Moved, Snap, Some}
+use Rattle.law_state.proofs.Imports.{StartMove, State, Verdict, Whole, Witness, act, after, ap, arith, by_test, fold, inl, inr, is_new, is_some, is_up_as}
+use Rattle.law_state.proofs.Imports.{last_inc, latest, length-replicate, may_join, named, none_some, not, refl, replicate, same_some, settled, slice_get}
+use Rattle.law_state.proofs.Imports.{start, state_after, suc, sym, told, with_disk, with_fence, with_move, zero, ℕ}
 use Rattle.law_state.specs.Plain.{IsPlain, IsPlainLog}
 use Rattle.law_state.specs.Tables.{IsPlainState}
 use Rattle.law_state.proofs.Fences.{Acted, acts_not, renumbered, untabled}
@@ -28,6 +14,7 @@ use Rattle.law_state.proofs.MapsAreAdded.{making}
 use Rattle.law_state.proofs.MovesOfDisks.{act_moved, act_start, begins, noting_acts}
 use Rattle.law_state.proofs.FencesPass.{settling}
 use Rattle.law_state.proofs.SnapsQueueFences.{act_drained, act_snap, draining, none_of, snapping}
+use Rattle.global_tables.specs.declared.fence.Member.TheVariants as member
 
 pub acting : (servers : ℕ) (s : State) (command : Command) → IsPlainState servers s → IsPlain servers command → Acted servers s (act command s)
 acting servers s (Join server inc blank) p proper =

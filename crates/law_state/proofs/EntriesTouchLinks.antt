@@ -1,43 +1,23 @@
 -- What an entry does to a link: one that does not touch it leaves its row and its two servers as they are. A longer log has no fewer
 -- places.
-use Rattle.std.proofs.Common.{◌≡◌, ◌≢◌, ◌≤◌, ◌+◌, ◌++◌, ◌==◌, ◌&&◌, ℕ, List, [], ◌∷◌, length, Bool, true, false, not, if◌then◌else◌, Option}
-use Rattle.std.proofs.Common.{Some, None, is_some, refl, sym, ap, ◌∙◌, subst, ◌⊎◌, inl, inr, arith}
-use Rattle.std.specs.Prelude.{fold, slice_get, option_map, option_and_then}
-use Rattle.std.proofs.lemmas.Grind.{fold-append}
-use Rattle.petal_base.specs.declared.cell.Cell.{Cell}
-use Rattle.global_tables.specs.declared.link.LinkRow.{LinkRow}
-use Rattle.global_tables.specs.declared.link.LinkState.TheVariants.{Both}
-use Rattle.global_tables.specs.declared.disk.Verdict.TheVariants as Verdict
-use Rattle.global_tables.specs.declared.fence.FenceKind.TheVariants.{Region}
-use Rattle.global_tables.specs.declared.fence.Member.{Member}
-use Rattle.global_tables.specs.Disk.{named}
-use Rattle.global_tables.specs.View.{inc_in}
-use Rattle.global_tables.specs.Link.{has_server, is_link, link_at, row_caught, row_left, new_rows}
-use Rattle.global_tables.specs.Map.{tuple_of}
-use Rattle.global_tables.specs.Region.{link_of}
-use Rattle.petal_command.specs.declared.command.Command.{Command}
-use Rattle.petal_command.specs.declared.command.Command.TheVariants.{Join, Leave, Caught, MakeDisk, Snap, StartMove, Drained, Moved, Witness}
-use Rattle.spec_state.specs.CellState.{cell_link, owner}
-use Rattle.spec_state.specs.Command.{act, after, is_new, may_join, with_disk, with_fence, with_move, state_after}
-use Rattle.spec_state.specs.Place.{touches, places_from}
-use Rattle.spec_state.specs.State.{inc_of, is_up, is_up_as, latest, start, told, ups}
-use Rattle.spec_rules.specs.Lists.{In}
-use Rattle.spec_rules.specs.State.{State}
-use Rattle.spec_rules.proofs.ListLemmas.{in_later}
-use Rattle.spec_rules.proofs.Tests.{both_true, by_bool, by_test, none_some, number_itself, same_numbers, same_or_apart, some_or_none, true_false}
-use Rattle.spec_history.specs.Claims.{IsPrefix}
+use Rattle.law_state.proofs.Imports.{[], if◌then◌else◌, ◌&&◌, ◌++◌, ◌+◌, ◌==◌, ◌∙◌, ◌∷◌, ◌≡◌, ◌≢◌, ◌≤◌, ◌⊎◌, Bool, Both, Caught, Cell, Command, Drained, In}
+use Rattle.law_state.proofs.Imports.{IsPrefix, Join, Leave, LinkRow, List, MakeDisk, Member, Moved, None, Option, Region, Snap, Some, StartMove, State}
+use Rattle.law_state.proofs.Imports.{Witness, act, after, ap, arith, both_true, by_bool, by_test, cell_link, false, fold, fold-append, has_server, in_later}
+use Rattle.law_state.proofs.Imports.{inc_in, inc_of, inl, inr, is_link, is_new, is_some, is_up, is_up_as, latest, length, link_at, link_of, may_join, named}
+use Rattle.law_state.proofs.Imports.{new_rows, none_some, not, number_itself, option_and_then, option_map, owner, places_from, refl, row_caught, row_left}
+use Rattle.law_state.proofs.Imports.{same_numbers, same_or_apart, slice_get, some_or_none, start, state_after, subst, sym, told, touches, true, true_false}
+use Rattle.law_state.proofs.Imports.{tuple_of, ups, with_disk, with_fence, with_move, ℕ}
 use Rattle.law_state.specs.LinkChanges.{IsReseated, IsTouchedBy, By_caught, By_join, By_leave, StaysSo, row_joined}
 use Rattle.law_state.specs.Plain.{IsPlain, IsPlainLog}
 use Rattle.law_state.specs.Homes.{HasDied}
 use Rattle.law_state.specs.Tables.{IsPlainState}
 use Rattle.law_state.proofs.EntriesOnlyAdd.{entering, folding, log_plain}
 use Rattle.law_state.specs.LinkRows.{IsServed, ByBoth, ByNone, ByOne}
-use Rattle.law_state.proofs.Caughts.{act_caught, acting_caught, alone_by, catch_so, caught_by, link_caught}
-use Rattle.law_state.proofs.Caughts.{row_in_both, row_uncaught, the_row, touch_by, touch_so}
+use Rattle.law_state.proofs.Caughts.{act_caught, acting_caught, alone_by, catch_so, caught_by, link_caught, row_in_both, row_uncaught, the_row, touch_by}
+use Rattle.law_state.proofs.Caughts.{touch_so}
 use Rattle.law_state.proofs.MembershipChanges.{found_itself}
 use Rattle.law_state.proofs.GrownStates.{alone_not_both, gone_on, lost_not_both}
-use Rattle.law_state.proofs.Joins.{joined_by, link_joined, row_beside, some_now, was_out}
-use Rattle.law_state.proofs.Joins.{inc_beside as joined_beside}
+use Rattle.law_state.proofs.Joins.{joined_by, link_joined, row_beside, some_now, was_out, inc_beside as joined_beside}
 use Rattle.law_state.proofs.Leaves.{both_up, inc_beside, left_by, link_left, none_now, row_stays}
 use Rattle.law_state.proofs.NewMapLinks.{either_false}
 use Rattle.law_state.proofs.MapsAreAdded.{map_front}
@@ -46,6 +26,7 @@ use Rattle.law_state.proofs.FencesPass.{cell_settled, inc_settled}
 use Rattle.law_state.proofs.ListLookups.{find_front, found_at}
 use Rattle.law_state.proofs.SnapsQueueFences.{act_drained, act_snap}
 use Rattle.law_state.proofs.Steady.{died, front_plain, grown_below, linked_owner, log_steady, owned_or_none, plain_steady, all_died}
+use Rattle.global_tables.specs.declared.disk.Verdict.TheVariants as Verdict
 
 differ : (a b : ℕ) → (a == b) ≡ false → a ≢ b
 differ a b away e = true_false (ap (λ k. k == b) e ∙ number_itself b) away

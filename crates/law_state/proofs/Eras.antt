@@ -1,26 +1,10 @@
 -- What each entry, and each fence that passes, leaves of a cell that is live and not leaving: its epoch, and that it does not leave. And what a
 -- fence holds of such a cell it held before.
-use Rattle.std.proofs.Common.{◌≡◌, ◌≢◌, ◌≤◌, ◌+◌, ◌==◌, ◌&&◌, ℕ, Bool, true, false, Option, Some, None}
-use Rattle.std.proofs.Common.{refl, sym, ap, ◌∙◌, subst, inl, inr, arith}
-use Rattle.std.specs.Prelude.{◌||◌, nat_le, option_map, option_and_then, slice_get, unwrap_or, if◌then◌else◌}
-use Rattle.std.specs.Option.{option_map_or}
-use Rattle.std.proofs.lemmas.Bool.Decides.{nat_tests}
-use Rattle.petal_base.specs.declared.cell.Cell.{Cell}
-use Rattle.global_tables.specs.Disk.{move_fenced, row_fenced}
-use Rattle.global_tables.specs.Map.{disk_of}
-use Rattle.global_tables.specs.Region.{region_of}
-use Rattle.global_tables.specs.declared.disk.DiskRow.{DiskRow}
-use Rattle.global_tables.specs.declared.disk.Move.{Move}
-use Rattle.global_tables.specs.declared.disk.RegionState.TheVariants.{Fenced, New}
-use Rattle.global_tables.specs.declared.fence.FenceKind.{FenceKind}
-use Rattle.global_tables.specs.declared.fence.FenceKind.TheVariants.{Region, Whole}
-use Rattle.global_tables.specs.declared.map.MapRow.{MapRow}
-use Rattle.spec_state.specs.declared.answer.Hold.{Hold}
-use Rattle.spec_state.specs.declared.answer.Hold.TheVariants.{All, No, Writes}
-use Rattle.spec_state.specs.CellState.{has_map, holds, is_of, live, live_under, owner}
-use Rattle.spec_state.specs.State.{leaves}
-use Rattle.spec_rules.specs.State.{State}
-use Rattle.spec_rules.proofs.Tests.{both_true, by_bool, none_some, same_some, some_or_none, true_false}
+use Rattle.law_state.proofs.Imports.{if◌then◌else◌, ◌&&◌, ◌+◌, ◌==◌, ◌||◌, ◌∙◌, ◌≡◌, ◌≢◌, ◌≤◌, All, Bool, Cell, DiskRow, FenceKind, Fenced, Hold, MapRow}
+use Rattle.law_state.proofs.Imports.{Move, New, No, None, Option, Region, Some, State, Whole, Writes, ap, arith, both_true, by_bool, disk_of, false, has_map}
+use Rattle.law_state.proofs.Imports.{holds, inl, inr, is_of, leaves, live, live_under, move_fenced, nat_le, nat_tests, none_some, option_and_then, option_map}
+use Rattle.law_state.proofs.Imports.{option_map_or, owner, refl, region_of, row_fenced, same_some, slice_get, some_or_none, subst, sym, true, true_false}
+use Rattle.law_state.proofs.Imports.{unwrap_or, ℕ}
 use Rattle.law_state.specs.Homes.{epoch_at, era_by, new_stage, stage_at, stage_of}
 use Rattle.law_state.proofs.Fences.{Acted, IsUnsettled}
 use Rattle.law_state.proofs.Homes.{has_stage, row_or_none}

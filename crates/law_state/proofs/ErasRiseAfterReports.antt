@@ -1,39 +1,14 @@
 -- An era rises after reports: while a server stays In as one incarnation, the active fence that holds a cell's writes awaits its report.
-use Rattle.std.proofs.Common.{◌≡◌, ◌≢◌, ◌≤◌, ◌<◌, ◌+◌, ◌==◌, ◌&&◌, ◌++◌, ℕ, Bool, List, [], ◌∷◌, length, true, false, not, Some, None}
-use Rattle.std.proofs.Common.{is_some, refl, sym, ap, ◌∙◌, subst, ◌⊎◌, inl, inr, append_assoc, arith}
-use Rattle.std.specs.Prelude.{◌||◌, fold, nat_eq, replicate, slice_get, unwrap_or, if◌then◌else◌}
-use Rattle.std.specs.List.{list_any}
-use Rattle.std.specs.Option.{option_map_or}
-use Rattle.std.proofs.lemmas.Grind.{fold-append}
-use Rattle.petal_base.specs.Tuple.{is_tuple}
-use Rattle.petal_base.specs.declared.cell.Cell.{Cell}
-use Rattle.global_tables.specs.declared.disk.DiskRow.{DiskRow}
-use Rattle.global_tables.specs.declared.disk.RegionState.TheVariants.{Old, New}
-use Rattle.global_tables.specs.declared.disk.Verdict.{Verdict}
-use Rattle.global_tables.specs.declared.fence.Fence.{Fence}
-use Rattle.global_tables.specs.declared.fence.FenceKind.{FenceKind}
-use Rattle.global_tables.specs.declared.fence.FenceKind.TheVariants.{Region, Whole}
-use Rattle.global_tables.specs.Disk.{all_noted, named, row_fenced, row_frozen, row_moving, row_noted, with_link}
-use Rattle.global_tables.specs.Region.{region_of}
-use Rattle.global_tables.specs.View.{View, head, passed, queued, ready, servers_in}
-use Rattle.global_tables.specs.View as view
-use Rattle.petal_command.specs.declared.command.Command.{Command}
-use Rattle.petal_command.specs.declared.command.Command.TheVariants.{Join, Leave, Caught, MakeDisk, Snap, StartMove, Drained, Moved, Witness}
-use Rattle.spec_history.specs.Claims.{IsPrefix}
-use Rattle.spec_state.specs.declared.answer.Hold.{Hold}
-use Rattle.spec_state.specs.declared.answer.Hold.TheVariants.{All, No, Writes}
-use Rattle.spec_state.specs.CellState.{holds, is_of}
-use Rattle.spec_state.specs.Command.{act, after, is_head, is_new, may_join, state_after, with_disk, with_fence, with_move}
-use Rattle.spec_state.specs.Fence.{settled}
-use Rattle.spec_state.specs.State.{is_up, is_up_as, latest, links_of, start, told}
-use Rattle.spec_state.proofs.Passing.{settled_none, settled_one, view-effect}
-use Rattle.spec_rules.specs.Draining.{awaits}
-use Rattle.spec_rules.specs.Lists.{In}
-use Rattle.spec_rules.specs.Reads.{is_all_held}
-use Rattle.spec_rules.specs.State.{State, held, is_in}
-use Rattle.spec_rules.specs.Writes.{is_writes_held}
-use Rattle.spec_rules.proofs.ListLemmas.{in_later}
-use Rattle.spec_rules.proofs.Tests.{by_bool, by_test, number_itself, same_numbers, same_or_apart, same_some, some_or_none, true_false}
+use Rattle.law_state.proofs.Imports.{[], if◌then◌else◌, ◌&&◌, ◌++◌, ◌+◌, ◌<◌, ◌==◌, ◌||◌, ◌∙◌, ◌∷◌, ◌≡◌, ◌≢◌, ◌≤◌, ◌⊎◌, All, Bool, Caught, Cell, Command}
+use Rattle.law_state.proofs.Imports.{DiskRow, Drained, Fence, FenceKind, Hold, In, IsPrefix, Join, Leave, List, MakeDisk, Moved, New, No, None, Old, Region}
+use Rattle.law_state.proofs.Imports.{Snap, Some, StartMove, State, Verdict, View, Whole, Witness, Writes, act, after, all_noted, ap, append_assoc, arith}
+use Rattle.law_state.proofs.Imports.{awaits, by_bool, by_test, false, fold, fold-append, head, held, holds, in_later, inl, inr, is_all_held, is_head, is_new}
+use Rattle.law_state.proofs.Imports.{is_of, is_some, is_tuple, is_up, is_up_as, is_writes_held, latest, length, links_of, list_any, may_join, named, nat_eq}
+use Rattle.law_state.proofs.Imports.{not, number_itself, option_map_or, passed, queued, ready, refl, region_of, replicate, row_fenced, row_frozen, row_moving}
+use Rattle.law_state.proofs.Imports.{row_noted, same_numbers, same_or_apart, same_some, servers_in, settled, settled_none, settled_one, slice_get}
+use Rattle.law_state.proofs.Imports.{some_or_none, start, state_after, subst, sym, told, true, true_false, unwrap_or, view-effect, with_disk, with_fence}
+use Rattle.law_state.proofs.Imports.{with_link, with_move, ℕ}
+use Rattle.spec_rules.specs.State.{is_in}
 use Rattle.law_state.specs.Epochs.{HasReported, HasReportedBy}
 use Rattle.law_state.specs.Homes.{epoch_at, era_at, new_stage, old_stage, stage_at, stage_of}
 use Rattle.law_state.specs.Plain.{IsPlain, IsPlainLog}
@@ -41,21 +16,22 @@ use Rattle.law_state.specs.Tables.{IsForSnapshot, IsPlainState, Of_disk, Of_regi
 use Rattle.law_state.proofs.Ages.{between, in_once, in_up}
 use Rattle.law_state.proofs.Caughts.{act_caught}
 use Rattle.law_state.proofs.EntriesOnlyAdd.{acting, entering, folding, log_plain}
-use Rattle.law_state.proofs.Eras.{HasRows, IsKept, era_low, fenced_apart, holds_before, kept_by_place, kept_by_stage, lives}
-use Rattle.law_state.proofs.Eras.{low_now, rows_of, stage_now, stage_was}
-use Rattle.law_state.proofs.Fences.{Acted, IsReady, IsUnsettled, head_awaiting, head_after, head_get, head_queued, head_reported}
-use Rattle.law_state.proofs.Fences.{none_ready, present_waits, ready_by, waits_still}
+use Rattle.law_state.proofs.Eras.{HasRows, IsKept, era_low, fenced_apart, holds_before, kept_by_place, kept_by_stage, lives, low_now, rows_of, stage_now}
+use Rattle.law_state.proofs.Eras.{stage_was}
+use Rattle.law_state.proofs.Fences.{Acted, IsReady, IsUnsettled, head_awaiting, head_after, head_get, head_queued, head_reported, none_ready, present_waits}
+use Rattle.law_state.proofs.Fences.{ready_by, waits_still}
 use Rattle.law_state.proofs.Joins.{joined_by}
 use Rattle.law_state.proofs.Leaves.{left_by}
 use Rattle.law_state.proofs.MapsAreAdded.{making}
-use Rattle.law_state.proofs.MovesOfDisks.{IsNoting, act_moved, act_note, act_start, at_row, begins, known, low_map, moved_state}
-use Rattle.law_state.proofs.MovesOfDisks.{noted_state, noting, onward, over, row_now}
+use Rattle.law_state.proofs.MovesOfDisks.{IsNoting, act_moved, act_note, act_start, at_row, begins, known, low_map, moved_state, noted_state, noting, onward}
+use Rattle.law_state.proofs.MovesOfDisks.{over, row_now}
 use Rattle.law_state.proofs.LinksAreNoted.{keeps_old}
 use Rattle.law_state.proofs.FencesPass.{in_settled, one_passed, passed_beside, passed_here, passing, region_beside, region_here, region_row}
 use Rattle.law_state.proofs.ListLookups.{get_front, get_replicate}
 use Rattle.law_state.proofs.DiskRowChanges.{beside, here, here_now}
 use Rattle.law_state.proofs.SnapsQueueFences.{act_drained, act_snap, none_of}
 use Rattle.law_state.proofs.Steady.{front_plain, log_below}
+use Rattle.global_tables.specs.View as view
 
 -- which holds of fences count: those of writes, by which eras rise, or those of reads too, which fences for regions have alone
 module _ (which : Hold → Bool) (every : which All ≡ true) (nothing : which No ≡ false) where

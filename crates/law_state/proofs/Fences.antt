@@ -1,36 +1,17 @@
 -- Between what a command does and what settles after it: a state that is plain, but that its active fence may wait for nobody.
-use Rattle.std.proofs.Common.{◌≡◌, ◌≢◌, ◌≤◌, ◌<◌, ◌+◌, ◌++◌, ◌==◌, ◌&&◌, ℕ, zero, suc, List, [], ◌∷◌, length, Bool, true, false, not, Option}
-use Rattle.std.proofs.Common.{Some, None, refl, subst, sym, ap, ◌∙◌, ◌⊎◌, inl, inr, arith}
-use Rattle.std.specs.Prelude.{◌||◌, filter, nat_eq, slice_get, if◌then◌else◌}
-use Rattle.std.specs.List.{list_any, range_with_len}
-use Rattle.std.specs.Option.{option_map_or}
-use Rattle.std.proofs.lemmas.Bool.Decides.{nat_tests}
-use Rattle.std.proofs.lemmas.Map.Views.{any-filter_same}
-use Rattle.std.proofs.lemmas.Option.{slice_get_within}
-use Rattle.global_tables.specs.declared.disk.DiskRow.{DiskRow}
-use Rattle.global_tables.specs.declared.disk.Latest.{Latest}
-use Rattle.global_tables.specs.declared.disk.Move.{Move}
-use Rattle.global_tables.specs.declared.disk.RegionState.TheVariants.{Old}
-use Rattle.global_tables.specs.declared.fence.Fence.{Fence}
-use Rattle.global_tables.specs.declared.fence.FenceKind.{FenceKind}
-use Rattle.global_tables.specs.declared.fence.FenceKind.TheVariants.{Region, Whole}
-use Rattle.global_tables.specs.declared.fence.Member.{Member}
-use Rattle.global_tables.specs.declared.link.LinkRow.{LinkRow}
-use Rattle.global_tables.specs.Disk.{disk_at, snapshot_named}
-use Rattle.global_tables.specs.Link.{link_at}
-use Rattle.global_tables.specs.View.{View, awaiting, following, first_waiting, head, is_in, queued, ready, reported, servers_in, stands_in}
-use Rattle.spec_state.specs.Command.{with_fence}
-use Rattle.spec_state.specs.State.{is_up}
-use Rattle.spec_rules.specs.Draining.{awaits}
-use Rattle.spec_rules.specs.State.{State}
-use Rattle.spec_rules.proofs.Tests.{both_true, by_bool, none_some, same_numbers, same_some, true_false}
+use Rattle.law_state.proofs.Imports.{[], if◌then◌else◌, ◌&&◌, ◌++◌, ◌+◌, ◌<◌, ◌==◌, ◌||◌, ◌∙◌, ◌∷◌, ◌≡◌, ◌≢◌, ◌≤◌, ◌⊎◌, Bool, DiskRow, Fence, FenceKind}
+use Rattle.law_state.proofs.Imports.{Latest, LinkRow, List, Member, Move, None, Old, Option, Region, Some, State, View, Whole, any-filter_same, ap, arith}
+use Rattle.law_state.proofs.Imports.{awaiting, awaits, both_true, by_bool, disk_at, false, filter, first_waiting, following, head, inl, inr, is_in, is_up}
+use Rattle.law_state.proofs.Imports.{length, link_at, list_any, nat_eq, nat_tests, none_some, not, option_map_or, queued, range_with_len, ready, refl}
+use Rattle.law_state.proofs.Imports.{reported, same_numbers, same_some, servers_in, slice_get, slice_get_within, snapshot_named, stands_in, subst, suc, sym}
+use Rattle.law_state.proofs.Imports.{true, true_false, with_fence, zero, ℕ}
 use Rattle.law_state.specs.Homes.{stage_at}
-pub use Rattle.law_state.specs.Tables.{AreQueued, IsUnsettled}
 use Rattle.law_state.specs.Tables.{IsForRegion, IsForSnapshot, IsLinkOf, HasLinkOf, IsFence, IsGrown, IsPlainState, IsShape, Of_disk, Of_region}
 use Rattle.law_state.specs.LinkRows.{IsServed}
 use Rattle.law_state.proofs.Ages.{no_less}
 use Rattle.law_state.proofs.ListLookups.{get_last}
 use Rattle.law_state.proofs.GrownStates.{grown_still, later_disk_itself, Step, grown_itself, grown_on}
+pub use Rattle.law_state.specs.Tables.{AreQueued, IsUnsettled}
 
 -- the state is so, and has grown from this one
 pub record Acted (servers : ℕ) (s t : State) : Type 0 where

@@ -1,33 +1,13 @@
 -- A fence that waits for nobody takes effect: its disk has one snapshot more, and the next epoch begins; or a region of its disk is on its way.
 -- What settles so is plain again.
 -- Links, maps and who is In stay as they were.
-use Rattle.std.proofs.Common.{◌≡◌, ◌≢◌, ◌≤◌, ◌==◌, ℕ, zero, suc, List, [], ◌∷◌, length, false, cond, Option, Some, None}
-use Rattle.std.proofs.Common.{refl, sym, ap, ◌∙◌, subst, inl, inr, length-append, arith}
-use Rattle.std.specs.Prelude.{◌||◌, length, slice_get, option_and_then, option_map}
-use Rattle.std.specs.Option.{option_map_or}
-use Rattle.std.proofs.lemmas.List.{append-nil}
-use Rattle.petal_base.specs.declared.cell.Cell.{Cell}
-use Rattle.global_tables.specs.declared.disk.DiskRow.{DiskRow}
-use Rattle.global_tables.specs.declared.disk.Latest.{Latest}
-use Rattle.global_tables.specs.declared.disk.Move.{Move}
-use Rattle.global_tables.specs.declared.disk.RegionState.TheVariants.{Old, Fenced}
-use Rattle.global_tables.specs.declared.disk.Snapshot.{Snapshot}
-use Rattle.global_tables.specs.declared.disk.Verdict.TheVariants as Verdict
-use Rattle.global_tables.specs.declared.fence.Fence.{Fence}
-use Rattle.global_tables.specs.declared.fence.FenceKind.{FenceKind}
-use Rattle.global_tables.specs.declared.fence.FenceKind.TheVariants.{Region, Whole}
-use Rattle.global_tables.specs.declared.fence.Member.{Member}
-use Rattle.global_tables.specs.Disk.{fenced, frozen, move_fenced, row_fenced, row_frozen, same_name, snapshot_named}
-use Rattle.global_tables.specs.Link.{link_at}
-use Rattle.global_tables.specs.Map.{tuple_of}
-use Rattle.global_tables.specs.Region.{link_of, region_of}
-use Rattle.global_tables.specs.View.{View, following, inc_in, passed, ready, servers_in}
-use Rattle.spec_state.specs.CellState.{cell_link, has_map}
-use Rattle.spec_state.specs.Fence.{confirmed, effect, let_through, settled}
-use Rattle.spec_state.specs.State.{inc_of, is_up_as, latest, leaves, told}
-use Rattle.spec_state.proofs.Passing.{length-following, settled_none, settled_one, view-effect}
-use Rattle.spec_rules.specs.State.{State}
-use Rattle.spec_rules.proofs.Tests.{by_bool, by_test, nat_lists_same, same_some, some_or_none, true_false}
+use Rattle.law_state.proofs.Imports.{[], ◌==◌, ◌||◌, ◌∙◌, ◌∷◌, ◌≡◌, ◌≢◌, ◌≤◌, Cell, DiskRow, Fence, FenceKind, Fenced, Latest, List, Member, Move, None, Old}
+use Rattle.law_state.proofs.Imports.{Option, Region, Snapshot, Some, State, View, Whole, ap, append-nil, arith, by_bool, by_test, cell_link, cond, confirmed}
+use Rattle.law_state.proofs.Imports.{effect, false, fenced, following, frozen, has_map, inc_in, inc_of, inl, inr, is_up_as, latest, leaves, length}
+use Rattle.law_state.proofs.Imports.{length-append, length-following, let_through, link_at, link_of, move_fenced, nat_lists_same, option_and_then, option_map}
+use Rattle.law_state.proofs.Imports.{option_map_or, passed, ready, refl, region_of, row_fenced, row_frozen, same_name, same_some, servers_in, settled}
+use Rattle.law_state.proofs.Imports.{settled_none, settled_one, slice_get, snapshot_named, some_or_none, subst, suc, sym, told, true_false, tuple_of}
+use Rattle.law_state.proofs.Imports.{view-effect, zero, ℕ}
 use Rattle.law_state.specs.Homes.{stage_of}
 use Rattle.law_state.specs.Tables.{IsForRegion, IsForSnapshot, IsLaterDisk, IsMove, IsRowAt, Of_disk, Of_region}
 use Rattle.law_state.proofs.Ages.{no_less}
@@ -36,6 +16,7 @@ use Rattle.law_state.proofs.GrownStates.{Step, grown_itself, grown_on}
 use Rattle.law_state.proofs.ListLookups.{find_after, get_last, none_find, text_itself}
 use Rattle.law_state.proofs.DiskRowChanges.{beside, fence_then, here, here_now, row_known, rowing}
 use Rattle.law_state.proofs.Stages.{moved_on, set_on, shape_set}
+use Rattle.global_tables.specs.declared.disk.Verdict.TheVariants as Verdict
 
 -- the state after the fence has passed
 abbrev pub one_passed : State → Fence → State

@@ -1,13 +1,6 @@
 -- States that have grown from one another, and rows of links that are later than others.
-use Rattle.std.proofs.Common.{◌≡◌, ◌≤◌, ◌++◌, ℕ, [], Bool, refl, sym, ap, ◌∙◌, inl, inr, Some, length, append_assoc, arith}
-use Rattle.std.specs.Prelude.{slice_get}
-use Rattle.std.proofs.lemmas.List.{append-nil}
-use Rattle.petal_base.specs.declared.cell.Cell.{Cell}
-use Rattle.global_tables.specs.Link.{has_server, link_at}
-use Rattle.global_tables.specs.declared.disk.DiskRow.{DiskRow}
-use Rattle.global_tables.specs.declared.link.LinkRow.{LinkRow}
-use Rattle.global_tables.specs.declared.link.LinkState.TheVariants.{Both, Only, Lost}
-use Rattle.spec_rules.specs.State.{State}
+use Rattle.law_state.proofs.Imports.{[], ◌++◌, ◌∙◌, ◌≡◌, ◌≤◌, Bool, Both, Cell, DiskRow, LinkRow, Lost, Only, Some, State, ap, append-nil, append_assoc}
+use Rattle.law_state.proofs.Imports.{arith, has_server, inl, inr, length, link_at, refl, slice_get, sym, ℕ}
 use Rattle.law_state.specs.Ages.{age, age_of}
 use Rattle.law_state.specs.LinkRows.{GoesOn, IsBetween, IsHeldOn, IsLater, IsServedOn}
 use Rattle.law_state.specs.Homes.{stage_at, stage_of}

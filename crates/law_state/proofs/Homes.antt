@@ -1,22 +1,9 @@
 -- What a state says of a cell, its stage says.
-use Rattle.std.proofs.Common.{◌≡◌, ◌≤◌, ◌<◌, ◌+◌, ◌==◌, ◌&&◌, ℕ, Bool, true, false, not, Option, Some, None}
-use Rattle.std.proofs.Common.{refl, sym, ap, ◌∙◌, ◌⊎◌, inl, inr, arith}
-use Rattle.std.specs.Prelude.{◌||◌, nat_le, option_map, option_and_then, slice_get, if◌then◌else◌}
-use Rattle.std.specs.Option.{option_map_or}
-use Rattle.std.proofs.lemmas.Bool.Decides.{nat_tests}
-use Rattle.petal_base.specs.declared.cell.Cell.{Cell}
-use Rattle.global_tables.specs.Map.{disk_of}
-use Rattle.global_tables.specs.Region.{region_of}
-use Rattle.global_tables.specs.declared.disk.DiskRow.{DiskRow}
-use Rattle.global_tables.specs.declared.disk.Move.{Move}
-use Rattle.global_tables.specs.declared.disk.RegionState.{RegionState}
-use Rattle.global_tables.specs.declared.disk.RegionState.TheVariants.{Old, Fenced, New}
-use Rattle.global_tables.specs.declared.map.MapRow.{MapRow}
-use Rattle.spec_state.specs.CellState.{cell_link, comes_under, coming, has_map, is_fenced, leaving, live, live_new, live_old, live_under}
-use Rattle.spec_state.specs.CellState.{move_region, owner, row_lead, source, source_in, target}
-use Rattle.spec_state.specs.State.{leaves, mover}
-use Rattle.spec_rules.specs.State.{State, is_lead, is_the, lead}
-use Rattle.spec_rules.proofs.Tests.{by_bool, number_itself, same_numbers, some_or_none, true_false}
+use Rattle.law_state.proofs.Imports.{if◌then◌else◌, ◌&&◌, ◌+◌, ◌<◌, ◌==◌, ◌||◌, ◌∙◌, ◌≡◌, ◌≤◌, ◌⊎◌, Bool, Cell, DiskRow, Fenced, MapRow, Move, New, None, Old}
+use Rattle.law_state.proofs.Imports.{Option, RegionState, Some, State, ap, arith, by_bool, cell_link, comes_under, coming, disk_of, false, has_map, inl, inr}
+use Rattle.law_state.proofs.Imports.{is_fenced, is_lead, is_the, lead, leaves, leaving, live, live_new, live_old, live_under, move_region, mover, nat_le}
+use Rattle.law_state.proofs.Imports.{nat_tests, not, number_itself, option_and_then, option_map, option_map_or, owner, refl, region_of, row_lead}
+use Rattle.law_state.proofs.Imports.{same_numbers, slice_get, some_or_none, source, source_in, sym, target, true, true_false, ℕ}
 use Rattle.law_state.specs.Homes.{HasStage, HasTwin, era_by, new_stage, old_stage, stage_at, stage_of, stage_under}
 use Rattle.law_state.specs.Tables.{HasHome, IsRowAt}
 use Rattle.law_state.proofs.Owners.{home, home_of, kept_by, left_by, mover_is, no_home, owner_is, stage_in, stage_is}

@@ -1,23 +1,9 @@
 -- Who is In as an incarnation has joined as it, once: no Join of that incarnation or an earlier one acts any more.
-use Rattle.std.proofs.Common.{◌≡◌, ◌≤◌, ◌+◌, ◌++◌, ◌==◌, ℕ, List, [], ◌∷◌, Bool, true, false, not, Option, Some, None, is_some, refl}
-use Rattle.std.proofs.Common.{sym, ap, ◌∙◌, subst, ◌⊎◌, inl, inr, append_assoc, arith}
-use Rattle.std.specs.Prelude.{fold, slice_get, option_and_then, if◌then◌else◌}
-use Rattle.std.specs.Option.{option_map_or}
-use Rattle.std.proofs.lemmas.Grind.{fold-append}
-use Rattle.global_tables.specs.Disk.{named}
-use Rattle.global_tables.specs.View.{inc_in}
-use Rattle.global_tables.specs.declared.disk.Verdict.TheVariants as Verdict
-use Rattle.global_tables.specs.declared.fence.Member.{Member}
-use Rattle.global_tables.specs.declared.fence.Member.TheVariants as member
-use Rattle.petal_command.specs.declared.command.Command.{Command}
-use Rattle.petal_command.specs.declared.command.Command.TheVariants.{Join, Leave, Caught, MakeDisk, Snap, StartMove, Drained, Moved, Witness}
-use Rattle.spec_state.specs.Command.{act, after, is_new, may_join, state_after, with_disk}
-use Rattle.spec_state.specs.State.{is_up_as, latest, start, told}
-use Rattle.spec_rules.specs.Lists.{In}
-use Rattle.spec_rules.specs.State.{State}
-use Rattle.spec_rules.proofs.ListLemmas.{in_former, in_later}
-use Rattle.spec_rules.proofs.Tests.{by_bool, by_test, number_itself, same_numbers, same_or_apart, true_false}
-use Rattle.spec_history.specs.Claims.{IsPrefix}
+use Rattle.law_state.proofs.Imports.{[], if◌then◌else◌, ◌++◌, ◌+◌, ◌==◌, ◌∙◌, ◌∷◌, ◌≡◌, ◌≤◌, ◌⊎◌, Bool, Caught, Command, Drained, In, IsPrefix, Join, Leave}
+use Rattle.law_state.proofs.Imports.{List, MakeDisk, Member, Moved, None, Option, Snap, Some, StartMove, State, Witness, act, after, ap, append_assoc, arith}
+use Rattle.law_state.proofs.Imports.{by_bool, by_test, false, fold, fold-append, in_former, in_later, inc_in, inl, inr, is_new, is_some, is_up_as, latest}
+use Rattle.law_state.proofs.Imports.{may_join, named, not, number_itself, option_and_then, option_map_or, refl, same_numbers, same_or_apart, slice_get, start}
+use Rattle.law_state.proofs.Imports.{state_after, subst, sym, told, true, true_false, with_disk, ℕ}
 use Rattle.law_state.specs.Ages.{age, age_of}
 use Rattle.law_state.specs.Disks.{HasJoined}
 use Rattle.law_state.specs.Joins.{HasJoinedSince}
@@ -26,13 +12,14 @@ use Rattle.law_state.specs.Tables.{IsPlainState}
 use Rattle.law_state.proofs.Ages.{in_age, may_by}
 use Rattle.law_state.proofs.Caughts.{act_caught}
 use Rattle.law_state.proofs.EntriesOnlyAdd.{entering, in_at_start, log_plain}
-use Rattle.law_state.proofs.Joins.{joined_by, in_now}
-use Rattle.law_state.proofs.Joins.{in_beside as joined_beside}
+use Rattle.law_state.proofs.Joins.{joined_by, in_now, in_beside as joined_beside}
 use Rattle.law_state.proofs.Leaves.{left_by, in_before}
 use Rattle.law_state.proofs.FencesPass.{in_settled}
 use Rattle.law_state.proofs.MovesOfDisks.{act_moved, act_note, act_start}
 use Rattle.law_state.proofs.SnapsQueueFences.{act_drained, act_snap}
 use Rattle.law_state.proofs.Steady.{front_plain, log_below}
+use Rattle.global_tables.specs.declared.disk.Verdict.TheVariants as Verdict
+use Rattle.global_tables.specs.declared.fence.Member.TheVariants as member
 
 -- the entry is the Join of this incarnation, which acts
 abbrev Joins : State → Command → (n inc : ℕ) → Type 0

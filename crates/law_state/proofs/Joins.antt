@@ -1,23 +1,10 @@
 -- A Join: its server is In, with an incarnation above the one that was Out, and was of no link in Both. One with its blocks changes no
 -- link; of one with an empty store a link that it held alone is Lost, and the other server of each of its links is to copy all of it.
-use Rattle.std.proofs.Common.{◌≡◌, ◌≢◌, ◌≤◌, ◌<◌, ◌+◌, ◌==◌, ℕ, Bool, true, false, Some, refl, sym, ap, ◌∙◌, subst, ◌⊎◌, inl, inr, arith}
-use Rattle.std.specs.Prelude.{◌||◌, if◌then◌else◌, map, slice_get, option_and_then, option_map}
-use Rattle.std.specs.Option.{option_map_or}
-use Rattle.std.proofs.lemmas.List.{length-set, map-id}
-use Rattle.std.proofs.lemmas.Option.{slice_get_within}
-use Rattle.global_tables.specs.declared.fence.Member.{Member}
-use Rattle.global_tables.specs.declared.fence.Member.TheVariants as member
-use Rattle.global_tables.specs.declared.link.LinkRow.{LinkRow}
-use Rattle.global_tables.specs.declared.link.LinkState.{LinkState}
-use Rattle.global_tables.specs.declared.link.LinkState.TheVariants.{Both, Only, Lost}
-use Rattle.global_tables.specs.Link.{blanked_state, has_server}
-use Rattle.global_tables.specs.Link as links
-use Rattle.global_tables.specs.View.{is_in, inc_in, last_inc}
-use Rattle.global_tables.specs.View as view
-use Rattle.spec_state.specs.CellState.{serves}
-use Rattle.spec_state.specs.Command.{may_join}
-use Rattle.spec_state.specs.State.{State, inc_of, is_up, is_up_as}
-use Rattle.spec_rules.proofs.Tests.{by_bool, same_some, same_or_apart, same_numbers, true_false}
+use Rattle.law_state.proofs.Imports.{if◌then◌else◌, ◌+◌, ◌<◌, ◌==◌, ◌||◌, ◌∙◌, ◌≡◌, ◌≢◌, ◌≤◌, ◌⊎◌, Bool, Both, LinkRow, LinkState, Lost, Member, Only, Some}
+use Rattle.law_state.proofs.Imports.{ap, arith, blanked_state, by_bool, false, has_server, inc_in, inc_of, inl, inr, is_in, is_up, is_up_as, last_inc}
+use Rattle.law_state.proofs.Imports.{length-set, map, map-id, may_join, option_and_then, option_map, option_map_or, refl, same_numbers, same_or_apart}
+use Rattle.law_state.proofs.Imports.{same_some, serves, slice_get, slice_get_within, subst, sym, true, true_false, ℕ}
+use Rattle.spec_state.specs.State.{State}
 use Rattle.law_state.specs.Ages.{age, age_of}
 use Rattle.law_state.specs.LinkChanges.{IsHeldStill, row_joined}
 use Rattle.law_state.specs.LinkRows.{IsBetween, IsHeldOn, IsLater, IsLostOn, IsServed, IsServedBy, IsServedOn, ByBoth, ByNone, ByOne}
@@ -28,6 +15,9 @@ use Rattle.law_state.proofs.Fences.{Acted, queued_on, requeued_itself}
 use Rattle.law_state.proofs.GrownStates.{between_later, later_itself, one_before}
 use Rattle.law_state.proofs.NewMapLinks.{either_false, or_true}
 use Rattle.law_state.proofs.ListLookups.{get_set_here, get_set_beside}
+use Rattle.global_tables.specs.declared.fence.Member.TheVariants as member
+use Rattle.global_tables.specs.Link as links
+use Rattle.global_tables.specs.View as view
 
 -- ### The row of a link
 

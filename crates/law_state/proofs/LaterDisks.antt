@@ -1,24 +1,13 @@
 -- Disks that come later: where they stand, what they are named, and that their cells had no links before.
-use Rattle.std.proofs.Common.{◌≡◌, ◌≤◌, ◌<◌, ◌+◌, ◌++◌, ◌==◌, ℕ, zero, suc, List, [], ◌∷◌, length, true, Some, None, refl, sym}
-use Rattle.std.proofs.Common.{ap, ◌∙◌, subst, ◌⊎◌, inl, inr, arith, length-append}
-use Rattle.std.specs.Prelude.{◌||◌, drop, slice_get}
-use Rattle.std.proofs.lemmas.Option.{slice_get_past, slice_get_within}
-use Rattle.petal_base.specs.declared.cell.Cell.{Cell}
-use Rattle.global_tables.specs.declared.disk.DiskRow.{DiskRow}
-use Rattle.global_tables.specs.Disk.{named, same_name}
-use Rattle.global_tables.specs.Map.{disk_of}
-use Rattle.spec_state.specs.declared.answer.DiskView.{DiskView}
-use Rattle.spec_rules.specs.Lists.{In}
-use Rattle.spec_rules.specs.State.{State}
-use Rattle.spec_state.specs.CellState.{cell_link, has_map}
-use Rattle.spec_state.specs.State.{leaves}
-use Rattle.global_tables.specs.declared.link.LinkRow.{LinkRow}
-use Rattle.spec_rules.specs.State as rules
-use Rattle.spec_rules.proofs.Tests.{none_some, number_itself, same_some, some_or_none, nat_lists_same}
+use Rattle.law_state.proofs.Imports.{[], ◌++◌, ◌+◌, ◌<◌, ◌==◌, ◌||◌, ◌∙◌, ◌∷◌, ◌≡◌, ◌≤◌, ◌⊎◌, Cell, DiskRow, DiskView, In, LinkRow, List, None, Some, State}
+use Rattle.law_state.proofs.Imports.{ap, arith, cell_link, disk_of, drop, has_map, inl, inr, leaves, length, length-append, named, nat_lists_same, none_some}
+use Rattle.law_state.proofs.Imports.{number_itself, refl, same_name, same_some, slice_get, slice_get_past, slice_get_within, some_or_none, subst, suc, sym}
+use Rattle.law_state.proofs.Imports.{true, zero, ℕ}
 use Rattle.law_state.specs.Tables.{IsGrown, IsLaterDisk, IsPlainState}
 use Rattle.law_state.proofs.Owners.{disk_on, map_made, no_owner}
 use Rattle.law_state.proofs.ListLookups.{found_at, get_in, get_last, get_within, in_get}
 use Rattle.law_state.proofs.Steady.{found, owned_or_none, unlinked, viewed}
+use Rattle.spec_rules.specs.State as rules
 
 -- no disk of the list has the name of one that follows, one after another
 abbrev pub AreFresh : List DiskRow → List DiskRow → Type 0

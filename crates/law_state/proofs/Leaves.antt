@@ -1,21 +1,9 @@
 -- A Leave: its server is Out, and of the links that it served with another one the other one is left.
-use Rattle.std.proofs.Common.{◌≡◌, ◌≢◌, ◌≤◌, ◌+◌, ◌==◌, ℕ, Bool, true, false, Option, Some, None, refl, sym, ap, ◌∙◌, inl, inr, arith}
-use Rattle.std.specs.Prelude.{◌||◌, if◌then◌else◌, slice_get, option_map, option_and_then}
-use Rattle.std.specs.Option.{option_map_or}
-use Rattle.std.proofs.lemmas.List.{length-set}
-use Rattle.std.proofs.lemmas.Option.{slice_get_within}
-use Rattle.global_tables.specs.declared.fence.Member.{Member}
-use Rattle.global_tables.specs.declared.fence.Member.TheVariants as member
-use Rattle.global_tables.specs.declared.link.LinkRow.{LinkRow}
-use Rattle.global_tables.specs.declared.link.LinkState.{LinkState}
-use Rattle.global_tables.specs.declared.link.LinkState.TheVariants.{Both, Only, Lost}
-use Rattle.global_tables.specs.Link.{has_server, other_of, left_state, row_left}
-use Rattle.global_tables.specs.Link as links
-use Rattle.global_tables.specs.View.{is_in, inc_in, last_inc, out_of, servers_in}
-use Rattle.global_tables.specs.View as view
-use Rattle.spec_state.specs.CellState.{serves}
-use Rattle.spec_state.specs.State.{State, inc_of, is_up, is_up_as}
-use Rattle.spec_rules.proofs.Tests.{by_bool, by_test, same_some, same_or_apart, same_numbers, number_itself, true_false}
+use Rattle.law_state.proofs.Imports.{if◌then◌else◌, ◌+◌, ◌==◌, ◌||◌, ◌∙◌, ◌≡◌, ◌≢◌, ◌≤◌, Bool, Both, LinkRow, LinkState, Lost, Member, None, Only, Option}
+use Rattle.law_state.proofs.Imports.{Some, ap, arith, by_bool, by_test, false, has_server, inc_in, inc_of, inl, inr, is_in, is_up, is_up_as, last_inc}
+use Rattle.law_state.proofs.Imports.{left_state, length-set, number_itself, option_and_then, option_map, option_map_or, other_of, out_of, refl, row_left}
+use Rattle.law_state.proofs.Imports.{same_numbers, same_or_apart, same_some, servers_in, serves, slice_get, slice_get_within, sym, true, true_false, ℕ}
+use Rattle.spec_state.specs.State.{State}
 use Rattle.law_state.specs.Ages.{age, age_of}
 use Rattle.law_state.specs.LinkRows.{IsHeldOn, IsLostOn, IsServed, IsServedOn, IsBetween, IsLater, ByBoth, ByNone, ByOne}
 use Rattle.law_state.specs.Tables.{IsPlainState}
@@ -25,6 +13,9 @@ use Rattle.law_state.proofs.GrownStates.{later_itself}
 use Rattle.law_state.proofs.MembershipChanges.{changing, link_changed}
 use Rattle.law_state.proofs.NewMapLinks.{either_false}
 use Rattle.law_state.proofs.ListLookups.{get_set_here, get_set_beside}
+use Rattle.global_tables.specs.declared.fence.Member.TheVariants as member
+use Rattle.global_tables.specs.Link as links
+use Rattle.global_tables.specs.View as view
 
 pub either_true : (a b : Bool) → (a || b) ≡ true → a ≡ false → b ≡ true
 either_true true b e f = let g : true ≡ false = f in absurd cc

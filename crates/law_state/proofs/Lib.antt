@@ -1,3 +1,4 @@
+pub mod Imports
 pub mod ListLookups
 pub mod Ages
 pub mod NewMapLinks

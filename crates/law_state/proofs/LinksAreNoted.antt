@@ -1,35 +1,13 @@
 -- Links are noted one by one, each after its own Moved: what of this a state says, that stands in its log.
-use Rattle.std.proofs.Common.{◌≡◌, ◌≤◌, ◌<◌, ◌+◌, ◌++◌, ◌==◌, ◌&&◌, ℕ, zero, suc, List, [], ◌∷◌, length, Bool, true, false, Option, Some, None}
-use Rattle.std.proofs.Common.{is_some, not, refl, sym, ap, ◌∙◌, subst, ◌⊎◌, inl, inr, append_assoc, arith}
-use Rattle.std.specs.Prelude.{◌||◌, fold, nat_eq, option_map, option_and_then, slice_get, slice_set, unwrap_or, if◌then◌else◌}
-use Rattle.std.specs.List.{list_all, list_any, range_with_len}
-use Rattle.std.specs.Option.{option_map_or}
-use Rattle.std.proofs.lemmas.Bool.Decides.{nat_tests}
-use Rattle.std.proofs.lemmas.Option.{slice_get_within}
-use Rattle.petal_base.specs.declared.cell.Cell.{Cell}
-use Rattle.petal_base.specs.Tuple.{is_tuple}
-use Rattle.global_tables.specs.Disk.{all_noted, has_link, move_fenced, named, row_fenced, row_frozen, row_moving, row_noted, with_link}
-use Rattle.global_tables.specs.Map.{disk_of, tuple_of}
-use Rattle.global_tables.specs.Region.{region_of}
-use Rattle.global_tables.specs.declared.disk.DiskRow.{DiskRow}
-use Rattle.global_tables.specs.declared.disk.Move.{Move}
-use Rattle.global_tables.specs.declared.disk.RegionState.{RegionState}
-use Rattle.global_tables.specs.declared.disk.RegionState.TheVariants.{Old, Fenced, New}
-use Rattle.global_tables.specs.declared.disk.Verdict.TheVariants as Verdict
-use Rattle.global_tables.specs.declared.fence.Fence.{Fence}
-use Rattle.global_tables.specs.declared.fence.FenceKind.TheVariants.{Region}
-use Rattle.global_tables.specs.declared.map.MapRow.{MapRow}
-use Rattle.petal_command.specs.declared.command.Command.{Command}
-use Rattle.petal_command.specs.declared.command.Command.TheVariants.{Join, Leave, Caught, MakeDisk, Snap, StartMove, Drained, Moved, Witness}
-use Rattle.spec_history.specs.Claims.{IsPrefix}
-use Rattle.spec_state.specs.CellState.{is_fenced, move_region, noted_in, source}
-use Rattle.spec_state.specs.CellState.{noted as is_noted}
-use Rattle.spec_state.specs.Command.{act, after, is_new, may_join, state_after, with_disk, with_fence, with_move}
-use Rattle.spec_state.specs.Fence.{settled}
-use Rattle.spec_state.specs.State.{is_up_as, latest, leaves, links_of, mover, start, told}
-use Rattle.spec_rules.specs.Lists.{In}
-use Rattle.spec_rules.specs.State.{State}
-use Rattle.spec_rules.proofs.Tests.{both_true, by_bool, by_test, none_some, number_itself, same_numbers, same_or_apart, same_some, some_or_none, true_false}
+use Rattle.law_state.proofs.Imports.{[], if◌then◌else◌, ◌&&◌, ◌++◌, ◌+◌, ◌<◌, ◌==◌, ◌||◌, ◌∙◌, ◌∷◌, ◌≡◌, ◌≤◌, ◌⊎◌, Bool, Caught, Cell, Command, DiskRow}
+use Rattle.law_state.proofs.Imports.{Drained, Fence, Fenced, In, IsPrefix, Join, Leave, List, MakeDisk, MapRow, Move, Moved, New, None, Old, Option, Region}
+use Rattle.law_state.proofs.Imports.{RegionState, Snap, Some, StartMove, State, Witness, act, after, all_noted, ap, append_assoc, arith, both_true, by_bool}
+use Rattle.law_state.proofs.Imports.{by_test, disk_of, false, fold, has_link, inl, inr, is_fenced, is_new, is_noted, is_some, is_tuple, is_up_as, latest}
+use Rattle.law_state.proofs.Imports.{leaves, length, links_of, list_all, list_any, may_join, move_fenced, move_region, mover, named, nat_eq, nat_tests}
+use Rattle.law_state.proofs.Imports.{none_some, not, noted_in, number_itself, option_and_then, option_map, option_map_or, range_with_len, refl, region_of}
+use Rattle.law_state.proofs.Imports.{row_fenced, row_frozen, row_moving, row_noted, same_numbers, same_or_apart, same_some, settled, slice_get}
+use Rattle.law_state.proofs.Imports.{slice_get_within, slice_set, some_or_none, source, start, state_after, subst, suc, sym, told, true, true_false, tuple_of}
+use Rattle.law_state.proofs.Imports.{unwrap_or, with_disk, with_fence, with_link, with_move, zero, ℕ}
 use Rattle.law_state.specs.Homes.{new_stage, old_stage, stage_at, stage_of}
 use Rattle.law_state.specs.NotedLinks.{HasMovedIn}
 use Rattle.law_state.specs.Plain.{IsPlain, IsPlainLog}
@@ -41,19 +19,19 @@ use Rattle.law_state.proofs.Fences.{Acted, IsUnsettled, head_get, ready_by}
 use Rattle.law_state.proofs.Homes.{leaving_row, row_or_none, source_of, HasRow}
 use Rattle.law_state.proofs.Joins.{joined_by}
 use Rattle.law_state.proofs.Leaves.{left_by}
-use Rattle.law_state.proofs.MapsAreAdded as making
 use Rattle.law_state.proofs.MapsAreAdded.{map_on, new_map, row_last, same_home}
-use Rattle.law_state.proofs.MovesOfDisks.{IsNoting, act_moved, act_note, act_start, at_row, begins, known, move_then, moved_state}
-use Rattle.law_state.proofs.MovesOfDisks.{noted_state, noting, on_way, onward, over, row_now}
-use Rattle.law_state.proofs.Owners.{disk_on, home, mover_is, no_home, stage_in, stage_is}
-use Rattle.law_state.proofs.Owners.{left_by as left_by_row}
-use Rattle.law_state.proofs.FencesPass.{framed_itself, framed_passed, here_row, one_passed, passed_beside, passed_here, passing}
-use Rattle.law_state.proofs.FencesPass.{region_beside, region_here, region_row, settled_keeps}
+use Rattle.law_state.proofs.MovesOfDisks.{IsNoting, act_moved, act_note, act_start, at_row, begins, known, move_then, moved_state, noted_state, noting}
+use Rattle.law_state.proofs.MovesOfDisks.{on_way, onward, over, row_now}
+use Rattle.law_state.proofs.Owners.{disk_on, home, mover_is, no_home, stage_in, stage_is, left_by as left_by_row}
+use Rattle.law_state.proofs.FencesPass.{framed_itself, framed_passed, here_row, one_passed, passed_beside, passed_here, passing, region_beside, region_here}
+use Rattle.law_state.proofs.FencesPass.{region_row, settled_keeps}
 use Rattle.law_state.proofs.ListLookups.{get_last, get_replicate, get_set_beside, get_set_here}
 use Rattle.law_state.proofs.DiskRowChanges.{beside, here, here_now}
 use Rattle.law_state.proofs.SnapsQueueFences.{act_drained, act_snap, none_of}
 use Rattle.law_state.proofs.Steady.{front_plain, log_grown}
 use Rattle.law_state.proofs.Stages.{Over, Same, Under, fenced_next, new_most, of_most, side_of}
+use Rattle.global_tables.specs.declared.disk.Verdict.TheVariants as Verdict
+use Rattle.law_state.proofs.MapsAreAdded as making
 
 -- ### Lists of links
 

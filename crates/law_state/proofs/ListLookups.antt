@@ -1,10 +1,7 @@
 -- What stands at a place of a list, and what is found first.
-use Rattle.std.proofs.Common.{◌≡◌, ◌≢◌, ℕ, zero, suc, ◌<◌, ◌&&◌, Bool, true, false, cond, List, [], ◌∷◌, ◌++◌, length, Some, None}
-use Rattle.std.proofs.Common.{refl, sym, ap, ◌∙◌, subst, ◌⊎◌, inl, inr, arith}
-use Rattle.std.specs.Prelude.{find, map, slice_get, slice_set, option_map, replicate, nat_eq}
-use Rattle.std.specs.Cmp.Lexicographic.{pointwise}
-use Rattle.spec_rules.specs.Lists.{In}
-use Rattle.spec_rules.proofs.Tests.{by_bool, none_some, same_some, number_itself}
+use Rattle.law_state.proofs.Imports.{[], ◌&&◌, ◌++◌, ◌<◌, ◌∙◌, ◌∷◌, ◌≡◌, ◌≢◌, ◌⊎◌, Bool, In, List, None, Some, ap, arith, by_bool, cond, false, find, inl}
+use Rattle.law_state.proofs.Imports.{inr, length, map, nat_eq, none_some, number_itself, option_map, pointwise, refl, replicate, same_some, slice_get}
+use Rattle.law_state.proofs.Imports.{slice_set, subst, suc, sym, true, zero, ℕ}
 
 pub get_front : {A : Type 0} (xs ys : List A) (i : ℕ) (x : A) → slice_get xs i ≡ Some x → slice_get (xs ++ ys) i ≡ Some x
 get_front [] ys i x e = none_some refl e

@@ -1,17 +1,9 @@
 -- What a state says of a cell's two servers and of a holder that is alone, and what a later one says of them.
-use Rattle.std.proofs.Common.{◌≡◌, ◌≢◌, ℕ, Bool, true, false, Option, Some, None, refl, sym, ap, ◌∙◌, ◌⊎◌, inl, inr}
-use Rattle.std.specs.Prelude.{is_some, option_map, option_and_then}
-use Rattle.std.specs.Option.{option_map_or}
-use Rattle.petal_base.specs.declared.cell.Cell.{Cell}
-use Rattle.global_tables.specs.declared.link.LinkRow.{LinkRow}
-use Rattle.global_tables.specs.Link.{has_server}
-use Rattle.global_tables.specs.declared.link.LinkState.{LinkState}
-use Rattle.global_tables.specs.declared.link.LinkState.TheVariants.{Both, Only, Lost}
-use Rattle.spec_state.specs.CellState.{cell_link}
-use Rattle.spec_state.specs.Command.{is_alone}
-use Rattle.spec_state.specs.State.{is_up, is_up_as}
-use Rattle.spec_rules.specs.State.{State, live, lead, is_lead, row_in_both, in_both, first, second, primary, secondary, is_alone_on}
-use Rattle.spec_rules.proofs.Tests.{by_bool, true_false, none_some, same_some, number_itself, some_or_none, is_the_one}
+use Rattle.law_state.proofs.Imports.{◌∙◌, ◌≡◌, ◌≢◌, ◌⊎◌, Bool, Both, Cell, LinkRow, LinkState, Lost, None, Only, Option, Some, State, ap, by_bool, cell_link}
+use Rattle.law_state.proofs.Imports.{false, first, has_server, in_both, inl, inr, is_alone, is_alone_on, is_lead, is_some, is_the_one, is_up, is_up_as, lead}
+use Rattle.law_state.proofs.Imports.{none_some, number_itself, option_and_then, option_map, option_map_or, primary, refl, row_in_both, same_some, second}
+use Rattle.law_state.proofs.Imports.{secondary, some_or_none, sym, true, true_false, ℕ}
+use Rattle.spec_rules.specs.State.{live}
 use Rattle.law_state.specs.LinkRows.{IsServedBy, ByBoth, ByNone, ByOne, IsLater}
 use Rattle.law_state.specs.Homes.{HasDied}
 use Rattle.law_state.specs.Steady.{IsSteady}

@@ -1,23 +1,9 @@
 -- A map is added, with the links that its tuple asks for. A disk is made over such a map: its row stands last.
-use Rattle.std.proofs.Common.{◌≡◌, ◌≢◌, ◌≤◌, ◌<◌, ◌++◌, ℕ, List, [], ◌∷◌, length, true, Option, Some, None, refl, sym, ap}
-use Rattle.std.proofs.Common.{◌∙◌, subst, ◌⊎◌, inl, inr, arith, length-append}
-use Rattle.std.specs.Prelude.{◌||◌, slice_get, option_map, option_and_then, if◌then◌else◌}
-use Rattle.std.proofs.lemmas.Option.{slice_get_past, slice_get_within}
-use Rattle.petal_base.specs.Tuple.{is_tuple}
-use Rattle.global_tables.specs.declared.disk.DiskRow.{DiskRow}
-use Rattle.global_tables.specs.declared.fence.Fence.{Fence}
-use Rattle.global_tables.specs.declared.link.LinkRow.{LinkRow}
-use Rattle.global_tables.specs.declared.map.MapRow.{MapRow}
-use Rattle.global_tables.specs.Link.{is_link, link_at, new_row, new_rows}
-use Rattle.global_tables.specs.Map.{tuple_of, added, disk_of}
-use Rattle.global_tables.specs.Disk.{is_disk, named, same_name}
-use Rattle.spec_state.specs.CellState.{owner}
-use Rattle.spec_state.specs.State.{leaves, ups}
-use Rattle.spec_state.specs.Command.{with_disk}
-use Rattle.spec_rules.specs.Lists.{In}
-use Rattle.spec_rules.specs.State.{State}
-use Rattle.spec_rules.proofs.ListLemmas.{in-append}
-use Rattle.spec_rules.proofs.Tests.{none_some, number_itself, same_some, some_or_none, true_false}
+use Rattle.law_state.proofs.Imports.{[], if◌then◌else◌, ◌++◌, ◌<◌, ◌||◌, ◌∙◌, ◌∷◌, ◌≡◌, ◌≢◌, ◌≤◌, ◌⊎◌, DiskRow, Fence, In, LinkRow, List, MapRow, None}
+use Rattle.law_state.proofs.Imports.{Option, Some, State, added, ap, arith, disk_of, in-append, inl, inr, is_disk, is_link, is_tuple, leaves, length}
+use Rattle.law_state.proofs.Imports.{length-append, link_at, named, new_row, new_rows, none_some, number_itself, option_and_then, option_map, owner, refl}
+use Rattle.law_state.proofs.Imports.{same_name, same_some, slice_get, slice_get_past, slice_get_within, some_or_none, subst, sym, true, true_false, tuple_of}
+use Rattle.law_state.proofs.Imports.{ups, with_disk, ℕ}
 use Rattle.law_state.specs.Tables.{HasHome, HasLaterDisk, HasLinkOf, IsFence, IsPlainState, IsRowAt, Of_disk, Of_region}
 use Rattle.law_state.specs.Ages.{age_of}
 use Rattle.law_state.proofs.Ages.{no_less}

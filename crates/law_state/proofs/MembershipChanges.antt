@@ -1,13 +1,6 @@
 -- A step that changes who is In, and the row of each link by itself: what is left to show of it where it keeps the tables plain.
-use Rattle.std.proofs.Common.{◌≡◌, ◌≤◌, ◌==◌, ℕ, length, Some, sym, ap, ◌∙◌, subst, inl}
-use Rattle.std.specs.Prelude.{map, option_map, slice_get}
-use Rattle.global_tables.specs.declared.fence.Member.{Member}
-use Rattle.global_tables.specs.declared.link.LinkRow.{LinkRow}
-use Rattle.global_tables.specs.Link.{is_link, link_at}
-use Rattle.global_tables.specs.View.{View, last_inc}
-use Rattle.spec_rules.specs.Lists.{In}
-use Rattle.spec_rules.specs.State.{State}
-use Rattle.spec_rules.proofs.Tests.{both_true, same_numbers}
+use Rattle.law_state.proofs.Imports.{◌==◌, ◌∙◌, ◌≡◌, ◌≤◌, In, LinkRow, Member, Some, State, View, ap, both_true, inl, is_link, last_inc, length, link_at, map}
+use Rattle.law_state.proofs.Imports.{option_map, same_numbers, slice_get, subst, sym, ℕ}
 use Rattle.law_state.specs.Ages.{age_of}
 use Rattle.law_state.specs.Homes.{stage_at}
 use Rattle.law_state.specs.LinkRows.{IsHeldOn, IsLater, IsLostOn, IsServed, IsServedOn}

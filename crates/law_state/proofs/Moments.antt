@@ -1,6 +1,5 @@
 -- A moment of a history is one of each longer history.
-use Rattle.std.proofs.Common.{◌++◌, List, [], ◌∷◌, refl, ap, ◌∙◌, append_assoc}
-use Rattle.spec_history.specs.declared.record.Record.{Record}
+use Rattle.law_state.proofs.Imports.{[], ◌++◌, ◌∙◌, ◌∷◌, List, Record, ap, append_assoc, refl}
 use Rattle.law_state.specs.Moments.{IsMoment}
 
 abbrev pub last_moment : (records : List Record) (own : Record) → IsMoment (records ++ own ∷ [])

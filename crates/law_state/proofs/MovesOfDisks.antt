@@ -1,50 +1,28 @@
 -- A StartMove gives a disk a new map, and queues a fence for its first region. A Moved notes a link; after the last link of the old map the
 -- region is at the new one, and the next one waits, or the move is over and the links of the old map are gone.
-use Rattle.std.proofs.Common.{◌≡◌, ◌≢◌, ◌≤◌, ◌<◌, ◌+◌, ◌==◌, ℕ, List, [], ◌∷◌, length, Bool, true, false, not, cond, Option, Some, None}
-use Rattle.std.proofs.Common.{is_some, Result, Ok, Err, refl, sym, ap, ◌∙◌, subst, ◌⊎◌, inl, inr, arith}
-use Rattle.std.specs.Prelude.{◌||◌, filter, find, nat_lt, replicate, slice_get, slice_set, option_map, option_and_then, if◌then◌else◌}
-use Rattle.std.proofs.lemmas.Bool.Decides.{nat_tests}
-use Rattle.std.proofs.lemmas.List.{append-nil}
-use Rattle.std.proofs.lemmas.Option.{slice_get_within}
-use Rattle.petal_base.specs.Tuple.{is_tuple}
-use Rattle.petal_base.specs.declared.cell.Cell.{Cell}
-use Rattle.global_tables.specs.declared.disk.DiskRow.{DiskRow}
-use Rattle.global_tables.specs.declared.disk.Move.{Move}
-use Rattle.global_tables.specs.declared.disk.RegionState.TheVariants.{Old, Fenced, New}
-use Rattle.global_tables.specs.declared.disk.Verdict.{Verdict}
-use Rattle.global_tables.specs.declared.fence.Fence.{Fence}
-use Rattle.global_tables.specs.declared.fence.FenceKind.TheVariants.{Region}
-use Rattle.global_tables.specs.declared.link.LinkRow.{LinkRow}
-use Rattle.global_tables.specs.declared.map.MapRow.{MapRow}
-use Rattle.global_tables.specs.Disk.{all_noted, completes, disk_at, move_done, named, noted, option_moved, row_moving}
-use Rattle.global_tables.specs.Disk.{row_noted, same_name, snapshot_named, with_link}
-use Rattle.global_tables.specs.Link.{dropped, is_link, link_at}
-use Rattle.global_tables.specs.Map.{disk_of, tuple_of}
-use Rattle.global_tables.specs.Region.{region_of}
-use Rattle.petal_command.specs.declared.command.Command.TheVariants.{Moved, StartMove}
-use Rattle.spec_state.specs.CellState.{has_map, is_fenced, move_region, owner}
-use Rattle.spec_state.specs.Command.{act, after_region, is_new, move_begun, move_of, move_target, moved_by, note, with_fence, with_move}
-use Rattle.spec_state.specs.State.{latest, leaves, links_of, mover, told}
-use Rattle.spec_rules.specs.Lists.{In}
-use Rattle.spec_rules.specs.State.{State}
-use Rattle.spec_rules.proofs.Tests.{both_true, by_bool, by_test, none_some, not_true, number_itself, same_numbers}
-use Rattle.spec_rules.proofs.Tests.{same_or_apart, same_some, some_or_none, true_false}
+use Rattle.law_state.proofs.Imports.{[], if◌then◌else◌, ◌+◌, ◌<◌, ◌==◌, ◌||◌, ◌∙◌, ◌∷◌, ◌≡◌, ◌≢◌, ◌≤◌, ◌⊎◌, Bool, Cell, DiskRow, Err, Fence, Fenced, In}
+use Rattle.law_state.proofs.Imports.{LinkRow, List, MapRow, Move, Moved, New, None, Ok, Old, Option, Region, Result, Some, StartMove, State, Verdict, act}
+use Rattle.law_state.proofs.Imports.{after_region, all_noted, ap, append-nil, arith, both_true, by_bool, by_test, completes, cond, disk_at, disk_of, dropped}
+use Rattle.law_state.proofs.Imports.{false, filter, find, has_map, inl, inr, is_fenced, is_link, is_new, is_some, is_tuple, latest, leaves, length, link_at}
+use Rattle.law_state.proofs.Imports.{links_of, move_begun, move_done, move_of, move_region, move_target, moved_by, mover, named, nat_lt, nat_tests, none_some}
+use Rattle.law_state.proofs.Imports.{not, not_true, note, noted, number_itself, option_and_then, option_map, option_moved, owner, refl, region_of, replicate}
+use Rattle.law_state.proofs.Imports.{row_moving, row_noted, same_name, same_numbers, same_or_apart, same_some, slice_get, slice_get_within, slice_set}
+use Rattle.law_state.proofs.Imports.{snapshot_named, some_or_none, subst, sym, told, true, true_false, tuple_of, with_fence, with_link, with_move, ℕ}
 use Rattle.law_state.specs.Ages.{age_of}
 use Rattle.law_state.specs.Homes.{new_stage, stage_under}
-use Rattle.law_state.specs.Tables.{HasHome, HasLaterDisk, HasLinkOf, IsGone, IsLaterDisk, IsMove}
-use Rattle.law_state.specs.Tables.{IsPlainState, IsRowAt, IsShape, Of_disk, Of_region}
+use Rattle.law_state.specs.Tables.{HasHome, HasLaterDisk, HasLinkOf, IsGone, IsLaterDisk, IsMove, IsPlainState, IsRowAt, IsShape, Of_disk, Of_region}
 use Rattle.law_state.proofs.Ages.{no_less}
 use Rattle.law_state.proofs.Fences.{Acted, AreQueued, IsUnsettled, fence_kept, region_queued, requeued, same_region, asked_on}
 use Rattle.law_state.proofs.GrownStates.{grown_on, same_row}
 use Rattle.law_state.proofs.MapsAreAdded.{map_on, mapping, new_map}
-use Rattle.law_state.proofs.MapsAreAdded as making
 use Rattle.law_state.proofs.Owners.{disk_at_is, disk_on, home, kept_by, owner_is, row_at_on, stage_in, stage_is, stages_later}
 use Rattle.law_state.proofs.ListLookups.{found_at}
-use Rattle.law_state.proofs.DiskRowChanges as rowed
-use Rattle.law_state.proofs.DiskRowChanges.{beside, fence_then, here, here_now, homes_now, many_rows, names_now, owner_before, owner_then}
-use Rattle.law_state.proofs.DiskRowChanges.{row_known, row_later, rowing, rows_later, rows_now, was_row}
+use Rattle.law_state.proofs.DiskRowChanges.{beside, fence_then, here, here_now, homes_now, many_rows, names_now, owner_before, owner_then, row_known}
+use Rattle.law_state.proofs.DiskRowChanges.{row_later, rowing, rows_later, rows_now, was_row}
 use Rattle.law_state.proofs.SnapsQueueFences.{none_of}
 use Rattle.law_state.proofs.Stages.{begun_on, fenced_next, new_most, no_fenced, row_on, set_on, shape_begun, shape_next, shape_set}
+use Rattle.law_state.proofs.MapsAreAdded as making
+use Rattle.law_state.proofs.DiskRowChanges as rowed
 
 -- ### What a StartMove comes to
 

@@ -1,19 +1,9 @@
 -- Which cell of a disk's block its users name: one that takes writes, and the only one of those that were made for the disk.
-use Rattle.std.proofs.Common.{◌≡◌, ◌≤◌, ◌<◌, ◌==◌, ℕ, List, true, false, Option, Some, None, refl, sym, ap, ◌∙◌, subst, arith}
-use Rattle.std.specs.Prelude.{◌||◌, if◌then◌else◌, option_map, option_and_then, slice_get}
-use Rattle.global_tables.specs.Disk.{disk_at}
-use Rattle.global_tables.specs.Map.{disk_of}
-use Rattle.global_tables.specs.Region.{region_of}
-use Rattle.global_tables.specs.declared.disk.DiskRow.{DiskRow}
-use Rattle.global_tables.specs.declared.disk.Move.{Move}
-use Rattle.global_tables.specs.declared.disk.RegionState.{RegionState}
-use Rattle.global_tables.specs.declared.disk.RegionState.TheVariants.{Old, Fenced, New}
-use Rattle.petal_base.specs.declared.cell.Cell.{Cell}
-use Rattle.spec_state.specs.CellState.{cell_asked, has_map, map_asked, move_region, region_at, view_of}
-use Rattle.spec_state.specs.State.{leaves}
-use Rattle.spec_state.specs.declared.answer.DiskView.{DiskView}
-use Rattle.spec_rules.specs.State.{State, find}
-use Rattle.spec_rules.proofs.Tests.{by_bool, number_itself, same_numbers, true_false}
+use Rattle.law_state.proofs.Imports.{if◌then◌else◌, ◌<◌, ◌==◌, ◌||◌, ◌∙◌, ◌≡◌, ◌≤◌, Cell, DiskRow, DiskView, Fenced, List, Move, New, None, Old, Option}
+use Rattle.law_state.proofs.Imports.{RegionState, Some, State, ap, arith, by_bool, cell_asked, disk_at, disk_of, false, has_map, leaves, map_asked}
+use Rattle.law_state.proofs.Imports.{move_region, number_itself, option_and_then, option_map, refl, region_at, region_of, same_numbers, slice_get, subst, sym}
+use Rattle.law_state.proofs.Imports.{true, true_false, view_of, ℕ}
+use Rattle.spec_rules.specs.State.{find}
 use Rattle.law_state.specs.Homes.{epoch_at, new_stage, old_stage, stage_at, stage_of, stage_under}
 use Rattle.law_state.specs.Tables.{IsPlainState}
 use Rattle.law_state.proofs.Owners.{disk_at_is, epoch_in, epoch_is, home, map_made, stage_in, stage_is}

@@ -1,21 +1,10 @@
 -- The links of a new map: each between two neighbours of its tuple, and served by those of them that are In.
-use Rattle.std.proofs.Common.{◌≡◌, ◌≢◌, ◌≤◌, ◌<◌, ◌+◌, ◌==◌, ◌&&◌, ℕ, zero, suc, List, [], ◌∷◌, length, Bool, true, false, not, cond}
-use Rattle.std.proofs.Common.{Option, Some, None, refl, sym, ap, ◌∙◌, ◌⊎◌, inl, inr, arith}
-use Rattle.std.specs.Prelude.{◌%◌, ◌||◌, nat_eq, nat_lt, nat_le, map, find, slice_get, slice_index, option_map, unwrap_or}
-use Rattle.std.specs.List.{list_any, list_all, range_with_len}
-use Rattle.std.specs.Option.{option_map_or}
-use Rattle.std.proofs.Math.Nat.{mod_self, mod-eq_of_lt}
-use Rattle.std.proofs.lemmas.Bool.Decides.{Decides-eqb, nat_tests}
-use Rattle.std.proofs.lemmas.Option.{slice_get-map}
-use Rattle.petal_base.specs.Tuple.{is_tuple, distinct}
-use Rattle.global_tables.specs.declared.fence.Member.{Member}
-use Rattle.global_tables.specs.declared.link.LinkRow.{LinkRow}
-use Rattle.global_tables.specs.Link.{is_link, link_at, new_row, new_rows, new_state, row_between}
-use Rattle.global_tables.specs.Link.{is_up as stands_up}
-use Rattle.global_tables.specs.View.{is_in}
-use Rattle.spec_state.specs.State.{State, is_up, ups}
-use Rattle.spec_rules.specs.Lists.{In}
-use Rattle.spec_rules.proofs.Tests.{by_bool, both_true, same_or_apart, not_true, true_false, same_numbers, number_itself}
+use Rattle.law_state.proofs.Imports.{[], ◌%◌, ◌&&◌, ◌+◌, ◌<◌, ◌==◌, ◌||◌, ◌∙◌, ◌∷◌, ◌≡◌, ◌≢◌, ◌≤◌, ◌⊎◌, Bool, Decides-eqb, In, LinkRow, List, Member, None}
+use Rattle.law_state.proofs.Imports.{Option, Some, ap, arith, both_true, by_bool, cond, distinct, false, find, inl, inr, is_in, is_link, is_tuple, is_up}
+use Rattle.law_state.proofs.Imports.{length, link_at, list_all, list_any, map, mod-eq_of_lt, mod_self, nat_eq, nat_le, nat_lt, nat_tests, new_row, new_rows}
+use Rattle.law_state.proofs.Imports.{new_state, not, not_true, number_itself, option_map, option_map_or, range_with_len, refl, row_between, same_numbers}
+use Rattle.law_state.proofs.Imports.{same_or_apart, slice_get, slice_get-map, slice_index, stands_up, suc, sym, true, true_false, unwrap_or, ups, zero, ℕ}
+use Rattle.spec_state.specs.State.{State}
 use Rattle.law_state.specs.LinkRows.{IsServed, ByBoth, ByOne}
 use Rattle.law_state.proofs.Ages.{out_not}
 use Rattle.law_state.proofs.ListLookups.{find_none, in_get}

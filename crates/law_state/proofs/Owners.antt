@@ -1,17 +1,8 @@
 -- Which disk has a map: the one that it was made for, or none any more. By its row a cell's stage and epoch are told.
-use Rattle.std.proofs.Common.{◌≡◌, ◌≤◌, ◌==◌, ℕ, List, Bool, true, false, Option, Some, None, is_some, refl, sym, ap, ◌∙◌, ◌⊎◌, inl, inr, arith}
-use Rattle.std.specs.Prelude.{◌||◌, find, option_map, option_and_then, slice_get, if◌then◌else◌}
-use Rattle.std.specs.Option.{option_map_or}
-use Rattle.petal_base.specs.declared.cell.Cell.{Cell}
-use Rattle.global_tables.specs.Disk.{disk_at, is_disk}
-use Rattle.global_tables.specs.Map.{disk_of}
-use Rattle.global_tables.specs.declared.disk.DiskRow.{DiskRow}
-use Rattle.global_tables.specs.declared.disk.Move.{Move}
-use Rattle.global_tables.specs.declared.map.MapRow.{MapRow}
-use Rattle.spec_state.specs.CellState.{has_map, owner}
-use Rattle.spec_state.specs.State.{leaves, mover}
-use Rattle.spec_rules.specs.State.{State}
-use Rattle.spec_rules.proofs.Tests.{by_bool, none_some, number_itself, same_numbers, same_some, some_or_none, true_false}
+use Rattle.law_state.proofs.Imports.{if◌then◌else◌, ◌==◌, ◌||◌, ◌∙◌, ◌≡◌, ◌≤◌, ◌⊎◌, Bool, Cell, DiskRow, List, MapRow, Move, None, Option, Some, State, ap}
+use Rattle.law_state.proofs.Imports.{arith, by_bool, disk_at, disk_of, false, find, has_map, inl, inr, is_disk, is_some, leaves, mover, none_some}
+use Rattle.law_state.proofs.Imports.{number_itself, option_and_then, option_map, option_map_or, owner, refl, same_numbers, same_some, slice_get, some_or_none}
+use Rattle.law_state.proofs.Imports.{sym, true, true_false, ℕ}
 use Rattle.law_state.specs.Homes.{epoch_at, stage_at, stage_by, stage_of, stage_under}
 use Rattle.law_state.specs.Tables.{HasHome, HasLaterDisk, IsRowAt}
 use Rattle.law_state.proofs.ListLookups.{find_here, find_none}

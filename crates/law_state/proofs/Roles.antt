@@ -1,18 +1,8 @@
 -- What a server is to a cell stays so while the server is In as the same incarnation, but for a holder that comes second again.
-use Rattle.std.proofs.Common.{◌≡◌, ◌≢◌, ◌≤◌, ◌<◌, ◌==◌, ℕ, List, Bool, true, false, Some, None, sym, ap, ◌∙◌, ◌⊎◌, inl, inr, arith}
-use Rattle.std.specs.Prelude.{◌||◌, option_and_then}
-use Rattle.std.proofs.lemmas.Bool.Decides.{nat_tests}
-use Rattle.petal_base.specs.declared.cell.Cell.{Cell}
-use Rattle.global_tables.specs.declared.link.LinkRow.{LinkRow}
-use Rattle.global_tables.specs.declared.link.LinkState.TheVariants.{Only}
-use Rattle.global_tables.specs.Link.{has_server}
-use Rattle.petal_command.specs.declared.command.Command.{Command}
-use Rattle.spec_state.specs.CellState.{cell_link, row_lead, serves}
-use Rattle.spec_state.specs.Command.{state_after}
-use Rattle.spec_state.specs.State.{is_up}
-use Rattle.spec_rules.specs.State.{State, is_in, leads_link}
-use Rattle.spec_rules.proofs.Tests.{by_bool, is_the_one, is_the_so, none_some, number_itself, same_numbers, same_or_apart, true_false}
-use Rattle.spec_history.specs.Claims.{IsPrefix}
+use Rattle.law_state.proofs.Imports.{◌<◌, ◌==◌, ◌||◌, ◌∙◌, ◌≡◌, ◌≢◌, ◌≤◌, ◌⊎◌, Bool, Cell, Command, IsPrefix, LinkRow, List, None, Only, Some, State, ap}
+use Rattle.law_state.proofs.Imports.{arith, by_bool, cell_link, false, has_server, inl, inr, is_the_one, is_the_so, is_up, leads_link, nat_tests, none_some}
+use Rattle.law_state.proofs.Imports.{number_itself, option_and_then, row_lead, same_numbers, same_or_apart, serves, state_after, sym, true, true_false, ℕ}
+use Rattle.spec_rules.specs.State.{is_in}
 use Rattle.law_state.specs.Ages.{age_of}
 use Rattle.law_state.specs.Plain.{IsPlainLog}
 use Rattle.law_state.specs.LinkRows.{IsLater, ByBoth, ByNone, ByOne}

@@ -1,26 +1,15 @@
 -- A Snap queues a fence for a snapshot that nobody has, and that no other fence is for. A report takes its server from those for whom the
 -- active fence waits.
-use Rattle.std.proofs.Common.{◌≡◌, ◌==◌, ◌&&◌, ◌+◌, ℕ, zero, suc, List, [], ◌∷◌, Bool, true, false, Option, Some, None, is_some}
-use Rattle.std.proofs.Common.{Result, Ok, Err, refl, sym, ap, ◌∙◌, inl, inr}
-use Rattle.std.specs.Prelude.{slice_get}
-use Rattle.std.specs.List.{list_any}
-use Rattle.global_tables.specs.declared.disk.DiskRow.{DiskRow}
-use Rattle.global_tables.specs.declared.disk.Verdict.{Verdict}
-use Rattle.global_tables.specs.declared.fence.Fence.{Fence}
-use Rattle.global_tables.specs.declared.fence.FenceKind.TheVariants.{Region, Whole}
-use Rattle.global_tables.specs.Disk.{disk_at, is_disk, named, same_name, snapshot_named}
-use Rattle.global_tables.specs.View.{first_waiting}
-use Rattle.global_tables.specs.View as view
-use Rattle.petal_command.specs.declared.command.Command.TheVariants.{Drained, Snap}
-use Rattle.spec_state.specs.State.{is_up_as, latest, told}
-use Rattle.spec_state.specs.Command.{act, is_head, is_new, is_taken, snap_target, snapped, takes, with_fence}
-use Rattle.spec_rules.specs.State.{State}
-use Rattle.spec_rules.proofs.Tests.{both_true, by_test, none_some, number_itself, same_numbers, same_some, true_false}
+use Rattle.law_state.proofs.Imports.{[], ◌&&◌, ◌+◌, ◌==◌, ◌∙◌, ◌∷◌, ◌≡◌, Bool, DiskRow, Drained, Err, Fence, List, None, Ok, Option, Region, Result, Snap}
+use Rattle.law_state.proofs.Imports.{Some, State, Verdict, Whole, act, ap, both_true, by_test, disk_at, false, first_waiting, inl, inr, is_disk, is_head}
+use Rattle.law_state.proofs.Imports.{is_new, is_some, is_taken, is_up_as, latest, list_any, named, none_some, number_itself, refl, same_name, same_numbers}
+use Rattle.law_state.proofs.Imports.{same_some, slice_get, snap_target, snapped, snapshot_named, suc, sym, takes, told, true, true_false, with_fence, zero, ℕ}
 use Rattle.law_state.specs.Tables.{IsPlainState, Of_disk}
-use Rattle.law_state.proofs.Fences.{Acted, AreQueued, fence_kept, head_queued, head_reported, queued_on, requeued}
-use Rattle.law_state.proofs.Fences.{requeued_reported, waits_before, waits_present}
+use Rattle.law_state.proofs.Fences.{Acted, AreQueued, fence_kept, head_queued, head_reported, queued_on, requeued, requeued_reported, waits_before}
+use Rattle.law_state.proofs.Fences.{waits_present}
 use Rattle.law_state.proofs.NewMapLinks.{either_false}
 use Rattle.law_state.proofs.ListLookups.{find_here, found_at, get_last, text_itself}
+use Rattle.global_tables.specs.View as view
 
 pub none_of : {A : Type 0} (o : Option A) → is_some o ≡ false → o ≡ None
 none_of None e = refl

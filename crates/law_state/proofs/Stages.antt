@@ -1,20 +1,8 @@
 -- How far a cell is by the row of its disk, and the regions of a move: each goes forward alone.
-use Rattle.std.proofs.Common.{◌≡◌, ◌≤◌, ◌<◌, ◌+◌, ◌==◌, ℕ, zero, suc, List, Bool, true, false, Option, Some, None, is_some}
-use Rattle.std.proofs.Common.{refl, sym, ap, ◌∙◌, subst, inl, inr, arith}
-use Rattle.std.specs.Prelude.{◌||◌, slice_get, slice_set, replicate, unwrap_or, if◌then◌else◌}
-use Rattle.std.proofs.lemmas.List.{length-set, length-replicate}
-use Rattle.std.proofs.lemmas.Option.{slice_get_within}
-use Rattle.petal_base.specs.declared.cell.Cell.{Cell}
-use Rattle.global_tables.specs.Map.{tuple_of}
-use Rattle.global_tables.specs.Region.{region_of}
-use Rattle.global_tables.specs.declared.disk.DiskRow.{DiskRow}
-use Rattle.global_tables.specs.declared.disk.Move.{Move}
-use Rattle.global_tables.specs.declared.disk.RegionState.{RegionState}
-use Rattle.global_tables.specs.declared.disk.RegionState.TheVariants.{Old, Fenced, New}
-use Rattle.spec_state.specs.CellState.{is_fenced, move_region, owner}
-use Rattle.spec_state.specs.State.{leaves}
-use Rattle.spec_rules.specs.State.{State}
-use Rattle.spec_rules.proofs.Tests.{by_test, same_or_apart, some_or_none, true_false}
+use Rattle.law_state.proofs.Imports.{if◌then◌else◌, ◌+◌, ◌<◌, ◌==◌, ◌||◌, ◌∙◌, ◌≡◌, ◌≤◌, Bool, Cell, DiskRow, Fenced, List, Move, New, None, Old, Option}
+use Rattle.law_state.proofs.Imports.{RegionState, Some, State, ap, arith, by_test, false, inl, inr, is_fenced, is_some, leaves, length-replicate, length-set}
+use Rattle.law_state.proofs.Imports.{move_region, owner, refl, region_of, replicate, same_or_apart, slice_get, slice_get_within, slice_set, some_or_none}
+use Rattle.law_state.proofs.Imports.{subst, suc, sym, true, true_false, tuple_of, unwrap_or, zero, ℕ}
 use Rattle.law_state.specs.Homes.{new_stage, old_stage, stage_at, stage_by, stage_of, stage_under}
 use Rattle.law_state.specs.Tables.{IsShape}
 use Rattle.law_state.proofs.ListLookups.{get_replicate, get_set_beside, get_set_here}

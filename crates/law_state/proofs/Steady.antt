@@ -1,36 +1,12 @@
 -- A plain state is steady, and what it says stays so in each state that has grown from it.
-use Rattle.std.proofs.Common.{◌≡◌, ◌≢◌, ◌≤◌, ◌<◌, ◌+◌, ◌*◌, ◌==◌, ℕ, List, [], ◌∷◌, length, Bool, true, false, Option}
-use Rattle.std.proofs.Common.{Some, None, refl, sym, ap, ◌∙◌, subst, ◌⊎◌, inl, inr, arith}
-use Rattle.std.specs.Prelude.{◌%◌, ◌||◌, fold, slice_get, option_map, option_and_then, unwrap_or, if◌then◌else◌}
-use Rattle.std.specs.Option.{option_map_or}
-use Rattle.std.proofs.lemmas.Grind.{fold-append}
-use Rattle.petal_base.specs.declared.cell.Cell.{Cell}
-use Rattle.global_tables.specs.declared.disk.DiskRow.{DiskRow}
-use Rattle.global_tables.specs.declared.disk.Move.{Move}
-use Rattle.global_tables.specs.declared.disk.Snapshot.{Snapshot}
-use Rattle.global_tables.specs.declared.disk.RegionState.{RegionState}
-use Rattle.global_tables.specs.declared.disk.RegionState.TheVariants.{Old, Fenced, New}
-use Rattle.global_tables.specs.declared.map.MapRow.{MapRow}
-use Rattle.global_tables.specs.declared.fence.Member.{Member}
-use Rattle.global_tables.specs.declared.fence.Member.TheVariants as member
-use Rattle.global_tables.specs.declared.link.LinkRow.{LinkRow}
-use Rattle.global_tables.specs.Disk.{named, same_name, disk_at, snapshot_named}
-use Rattle.global_tables.specs.Link.{link_at}
-use Rattle.global_tables.specs.Map.{tuple_of}
-use Rattle.global_tables.specs.Region.{link_of, region_of}
-use Rattle.global_tables.specs.View.{inc_in}
-use Rattle.petal_command.specs.declared.command.Command.{Command}
-use Rattle.spec_state.specs.declared.answer.DiskView.{DiskView}
-use Rattle.spec_state.specs.State.{leaves, start}
-use Rattle.spec_state.specs.CellState.{cell_asked, cell_link, has_map, is_fenced, live_new, live_old, live_under, map_asked}
-use Rattle.spec_state.specs.CellState.{move_region, owner, region_at, view_of}
-use Rattle.spec_state.specs.Command.{after, state_after}
-use Rattle.spec_rules.specs.Lists.{In}
-use Rattle.spec_rules.proofs.ListLemmas.{in_former, in_later}
-use Rattle.spec_rules.specs.State.{State, live, snapshot, is_in}
-use Rattle.spec_rules.specs.State as rules
-use Rattle.spec_rules.proofs.Tests.{by_bool, none_some, same_some, some_or_none, same_numbers, number_itself, nat_lists_same, true_false}
-use Rattle.spec_history.specs.Claims.{IsPrefix}
+use Rattle.law_state.proofs.Imports.{[], if◌then◌else◌, ◌%◌, ◌*◌, ◌+◌, ◌<◌, ◌==◌, ◌||◌, ◌∙◌, ◌∷◌, ◌≡◌, ◌≢◌, ◌≤◌, ◌⊎◌, Bool, Cell, Command, DiskRow, DiskView}
+use Rattle.law_state.proofs.Imports.{Fenced, In, IsPrefix, LinkRow, List, MapRow, Member, Move, New, None, Old, Option, RegionState, Snapshot, Some, State}
+use Rattle.law_state.proofs.Imports.{after, ap, arith, by_bool, cell_asked, cell_link, disk_at, false, fold, fold-append, has_map, in_former, in_later}
+use Rattle.law_state.proofs.Imports.{inc_in, inl, inr, is_fenced, leaves, length, link_at, link_of, live_new, live_old, live_under, map_asked, move_region}
+use Rattle.law_state.proofs.Imports.{named, nat_lists_same, none_some, number_itself, option_and_then, option_map, option_map_or, owner, refl, region_at}
+use Rattle.law_state.proofs.Imports.{region_of, same_name, same_numbers, same_some, slice_get, snapshot, snapshot_named, some_or_none, start, state_after}
+use Rattle.law_state.proofs.Imports.{subst, sym, true, true_false, tuple_of, unwrap_or, view_of, ℕ}
+use Rattle.spec_rules.specs.State.{live, is_in}
 use Rattle.law_state.specs.Plain.{IsPlainLog}
 use Rattle.law_state.specs.Steady.{HasLink, IsLinked, IsSteady}
 use Rattle.law_state.specs.LaterStates.{HasLaterView, IsBelow}
@@ -44,6 +20,8 @@ use Rattle.law_state.proofs.SnapsQueueFences.{disk_is, disk_stands}
 use Rattle.law_state.proofs.NewMapLinks.{proper}
 use Rattle.law_state.proofs.GrownStates.{gone_on}
 use Rattle.law_state.proofs.EntriesOnlyAdd.{folding, log_plain}
+use Rattle.global_tables.specs.declared.fence.Member.TheVariants as member
+use Rattle.spec_rules.specs.State as rules
 
 pub below : (block many : ℕ) → 2 ≤ many → block % many < many
 below block many two = omega arith

@@ -1,20 +1,8 @@
 -- The two cells of a move are of one disk, so of one epoch; and while the move goes on neither has another one.
-use Rattle.std.proofs.Common.{◌≡◌, ◌<◌, ◌≤◌, ◌==◌, ℕ, List, Bool, Option, true, false, Some, None, refl, sym, ap, ◌∙◌, subst, inl, inr, arith}
-use Rattle.std.specs.Prelude.{if◌then◌else◌, option_and_then, option_map, slice_get}
-use Rattle.global_tables.specs.Map.{disk_of}
-use Rattle.global_tables.specs.Region.{region_of}
-use Rattle.global_tables.specs.declared.disk.RegionState.{RegionState}
-use Rattle.global_tables.specs.declared.disk.RegionState.TheVariants.{Fenced, New, Old}
-use Rattle.global_tables.specs.declared.disk.DiskRow.{DiskRow}
-use Rattle.global_tables.specs.declared.disk.Move.{Move}
-use Rattle.petal_base.specs.declared.cell.Cell.{Cell}
-use Rattle.petal_command.specs.declared.command.Command.{Command}
-use Rattle.spec_history.specs.Claims.{IsPrefix}
-use Rattle.spec_state.specs.CellState.{has_map, move_region, source, source_in, target}
-use Rattle.spec_state.specs.Command.{state_after}
-use Rattle.spec_state.specs.State.{leaves}
-use Rattle.spec_rules.specs.State.{State}
-use Rattle.spec_rules.proofs.Tests.{by_bool, none_some, number_itself, same_numbers, same_some, true_false}
+use Rattle.law_state.proofs.Imports.{if◌then◌else◌, ◌<◌, ◌==◌, ◌∙◌, ◌≡◌, ◌≤◌, Bool, Cell, Command, DiskRow, Fenced, IsPrefix, List, Move, New, None, Old}
+use Rattle.law_state.proofs.Imports.{Option, RegionState, Some, State, ap, arith, by_bool, disk_of, false, has_map, inl, inr, leaves, move_region, none_some}
+use Rattle.law_state.proofs.Imports.{number_itself, option_and_then, option_map, refl, region_of, same_numbers, same_some, slice_get, source, source_in}
+use Rattle.law_state.proofs.Imports.{state_after, subst, sym, target, true, true_false, ℕ}
 use Rattle.law_state.specs.Homes.{epoch_at, new_stage, old_stage, stage_at, stage_of}
 use Rattle.law_state.specs.Plain.{IsPlainLog}
 use Rattle.law_state.specs.Tables.{HasLaterDisk, IsPlainState, IsRowAt}

@@ -1,8 +1,6 @@
 -- How old a server's place among the servers is: it only rises. Each incarnation is In before it is Out, and before the next one.
-use Rattle.std.specs.Prelude.{ℕ, ◌+◌, Option, Some, None, slice_get}
-use Rattle.global_tables.specs.declared.fence.Member.{Member}
+use Rattle.law_state.specs.Imports.{◌+◌, Member, None, Option, Some, State, slice_get, ℕ}
 use Rattle.global_tables.specs.declared.fence.Member.TheVariants as member
-use Rattle.spec_rules.specs.State.{State}
 
 abbrev pub age : Option Member → ℕ
 age None = 0

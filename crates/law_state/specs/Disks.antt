@@ -1,15 +1,6 @@
 -- How disks and cells belong together in a state that plain entries made, and who is In.
-use Rattle.std.specs.Prelude.{◌≡◌, ◌<◌, ◌≤◌, ◌⊎◌, Bool, List, ℕ, Some, None, true, false}
-use Rattle.petal_base.specs.declared.cell.Cell.{Cell}
-use Rattle.global_tables.specs.Disk.{disk_at, named, snapshot_named}
-use Rattle.global_tables.specs.declared.disk.DiskRow.{DiskRow}
-use Rattle.global_tables.specs.declared.disk.Snapshot.{Snapshot}
-use Rattle.spec_state.specs.CellState.{cell_link, has_map, owner}
-use Rattle.spec_state.specs.State.{is_up}
-use Rattle.petal_command.specs.declared.command.Command.{Command}
-use Rattle.petal_command.specs.declared.command.Command.TheVariants.{Join}
-use Rattle.spec_rules.specs.Lists.{In}
-use Rattle.spec_rules.specs.State.{State, is_in, servers_of}
+use Rattle.law_state.specs.Imports.{◌<◌, ◌≡◌, ◌≤◌, ◌⊎◌, Bool, Cell, Command, DiskRow, In, Join, List, None, Snapshot, Some, State, cell_link, disk_at, false}
+use Rattle.law_state.specs.Imports.{has_map, is_in, is_up, named, owner, servers_of, snapshot_named, true, ℕ}
 use Rattle.law_state.specs.Steady.{HasLink}
 
 -- each disk is found by its number and by its name, and owns its map and the one that it leaves; two disks have no map in common; each snapshot

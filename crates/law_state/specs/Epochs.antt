@@ -1,13 +1,5 @@
 -- What is chosen before a cell's era rises.
-use Rattle.std.specs.Prelude.{◌≡◌, ◌++◌, ℕ, Bool, true, List, [], ◌∷◌}
-use Rattle.petal_base.specs.declared.cell.Cell.{Cell}
-use Rattle.petal_command.specs.declared.command.Command.{Command}
-use Rattle.petal_command.specs.declared.command.Command.TheVariants.{Drained}
-use Rattle.spec_history.specs.Claims.{IsPrefix}
-use Rattle.spec_state.specs.Command.{state_after}
-use Rattle.spec_state.specs.declared.answer.Hold.{Hold}
-use Rattle.spec_rules.specs.State.{held, is_in}
-use Rattle.spec_rules.specs.Writes.{is_writes_held}
+use Rattle.law_state.specs.Imports.{[], ◌++◌, ◌∷◌, ◌≡◌, Bool, Cell, Command, Drained, Hold, IsPrefix, List, held, is_in, is_writes_held, state_after, true, ℕ}
 pub use Rattle.law_state.specs.Homes.{epoch_at, era_at}
 
 -- after this front of the log stands the server's report to the active fence, by which such a hold of the cell is so there; and the server

@@ -1,12 +1,6 @@
 -- What the laws of pairs, requests and the run know of the agreed log.
-use Rattle.std.specs.Prelude.{◌≡◌, ◌⊎◌, ◌++◌, ℕ, true, false, List, [], ◌∷◌, length}
-use Rattle.spec_history.specs.Claims.{IsPrefix}
-use Rattle.petal_command.specs.declared.command.Command.{Command}
-use Rattle.petal_command.specs.declared.command.Command.TheVariants.{Caught}
-use Rattle.spec_state.specs.Command.{state_after}
-use Rattle.spec_rules.specs.State.{is_in}
-use Rattle.spec_rules.specs.World.{Setting, World, chosen_log, chosen_state}
-use Rattle.spec_rules.specs.Lists.{In}
+use Rattle.law_state.specs.Imports.{[], ◌++◌, ◌∷◌, ◌≡◌, ◌⊎◌, Caught, Command, In, IsPrefix, List, Setting, World, chosen_log, chosen_state, false, is_in}
+use Rattle.law_state.specs.Imports.{length, state_after, true, ℕ}
 use Rattle.law_state.specs.Plain.{IsPlainLog}
 use Rattle.law_state.specs.StartedBallots.{HasStarted, is_caught}
 

@@ -1,15 +1,7 @@
 -- How far a cell is: its map is not its disk's yet, or it holds the disk's contents, or these have left it. A cell only goes forward.
-use Rattle.std.specs.Prelude.{◌≡◌, ◌≤◌, ℕ, ◌+◌, ◌==◌, true, nat_le, if◌then◌else◌, Option, Some, None, is_some, option_and_then}
-use Rattle.std.specs.Option.{option_map_or}
-use Rattle.global_tables.specs.Disk.{disk_at}
-use Rattle.global_tables.specs.Map.{disk_of, tuple_of}
-use Rattle.global_tables.specs.Region.{region_of}
-use Rattle.global_tables.specs.declared.disk.DiskRow.{DiskRow}
-use Rattle.global_tables.specs.declared.disk.RegionState.{RegionState}
-use Rattle.global_tables.specs.declared.disk.RegionState.TheVariants.{Old, Fenced, New}
-use Rattle.petal_base.specs.declared.cell.Cell.{Cell}
-use Rattle.spec_state.specs.CellState.{cell_link, coming, has_map, leaving, live, move_region, owner, source, target}
-use Rattle.spec_rules.specs.State.{State, is_lead, leads_link}
+use Rattle.law_state.specs.Imports.{if◌then◌else◌, ◌+◌, ◌==◌, ◌≡◌, ◌≤◌, Cell, DiskRow, Fenced, New, None, Old, Option, RegionState, Some, State, cell_link}
+use Rattle.law_state.specs.Imports.{coming, disk_at, disk_of, has_map, is_lead, is_some, leads_link, leaving, live, move_region, nat_le, option_and_then}
+use Rattle.law_state.specs.Imports.{option_map_or, owner, region_of, source, target, true, tuple_of, ℕ}
 
 -- a cell of the disk's map: its region is still at the old one, on its way, or there
 abbrev pub new_stage : RegionState → ℕ

@@ -1,11 +1,6 @@
 -- Joins between a front of a log and the whole of it.
-use Rattle.std.specs.Prelude.{◌≡◌, ◌⊎◌, ◌+◌, ◌++◌, ℕ, Bool, List, [], ◌∷◌, true, slice_get}
-use Rattle.petal_command.specs.declared.command.Command.{Command}
-use Rattle.petal_command.specs.declared.command.Command.TheVariants.{Join}
-use Rattle.spec_history.specs.Claims.{IsPrefix}
-use Rattle.spec_state.specs.Command.{may_join, state_after}
-use Rattle.spec_state.specs.State.{start}
-use Rattle.spec_rules.specs.Blanked.{blank_joins_from}
+use Rattle.law_state.specs.Imports.{[], ◌++◌, ◌+◌, ◌∷◌, ◌≡◌, ◌⊎◌, Bool, Command, IsPrefix, Join, List, blank_joins_from, may_join, slice_get, start}
+use Rattle.law_state.specs.Imports.{state_after, true, ℕ}
 
 -- after this front of the log the server, which was Out, joins as this incarnation
 pub record HasJoinedSince (servers : ℕ) (front whole : List Command) (n inc : ℕ) (blank : Bool) : Type 0 where

@@ -1,14 +1,7 @@
 -- When a state is one that more plain entries left: what the earlier one says of a name, the later one says too; and of a cell what
 -- its link's servers are that have stayed In.
-use Rattle.std.specs.Prelude.{◌≡◌, ◌≤◌, ◌<◌, ◌⊎◌, ℕ, Bool, List, Some, true, false}
-use Rattle.petal_base.specs.declared.cell.Cell.{Cell}
-use Rattle.global_tables.specs.Link.{has_server}
-use Rattle.global_tables.specs.declared.link.LinkRow.{LinkRow}
-use Rattle.global_tables.specs.declared.link.LinkState.TheVariants.{Both, Only}
-use Rattle.spec_state.specs.declared.answer.DiskView.{DiskView}
-use Rattle.spec_state.specs.CellState.{cell_link, serves}
-use Rattle.spec_state.specs.State.{is_up}
-use Rattle.spec_rules.specs.State.{State, find, is_in, leads_link, snapshot}
+use Rattle.law_state.specs.Imports.{◌<◌, ◌≡◌, ◌≤◌, ◌⊎◌, Bool, Both, Cell, DiskView, LinkRow, List, Only, Some, State, cell_link, false, find, has_server}
+use Rattle.law_state.specs.Imports.{is_in, is_up, leads_link, serves, snapshot, true, ℕ}
 use Rattle.law_state.specs.Ages.{age_of}
 use Rattle.law_state.specs.Homes.{HasDied, epoch_at, era_at, stage_at}
 use Rattle.law_state.specs.LinkRows.{GoesOn}

@@ -1,3 +1,4 @@
+pub mod Imports
 pub mod Ages
 pub mod LinkRows
 pub mod Steady

@@ -1,18 +1,7 @@
 -- What an entry does to a link: it stays as it is, one of its servers leaves or joins, or it is in Both again.
-use Rattle.std.specs.Prelude.{◌≡◌, ◌≢◌, ◌+◌, ◌++◌, ℕ, Bool, List, [], ◌∷◌, Option, Some, None, true, false, slice_get}
-use Rattle.petal_base.specs.declared.cell.Cell.{Cell}
-use Rattle.global_tables.specs.Link.{has_server, other_of, row_blanked, row_left}
-use Rattle.global_tables.specs.declared.link.LinkRow.{LinkRow}
-use Rattle.global_tables.specs.declared.link.LinkState.{LinkState}
-use Rattle.global_tables.specs.declared.link.LinkState.TheVariants.{Both, Only}
-use Rattle.petal_command.specs.declared.command.Command.{Command}
-use Rattle.petal_command.specs.declared.command.Command.TheVariants.{Join, Leave, Caught}
-use Rattle.spec_history.specs.Claims.{IsPrefix}
-use Rattle.spec_state.specs.CellState.{cell_link}
-use Rattle.spec_state.specs.Command.{after, may_join, state_after}
-use Rattle.spec_state.specs.Place.{places_from}
-use Rattle.spec_state.specs.State.{inc_of, is_up_as, start}
-use Rattle.spec_rules.specs.State.{State}
+use Rattle.law_state.specs.Imports.{[], ◌++◌, ◌+◌, ◌∷◌, ◌≡◌, ◌≢◌, Bool, Both, Caught, Cell, Command, IsPrefix, Join, Leave, LinkRow, LinkState, List, None}
+use Rattle.law_state.specs.Imports.{Only, Option, Some, State, after, cell_link, false, has_server, inc_of, is_up_as, may_join, other_of, places_from}
+use Rattle.law_state.specs.Imports.{row_blanked, row_left, slice_get, start, state_after, true, ℕ}
 
 -- the cell has the same row, and its two servers are In, with the same incarnations, or Out, as before
 pub record StaysSo (cell : Cell) (row : LinkRow) (earlier later : State) : Type 0 where

@@ -1,10 +1,6 @@
 -- Rows of links: between whom they are, who serves them, and what is left of a row later.
-use Rattle.std.specs.Prelude.{◌≡◌, ◌⊎◌, ℕ, Bool, true, false}
-use Rattle.global_tables.specs.Link.{has_server}
-use Rattle.global_tables.specs.declared.link.LinkRow.{LinkRow}
-use Rattle.global_tables.specs.declared.link.LinkState.TheVariants.{Both, Only, Lost}
-use Rattle.spec_state.specs.CellState.{serves}
-use Rattle.spec_state.specs.State.{State, is_up, is_up_as}
+use Rattle.law_state.specs.Imports.{◌≡◌, ◌⊎◌, Bool, Both, LinkRow, Lost, Only, false, has_server, is_up, is_up_as, serves, true, ℕ}
+use Rattle.spec_state.specs.State.{State}
 use Rattle.law_state.specs.Ages.{age_of}
 
 -- the link is between these two servers, in either order

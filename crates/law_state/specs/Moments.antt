@@ -1,6 +1,5 @@
 -- A moment of a history: one of its records, with those before it and those after it.
-use Rattle.std.specs.Prelude.{◌≡◌, ◌++◌, List, ◌∷◌}
-use Rattle.spec_history.specs.declared.record.Record.{Record}
+use Rattle.law_state.specs.Imports.{◌++◌, ◌∷◌, ◌≡◌, List, Record}
 
 pub record IsMoment (records : List Record) : Type 0 where
   pub front : List Record

@@ -1,11 +1,5 @@
 -- How a region comes to its new map: each link of the old one is noted after its own Moved.
-use Rattle.std.specs.Prelude.{◌≡◌, ◌++◌, ◌∷◌, [], ℕ, List}
-use Rattle.global_tables.specs.Region.{region_of}
-use Rattle.petal_base.specs.declared.cell.Cell.{Cell}
-use Rattle.petal_command.specs.declared.command.Command.{Command}
-use Rattle.petal_command.specs.declared.command.Command.TheVariants.{Moved}
-use Rattle.spec_history.specs.Claims.{IsPrefix}
-use Rattle.spec_state.specs.Command.{state_after}
+use Rattle.law_state.specs.Imports.{[], ◌++◌, ◌∷◌, ◌≡◌, Cell, Command, IsPrefix, List, Moved, region_of, state_after, ℕ}
 use Rattle.law_state.specs.Homes.{stage_at}
 
 -- a Moved of the link for the region of this cell of the old map, while the region was on its way

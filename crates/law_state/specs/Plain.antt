@@ -1,9 +1,5 @@
 -- Logs of entries whose tuples are proper: those of disks that are made, and of moves that begin.
-use Rattle.std.specs.Prelude.{◌≡◌, ℕ, true, List, ⊤}
-use Rattle.petal_base.specs.Tuple.{is_tuple}
-use Rattle.petal_command.specs.declared.command.Command.{Command}
-use Rattle.petal_command.specs.declared.command.Command.TheVariants.{Join, Leave, Caught, MakeDisk, Snap, StartMove, Drained, Moved, Witness}
-use Rattle.spec_rules.specs.Lists.{In}
+use Rattle.law_state.specs.Imports.{◌≡◌, Caught, Command, Drained, In, Join, Leave, List, MakeDisk, Moved, Snap, StartMove, Witness, is_tuple, true, ℕ, ⊤}
 
 -- a command that makes a disk, or begins a move, has a tuple of so many servers
 abbrev pub IsPlain : (servers : ℕ) → Command → Type 0

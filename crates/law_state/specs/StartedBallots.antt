@@ -1,13 +1,6 @@
 -- Ballots that the holder of a link has started for its Caught, as it has them in mind.
-use Rattle.std.specs.Prelude.{◌≡◌, ◌⊎◌, ◌<◌, ◌≤◌, ℕ, Bool, true, false, length}
-use Rattle.std.specs.Option.{option_map_or}
-use Rattle.petal_command.specs.declared.command.Command.{Command}
-use Rattle.petal_command.specs.declared.command.Command.TheVariants.{Caught}
-use Rattle.petal_msg.specs.declared.copying.LinkId.{LinkId}
-use Rattle.petal_msg.specs.declared.copying.Progress.{Progress}
-use Rattle.petal_table.specs.Table.{at}
-use Rattle.spec_rules.specs.Server.{PairState, Server}
-use Rattle.spec_rules.specs.State.{link_cmp}
+use Rattle.law_state.specs.Imports.{◌<◌, ◌≡◌, ◌≤◌, ◌⊎◌, Bool, Caught, Command, LinkId, PairState, Progress, Server, at, false, length, link_cmp}
+use Rattle.law_state.specs.Imports.{option_map_or, true, ℕ}
 
 abbrev pub is_caught : Command → Bool
 is_caught (Caught of link holder inc other other_inc) = true

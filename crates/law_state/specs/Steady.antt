@@ -1,10 +1,7 @@
 -- What the laws need to know of a state that plain entries made.
-use Rattle.std.specs.Prelude.{◌≡◌, ◌≢◌, ◌<◌, ℕ, Bool, List, Some, None, true, false}
-use Rattle.petal_base.specs.declared.cell.Cell.{Cell}
-use Rattle.global_tables.specs.declared.link.LinkRow.{LinkRow}
-use Rattle.spec_state.specs.declared.answer.DiskView.{DiskView}
-use Rattle.spec_state.specs.CellState.{cell_asked, cell_link}
-use Rattle.spec_rules.specs.State.{State, find, live, servers_of}
+use Rattle.law_state.specs.Imports.{◌<◌, ◌≡◌, ◌≢◌, Bool, Cell, DiskView, LinkRow, List, None, Some, State, cell_asked, cell_link, false, find, servers_of}
+use Rattle.law_state.specs.Imports.{true, ℕ}
+use Rattle.spec_rules.specs.State.{live}
 use Rattle.law_state.specs.LinkRows.{IsServed}
 
 -- the link of a cell is between two servers, and served

@@ -1,26 +1,7 @@
 -- The tables that plain entries make.
-use Rattle.std.specs.Prelude.{◌≡◌, ◌≢◌, ◌⊎◌, ◌<◌, ◌≤◌, ◌+◌, ◌%◌, ◌++◌, ℕ, true, List, [], length, slice_get, slice_index, Some, None}
-use Rattle.petal_base.specs.Tuple.{is_tuple}
-use Rattle.petal_base.specs.declared.cell.Cell.{Cell}
-use Rattle.global_tables.specs.declared.disk.DiskRow.{DiskRow}
-use Rattle.global_tables.specs.declared.disk.Move.{Move}
-use Rattle.global_tables.specs.declared.disk.RegionState.{RegionState}
-use Rattle.global_tables.specs.declared.disk.RegionState.TheVariants.{Old, Fenced, New}
-use Rattle.global_tables.specs.declared.disk.Snapshot.{Snapshot}
-use Rattle.global_tables.specs.declared.fence.Fence.{Fence}
-use Rattle.global_tables.specs.declared.fence.FenceKind.TheVariants.{Region, Whole}
-use Rattle.global_tables.specs.Disk.{disk_at, snapshot_named}
-use Rattle.global_tables.specs.declared.fence.Member.{Member}
-use Rattle.global_tables.specs.declared.link.LinkRow.{LinkRow}
-use Rattle.global_tables.specs.declared.map.MapRow.{MapRow}
-use Rattle.global_tables.specs.Link.{link_at}
-use Rattle.global_tables.specs.Map.{disk_of, tuple_of}
-use Rattle.global_tables.specs.View.{head, last_inc}
-use Rattle.spec_state.specs.CellState.{owner}
-use Rattle.spec_state.specs.State.{is_up, leaves}
-use Rattle.spec_rules.specs.Draining.{awaits}
-use Rattle.spec_rules.specs.Lists.{In}
-use Rattle.spec_rules.specs.State.{State}
+use Rattle.law_state.specs.Imports.{[], ◌%◌, ◌++◌, ◌+◌, ◌<◌, ◌≡◌, ◌≢◌, ◌≤◌, ◌⊎◌, Cell, DiskRow, Fence, Fenced, In, LinkRow, List, MapRow, Member, Move, New}
+use Rattle.law_state.specs.Imports.{None, Old, Region, RegionState, Snapshot, Some, State, Whole, awaits, disk_at, disk_of, head, is_tuple, is_up, last_inc}
+use Rattle.law_state.specs.Imports.{leaves, length, link_at, owner, slice_get, slice_index, snapshot_named, true, tuple_of, ℕ}
 use Rattle.law_state.specs.Ages.{age_of}
 use Rattle.law_state.specs.Homes.{stage_at, stage_of}
 use Rattle.law_state.specs.LinkRows.{GoesOn, IsServed}

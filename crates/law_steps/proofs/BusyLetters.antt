@@ -1,5 +1,5 @@
 -- Letters that tell of a busy block, and of a request that is held back.
-use Rattle.std.proofs.Common.{◌≡◌, ℕ}
+use Rattle.law_steps.proofs.Imports.{◌≡◌, ℕ}
 use Rattle.petal_msg.specs.declared.body.Body.TheVariants as body
 
 pub busy_seq : {seq other : ℕ} → body.BlockBusy seq ≡ body.BlockBusy other → seq ≡ other

@@ -1,36 +1,9 @@
 -- A ballot that a server starts for a Caught is of a link of which nothing is left to copy.
-use Rattle.std.proofs.Common.{◌≡◌, ℕ, true, false, fold, List, ◌++◌, Option, Some, None, refl, sym, ap, subst, inl, inr}
-use Rattle.std.specs.Prelude.{filter}
-use Rattle.global_tables.specs.Link.{other_of}
-use Rattle.global_tables.specs.declared.link.LinkRow.{LinkRow}
-use Rattle.petal_command.specs.declared.command.Command.{Command}
-use Rattle.petal_command.specs.declared.command.Command.TheVariants.{Caught}
-use Rattle.petal_msg.specs.declared.copying.NextCopy.{NextCopy}
-use Rattle.petal_msg.specs.declared.copying.NextCopy.TheVariants.{Ask, Block, Wait, Nothing}
-use Rattle.spec_rules.specs.Ballots.{first_wanted, is_due, own_leave, wanted, with_leave}
-use Rattle.spec_rules.specs.Copies.{next_copy}
-use Rattle.spec_rules.specs.Draining.{draining}
-use Rattle.spec_rules.specs.Fills.{moving}
-use Rattle.spec_rules.specs.Returns.{caught_links, is_nothing, own_join, returning}
-use Rattle.spec_rules.specs.Lists.{In}
-use Rattle.spec_rules.specs.Log.{Log, Voter, rev_of, state_in}
-use Rattle.spec_rules.specs.Server.{PairState, JobContext}
-use Rattle.spec_rules.specs.State.{id_of, is_in}
-use Rattle.spec_state.specs.State.{inc_of}
-use Rattle.spec_rules.specs.Jobs.{voter_of}
-use Rattle.spec_rules.specs.Jobs.{own_wants, wanted_by}
-use Rattle.spec_rules.proofs.ListLemmas.{in-append}
-use Rattle.spec_rules.proofs.Tests.{by_test, true_false}
-use Rattle.law_state.specs.StartedBallots.{is_caught}
-use Rattle.law_state.proofs.EntriesOnlyAdd.{log_plain}
-use Rattle.law_state.proofs.Steady.{front_plain}
-use Rattle.law_log.proofs.CaughtsWanted.{caught_among}
-use Rattle.law_log.proofs.ReportsWanted.{report_among}
-use Rattle.law_log.proofs.LogJobsInSchedule.{all_leaves, own_leaves}
-use Rattle.law_log.proofs.ListPlaces.{kept_among}
-use Rattle.law_log.proofs.MovedsWanted.{move_among}
-use Rattle.law_log.proofs.ProposersInSchedule.{first_among}
-use Rattle.law_log.proofs.ServerStepsKeepLog.{join_only}
+use Rattle.law_steps.proofs.Imports.{◌++◌, ◌≡◌, Ask, Block, Caught, Command, In, JobContext, LinkRow, List, Log, NextCopy, None, Nothing, Option, PairState}
+use Rattle.law_steps.proofs.Imports.{Some, Voter, Wait, all_leaves, ap, by_test, caught_among, caught_links, draining, false, filter, first_among}
+use Rattle.law_steps.proofs.Imports.{first_wanted, fold, front_plain, id_of, in-append, inc_of, inl, inr, is_caught, is_due, is_in, is_nothing, join_only}
+use Rattle.law_steps.proofs.Imports.{kept_among, log_plain, move_among, moving, next_copy, other_of, own_join, own_leave, own_leaves, own_wants, refl}
+use Rattle.law_steps.proofs.Imports.{report_among, returning, rev_of, state_in, subst, sym, true, true_false, voter_of, wanted, wanted_by, with_leave, ℕ}
 use Rattle.law_steps.specs.DidStep.{IsBallotFor, Starts}
 use Rattle.law_steps.proofs.KnownServer.{KnownServer, parts_of}
 

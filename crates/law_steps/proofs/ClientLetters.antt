@@ -1,13 +1,6 @@
 -- What clients send is reads, writes, and words of the agreed log.
-use Rattle.std.proofs.Common.{◌≡◌, ◌||◌, ℕ, List, Option, Bool, true, refl}
-use Rattle.petal_msg.specs.Kinds.{is_asked, is_logged, subject_of, Subject, Logged}
-use Rattle.petal_msg.specs.declared.body.Body.{Body}
-use Rattle.script_lines.specs.declared.request.Line.{Line}
-use Rattle.spec_rules.specs.Lists.{In}
-use Rattle.spec_rules.specs.State.{State}
-use Rattle.spec_rules.specs.Server.{Post}
-use Rattle.spec_rules.specs.Clients.{Client, Asked, Reaction}
-use Rattle.spec_rules.proofs.Tests.{true_false}
+use Rattle.law_steps.proofs.Imports.{◌||◌, ◌≡◌, Asked, Body, Bool, Client, In, Line, List, Logged, Option, Post, Reaction, State, Subject, is_asked}
+use Rattle.law_steps.proofs.Imports.{is_logged, refl, subject_of, true, true_false, ℕ}
 use Rattle.law_steps.specs.DidClient.{Turned, Says, Of_the_log, A_write, A_read, Goes_on, Is_told, Begins, Reads, Ends, Shown, Judges}
 
 -- a read, a write, or a word of the agreed log

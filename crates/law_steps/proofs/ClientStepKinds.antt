@@ -1,50 +1,25 @@
 -- Each step of a client is one of the kinds that the relation names.
-use Rattle.std.proofs.Common.{◌≡◌, ◌+◌, ◌++◌, ◌==◌, ◌&&◌, ℕ, Bool, true, false, List, [], ◌∷◌, Option, Some, None, length}
-use Rattle.std.proofs.Common.{refl, ◌∙◌, sym, ap, subst, inl, inr, append_assoc}
-use Rattle.std.specs.Prelude.{is_some, map, nat_le, not, if◌then◌else◌}
-use Rattle.std.proofs.lemmas.Grind.{fold-append}
-use Rattle.petal_command.specs.declared.command.Command.{Command}
-use Rattle.petal_msg.specs.Kinds.{about}
-use Rattle.petal_msg.specs.declared.body.Body.{Body}
-use Rattle.petal_msg.specs.declared.body.Body.TheVariants as body
-use Rattle.petal_msg.specs.declared.letter.Actor.{Actor}
-use Rattle.petal_msg.specs.declared.letter.Actor.TheVariants as actor
-use Rattle.petal_msg.specs.declared.letter.Letter.{Letter}
-use Rattle.petal_msg.specs.declared.operation.Ending.TheVariants as ending
-use Rattle.script_lines.specs.Pattern.{pattern_block}
-use Rattle.script_lines.specs.declared.answer.Answer.{Answer}
-use Rattle.script_lines.specs.declared.answer.Answer.TheVariants as answer
-use Rattle.script_lines.specs.declared.request.Line.{Line}
-use Rattle.script_lines.specs.declared.request.Pattern.{Pattern}
-use Rattle.script_lines.specs.declared.request.Request.{Request}
-use Rattle.script_lines.specs.declared.request.Request.TheVariants as request
-use Rattle.spec_state.specs.State.{latest}
-use Rattle.spec_state.specs.State as states
-use Rattle.spec_state.specs.CellState.{cell_asked}
-use Rattle.spec_state.specs.Command.{after, state_after}
-use Rattle.spec_state.specs.declared.answer.DiskView.{DiskView}
-use Rattle.spec_history.specs.Claims.{IsPrefix}
-use Rattle.spec_rules.specs.Lists.{In}
-use Rattle.spec_state.specs.Settled.{is_settled}
-use Rattle.spec_rules.specs.State.{State, find, servers_of}
-use Rattle.spec_rules.specs.Server.{Post, post_to}
-use Rattle.spec_rules.specs.Clients.{Client, Asked, Reaction, Learning, rests, posts_for, write_posts, read_posts, read_posts_at, epoch_for, to_propose}
-use Rattle.spec_rules.specs.Clients.{way_now, goes_the_old_way, sends_or_proposes, goes_out, goes_out_where, post_in_turn, asking, asks_and_sends, called}
-use Rattle.spec_rules.specs.Clients.{replies, is_read, is_write, Sight, with_sight, stays_open, rounds, settles, sees_for, sees, sees_from}
-use Rattle.spec_rules.specs.Clients.{answers, hears, hears_of, heard, hears_any, command_of, refusal, verdict_for, answered_where, witnessed, is_witness}
-use Rattle.spec_rules.specs.Clients.{judged, judged_by, takes_entry, takes_all, then_goes_out, takes_entries, next_entries, ticked}
-use Rattle.spec_rules.specs.World.{Setting, World, MayClient, client_state, client_step, calls, line_in, next_line}
-use Rattle.spec_rules.specs.declared.step.Step.{Step}
-use Rattle.spec_rules.specs.declared.step.Step.TheVariants.{Call, Deliver, Tick}
-use Rattle.spec_rules.proofs.ListLemmas.{in-append}
-use Rattle.spec_rules.proofs.Tests.{by_bool, by_test, both_true, same_numbers, only}
-use Rattle.law_log.proofs.ClientStepsKeepLog.{newly_asked}
-use Rattle.law_state.proofs.Steady.{log_rev}
+use Rattle.law_steps.proofs.Imports.{[], if◌then◌else◌, ◌&&◌, ◌++◌, ◌+◌, ◌==◌, ◌∙◌, ◌∷◌, ◌≡◌, Actor, Answer, Asked, Body, Bool, Call, Client, Command}
+use Rattle.law_steps.proofs.Imports.{Deliver, DiskView, In, IsPrefix, Learning, Letter, Line, List, MayClient, None, Option, Pattern, Post, Reaction, Request}
+use Rattle.law_steps.proofs.Imports.{Setting, Sight, Some, State, Step, Tick, World, about, after, answered_where, answers, ap, append_assoc, asking}
+use Rattle.law_steps.proofs.Imports.{asks_and_sends, both_true, by_bool, by_test, called, calls, cell_asked, client_state, client_step, command_of, epoch_for}
+use Rattle.law_steps.proofs.Imports.{false, find, fold-append, goes_out, goes_out_where, goes_the_old_way, heard, hears, hears_any, hears_of, in-append, inl}
+use Rattle.law_steps.proofs.Imports.{inr, is_read, is_settled, is_some, is_witness, is_write, judged, judged_by, latest, length, line_in, log_rev, map}
+use Rattle.law_steps.proofs.Imports.{nat_le, newly_asked, next_entries, next_line, not, only, pattern_block, post_in_turn, post_to, posts_for, read_posts}
+use Rattle.law_steps.proofs.Imports.{read_posts_at, refl, refusal, replies, rests, rounds, same_numbers, sees, sees_for, sees_from, sends_or_proposes}
+use Rattle.law_steps.proofs.Imports.{servers_of, settles, state_after, stays_open, subst, sym, takes_all, takes_entries, takes_entry, then_goes_out, ticked}
+use Rattle.law_steps.proofs.Imports.{to_propose, true, verdict_for, way_now, with_sight, witnessed, write_posts, ℕ}
 use Rattle.law_steps.specs.DidStep.{Heard}
-use Rattle.law_steps.specs.DidClient.{Turned, Says, Of_the_log, A_write, A_read, OnlySays, IsSame, WasSent, As_it_was, Anew, StaysOpen, IsReason}
-use Rattle.law_steps.specs.DidClient.{By_verdict, By_witness, IsJudged, Stops_it, Stops_at, Fails_it, Starts_it, Blanks_it, Has_no_space, Is_settled, Goes_on, Is_told}
+use Rattle.law_steps.specs.DidClient.{Turned, Says, Of_the_log, A_write, A_read, OnlySays, IsSame, WasSent, As_it_was, Anew, StaysOpen, IsReason, By_verdict}
+use Rattle.law_steps.specs.DidClient.{By_witness, IsJudged, Stops_it, Stops_at, Fails_it, Starts_it, Blanks_it, Has_no_space, Is_settled, Goes_on, Is_told}
 use Rattle.law_steps.specs.DidClient.{Begins, Reads, Ends, Shown, Judges}
 use Rattle.law_steps.proofs.Fronts.{front_itself, front_same, front_more, front_on}
+use Rattle.petal_msg.specs.declared.body.Body.TheVariants as body
+use Rattle.petal_msg.specs.declared.letter.Actor.TheVariants as actor
+use Rattle.petal_msg.specs.declared.operation.Ending.TheVariants as ending
+use Rattle.script_lines.specs.declared.answer.Answer.TheVariants as answer
+use Rattle.script_lines.specs.declared.request.Request.TheVariants as request
+use Rattle.spec_state.specs.State as states
 
 -- a client's step is made in a call, or else
 abbrev pub is_call : Step → Bool

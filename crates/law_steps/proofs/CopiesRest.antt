@@ -1,53 +1,22 @@
 -- What a server remembers of copies stays of links as they are in its own state: each job keeps it, and each ballot.
-use Rattle.std.proofs.Common.{◌≡◌, ◌+◌, ◌==◌, ℕ, Bool, true, false, if◌then◌else◌, List, [], ◌∷◌, Option}
-use Rattle.std.proofs.Common.{Some, None, refl, sym, ap, ◌∙◌, subst, inl, inr}
-use Rattle.std.specs.Prelude.{filter, length, map, nat_lt, option_and_then, unwrap_or}
-use Rattle.std.specs.Option.{option_map_or}
-use Rattle.std.specs.Ordering.{eq_by_cmp}
-use Rattle.busy_marks.specs.Marks.{above, lesser}
-use Rattle.global_tables.specs.Link.{is_link, link_at}
-use Rattle.global_tables.specs.Map.{tuple_of}
-use Rattle.global_tables.specs.Region.{link_of}
-use Rattle.global_tables.specs.declared.link.LinkRow.{LinkRow}
-use Rattle.busy_marks.specs.declared.marks.Mark.{Mark}
-use Rattle.busy_marks.specs.declared.marks.MarkKind.TheVariants as mark
-use Rattle.petal_base.specs.declared.cell.Cell.{Cell}
-use Rattle.petal_base.specs.Cells.{cell_of}
-use Rattle.petal_command.specs.declared.command.Command.{Command}
-use Rattle.petal_command.specs.declared.command.Command.TheVariants.{Caught}
-use Rattle.petal_msg.specs.declared.body.Body.{Body}
-use Rattle.petal_msg.specs.declared.copying.Copying.{Copying}
-use Rattle.petal_msg.specs.declared.copying.LastCopy.{LastCopy}
-use Rattle.petal_msg.specs.declared.copying.LinkId.{LinkId}
-use Rattle.petal_msg.specs.declared.copying.NextCopy.{NextCopy}
-use Rattle.petal_msg.specs.declared.copying.NextCopy.TheVariants.{Ask, Block, Wait, Nothing}
-use Rattle.petal_msg.specs.declared.copying.Progress.{Progress}
-use Rattle.spec_state.specs.CellState.{cell_link}
-use Rattle.spec_state.specs.Command.{after}
-use Rattle.petal_table.specs.Table.{at}
-use Rattle.spec_rules.specs.Copies.{begins_copy, blocks_left, cell_at, cell_holder, is_kept_on, is_link_under_way, least, marked_blocks}
-use Rattle.spec_rules.specs.Copies.{next_block, next_copy, stored_blocks, with_copied, with_page}
-use Rattle.spec_rules.specs.Lists.{In}
-use Rattle.spec_rules.specs.Progress.{copying_on, last_copy, no_progress, progress_on, with_copying, with_full, with_last_copy, with_progress, without_copying}
-use Rattle.spec_rules.specs.Returns.{holds_link, proposed}
-use Rattle.spec_rules.specs.Server.{PairState, Copies, JobContext, JobResult}
-use Rattle.spec_rules.specs.State.{State, holder_of, id_of, is_on, is_whole, link_cmp, link_named, live}
-use Rattle.spec_rules.specs.Store.{Stored, cell_cmp, with_entry, with_mark_on, with_ticket}
-use Rattle.spec_rules.specs.Writes.{is_under_way}
-use Rattle.spec_rules.proofs.CellTables.{cell_apart, cell_gone, cell_gone_apart, cell_same}
-use Rattle.spec_rules.proofs.ListLemmas.{in-append}
-use Rattle.spec_rules.proofs.Tests.{both_true, by_bool, by_test, none_some, same_numbers, same_some, some_or_none, true_false}
-use Rattle.law_state.proofs.MembershipChanges.{found_itself}
-use Rattle.law_state.proofs.ListLookups.{found_at}
-use Rattle.law_log.proofs.BallotFlags.{progress_beside, progress_here, same_id}
-use Rattle.law_steps.specs.DidHolder.{DidHolder, CopyStep, Unmarks_copied, Closes_copy, TakenCopy, Copy_as_is, Copy_trimmed, Copy_synced}
-use Rattle.law_steps.specs.DidHolder.{Asks_page, Turns_page, Begins_copy, Goes_on_copying, Finds_it_full, Tidies, first_copy}
-use Rattle.law_steps.specs.DidOther.{DidOther, first_last, TrimStep, Is_trimmed, Drops_entry, Is_copied_to}
-use Rattle.law_steps.specs.DidOther.{Goes_on_trimming, Puts_entry}
+use Rattle.law_steps.proofs.Imports.{[], if◌then◌else◌, ◌+◌, ◌==◌, ◌∙◌, ◌∷◌, ◌≡◌, Ask, Block, Body, Bool, Caught, Cell, Command, Copies, Copying, In}
+use Rattle.law_steps.proofs.Imports.{JobContext, JobResult, LastCopy, LinkId, LinkRow, List, Mark, NextCopy, None, Nothing, Option, PairState, Progress, Some}
+use Rattle.law_steps.proofs.Imports.{State, Stored, Wait, above, after, ap, at, begins_copy, blocks_left, both_true, by_bool, by_test, cell_apart, cell_at}
+use Rattle.law_steps.proofs.Imports.{cell_cmp, cell_gone, cell_gone_apart, cell_holder, cell_link, cell_of, cell_same, copying_on, eq_by_cmp, false, filter}
+use Rattle.law_steps.proofs.Imports.{found_at, found_itself, holder_of, holds_link, id_of, in-append, inl, inr, is_kept_on, is_link, is_link_under_way, is_on}
+use Rattle.law_steps.proofs.Imports.{is_under_way, is_whole, last_copy, least, length, lesser, link_at, link_cmp, link_named, link_of, live, map}
+use Rattle.law_steps.proofs.Imports.{marked_blocks, nat_lt, next_block, next_copy, no_progress, none_some, option_and_then, option_map_or, progress_beside}
+use Rattle.law_steps.proofs.Imports.{progress_here, progress_on, proposed, refl, same_id, same_numbers, same_some, some_or_none, stored_blocks, subst, sym}
+use Rattle.law_steps.proofs.Imports.{true, true_false, tuple_of, unwrap_or, with_copied, with_copying, with_entry, with_full, with_last_copy, with_mark_on}
+use Rattle.law_steps.proofs.Imports.{with_page, with_progress, with_ticket, without_copying, ℕ}
+use Rattle.law_steps.specs.DidHolder.{DidHolder, CopyStep, Unmarks_copied, Closes_copy, TakenCopy, Copy_as_is, Copy_trimmed, Copy_synced, Asks_page}
+use Rattle.law_steps.specs.DidHolder.{Turns_page, Begins_copy, Goes_on_copying, Finds_it_full, Tidies, first_copy}
+use Rattle.law_steps.specs.DidOther.{DidOther, first_last, TrimStep, Is_trimmed, Drops_entry, Is_copied_to, Goes_on_trimming, Puts_entry}
 use Rattle.law_steps.specs.Did.{Did, Ignores, Refuses, By_read, By_lead, By_second, By_holder, By_other, By_filler, By_sweep}
 use Rattle.law_steps.specs.RestingCopies.{AreResting, CopyRests, LastRests}
 use Rattle.law_steps.proofs.OperationsRest.{same_cell_or_apart}
 use Rattle.law_steps.proofs.Subjects.{of_filler, of_lead, of_read, of_second, of_sweep}
+use Rattle.busy_marks.specs.declared.marks.MarkKind.TheVariants as mark
 
 -- ### What is left of it
 

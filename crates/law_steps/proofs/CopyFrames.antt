@@ -1,27 +1,8 @@
 -- What a job of copies leaves as it is: what the server remembers of writes, but that its numbers go on; and it speaks of copies alone.
-use Rattle.std.proofs.Common.{◌≡◌, ◌≤◌, ℕ, [], ◌∷◌, Option, Some, None, true, refl, sym, ap, ◌∙◌, subst, inl, inr, arith}
-use Rattle.global_tables.specs.declared.link.LinkRow.{LinkRow}
-use Rattle.petal_base.specs.declared.cell.Cell.{Cell}
-use Rattle.petal_base.specs.Cells.{cell_of, key_at}
-use Rattle.busy_marks.specs.Marks.{above}
-use Rattle.petal_msg.specs.Kinds.{Copied, subject_of}
-use Rattle.petal_msg.specs.declared.body.Body.{Body}
-use Rattle.petal_msg.specs.declared.body.Body.TheVariants as body
-use Rattle.petal_msg.specs.declared.copying.Copying.{Copying}
-use Rattle.petal_msg.specs.declared.copying.LastCopy.{LastCopy}
-use Rattle.petal_msg.specs.declared.copying.LinkId.{LinkId}
-use Rattle.petal_msg.specs.declared.copying.Progress.{Progress}
-use Rattle.petal_msg.specs.declared.letter.Letter.{Letter}
-use Rattle.spec_state.specs.CellState.{cell_link}
-use Rattle.spec_rules.specs.Copies.{begins_copy, repair_after, page_wanted, with_copied, with_page}
-use Rattle.spec_rules.specs.Lists.{In}
-use Rattle.spec_rules.specs.Progress.{progress_on, with_last_copy, with_progress, without_copying}
-use Rattle.spec_rules.specs.Server.{PairState, Pairs, JobContext, Post, JobResult}
-use Rattle.spec_rules.specs.Store.{cell_cmp, chain_in, epochs_of}
-use Rattle.spec_rules.specs.declared.job.Job.TheVariants as job
-use Rattle.spec_rules.proofs.CellTables.{cell_cmp_total}
-use Rattle.spec_rules.proofs.Tests.{by_test}
-use Rattle.law_log.proofs.BallotFlags.{caught_put}
+use Rattle.law_steps.proofs.Imports.{[], ◌∙◌, ◌∷◌, ◌≡◌, ◌≤◌, Body, Cell, Copied, Copying, In, JobContext, JobResult, LastCopy, Letter, LinkId, LinkRow, None}
+use Rattle.law_steps.proofs.Imports.{Option, PairState, Pairs, Post, Progress, Some, above, ap, arith, begins_copy, by_test, caught_put, cell_cmp}
+use Rattle.law_steps.proofs.Imports.{cell_cmp_total, cell_link, cell_of, chain_in, epochs_of, inl, inr, key_at, page_wanted, progress_on, refl, repair_after}
+use Rattle.law_steps.proofs.Imports.{subject_of, subst, sym, true, with_copied, with_last_copy, with_page, with_progress, without_copying, ℕ}
 use Rattle.law_steps.specs.Ready.{IsRising}
 use Rattle.law_steps.proofs.TablesOfPuts.{put_rises, without_rises}
 use Rattle.law_steps.specs.DidHolder.{DidHolder, CopyStep, Asks_to_trim, Sends, Unmarks_copied, Closes_copy, TakenCopy, Copy_as_is, Copy_trimmed, Copy_synced}
@@ -29,6 +10,8 @@ use Rattle.law_steps.specs.DidHolder.{Asks_page, Turns_page, Begins_copy, Goes_o
 use Rattle.law_steps.specs.DidOther.{OtherReply, Replies, DidOther, first_last, TrimStep, Is_trimmed, Drops_entry, Answers_page, Is_copied_to}
 use Rattle.law_steps.specs.DidOther.{Goes_on_trimming, Puts_entry}
 use Rattle.law_steps.proofs.Letters.{posted}
+use Rattle.petal_msg.specs.declared.body.Body.TheVariants as body
+use Rattle.spec_rules.specs.declared.job.Job.TheVariants as job
 
 pub record CopyFrame (own : PairState) (done : JobResult) : Type 0 where
   pub pending : done.own.pairs.pending ≡ own.pairs.pending

@@ -1,54 +1,25 @@
 -- Each step keeps it that entries move to cells whose region is on its way.
-use Rattle.std.proofs.Common.{◌≡◌, ◌||◌, ℕ, true, false, List, [], ◌∷◌, Some, length, refl, sym, ap, ◌∙◌, subst, inl, inr}
-use Rattle.std.specs.Prelude.{filter, not, ◌==◌}
-use Rattle.std.specs.List.{range_with_len}
-use Rattle.petal_base.specs.declared.cell.Cell.{Cell}
-use Rattle.petal_base.specs.declared.cell.Key.{Key}
-use Rattle.petal_base.specs.Cells.{cell_of}
-use Rattle.petal_command.specs.declared.command.Command.{Command}
-use Rattle.petal_table.specs.Table.{at}
-use Rattle.petal_table.proofs.Rows.{at-empty}
-use Rattle.petal_msg.specs.Kinds.{Filling, Subject, is_asked, is_logged, subject_of}
-use Rattle.petal_msg.specs.declared.body.Body.{Body}
-use Rattle.petal_msg.specs.declared.body.Body.TheVariants as body
-use Rattle.petal_msg.specs.declared.letter.Letter.{Letter}
-use Rattle.petal_msg.specs.declared.operation.OpKind.TheVariants as kind
-use Rattle.petal_msg.specs.declared.operation.Pending.{Pending}
-use Rattle.script_lines.specs.declared.script.Script.{Script}
-use Rattle.spec_state.specs.Command.{state_after}
-use Rattle.spec_history.specs.Claims.{IsPrefix}
-use Rattle.spec_history.specs.Steps.{AreStepsFrom, stepped, world_after}
-use Rattle.spec_history.specs.declared.record.Record.{Record}
-use Rattle.spec_rules.specs.Boots.{blanked, stays}
-use Rattle.spec_rules.specs.Crossing.{crossed}
-use Rattle.spec_rules.specs.Jobs.{Acted, down_posts}
-use Rattle.spec_rules.specs.Lists.{In}
-use Rattle.spec_rules.specs.Log.{Log}
-use Rattle.spec_rules.specs.Server.{PairState, Pairs, Post, Sender, Server, JobResult, letters_of, sender}
-use Rattle.spec_rules.specs.State.{State, coming}
-use Rattle.spec_rules.specs.Store.{cell_cmp}
-use Rattle.spec_rules.specs.World.{Setting, World, acts, chosen_log, chosen_state, setting_of, stamped, start}
-use Rattle.spec_rules.specs.Writes.{is_clients}
-use Rattle.spec_rules.specs.declared.step.Step.{Step}
-use Rattle.spec_rules.specs.declared.step.Step.TheVariants.{Blank}
-use Rattle.spec_rules.proofs.ListLemmas.{in-append}
-use Rattle.spec_rules.proofs.Settled.{settling}
-use Rattle.spec_rules.proofs.Tests.{all_put, none_some, true_false}
-use Rattle.law_log.proofs.ProposersInSchedule.{said_to_all}
-use Rattle.law_state.specs.Firm.{Firm}
-use Rattle.law_state.proofs.Steady.{log_rev}
+use Rattle.law_steps.proofs.Imports.{[], ◌==◌, ◌||◌, ◌∙◌, ◌∷◌, ◌≡◌, Acted, AreStepsFrom, Blank, Body, Cell, Command, Filling, Firm, In, IsPrefix, JobResult}
+use Rattle.law_steps.proofs.Imports.{Key, Letter, List, Log, PairState, Pairs, Pending, Post, Record, Script, Sender, Server, Setting, Some, State, Step}
+use Rattle.law_steps.proofs.Imports.{Subject, World, all_put, ap, at, at-empty, blanked, cell_cmp, cell_of, chosen_log, chosen_state, coming, crossed}
+use Rattle.law_steps.proofs.Imports.{down_posts, false, filter, in-append, inl, inr, is_asked, is_clients, is_logged, length, letters_of, log_rev, none_some}
+use Rattle.law_steps.proofs.Imports.{not, range_with_len, refl, said_to_all, sender, setting_of, settling, stamped, start, state_after, stays, stepped}
+use Rattle.law_steps.proofs.Imports.{subject_of, subst, sym, true, true_false, world_after, ℕ}
+use Rattle.spec_rules.specs.World.{acts}
 use Rattle.law_steps.specs.ComingCells.{AreComing, WasComing}
 use Rattle.law_steps.specs.DidLead.{IsNextFill}
-use Rattle.law_steps.specs.DidStep.{Handled, Happens, Serves, Blanks, Turns, Worked, By_job, By_ballot, By_entry, Serving}
-use Rattle.law_steps.specs.DidStep.{Goes, Ends, Stays, Wakes, Fails, own_place}
+use Rattle.law_steps.specs.DidStep.{Handled, Happens, Serves, Blanks, Turns, Worked, By_job, By_ballot, By_entry, Serving, Goes, Ends, Stays, Wakes, Fails}
+use Rattle.law_steps.specs.DidStep.{own_place}
 use Rattle.law_steps.specs.Ready.{AreFirm, Rests}
 use Rattle.law_steps.proofs.MovesAreOfComingCells.{next_comes}
-use Rattle.law_steps.proofs.FillsByJobs.{Stood, Writes, Fills, SaysFill, Is_other, Is_next, did_come, did_fills, is_fill}
-use Rattle.law_steps.proofs.FillsByJobs.{is_filling, logged_said, other_subject}
+use Rattle.law_steps.proofs.FillsByJobs.{Stood, Writes, Fills, SaysFill, Is_other, Is_next, did_come, did_fills, is_fill, is_filling, logged_said}
+use Rattle.law_steps.proofs.FillsByJobs.{other_subject}
 use Rattle.law_steps.proofs.Fronts.{below_itself, front_on}
 use Rattle.law_steps.proofs.KindsInHistories.{firm_now, happens, own_plain, proposed_pairs, rests_next}
 use Rattle.law_steps.proofs.Letters.{said}
 use Rattle.law_steps.proofs.ClientLetters.{is_ask, turned_asks}
+use Rattle.petal_msg.specs.declared.body.Body.TheVariants as body
+use Rattle.petal_msg.specs.declared.operation.OpKind.TheVariants as kind
 
 -- ### Letters that are none
 

@@ -1,34 +1,22 @@
 -- What each kind of job says of entries that move, and which operations it opens for them.
-use Rattle.std.proofs.Common.{◌≡◌, Bool, true, false, Some, refl, sym, ap, ◌∙◌, subst, inl, inr}
-use Rattle.busy_marks.specs.declared.marks.MarkKind.TheVariants.{Stale}
-use Rattle.petal_base.specs.declared.cell.Cell.{Cell}
-use Rattle.petal_base.specs.Cells.{cell_of}
-use Rattle.petal_table.specs.Table.{at, put}
-use Rattle.petal_msg.specs.Kinds.{Filling, Logged, Subject, is_logged, subject_of}
-use Rattle.petal_msg.specs.declared.body.Body.{Body}
-use Rattle.petal_msg.specs.declared.body.Body.TheVariants as body
-use Rattle.petal_msg.specs.declared.operation.Action.TheVariants as action
-use Rattle.petal_msg.specs.declared.operation.Ending.TheVariants.{Written, Full}
-use Rattle.petal_msg.specs.declared.operation.OpKind.TheVariants as kind
-use Rattle.petal_msg.specs.declared.operation.Pending.{Pending}
-use Rattle.spec_rules.specs.Fills.{Moving, fill_operation}
-use Rattle.spec_rules.specs.Lists.{In}
-use Rattle.spec_rules.specs.Server.{PairState, JobContext, Pairs, Post, JobResult}
-use Rattle.spec_rules.specs.Store.{cell_cmp}
-use Rattle.spec_rules.specs.Writes.{gives_back, next_stage, operation, with_mark_at, without_pending}
-use Rattle.spec_rules.proofs.CellTables.{cell_apart, cell_same}
-use Rattle.spec_rules.proofs.Tests.{by_bool, same_some, true_false}
+use Rattle.law_steps.proofs.Imports.{◌∙◌, ◌≡◌, Body, Bool, Cell, Filling, Full, In, JobContext, JobResult, Logged, Moving, PairState, Pairs, Pending, Post}
+use Rattle.law_steps.proofs.Imports.{Some, Stale, Subject, Written, ap, at, by_bool, cell_apart, cell_cmp, cell_of, cell_same, false, fill_operation}
+use Rattle.law_steps.proofs.Imports.{gives_back, inl, inr, is_logged, next_stage, operation, put, refl, same_some, subject_of, subst, sym, true, true_false}
+use Rattle.law_steps.proofs.Imports.{with_mark_at, without_pending}
 use Rattle.law_steps.specs.Did.{Did, Ignores, Refuses, By_read, By_lead, By_second, By_holder, By_other, By_filler, By_sweep}
 use Rattle.law_steps.specs.DidFiller.{Is_filled, Is_out_of_slots}
-use Rattle.law_steps.specs.DidLead.{DidLead, Asks, An_entry_to_move, Of_the_log, Asks_for, Repeats, Is_full}
-use Rattle.law_steps.specs.DidLead.{Opens, Marks, Puts, Gives_up, Unmarks, Closes, Opens_alone, Marks_alone, Puts_alone, Unmarks_alone, Closes_alone}
-use Rattle.law_steps.specs.DidLead.{Opens_fill, Opens_fill_alone, Has_fill, Has_no_room, Goes_on_dead, IsNewFill, IsNextFill}
+use Rattle.law_steps.specs.DidLead.{DidLead, Asks, An_entry_to_move, Of_the_log, Asks_for, Repeats, Is_full, Opens, Marks, Puts, Gives_up, Unmarks, Closes}
+use Rattle.law_steps.specs.DidLead.{Opens_alone, Marks_alone, Puts_alone, Unmarks_alone, Closes_alone, Opens_fill, Opens_fill_alone, Has_fill, Has_no_room}
+use Rattle.law_steps.specs.DidLead.{Goes_on_dead, IsNewFill, IsNextFill}
 use Rattle.law_steps.proofs.CopyFrames.{of_holder, of_other}
 use Rattle.law_steps.proofs.Letters.{one_post, posted}
 use Rattle.law_steps.proofs.OperationsGoOn.{acts_say, ended_so, ends_say, is_of_operation}
 use Rattle.law_steps.proofs.Restages.{Was, has_put, marked, marked_alone, put_alone, stood, unmarked, unmarked_alone, was_acted, was_same}
 use Rattle.law_steps.proofs.OperationsRest.{put_put, same_cell_or_apart}
 use Rattle.law_steps.proofs.Subjects.{of_ending, of_filler, of_read, of_second, of_sweep}
+use Rattle.petal_msg.specs.declared.body.Body.TheVariants as body
+use Rattle.petal_msg.specs.declared.operation.Action.TheVariants as action
+use Rattle.petal_msg.specs.declared.operation.OpKind.TheVariants as kind
 
 -- the letter is an entry that moves
 abbrev pub is_fill : Body → Bool

@@ -1,16 +1,7 @@
 -- Fronts of the log, and what stands below what.
-use Rattle.std.proofs.Common.{◌≡◌, ◌≤◌, ◌++◌, inl, inr, List, [], ◌∷◌, length, length-append, refl, sym, ap, ◌∙◌, arith, append_assoc}
-use Rattle.std.specs.Prelude.{slice_get, drop}
-use Rattle.std.proofs.lemmas.List.{append-nil}
-use Rattle.petal_command.specs.declared.command.Command.{Command}
-use Rattle.spec_history.specs.Claims.{IsPrefix}
-use Rattle.spec_rules.specs.State.{State}
-use Rattle.spec_rules.proofs.Tests.{same_some}
-use Rattle.law_state.specs.LaterStates.{IsBelow}
-use Rattle.law_state.specs.Ages.{age_of}
-use Rattle.law_state.specs.Homes.{epoch_at, era_at, stage_at}
-use Rattle.law_state.proofs.Ages.{no_less}
-use Rattle.law_state.proofs.GrownStates.{goes_on_itself, goes_on_on}
+use Rattle.law_steps.proofs.Imports.{[], ◌++◌, ◌∙◌, ◌∷◌, ◌≡◌, ◌≤◌, Command, IsBelow, IsPrefix, List, State, age_of, ap, append-nil, append_assoc, arith, drop}
+use Rattle.law_steps.proofs.Imports.{epoch_at, era_at, goes_on_itself, goes_on_on, inl, inr, length, length-append, no_less, refl, same_some, slice_get}
+use Rattle.law_steps.proofs.Imports.{stage_at, sym}
 
 pub front_itself : (log : List Command) → IsPrefix log log
 front_itself log = record { later = []; is = sym (append-nil log) }

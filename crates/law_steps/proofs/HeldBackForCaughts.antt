@@ -1,40 +1,11 @@
 -- What a server holds back, since it has started a ballot for the Caught of the cell's link: a ballot starts for a link without pending
 -- operations alone, and an entry starts none.
-use Rattle.std.proofs.Common.{◌≡◌, ◌==◌, ◌&&◌, not, ℕ, Bool, true, false, cond, [], ◌∷◌, Option, Some, None, refl, sym, ap, ◌∙◌}
-use Rattle.std.specs.Prelude.{◌||◌}
-use Rattle.std.specs.List.{list_any}
-use Rattle.std.specs.Option.{option_map_or}
-use Rattle.std.specs.declared.cmp.Ordering.{Ordering}
-use Rattle.std.specs.declared.cmp.Ordering.TheVariants.{Less, Equal, Greater}
-use Rattle.std.specs.Ordering.{is_eq, eq_by_cmp}
-use Rattle.std.specs.BTreeMap.{is_at}
-use Rattle.std.specs.Map.{lookup}
-use Rattle.global_tables.specs.Link.{is_link}
-use Rattle.global_tables.specs.declared.link.LinkRow.{LinkRow}
-use Rattle.petal_base.specs.declared.cell.Cell.{Cell}
-use Rattle.petal_command.specs.declared.command.Command.{Command}
-use Rattle.petal_command.specs.declared.command.Command.TheVariants.{Caught}
-use Rattle.petal_msg.specs.declared.copying.LinkId.{LinkId}
-use Rattle.petal_msg.specs.declared.copying.NextCopy.{NextCopy}
-use Rattle.petal_msg.specs.declared.copying.NextCopy.TheVariants.{Ask, Block, Wait, Nothing}
-use Rattle.petal_msg.specs.declared.copying.Progress.{Progress}
-use Rattle.petal_msg.specs.declared.operation.Pending.{Pending}
-use Rattle.spec_state.specs.CellState.{cell_link}
-use Rattle.petal_table.specs.Table.{Table, at}
-use Rattle.petal_table.proofs.Rows.{at-where}
-use Rattle.spec_rules.specs.Copies.{blocks_left, cell_at, is_link_under_way, least, next_block, next_copy}
-use Rattle.spec_rules.specs.Crossing.{crossed, ends_link}
-use Rattle.spec_rules.specs.Progress.{has_proposed, progress_on, with_progress}
-use Rattle.spec_rules.specs.Returns.{holds_link, proposed}
-use Rattle.spec_rules.specs.Server.{PairState, JobContext}
-use Rattle.spec_rules.specs.State.{State, id_of, is_on, link_cmp}
-use Rattle.spec_rules.specs.Store.{cell_cmp}
-use Rattle.spec_rules.specs.Writes.{is_under_way}
-use Rattle.spec_rules.proofs.CellTables.{cell_cmp_same}
-use Rattle.spec_rules.proofs.Tests.{by_bool, by_test, none_some, number_itself, true_false}
-use Rattle.law_state.specs.LaterStates.{HasLater}
-use Rattle.law_state.specs.StartedBallots.{is_flagged}
-use Rattle.law_log.proofs.BallotFlags.{progress_beside, same_caught, same_id}
+use Rattle.law_steps.proofs.Imports.{[], ◌&&◌, ◌==◌, ◌||◌, ◌∙◌, ◌∷◌, ◌≡◌, Ask, Block, Bool, Caught, Cell, Command, Equal, Greater, HasLater, JobContext, Less}
+use Rattle.law_steps.proofs.Imports.{LinkId, LinkRow, NextCopy, None, Nothing, Option, Ordering, PairState, Pending, Progress, Some, State, Table, Wait, ap}
+use Rattle.law_steps.proofs.Imports.{at, at-where, blocks_left, by_bool, by_test, cell_at, cell_cmp, cell_cmp_same, cell_link, cond, crossed, ends_link}
+use Rattle.law_steps.proofs.Imports.{eq_by_cmp, false, has_proposed, holds_link, id_of, is_at, is_eq, is_flagged, is_link, is_link_under_way, is_on}
+use Rattle.law_steps.proofs.Imports.{is_under_way, least, link_cmp, list_any, lookup, next_block, next_copy, none_some, not, number_itself, option_map_or}
+use Rattle.law_steps.proofs.Imports.{progress_beside, progress_on, proposed, refl, same_caught, same_id, sym, true, true_false, with_progress, ℕ}
 use Rattle.law_steps.specs.DidStep.{IsBallotFor, Starts}
 
 pub held_as_flag : (state : State) (own : PairState) (cell : Cell) (row : LinkRow) → cell_link state cell ≡ Some row

@@ -1,17 +1,8 @@
 -- What a server queues for itself brings no letter, and while it is not In as itself its jobs of pairs and copies leave all as it was.
-use Rattle.std.proofs.Common.{◌≡◌, true, false, refl, sym, ap, subst, inl, inr}
-use Rattle.std.specs.Prelude.{not}
-use Rattle.petal_msg.specs.Kinds.{Copied, Paired, Subject, is_logged}
-use Rattle.petal_msg.specs.declared.letter.Letter.{Letter}
-use Rattle.spec_rules.specs.Lists.{In}
-use Rattle.spec_rules.specs.Server.{PairState, JobContext, JobResult, silent}
-use Rattle.spec_rules.specs.State.{is_in}
-use Rattle.spec_rules.specs.Jobs.{does}
-use Rattle.spec_rules.specs.declared.job.Job.{Job}
+use Rattle.law_steps.proofs.Imports.{◌≡◌, Copied, In, Job, JobContext, JobResult, Letter, PairState, Paired, Subject, ap, by_bool, by_test, does, false, inl}
+use Rattle.law_steps.proofs.Imports.{inr, is_in, is_logged, not, refl, silent, subst, sym, true, true_false}
+use Rattle.law_steps.specs.DidStep.{IsSeated, LeavesAll, is_between}
 use Rattle.spec_rules.specs.declared.job.Job.TheVariants as job
-use Rattle.spec_rules.proofs.Tests.{by_test, by_bool, true_false}
-use Rattle.law_steps.specs.DidStep.{IsSeated, LeavesAll}
-use Rattle.law_steps.specs.DidStep.{is_between}
 
 pub same_letter : {one two : Letter} → job.Letter one ≡ job.Letter two → one ≡ two
 same_letter e = cc

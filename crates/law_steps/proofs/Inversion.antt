@@ -1,26 +1,10 @@
 -- What a server does with a job is one of the kinds that the relation names.
-use Rattle.std.proofs.Common.{◌≡◌, ℕ, ◌==◌, not, true, Option, Some, None, refl}
-use Rattle.std.specs.Prelude.{is_some}
-use Rattle.petal_base.specs.declared.cell.Cell.{Cell}
-use Rattle.petal_base.specs.Cells.{cell_of}
-use Rattle.petal_msg.specs.declared.body.Body.{Body}
-use Rattle.petal_msg.specs.declared.body.Body.TheVariants as body
-use Rattle.petal_msg.specs.declared.letter.Actor.{Actor}
-use Rattle.petal_msg.specs.declared.letter.Actor.TheVariants as actor
-use Rattle.petal_msg.specs.declared.letter.Letter.{Letter}
-use Rattle.petal_msg.specs.declared.operation.Pending.{Pending}
-use Rattle.spec_rules.specs.State.{is_in, is_second}
-use Rattle.spec_rules.specs.Server.{PairState, JobContext, JobResult}
-use Rattle.spec_rules.specs.Copies.{copies_on}
-use Rattle.spec_rules.specs.Progress.{copying_on, has_proposed}
-use Rattle.spec_rules.specs.Writes.{goes_on, pending_on, on_reserve, on_reserved, on_pair_full, on_replicate, on_replicated}
-use Rattle.spec_rules.specs.Jobs.{handles, at_other_rev, wrong_rev, is_from_in, does}
-use Rattle.spec_rules.specs.declared.job.Job.{Job}
-use Rattle.spec_rules.specs.declared.job.Job.TheVariants as job
-use Rattle.law_state.specs.Steady.{IsSteady}
+use Rattle.law_steps.proofs.Imports.{◌==◌, ◌≡◌, Actor, Body, Cell, IsSteady, Job, JobContext, JobResult, Letter, None, Option, PairState, Pending, Some}
+use Rattle.law_steps.proofs.Imports.{at_other_rev, by_test, cell_of, copies_on, copying_on, does, goes_on, handles, has_proposed, is_from_in, is_in}
+use Rattle.law_steps.proofs.Imports.{is_second, is_some, not, on_pair_full, on_replicate, on_replicated, on_reserve, on_reserved, pending_on, refl}
+use Rattle.law_steps.proofs.Imports.{same_numbers, true, wrong_rev, ℕ}
 use Rattle.law_steps.specs.Operations.{IsStaged}
 use Rattle.law_steps.specs.Did.{Did, Ignores, Refuses}
-use Rattle.spec_rules.proofs.Tests.{by_test, same_numbers}
 use Rattle.law_steps.proofs.InvertRead.{did_read}
 use Rattle.law_steps.proofs.InvertLead.{not_false, did_fill, did_next, did_write, did_reserved, did_pair_full, did_replicated}
 use Rattle.law_steps.proofs.InvertFiller.{did_filled, did_fill_full}
@@ -28,6 +12,9 @@ use Rattle.law_steps.proofs.InvertSweep.{did_sweeps}
 use Rattle.law_steps.proofs.InvertSecond.{did_reserve, did_replicate}
 use Rattle.law_steps.proofs.InvertHolder.{did_copies, did_mends, did_hello, did_trimmed, did_synced, did_sync_full}
 use Rattle.law_steps.proofs.InvertOther.{did_hello_ask, did_trim, did_trims, did_sync}
+use Rattle.petal_msg.specs.declared.body.Body.TheVariants as body
+use Rattle.petal_msg.specs.declared.letter.Actor.TheVariants as actor
+use Rattle.spec_rules.specs.declared.job.Job.TheVariants as job
 
 module _ (heard : Body → Type 0) (here : JobContext) (own : PairState) (steady : IsSteady here.state)
     (staged : (cell : Cell) (op : Pending) → pending_on own cell ≡ Some op → IsStaged here.state here.me (has_proposed here.state own) cell op) where

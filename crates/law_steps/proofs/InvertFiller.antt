@@ -1,30 +1,13 @@
 -- What the lead of a link of an old map does so that its entries move is one of the kinds that the relation names.
-use Rattle.std.proofs.Common.{◌≡◌, ℕ, ◌==◌, true, List, Option, Some, None, refl, inl, inr}
-use Rattle.std.specs.Ordering.{nat_cmp}
-use Rattle.std.specs.Prelude.{length, option_and_then}
-use Rattle.global_tables.specs.Link.{is_link, link_at}
-use Rattle.global_tables.specs.Map.{tuple_of}
-use Rattle.global_tables.specs.Region.{link_of}
-use Rattle.global_tables.specs.declared.link.LinkRow.{LinkRow}
-use Rattle.petal_base.specs.declared.cell.Cell.{Cell}
-use Rattle.petal_base.specs.declared.cell.Key.{Key}
-use Rattle.petal_base.specs.Cells.{cell_of, key_at}
-use Rattle.petal_table.specs.Table.{at}
-use Rattle.petal_msg.specs.declared.body.Body.{Body}
-use Rattle.petal_msg.specs.declared.body.Body.TheVariants as body
-use Rattle.spec_state.specs.CellState.{cell_link, source, target}
-use Rattle.spec_rules.specs.Fills.{fill_left, fill_of, fills_row, hears_fill_full, hears_filled, is_next, link_before, next_fill}
-use Rattle.spec_rules.specs.Fills.{on_fill_full, on_filled, region_to_move, sends_key, sends_moving}
-use Rattle.spec_rules.specs.Lists.{In}
-use Rattle.spec_rules.specs.Server.{PairState, JobContext, Post, JobResult, post_to}
-use Rattle.spec_rules.specs.State.{State, is_in, lead}
-use Rattle.spec_rules.specs.Store.{Stored, chain_in}
-use Rattle.spec_rules.proofs.Tests.{both_true, by_test, none_some, same_numbers, true_false}
-use Rattle.law_state.proofs.ListLookups.{found_at}
-use Rattle.law_log.proofs.ListPlaces.{among_at}
+use Rattle.law_steps.proofs.Imports.{◌==◌, ◌≡◌, Body, Cell, In, JobContext, JobResult, Key, LinkRow, List, None, Option, PairState, Post, Some, State, Stored}
+use Rattle.law_steps.proofs.Imports.{among_at, at, both_true, by_test, cell_link, cell_of, chain_in, fill_left, fill_of, fills_row, found_at, hears_fill_full}
+use Rattle.law_steps.proofs.Imports.{hears_filled, inl, inr, is_in, is_link, is_next, key_at, lead, length, link_at, link_before, link_of, nat_cmp, next_fill}
+use Rattle.law_steps.proofs.Imports.{none_some, on_fill_full, on_filled, option_and_then, post_to, refl, region_to_move, same_numbers, sends_key}
+use Rattle.law_steps.proofs.Imports.{sends_moving, source, target, true, true_false, tuple_of, ℕ}
 use Rattle.law_steps.specs.Did.{Did, Ignores, By_filler}
 use Rattle.law_steps.specs.DidFiller.{IsNextKey, Is_filled, Is_out_of_slots, filled_to}
 use Rattle.law_steps.specs.DidLead.{IsNextFill}
+use Rattle.petal_msg.specs.declared.body.Body.TheVariants as body
 
 -- what is next of a link is so in the region that the server is to move
 next_of : (here : JobContext) (own : PairState) (row : LinkRow) (key : Key) → fill_of here.state here.me row own ≡ Some key

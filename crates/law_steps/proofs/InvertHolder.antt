@@ -1,36 +1,17 @@
 -- What a server does so that a link is brought up to date is one of the kinds that the relation names: the holder's part.
-use Rattle.std.proofs.Common.{◌≡◌, ◌≤◌, ◌<◌, ℕ, ◌+◌, ◌==◌, ◌&&◌, not, length, Bool, true, false, Option, Some, None, refl, sym, subst, arith}
-use Rattle.std.specs.Prelude.{nat_lt}
-use Rattle.std.specs.Option.{option_map_or}
-use Rattle.std.proofs.lemmas.Bool.Decides.{nat_tests}
-use Rattle.busy_marks.specs.declared.marks.MarkKind.{MarkKind}
-use Rattle.global_tables.specs.declared.link.LinkRow.{LinkRow}
-use Rattle.global_tables.specs.declared.link.LinkState.{LinkState}
-use Rattle.global_tables.specs.declared.link.LinkState.TheVariants.{Both, Only, Lost}
-use Rattle.petal_base.specs.declared.cell.Cell.{Cell}
-use Rattle.petal_msg.specs.declared.body.Body.{Body}
-use Rattle.petal_msg.specs.declared.body.Body.TheVariants as body
-use Rattle.petal_msg.specs.declared.copying.CopyAction.{CopyAction}
-use Rattle.petal_msg.specs.declared.copying.CopyAction.TheVariants as copy_action
-use Rattle.petal_msg.specs.declared.copying.Copying.{Copying}
-use Rattle.petal_msg.specs.declared.copying.LinkId.{LinkId}
-use Rattle.petal_msg.specs.declared.copying.NextCopy.{NextCopy}
-use Rattle.petal_msg.specs.declared.copying.NextCopy.TheVariants.{Ask, Block, Wait, Nothing}
-use Rattle.spec_rules.specs.Copies.{begins_copy, blocks_left, catches_up, cell_at, copies_on, copies_with, copy_acts, copy_stage, goes_for, hears_hello}
-use Rattle.spec_rules.specs.Copies.{hears_page, hears_sync_full, hears_synced, hears_trimmed, idle_mark, is_link_under_way, is_syncing, least, repairs}
-use Rattle.spec_rules.specs.Copies.{mends_found, repairs_row, next_block, next_copy, on_hello, on_sync_full, on_synced, on_trimmed, same_block}
-use Rattle.spec_rules.specs.Copies.{sends_entry, takes_mark, clears_old_marks}
-use Rattle.spec_rules.specs.Progress.{copying_on, progress_on, with_copying}
-use Rattle.spec_rules.specs.Server.{PairState, JobContext, JobResult}
-use Rattle.spec_rules.specs.State.{State, link_named, other_in}
-use Rattle.spec_rules.specs.Store.{chain_in, mark_left}
-use Rattle.spec_rules.specs.Writes.{is_under_way}
-use Rattle.spec_rules.proofs.CellTables.{cell_same}
-use Rattle.spec_rules.proofs.Tests.{both_true, by_test, not_true, same_numbers}
-use Rattle.law_state.proofs.ListLookups.{get_within}
+use Rattle.law_steps.proofs.Imports.{◌&&◌, ◌+◌, ◌<◌, ◌==◌, ◌≡◌, ◌≤◌, Ask, Block, Body, Bool, Both, Cell, CopyAction, Copying, JobContext, JobResult, LinkId}
+use Rattle.law_steps.proofs.Imports.{LinkRow, LinkState, Lost, MarkKind, NextCopy, None, Nothing, Only, Option, PairState, Some, State, Wait, arith}
+use Rattle.law_steps.proofs.Imports.{begins_copy, blocks_left, both_true, by_test, catches_up, cell_at, cell_same, chain_in, clears_old_marks, copies_on}
+use Rattle.law_steps.proofs.Imports.{copies_with, copy_acts, copy_stage, copying_on, false, get_within, goes_for, hears_hello, hears_page, hears_sync_full}
+use Rattle.law_steps.proofs.Imports.{hears_synced, hears_trimmed, idle_mark, is_link_under_way, is_syncing, is_under_way, least, length, link_named}
+use Rattle.law_steps.proofs.Imports.{mark_left, mends_found, nat_lt, nat_tests, next_block, next_copy, not, not_true, on_hello, on_sync_full, on_synced}
+use Rattle.law_steps.proofs.Imports.{on_trimmed, option_map_or, other_in, progress_on, refl, repairs, repairs_row, same_block, same_numbers, sends_entry}
+use Rattle.law_steps.proofs.Imports.{subst, sym, takes_mark, true, with_copying, ℕ}
 use Rattle.law_steps.specs.Did.{Did, Ignores, By_holder}
 use Rattle.law_steps.specs.DidHolder.{CopyStep, Asks_to_trim, Sends, Unmarks_copied, Closes_copy, IsHeldWith, IsSynced, first_copy, Copy_as_is, Copy_trimmed}
 use Rattle.law_steps.specs.DidHolder.{Copy_synced, Asks_page, Turns_page, Begins_copy, Goes_on_copying, Finds_it_full, Tidies}
+use Rattle.petal_msg.specs.declared.body.Body.TheVariants as body
+use Rattle.petal_msg.specs.declared.copying.CopyAction.TheVariants as copy_action
 
 less : (a b : ℕ) → nat_lt a b ≡ true → a < b
 less a b e = grind (arith, nat_tests)

@@ -1,41 +1,23 @@
 -- What a lead does for a write is one of the kinds that the relation names.
-use Rattle.std.proofs.Common.{◌≡◌, ◌≤◌, ◌<◌, ℕ, ◌+◌, ◌==◌, ◌&&◌, not, Bool, true, false, Option, Some, None, ◌⊎◌, inl, inr, refl, ap, sym, ◌∙◌, subst, arith}
-use Rattle.std.specs.Prelude.{◌||◌, is_some, nat_lt, if◌then◌else◌}
-use Rattle.std.proofs.lemmas.Bool.Decides.{nat_tests}
-use Rattle.std.specs.Ordering.{nat_cmp}
-use Rattle.petal_base.specs.declared.cell.Cell.{Cell}
-use Rattle.petal_base.specs.Cells.{cell_of}
-use Rattle.petal_table.specs.Table.{at}
-use Rattle.petal_msg.specs.declared.body.Body.{Body}
-use Rattle.petal_msg.specs.declared.body.Body.TheVariants as body
-use Rattle.petal_msg.specs.declared.letter.Actor.TheVariants as actor
-use Rattle.petal_msg.specs.declared.copying.Copying.{Copying as Copy}
-use Rattle.petal_msg.specs.declared.operation.Action.TheVariants as action
-use Rattle.petal_msg.specs.declared.operation.Finished.{Finished}
-use Rattle.petal_msg.specs.declared.operation.Pending.{Pending}
-use Rattle.petal_msg.specs.declared.operation.Stage.{Stage}
-use Rattle.spec_rules.specs.Fills.{Moving, fill_operation, has_epoch, hears_fill, on_fill, opens_fill}
-use Rattle.spec_rules.specs.Lists.{In}
-use Rattle.spec_rules.specs.Progress.{copying_on, has_proposed}
-use Rattle.spec_rules.specs.State.{held, second, is_in, is_lead, leads_link, live, in_both}
-use Rattle.spec_rules.specs.Store.{chain_in, free_of}
-use Rattle.spec_rules.specs.Server.{PairState, JobContext, Post, JobResult, post_to, says}
-use Rattle.spec_rules.specs.Writes.{Wanted, Older, Again, Newer, standing, next_stage, both_action, alone_action, acts, goes_on, goes_on_with}
-use Rattle.spec_rules.specs.Writes.{pending_on, with_pending, with_reserved, with_paired, with_opened, opened, operation, opens, takes, takes_newer}
-use Rattle.spec_rules.specs.Writes.{is_kept_back, is_under_way, is_writes_held, is_pending_for, is_reserving, is_replicating, hears_reserved}
-use Rattle.spec_rules.specs.Writes.{hears_pair_full, hears_replicated, on_write}
-use Rattle.spec_rules.specs.Reads.{said}
-use Rattle.spec_rules.proofs.CellTables.{cell_same}
-use Rattle.law_state.specs.Steady.{IsSteady}
-use Rattle.law_state.proofs.NewMapLinks.{either_false}
+use Rattle.law_steps.proofs.Imports.{if◌then◌else◌, ◌&&◌, ◌+◌, ◌<◌, ◌==◌, ◌||◌, ◌∙◌, ◌≡◌, ◌≤◌, ◌⊎◌, Again, Body, Bool, Cell, Copy, Finished, In, IsSteady}
+use Rattle.law_steps.proofs.Imports.{JobContext, JobResult, Moving, Newer, None, Older, Option, PairState, Pending, Post, Some, Stage, Wanted, acts}
+use Rattle.law_steps.proofs.Imports.{alone_action, ap, arith, at, both_action, both_true, by_bool, by_test, cell_of, cell_same, chain_in, copying_on}
+use Rattle.law_steps.proofs.Imports.{either_false, false, fill_operation, free_of, goes_on, goes_on_with, has_epoch, has_proposed, hears_fill}
+use Rattle.law_steps.proofs.Imports.{hears_pair_full, hears_replicated, hears_reserved, held, in_both, inl, inr, is_in, is_kept_back, is_lead, is_pending_for}
+use Rattle.law_steps.proofs.Imports.{is_replicating, is_reserving, is_some, is_under_way, is_writes_held, leads_link, live, nat_cmp, nat_lt, nat_tests}
+use Rattle.law_steps.proofs.Imports.{next_stage, not, not_true, on_fill, on_write, only, opened, opens, opens_fill, operation, pending_on, post_to, refl}
+use Rattle.law_steps.proofs.Imports.{said, same_numbers, says, second, standing, subst, sym, takes, takes_newer, true, true_false, with_opened, with_paired}
+use Rattle.law_steps.proofs.Imports.{with_pending, with_reserved, ℕ}
 use Rattle.law_steps.specs.Operations.{IsStaged, AtRest, Waiting, Putting, Copying, Answering, waiting, putting, copying, answering, done_to}
 use Rattle.law_steps.specs.DidLead.{Asks_for, Repeats, Is_full, Opens, Marks, Puts, Gives_up, Unmarks, Closes, Opens_alone, Marks_alone, Puts_alone}
-use Rattle.law_steps.specs.DidLead.{Unmarks_alone, Closes_alone, Opens_fill, Opens_fill_alone, Has_fill, Has_no_room, Goes_on_dead, Asks, A_slot}
-use Rattle.law_steps.specs.DidLead.{A_copy, IsNew, IsNewFill, Taken, As_it_is, As_told, IsIdleFill}
+use Rattle.law_steps.specs.DidLead.{Unmarks_alone, Closes_alone, Opens_fill, Opens_fill_alone, Has_fill, Has_no_room, Goes_on_dead, Asks, A_slot, A_copy}
+use Rattle.law_steps.specs.DidLead.{IsNew, IsNewFill, Taken, As_it_is, As_told, IsIdleFill}
 use Rattle.law_steps.specs.Did.{Did, Ignores, Refuses, For_a_write, By_copy_for_a_write, A_write, By_lead}
-use Rattle.spec_rules.proofs.Tests.{by_test, by_bool, both_true, not_true, true_false, same_numbers, only}
 use Rattle.law_steps.proofs.BusyLetters.{busy_not_held, busy_seq, held_not_busy, held_seq}
 use Rattle.law_steps.proofs.WhoLeads.{lead_links, link_alone}
+use Rattle.petal_msg.specs.declared.body.Body.TheVariants as body
+use Rattle.petal_msg.specs.declared.letter.Actor.TheVariants as actor
+use Rattle.petal_msg.specs.declared.operation.Action.TheVariants as action
 
 is_waiting : (stage : Stage) → AtRest stage → stage.reserved ≡ false → stage ≡ waiting
 is_waiting stage (Waiting e) f = e

@@ -1,26 +1,14 @@
 -- What a server does so that a link is brought up to date is one of the kinds that the relation names: the other server's part.
-use Rattle.std.proofs.Common.{◌≡◌, ◌<◌, ℕ, ◌==◌, List, [], ◌∷◌, Bool, true, false, Option, Some, None, refl, sym, ◌∙◌, subst, arith}
-use Rattle.std.specs.Prelude.{nat_lt}
-use Rattle.std.proofs.lemmas.Bool.Decides.{nat_tests}
-use Rattle.global_tables.specs.declared.link.LinkRow.{LinkRow}
-use Rattle.petal_base.specs.declared.cell.Cell.{Cell}
-use Rattle.petal_base.specs.Cells.{cell_of}
-use Rattle.petal_msg.specs.declared.body.Body.{Body}
-use Rattle.petal_msg.specs.declared.body.Body.TheVariants as body
-use Rattle.petal_msg.specs.declared.copying.LastCopy.{LastCopy}
-use Rattle.petal_msg.specs.declared.copying.LinkId.{LinkId}
-use Rattle.spec_rules.specs.Copies.{Entry, answers_page, cell_holder, epochs_beyond, hears_entry, hears_sync, hears_trim, hears_trim_of, on_hello_ask, on_sync}
-use Rattle.spec_rules.specs.Copies.{on_trim, puts_entry, trims_again, trims_first, trims_for, trims_newly, trims_on}
-use Rattle.spec_rules.specs.Progress.{last_copy, with_last_copy}
-use Rattle.spec_rules.specs.Server.{PairState, JobContext, JobResult}
-use Rattle.spec_rules.specs.State.{link_named}
-use Rattle.spec_rules.specs.Store.{free_of}
-use Rattle.spec_rules.proofs.CellTables.{cell_same}
-use Rattle.spec_rules.proofs.Tests.{by_test, none_some, same_numbers, same_some}
+use Rattle.law_steps.proofs.Imports.{[], ◌<◌, ◌==◌, ◌∙◌, ◌∷◌, ◌≡◌, Body, Bool, Cell, Entry, JobContext, JobResult, LastCopy, LinkId, LinkRow, List, None}
+use Rattle.law_steps.proofs.Imports.{Option, PairState, Some, answers_page, arith, by_test, cell_holder, cell_of, cell_same, epochs_beyond, false, free_of}
+use Rattle.law_steps.proofs.Imports.{hears_entry, hears_sync, hears_trim, hears_trim_of, last_copy, link_named, nat_lt, nat_tests, none_some, on_hello_ask}
+use Rattle.law_steps.proofs.Imports.{on_sync, on_trim, puts_entry, refl, same_numbers, same_some, subst, sym, trims_again, trims_first, trims_for}
+use Rattle.law_steps.proofs.Imports.{trims_newly, trims_on, true, with_last_copy, ℕ}
 use Rattle.law_steps.specs.Did.{Did, Ignores, By_other}
-use Rattle.law_steps.specs.DidOther.{Replies, TrimStep, Is_trimmed, Drops_entry, IsOfCopy, first_last, Answers_page, Is_copied_to}
-use Rattle.law_steps.specs.DidOther.{Goes_on_trimming, Puts_entry, Has_entry, Has_no_slot}
+use Rattle.law_steps.specs.DidOther.{Replies, TrimStep, Is_trimmed, Drops_entry, IsOfCopy, first_last, Answers_page, Is_copied_to, Goes_on_trimming}
+use Rattle.law_steps.specs.DidOther.{Puts_entry, Has_entry, Has_no_slot}
 use Rattle.law_steps.proofs.InvertLead.{no_free}
+use Rattle.petal_msg.specs.declared.body.Body.TheVariants as body
 
 less : (a b : ℕ) → nat_lt a b ≡ true → a < b
 less a b e = grind (arith, nat_tests)

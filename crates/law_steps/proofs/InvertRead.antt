@@ -1,23 +1,13 @@
 -- What a server does with a read is one of the kinds that the relation names.
-use Rattle.std.proofs.Common.{◌≡◌, ℕ, ◌&&◌, Bool, true, false, Option, Some, None, refl, subst}
-use Rattle.std.specs.Prelude.{◌||◌, if◌then◌else◌, is_some}
-use Rattle.petal_base.specs.declared.cell.Cell.{Cell}
-use Rattle.petal_msg.specs.declared.body.Body.{Body}
-use Rattle.petal_msg.specs.declared.body.Body.TheVariants as body
-use Rattle.petal_msg.specs.declared.letter.Actor.TheVariants as actor
-use Rattle.petal_msg.specs.declared.copying.Copying.{Copying}
-use Rattle.petal_msg.specs.declared.operation.Pending.{Pending}
-use Rattle.petal_msg.specs.declared.operation.Reply.TheVariants as reply
-use Rattle.spec_rules.specs.State.{coming, held, is_in, is_lead, readable}
-use Rattle.spec_rules.specs.Store.{Stored, chain_in, entry_at, bytes_of}
-use Rattle.spec_rules.specs.Server.{PairState, JobContext, JobResult, says}
-use Rattle.spec_rules.specs.Progress.{copying_on}
-use Rattle.spec_rules.specs.Writes.{is_under_way, pending_on}
-use Rattle.spec_rules.specs.Reads.{is_all_held, on_read, reply_of, said}
+use Rattle.law_steps.proofs.Imports.{if◌then◌else◌, ◌&&◌, ◌||◌, ◌≡◌, Body, Bool, Cell, Copying, JobContext, JobResult, None, Option, PairState, Pending, Some}
+use Rattle.law_steps.proofs.Imports.{Stored, by_test, bytes_of, chain_in, coming, copying_on, entry_at, false, held, is_all_held, is_in, is_lead, is_some}
+use Rattle.law_steps.proofs.Imports.{is_under_way, none_some, on_read, pending_on, readable, refl, reply_of, said, says, subst, true, true_false, ℕ}
 use Rattle.law_steps.specs.DidRead.{IsReadable, Not_here, Shows}
 use Rattle.law_steps.specs.Did.{Did, Ignores, Refuses, For_a_read, By_copy_for_a_read, A_read, By_read}
-use Rattle.spec_rules.proofs.Tests.{by_test, none_some, true_false}
 use Rattle.law_steps.proofs.BusyLetters.{busy_not_held, busy_seq, held_not_busy, held_seq}
+use Rattle.petal_msg.specs.declared.body.Body.TheVariants as body
+use Rattle.petal_msg.specs.declared.letter.Actor.TheVariants as actor
+use Rattle.petal_msg.specs.declared.operation.Reply.TheVariants as reply
 
 module _ (heard : Body → Type 0) (here : JobContext) (own : PairState) (seated : is_in here.state here.me here.inc ≡ true) where
   abbrev D : JobResult → Type 0

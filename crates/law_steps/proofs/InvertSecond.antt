@@ -1,24 +1,13 @@
 -- What a second server does for a write is one of the kinds that the relation names.
-use Rattle.std.proofs.Common.{◌≡◌, ◌≤◌, ◌<◌, ℕ, ◌+◌, ◌==◌, List, Bool, true, false, Option, Some, None, refl, ap, sym, ◌∙◌, subst, arith}
-use Rattle.std.specs.Prelude.{nat_lt}
-use Rattle.std.proofs.lemmas.Bool.Decides.{nat_tests}
-use Rattle.petal_base.specs.declared.cell.Cell.{Cell}
-use Rattle.petal_base.specs.declared.cell.Key.{Key}
-use Rattle.petal_base.specs.Cells.{cell_of}
-use Rattle.petal_msg.specs.declared.body.Body.{Body}
-use Rattle.petal_msg.specs.declared.body.Body.TheVariants as body
-use Rattle.petal_msg.specs.declared.operation.Far.{Far}
-use Rattle.petal_msg.specs.declared.operation.Far.TheVariants as far
-use Rattle.petal_msg.specs.declared.operation.LastOp.{LastOp}
-use Rattle.spec_rules.specs.State.{is_second}
-use Rattle.spec_rules.specs.Store.{free_of}
-use Rattle.spec_rules.specs.Server.{PairState, JobContext, JobResult}
-use Rattle.spec_rules.specs.Writes.{hears_reserve, hears_replicate, reserves, follows_once, has_slot, last_on}
+use Rattle.law_steps.proofs.Imports.{◌+◌, ◌<◌, ◌==◌, ◌∙◌, ◌≡◌, ◌≤◌, Body, Bool, Cell, Far, JobContext, JobResult, Key, LastOp, List, None, Option, PairState}
+use Rattle.law_steps.proofs.Imports.{Some, ap, arith, by_test, cell_of, false, follows_once, free_of, has_slot, hears_replicate, hears_reserve, is_second}
+use Rattle.law_steps.proofs.Imports.{last_on, nat_lt, nat_tests, none_some, refl, reserves, same_numbers, same_some, subst, sym, true, true_false, ℕ}
 use Rattle.law_steps.specs.Operations.{progress}
 use Rattle.law_steps.specs.DidSecond.{Sets_apart, Promises, Declines, Follows}
 use Rattle.law_steps.specs.Did.{Did, Ignores, By_second}
-use Rattle.spec_rules.proofs.Tests.{by_test, true_false, same_numbers, same_some, none_some}
 use Rattle.law_steps.proofs.InvertLead.{no_free}
+use Rattle.petal_msg.specs.declared.body.Body.TheVariants as body
+use Rattle.petal_msg.specs.declared.operation.Far.TheVariants as far
 
 newer_op : (last : LastOp) (number : ℕ) → nat_lt number last.op ≡ false → (number == last.op) ≡ false → last.op < number
 newer_op last number e f = grind (arith, nat_tests)

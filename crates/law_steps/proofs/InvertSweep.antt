@@ -1,17 +1,10 @@
 -- What a server drops of cells that are no longer live is what the relation names.
-use Rattle.std.proofs.Common.{◌≡◌, true, false, List, [], ◌∷◌, Option, Some, None, refl, subst}
-use Rattle.busy_marks.specs.declared.marks.Mark.{Mark}
-use Rattle.petal_base.specs.declared.cell.Cell.{Cell}
-use Rattle.petal_msg.specs.declared.body.Body.{Body}
-use Rattle.petal_msg.specs.declared.dead.Dead.{Dead}
-use Rattle.petal_msg.specs.declared.dead.Dead.TheVariants as dead
-use Rattle.spec_rules.specs.Server.{PairState, JobContext}
-use Rattle.spec_rules.specs.State.{State, is_in, live}
-use Rattle.spec_rules.specs.Store.{Chain, Store}
-use Rattle.spec_rules.specs.Sweeping.{dead_in, dead_key, dead_mark, next_dead, sweeps, sweeps_with}
-use Rattle.spec_rules.proofs.Tests.{by_test, none_some, same_some}
+use Rattle.law_steps.proofs.Imports.{[], ◌∷◌, ◌≡◌, Body, Cell, Chain, Dead, JobContext, List, Mark, None, Option, PairState, Some, State, Store, by_test}
+use Rattle.law_steps.proofs.Imports.{dead_in, dead_key, dead_mark, false, is_in, live, next_dead, none_some, refl, same_some, subst, sweeps, sweeps_with}
+use Rattle.law_steps.proofs.Imports.{true}
 use Rattle.law_steps.specs.Did.{Did, Ignores, By_sweep}
 use Rattle.law_steps.specs.DidSweep.{Sweeps, cell_swept}
+use Rattle.petal_msg.specs.declared.dead.Dead.TheVariants as dead
 
 -- what is to be dropped is of a cell that is not live
 abbrev IsOut : State → Option Dead → Dead → Type 0

@@ -1,42 +1,14 @@
 -- Each step that is allowed is of one of the kinds that the relation names, and what each kind keeps holds after every history.
-use Rattle.std.proofs.Common.{◌≡◌, true, false, Some, inl, inr, ap, ◌∙◌, ◌<◌, ℕ, List, []}
-use Rattle.std.proofs.Common.{◌∷◌, ◌++◌, refl, sym, subst, arith, append_assoc}
-use Rattle.petal_base.specs.declared.cell.Cell.{Cell}
-use Rattle.petal_table.specs.Table.{at}
-use Rattle.petal_table.proofs.Rows.{at-empty}
-use Rattle.petal_msg.specs.declared.operation.Pending.{Pending}
-use Rattle.petal_msg.specs.declared.letter.Actor.{Actor}
-use Rattle.petal_msg.specs.declared.letter.Actor.TheVariants as actor
-use Rattle.script_lines.specs.declared.script.Script.{Script}
-use Rattle.spec_state.specs.Command.{state_after}
-use Rattle.spec_history.specs.Claims.{IsPrefix, Grows}
-use Rattle.spec_history.specs.Steps.{Follows, AreSteps, AreStepsFrom, stepped, world_after}
-use Rattle.spec_history.specs.declared.record.Record.{Record}
-use Rattle.spec_rules.specs.Lists.{In}
-use Rattle.spec_rules.specs.Clients.{Client}
-use Rattle.spec_rules.specs.Log.{Log, state_in}
-use Rattle.spec_rules.specs.Server.{PairState, Pairs, Server, JobResult}
-use Rattle.spec_rules.specs.Boots.{awake, blanked, raised, stays, wakes}
-use Rattle.spec_rules.specs.Crossing.{crossed, settled_by}
-use Rattle.spec_rules.specs.Returns.{proposed}
-use Rattle.spec_rules.specs.Progress.{has_proposed}
-use Rattle.spec_rules.specs.State.{State, is_in}
-use Rattle.spec_rules.specs.Store.{cell_cmp}
-use Rattle.spec_rules.specs.Jobs.{Acted}
-use Rattle.spec_rules.specs.World.{Setting, World, acts, reacts, step, server_step, client_step, next_line, received, clock_of, server_state}
-use Rattle.spec_rules.specs.World.{client_state, chosen_log, chosen_state, setting_of, start, MayServer, MayActor}
-use Rattle.spec_rules.specs.declared.step.Step.{Step}
-use Rattle.spec_rules.specs.declared.step.Step.TheVariants.{Blank}
-use Rattle.spec_rules.proofs.ListLemmas.{in_later, put_same}
-use Rattle.spec_rules.proofs.Settled.{by_settled, settling}
-use Rattle.spec_rules.proofs.Tests.{all_put, none_some, true_false}
-use Rattle.law_state.specs.LaterStates.{IsBelow}
-use Rattle.law_state.specs.Firm.{Firm}
-use Rattle.law_state.specs.Plain.{IsPlainLog}
-use Rattle.law_state.specs.Steady.{IsSteady}
-use Rattle.law_state.proofs.Steady.{log_below, front_plain}
-use Rattle.law_steps.specs.DidStep.{Handled, AreQueued, Worked, By_job, By_ballot, By_entry, Serving, Goes, Ends, Stays, Wakes, Fails, served_so}
-use Rattle.law_steps.specs.DidStep.{stopped_so, shown_so, own_place, Happens, Serves, Blanks, Turns}
+use Rattle.law_steps.proofs.Imports.{[], ◌++◌, ◌<◌, ◌∙◌, ◌∷◌, ◌≡◌, Acted, Actor, AreSteps, AreStepsFrom, Blank, Cell, Client, Firm, Follows, Grows, In}
+use Rattle.law_steps.proofs.Imports.{IsBelow, IsPlainLog, IsPrefix, IsSteady, JobResult, List, Log, MayActor, MayServer, PairState, Pairs, Pending, Record}
+use Rattle.law_steps.proofs.Imports.{Script, Server, Setting, Some, State, Step, World, all_put, ap, append_assoc, arith, at, at-empty, awake, blanked}
+use Rattle.law_steps.proofs.Imports.{by_settled, cell_cmp, chosen_log, chosen_state, client_state, client_step, clock_of, crossed, false, front_plain}
+use Rattle.law_steps.proofs.Imports.{has_proposed, in_later, inl, inr, is_in, log_below, next_line, none_some, proposed, put_same, raised, reacts, received}
+use Rattle.law_steps.proofs.Imports.{refl, server_state, server_step, setting_of, settled_by, settling, start, state_after, state_in, stays, step, stepped}
+use Rattle.law_steps.proofs.Imports.{subst, sym, true, true_false, wakes, world_after, ℕ}
+use Rattle.spec_rules.specs.World.{acts}
+use Rattle.law_steps.specs.DidStep.{Handled, AreQueued, Worked, By_job, By_ballot, By_entry, Serving, Goes, Ends, Stays, Wakes, Fails, served_so, stopped_so}
+use Rattle.law_steps.specs.DidStep.{shown_so, own_place, Happens, Serves, Blanks, Turns}
 use Rattle.law_steps.specs.Ready.{IsReady, IsRising, Ready, Rests, AreFirm}
 use Rattle.law_steps.proofs.Subjects.{copies_rise, unheld_stays}
 use Rattle.law_steps.proofs.TablesOfPuts.{rising_filter}
@@ -50,6 +22,7 @@ use Rattle.law_steps.proofs.ServerStepKinds.{is_blank, server_serves}
 use Rattle.law_steps.proofs.OperationsRest.{did_ready}
 use Rattle.law_steps.proofs.ClientStepKinds.{is_call, client_turns}
 use Rattle.law_steps.proofs.OneWorld.{past_max, queues_later, ready_held, not_dead, proposed_copies, ready_at}
+use Rattle.petal_msg.specs.declared.letter.Actor.TheVariants as actor
 pub use Rattle.law_steps.proofs.OneWorld.{own_plain, own_steady, chosen_steady, own_below, runs_at, runs_now, ready_chosen, chosen_below, proposed_pairs}
 
 -- ### One step

@@ -1,11 +1,5 @@
 -- A server of a world in which all rests, before a step of it.
-use Rattle.std.proofs.Common.{ℕ}
-use Rattle.petal_msg.specs.declared.body.Body.{Body}
-use Rattle.spec_rules.specs.Log.{Log}
-use Rattle.spec_rules.specs.Server.{JobContext, PairState, Server}
-use Rattle.spec_rules.specs.World.{Setting, World, server_state}
-use Rattle.law_state.specs.Firm.{Firm}
-use Rattle.law_state.specs.Steady.{IsSteady}
+use Rattle.law_steps.proofs.Imports.{Body, Firm, IsSteady, JobContext, Log, PairState, Server, Setting, World, server_state, ℕ}
 use Rattle.law_steps.specs.DidStep.{Handled, own_place}
 use Rattle.law_steps.specs.Ready.{Rests}
 

@@ -1,11 +1,6 @@
 -- The letters of a step, and what was heard, later on.
-use Rattle.std.proofs.Common.{◌≡◌, ℕ, ◌+◌, List, [], ◌∷◌, Option, Some, None, refl, ap, inl, inr}
-use Rattle.petal_msg.specs.declared.body.Body.{Body}
-use Rattle.petal_msg.specs.declared.letter.Actor.{Actor}
-use Rattle.petal_msg.specs.declared.letter.Letter.{Letter}
-use Rattle.spec_rules.specs.Lists.{In}
-use Rattle.spec_rules.specs.Server.{Post, Sender, letters_of, post_to}
-use Rattle.spec_rules.specs.World.{stamped}
+use Rattle.law_steps.proofs.Imports.{[], ◌+◌, ◌∷◌, ◌≡◌, Actor, Body, In, Letter, List, None, Option, Post, Sender, Some, ap, inl, inr, letters_of, post_to}
+use Rattle.law_steps.proofs.Imports.{refl, stamped, ℕ}
 
 -- a letter of a step was posted in it
 pub record Said (who : Sender) (stamp : ℕ) (posts : List Post) (letter : Letter) : Type 0 where

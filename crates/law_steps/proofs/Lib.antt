@@ -1,3 +1,4 @@
+pub mod Imports
 pub mod TablesOfPuts
 pub mod BusyLetters
 pub mod WhoLeads

@@ -1,35 +1,16 @@
 -- What a job of the agreed log leaves as it is: it speaks of the log alone, applies an entry only where it is the next one that is
 -- known, and its own letter alone follows it up.
-use Rattle.std.proofs.Common.{◌≡◌, ℕ, List, [], ◌∷◌, ◌++◌, Bool, true, false, Option, Some, None, refl, sym, ap, ◌∙◌, subst, inl, inr}
-use Rattle.std.specs.Prelude.{map, if◌then◌else◌, ◌==◌, ◌||◌, ◌+◌}
-use Rattle.petal_command.specs.Same.{has_command}
-use Rattle.petal_command.specs.declared.command.Command.{Command}
-use Rattle.petal_command.specs.declared.pax.Pax.{Pax}
-use Rattle.petal_command.specs.declared.pax.Pax.TheVariants.{Prepare, Accept, Chosen}
-use Rattle.petal_msg.specs.Kinds.{is_logged, subject_of}
-use Rattle.petal_msg.specs.declared.body.Body.{Body}
+use Rattle.law_steps.proofs.Imports.{[], if◌then◌else◌, ◌++◌, ◌+◌, ◌==◌, ◌||◌, ◌∙◌, ◌∷◌, ◌≡◌, Accept, Actor, Body, Bool, Chosen, Collecting, Command, Decided}
+use Rattle.law_steps.proofs.Imports.{Heard, Idle, In, Job, Letter, List, Log, LogDone, None, Option, Pax, Phase, Post, Prepare, Refused, Send, Some, Voter}
+use Rattle.law_steps.proofs.Imports.{Voting, acceptor, ap, applies, applies_known, applies_then, ask_posts, ballot_posts, by_test, comes_out, false}
+use Rattle.law_steps.proofs.Imports.{first_wanted, has_command, has_majority, hear, hears_log, hears_of_ballot, in-append, inl, inr, is_logged, is_open}
+use Rattle.law_steps.proofs.Imports.{keeps, known, learns, learns_first, log_does, map, next_place, on_ask, on_down, on_news, on_pax, on_propose, only}
+use Rattle.law_steps.proofs.Imports.{post_of, proposes, refl, rev_of, starts, starts_for, subject_of, subst, sym, to_all, to_unheard, true, unknown_from, ℕ}
+use Rattle.spec_paxos.specs.Proposer.{Step}
+use Rattle.spec_paxos.specs.declared.phase.Heard.TheVariants.{Nothing}
 use Rattle.petal_msg.specs.declared.body.Body.TheVariants as body
-use Rattle.petal_msg.specs.declared.letter.Actor.{Actor}
 use Rattle.petal_msg.specs.declared.letter.Actor.TheVariants as actor
-use Rattle.petal_msg.specs.declared.letter.Letter.{Letter}
-use Rattle.spec_paxos.specs.Acceptor.{is_open}
-use Rattle.spec_paxos.specs.Proposer.{Step, hear, has_majority}
-use Rattle.spec_paxos.specs.declared.phase.Heard.{Heard}
-use Rattle.spec_paxos.specs.declared.phase.Heard.TheVariants.{Nothing, Send, Refused}
-use Rattle.spec_paxos.specs.declared.phase.Heard.TheVariants.{Chosen as Decided}
-use Rattle.spec_paxos.specs.declared.phase.Phase.{Phase}
-use Rattle.spec_paxos.specs.declared.phase.Phase.TheVariants.{Idle, Collecting, Voting}
-use Rattle.spec_rules.specs.Ballots.{on_down, on_propose, on_pax, hears_of_ballot, comes_out, proposes, to_all, to_unheard, post_of}
-use Rattle.spec_rules.specs.Ballots.{first_wanted, starts, starts_for, ballot_posts, ask_posts}
-use Rattle.spec_rules.specs.Entries.{on_ask, on_news, learns, learns_first, applies, applies_known, applies_then, unknown_from}
-use Rattle.spec_rules.specs.Jobs.{log_does, hears_log}
-use Rattle.spec_rules.specs.Lists.{In}
-use Rattle.spec_rules.specs.Log.{Log, LogDone, Voter, known, next_place, acceptor, rev_of, keeps}
-use Rattle.spec_rules.specs.Server.{Post}
-use Rattle.spec_rules.specs.declared.job.Job.{Job}
 use Rattle.spec_rules.specs.declared.job.Job.TheVariants as job
-use Rattle.spec_rules.proofs.ListLemmas.{in-append}
-use Rattle.spec_rules.proofs.Tests.{by_test, only}
 
 -- the letter speaks of the agreed log
 abbrev pub IsLogged : Post → Type 0

@@ -1,35 +1,12 @@
 -- Entries that move are of cells whose region is on its way: an old lead sends them by the region that leaves its map, and a new lead opens an
 -- operation at the letter's revision.
-use Rattle.std.proofs.Common.{◌≡◌, ◌==◌, ◌&&◌, ℕ, Bool, true, false, List, [], ◌∷◌, Option, Some, None, refl, sym, ap, ◌∙◌, subst, inl, inr}
-use Rattle.std.specs.Prelude.{filter, map, option_and_then}
-use Rattle.std.specs.List.{range_with_len}
-use Rattle.std.specs.Option.{option_map_or}
-use Rattle.global_tables.specs.Link.{is_link}
-use Rattle.global_tables.specs.Region.{region_of}
-use Rattle.global_tables.specs.declared.disk.DiskRow.{DiskRow}
-use Rattle.global_tables.specs.declared.disk.Move.{Move}
-use Rattle.global_tables.specs.declared.link.LinkRow.{LinkRow}
-use Rattle.petal_base.specs.declared.cell.Cell.{Cell}
-use Rattle.petal_base.specs.declared.cell.Key.{Key}
-use Rattle.petal_base.specs.Cells.{cell_of, key_at}
-use Rattle.petal_command.specs.declared.command.Command.{Command}
-use Rattle.spec_state.specs.CellState.{cell_link, is_fenced, leaving, move_region, noted, region_leaving, region_on_way, row_lead, target}
-use Rattle.spec_state.specs.Command.{state_after}
-use Rattle.spec_state.specs.Role.{is_the}
-use Rattle.spec_state.specs.State.{mover}
-use Rattle.spec_rules.specs.Fills.{comes_before, comes_next, earlier, first_key, keys_in, keys_of, next_fill, not_noted, region_to_move}
-use Rattle.spec_rules.specs.Lists.{In}
-use Rattle.spec_rules.specs.Server.{PairState, JobContext, Post}
-use Rattle.spec_rules.specs.State.{State, coming, id_of, is_on, link_cmp}
-use Rattle.spec_rules.specs.Store.{Chain}
-use Rattle.petal_table.specs.Table.{at}
-use Rattle.spec_rules.proofs.Tests.{both_true, by_test, none_some, number_itself, same_numbers, same_some, true_false}
-use Rattle.law_log.proofs.ListPlaces.{kept_among}
-use Rattle.law_state.specs.Homes.{HasStage, stage_at}
-use Rattle.law_state.specs.Plain.{IsPlainLog}
-use Rattle.law_state.proofs.EntriesOnlyAdd.{log_plain}
-use Rattle.law_state.proofs.Homes.{has_stage}
-use Rattle.law_state.proofs.ListLookups.{found_at}
+use Rattle.law_steps.proofs.Imports.{[], ◌&&◌, ◌==◌, ◌∙◌, ◌∷◌, ◌≡◌, Bool, Cell, Chain, Command, DiskRow, HasStage, In, IsPlainLog, JobContext, Key, LinkRow}
+use Rattle.law_steps.proofs.Imports.{List, Move, None, Option, PairState, Post, Some, State, ap, at, both_true, by_test, cell_link, cell_of, comes_before}
+use Rattle.law_steps.proofs.Imports.{comes_next, coming, earlier, false, filter, first_key, found_at, has_stage, id_of, inl, inr, is_fenced, is_link, is_on}
+use Rattle.law_steps.proofs.Imports.{is_the, kept_among, key_at, keys_in, keys_of, leaving, link_cmp, log_plain, map, move_region, mover, next_fill}
+use Rattle.law_steps.proofs.Imports.{none_some, not_noted, noted, number_itself, option_and_then, option_map_or, range_with_len, refl, region_leaving}
+use Rattle.law_steps.proofs.Imports.{region_of, region_on_way, region_to_move, row_lead, same_numbers, same_some, stage_at, state_after, subst, sym, target}
+use Rattle.law_steps.proofs.Imports.{true, true_false, ℕ}
 use Rattle.law_steps.specs.DidLead.{IsNextFill}
 use Rattle.law_steps.proofs.CopiesRest.{on_row, row_named}
 use Rattle.law_steps.proofs.TicksAskAgain.{in_flat_map}

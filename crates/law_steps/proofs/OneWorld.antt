@@ -1,42 +1,11 @@
 -- What is known of the servers' states in one world whose log is firm, and what rests at a state rests at the later ones.
-use Rattle.std.proofs.Common.{◌≡◌, true, Bool, false, length, Option, Some, None, inl, inr, ap, ◌∙◌, ◌<◌, ◌≤◌, ◌+◌, ℕ, List, []}
-use Rattle.std.proofs.Common.{◌∷◌, ◌++◌, refl, sym, subst, arith}
-use Rattle.std.specs.Prelude.{max}
-use Rattle.petal_base.specs.declared.cell.Cell.{Cell}
-use Rattle.global_tables.specs.Link.{other_of}
-use Rattle.global_tables.specs.declared.link.LinkRow.{LinkRow}
-use Rattle.global_tables.specs.declared.link.LinkState.TheVariants.{Only}
-use Rattle.petal_command.specs.declared.command.Command.{Command}
-use Rattle.petal_command.specs.declared.command.Command.TheVariants.{Caught}
-use Rattle.petal_table.specs.Table.{Table, at}
-use Rattle.petal_msg.specs.declared.operation.Pending.{Pending}
-use Rattle.petal_msg.specs.declared.letter.Letter.{Letter}
-use Rattle.spec_state.specs.CellState.{cell_link, serves}
-use Rattle.spec_state.specs.Command.{state_after}
-use Rattle.spec_history.specs.Claims.{IsPrefix}
-use Rattle.spec_rules.specs.Lists.{In}
-use Rattle.spec_rules.specs.Server.{PairState}
-use Rattle.spec_rules.specs.Returns.{holds_link, proposed}
-use Rattle.spec_rules.specs.Progress.{has_proposed}
-use Rattle.spec_rules.specs.State.{State, id_of, in_both, is_alone_on, is_in, leads_link, link_named, live}
-use Rattle.spec_rules.specs.Store.{cell_cmp}
-use Rattle.spec_rules.specs.World.{Setting, World, server_state}
-use Rattle.spec_rules.specs.World.{client_state, chosen_log, chosen_state}
-use Rattle.spec_rules.specs.declared.job.Job.{Job}
-use Rattle.spec_rules.proofs.Tests.{by_bool, number_itself, true_false}
-use Rattle.law_state.specs.LaterStates.{HasLater, IsBelow}
-use Rattle.law_state.specs.Homes.{HasDied, stage_at}
-use Rattle.law_state.specs.Firm.{Firm}
-use Rattle.law_state.specs.Plain.{IsPlainLog}
-use Rattle.law_state.specs.Steady.{IsSteady}
-use Rattle.law_state.specs.LinkChanges.{IsCaughtStill}
-use Rattle.law_state.specs.StartedBallots.{HasStarted}
-use Rattle.law_state.proofs.CaughtsMadeBoth.{log_alone}
-use Rattle.law_state.proofs.Ages.{between, in_once, in_up}
-use Rattle.law_state.proofs.LoneHolders.{alone_not_both, alone_row, so_alone, so_both}
-use Rattle.law_state.proofs.CellsByLinkRows.{IsHeldBy}
-use Rattle.law_state.proofs.Roles.{holder_is_one, log_roles}
-use Rattle.law_state.proofs.Steady.{log_steady, log_below, front_plain}
+use Rattle.law_steps.proofs.Imports.{[], ◌++◌, ◌+◌, ◌<◌, ◌∙◌, ◌∷◌, ◌≡◌, ◌≤◌, Bool, Caught, Cell, Command, Firm, HasDied, HasLater, HasStarted, In, IsBelow}
+use Rattle.law_steps.proofs.Imports.{IsCaughtStill, IsHeldBy, IsPlainLog, IsPrefix, IsSteady, Job, Letter, LinkRow, List, None, Only, Option, PairState}
+use Rattle.law_steps.proofs.Imports.{Pending, Setting, Some, State, Table, World, alone_not_both, alone_row, ap, arith, at, between, by_bool, cell_cmp}
+use Rattle.law_steps.proofs.Imports.{cell_link, chosen_log, chosen_state, client_state, false, front_plain, has_proposed, holder_is_one, holds_link, id_of}
+use Rattle.law_steps.proofs.Imports.{in_both, in_once, in_up, inl, inr, is_alone_on, is_in, leads_link, length, link_named, live, log_alone, log_below}
+use Rattle.law_steps.proofs.Imports.{log_roles, log_steady, max, number_itself, other_of, proposed, refl, server_state, serves, so_alone, so_both, stage_at}
+use Rattle.law_steps.proofs.Imports.{state_after, subst, sym, true, true_false, ℕ}
 use Rattle.law_steps.specs.DidStep.{AreQueued}
 use Rattle.law_steps.specs.Ready.{IsReady, Rests}
 use Rattle.law_steps.specs.Operations.{AtRest}

@@ -1,19 +1,11 @@
 -- What a lead says of an operation as it goes on, and as it ends.
-use Rattle.std.proofs.Common.{◌≡◌, ℕ, Bool, true, false, refl, ap, ◌∙◌}
-use Rattle.petal_base.specs.declared.cell.Key.{Key}
-use Rattle.petal_msg.specs.declared.body.Body.{Body}
-use Rattle.petal_msg.specs.declared.body.Body.TheVariants as body
-use Rattle.petal_msg.specs.declared.operation.Action.{Action}
-use Rattle.petal_msg.specs.declared.operation.Action.TheVariants as action
-use Rattle.petal_msg.specs.declared.operation.Ending.{Ending}
-use Rattle.petal_msg.specs.declared.operation.Ending.TheVariants as ending
-use Rattle.petal_msg.specs.declared.operation.OpKind.{OpKind}
-use Rattle.petal_msg.specs.declared.operation.OpKind.TheVariants as kind
-use Rattle.petal_msg.specs.declared.operation.Pending.{Pending}
-use Rattle.spec_rules.specs.Lists.{In}
-use Rattle.spec_rules.specs.Server.{PairState, JobContext, Post}
-use Rattle.spec_rules.specs.Writes.{acts, ended, ends, moved_as, old_lead, without_pending}
+use Rattle.law_steps.proofs.Imports.{◌∙◌, ◌≡◌, Action, Body, Bool, Ending, In, JobContext, Key, OpKind, PairState, Pending, Post, acts, ap, ended, ends}
+use Rattle.law_steps.proofs.Imports.{false, moved_as, old_lead, refl, true, without_pending, ℕ}
 use Rattle.law_steps.proofs.Letters.{one_post, posted}
+use Rattle.petal_msg.specs.declared.body.Body.TheVariants as body
+use Rattle.petal_msg.specs.declared.operation.Action.TheVariants as action
+use Rattle.petal_msg.specs.declared.operation.Ending.TheVariants as ending
+use Rattle.petal_msg.specs.declared.operation.OpKind.TheVariants as kind
 
 -- it takes an operation on, or tells how it ended
 abbrev pub is_of_operation : Body → Bool

@@ -1,35 +1,20 @@
 -- After each job the pending operations rest: in one of the four stages, where the link is in Both.
-use Rattle.std.proofs.Common.{◌≡◌, ◌≢◌, ◌≤◌, ℕ, ◌+◌, Bool, true, false, Some, refl, sym, ap, ◌∙◌, subst, ◌⊎◌, inl, inr}
-use Rattle.busy_marks.specs.declared.marks.MarkKind.TheVariants.{Busy, Stale}
-use Rattle.petal_base.specs.declared.cell.Cell.{Cell}
-use Rattle.petal_base.specs.Cells.{cell_of}
-use Rattle.petal_table.specs.Table.{Table, at, put, without}
-use Rattle.petal_msg.specs.declared.body.Body.{Body}
-use Rattle.petal_msg.specs.declared.operation.Action.{Action}
-use Rattle.petal_msg.specs.declared.operation.Action.TheVariants as action
-use Rattle.petal_msg.specs.declared.operation.Ending.TheVariants.{Written, Full}
-use Rattle.petal_msg.specs.declared.operation.Pending.{Pending}
-use Rattle.petal_msg.specs.declared.operation.Stage.{Stage}
-use Rattle.spec_rules.specs.State.{State, is_alone_on, leads_link, live}
-use Rattle.spec_rules.specs.Store.{cell_cmp, chain_in, version_of}
-use Rattle.spec_rules.specs.Fills.{fill_operation}
-use Rattle.spec_rules.specs.Progress.{has_proposed}
-use Rattle.spec_rules.specs.Server.{PairState, JobContext, Pairs, JobResult}
-use Rattle.spec_rules.specs.Writes.{acts, gives_back, next_stage, operation, with_reserved, with_paired, with_mark_at, without_pending}
-use Rattle.spec_rules.proofs.CellTables.{cell_cmp_total, cell_same, cell_apart, cell_gone, cell_gone_apart}
-use Rattle.law_state.specs.Homes.{stage_at}
+use Rattle.law_steps.proofs.Imports.{◌+◌, ◌∙◌, ◌≡◌, ◌≢◌, ◌≤◌, ◌⊎◌, Action, Body, Bool, Busy, Cell, Full, JobContext, JobResult, PairState, Pairs, Pending}
+use Rattle.law_steps.proofs.Imports.{Some, Stage, Stale, State, Table, Written, acts, alone_not_both, ap, at, by_test, cell_apart, cell_cmp, cell_cmp_total}
+use Rattle.law_steps.proofs.Imports.{cell_gone, cell_gone_apart, cell_of, cell_same, chain_in, false, fill_operation, gives_back, has_proposed, inl, inr}
+use Rattle.law_steps.proofs.Imports.{is_alone_on, leads_link, live, next_stage, none_some, operation, put, refl, same_or_apart, same_some, stage_at, subst}
+use Rattle.law_steps.proofs.Imports.{sym, true, true_false, version_of, with_mark_at, with_paired, with_reserved, without, without_pending, ℕ}
 use Rattle.law_steps.specs.Operations.{A_fill, A_write, IsOpenedFor, IsStaged, AtRest, Waiting, Putting, Copying, Answering}
-use Rattle.law_state.proofs.LoneHolders.{alone_not_both}
-use Rattle.law_steps.specs.DidLead.{DidLead, Opens, Marks, Puts, Gives_up, Unmarks, Closes, Opens_alone, Marks_alone, Puts_alone}
-use Rattle.law_steps.specs.DidLead.{Unmarks_alone, Closes_alone, Opens_fill, Opens_fill_alone, Goes_on_dead, Taken}
+use Rattle.law_steps.specs.DidLead.{DidLead, Opens, Marks, Puts, Gives_up, Unmarks, Closes, Opens_alone, Marks_alone, Puts_alone, Unmarks_alone, Closes_alone}
+use Rattle.law_steps.specs.DidLead.{Opens_fill, Opens_fill_alone, Goes_on_dead, Taken}
 use Rattle.law_steps.specs.Did.{Did, Ignores, Refuses, By_read, By_lead, By_second, By_holder, By_other, By_filler, By_sweep}
 use Rattle.law_steps.specs.Ready.{IsReady, IsRising}
-use Rattle.spec_rules.proofs.Tests.{by_test, same_or_apart, same_some, none_some, true_false}
 use Rattle.law_steps.proofs.CopyFrames.{of_holder, of_other}
 use Rattle.law_steps.proofs.WhoLeads.{lead_links, live_stage}
 use Rattle.law_steps.proofs.Subjects.{of_ending, of_filler, of_read, of_second, of_sweep}
 use Rattle.law_steps.proofs.TablesOfPuts.{put_rises, without_rises}
 use Rattle.law_steps.proofs.TakenUpAlone.{taking}
+use Rattle.petal_msg.specs.declared.operation.Action.TheVariants as action
 
 pub same_cell_or_apart : (a b : Cell) → (a ≡ b) ⊎ (a ≢ b)
 same_cell_or_apart a b = elim (same_or_apart a.map b.map) [

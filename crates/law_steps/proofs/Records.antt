@@ -1,5 +1,5 @@
 -- The parts of a list, as of a history's records, before its last member.
-use Rattle.std.proofs.Common.{◌≡◌, ◌⊎◌, ◌++◌, List, [], ◌∷◌, length, length-append, refl, ap, sym, ◌∙◌, inl, inr, arith}
+use Rattle.law_steps.proofs.Imports.{[], ◌++◌, ◌∙◌, ◌∷◌, ◌≡◌, ◌⊎◌, List, ap, arith, inl, inr, length, length-append, refl, sym}
 
 heads : {A : Type 0} {x z : A} {xs zs : List A} → x ∷ xs ≡ z ∷ zs → x ≡ z
 heads e = cc

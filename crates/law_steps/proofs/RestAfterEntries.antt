@@ -1,40 +1,12 @@
 -- What a server remembers of copies rests after an entry, which drops what it touches; and at the start it remembers nothing of them.
-use Rattle.std.proofs.Common.{◌≡◌, ◌≤◌, ◌==◌, ◌&&◌, not, ℕ, Bool, true, false, cond, if◌then◌else◌, List, [], ◌∷◌, ◌++◌, Option}
-use Rattle.std.proofs.Common.{Some, None, refl, sym, ap, ◌∙◌, subst, inl, inr, arith}
-use Rattle.std.specs.Prelude.{◌||◌, filter, is_none, unwrap_or}
-use Rattle.std.specs.Option.{option_map_or}
-use Rattle.std.proofs.lemmas.Grind.{fold-append}
-use Rattle.std.specs.Ordering.{is_eq}
-use Rattle.global_tables.specs.Link.{other_of}
-use Rattle.global_tables.specs.declared.link.LinkRow.{LinkRow}
-use Rattle.petal_base.specs.declared.cell.Cell.{Cell}
-use Rattle.petal_command.specs.declared.command.Command.{Command}
-use Rattle.spec_state.specs.CellState.{cell_link}
-use Rattle.spec_state.specs.Command.{after, is_alone, state_after}
-use Rattle.spec_state.specs.Place.{touches, touches_cell}
-use Rattle.spec_state.specs.State.{inc_of, is_up, start}
-use Rattle.petal_table.specs.Table.{Table, at}
-use Rattle.petal_table.proofs.Rows.{at-empty, at-where}
-use Rattle.spec_rules.specs.Crossing.{crossed, dies, ends_cell, ends_link}
-use Rattle.spec_rules.specs.Lists.{In}
-use Rattle.spec_rules.specs.Progress.{no_progress}
-use Rattle.spec_rules.specs.Server.{PairState, Copies, no_copies}
-use Rattle.spec_rules.specs.State.{State, id_of, link_cmp, live, other_in}
-use Rattle.spec_rules.specs.Store.{cell_cmp}
-use Rattle.spec_rules.proofs.CellTables.{cell_cmp_same}
-use Rattle.spec_rules.proofs.ListLemmas.{in_former, in_later}
-use Rattle.spec_rules.proofs.Tests.{both_true, by_bool, by_test, none_some, same_some, true_false}
-use Rattle.law_state.specs.Homes.{stage_at}
-use Rattle.law_state.specs.Plain.{IsPlain, IsPlainLog}
-use Rattle.law_state.specs.LinkChanges.{StaysSo}
-use Rattle.law_state.specs.Tables.{IsPlainState}
-use Rattle.law_state.proofs.Ages.{in_up, up_some}
-use Rattle.law_state.proofs.EntriesOnlyAdd.{log_plain}
-use Rattle.law_state.proofs.NewMapLinks.{either_false}
-use Rattle.law_state.proofs.Stages.{stage_most}
-use Rattle.law_state.proofs.Steady.{log_below}
-use Rattle.law_state.proofs.EntriesTouchLinks.{entry_stays}
-use Rattle.law_log.proofs.BallotFlags.{same_id}
+use Rattle.law_steps.proofs.Imports.{[], if◌then◌else◌, ◌&&◌, ◌++◌, ◌==◌, ◌||◌, ◌∙◌, ◌∷◌, ◌≡◌, ◌≤◌, Bool, Cell, Command, Copies, In, IsPlain, IsPlainLog}
+use Rattle.law_steps.proofs.Imports.{IsPlainState, LinkRow, List, None, Option, PairState, Some, State, StaysSo, Table, after, ap, arith, at, at-empty}
+use Rattle.law_steps.proofs.Imports.{at-where, both_true, by_bool, by_test, cell_cmp, cell_cmp_same, cell_link, cond, crossed, dies, either_false, ends_cell}
+use Rattle.law_steps.proofs.Imports.{ends_link, entry_stays, false, filter, fold-append, id_of, in_former, in_later, in_up, inc_of, inl, inr, is_alone, is_eq}
+use Rattle.law_steps.proofs.Imports.{is_none, is_up, link_cmp, live, log_below, log_plain, no_copies, no_progress, none_some, not, option_map_or, other_in}
+use Rattle.law_steps.proofs.Imports.{other_of, refl, same_id, same_some, stage_at, stage_most, state_after, subst, sym, touches, touches_cell, true}
+use Rattle.law_steps.proofs.Imports.{true_false, unwrap_or, up_some, ℕ}
+use Rattle.spec_state.specs.State.{start}
 use Rattle.law_steps.specs.RestingCopies.{AreResting}
 use Rattle.law_steps.proofs.Fronts.{front_more}
 use Rattle.law_steps.proofs.WhoLeads.{live_stage}

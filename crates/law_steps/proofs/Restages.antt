@@ -1,23 +1,13 @@
 -- A pending operation goes on to its next stage: but for its stage and version it stays as it was, and so do all others.
-use Rattle.std.proofs.Common.{◌≡◌, ◌≢◌, ◌+◌, true, false, Some, refl, sym, ap, ◌∙◌, subst, inl, inr}
-use Rattle.busy_marks.specs.declared.marks.MarkKind.TheVariants.{Busy, Stale}
-use Rattle.petal_base.specs.declared.cell.Cell.{Cell}
-use Rattle.petal_table.specs.Table.{Table, at, put, without}
-use Rattle.petal_msg.specs.declared.operation.Action.{Action}
-use Rattle.petal_msg.specs.declared.operation.Action.TheVariants as action
-use Rattle.petal_msg.specs.declared.operation.Ending.TheVariants.{Written}
-use Rattle.petal_msg.specs.declared.operation.Pending.{Pending}
-use Rattle.spec_rules.specs.Lists.{In}
-use Rattle.spec_rules.specs.Store.{cell_cmp, chain_in, version_of}
-use Rattle.spec_rules.specs.Server.{JobContext, PairState, Pairs, Post, JobResult}
-use Rattle.spec_rules.specs.Writes.{acts, gives_back, pending_on, with_pending, without_pending, with_reserved}
-use Rattle.spec_rules.specs.Writes.{with_paired, with_mark_at, marks, puts, unmarks}
-use Rattle.spec_rules.proofs.CellTables.{cell_same, cell_apart, cell_gone, cell_gone_apart}
-use Rattle.spec_rules.proofs.Tests.{by_test, none_some, same_some}
+use Rattle.law_steps.proofs.Imports.{◌+◌, ◌∙◌, ◌≡◌, ◌≢◌, Action, Busy, Cell, In, JobContext, JobResult, PairState, Pairs, Pending, Post, Some, Stale, Table}
+use Rattle.law_steps.proofs.Imports.{Written, acts, ap, at, by_test, cell_apart, cell_cmp, cell_gone, cell_gone_apart, cell_same, chain_in, false, gives_back}
+use Rattle.law_steps.proofs.Imports.{inl, inr, marks, none_some, pending_on, put, puts, refl, same_some, subst, sym, true, unmarks, version_of, with_mark_at}
+use Rattle.law_steps.proofs.Imports.{with_paired, with_pending, with_reserved, without, without_pending}
 use Rattle.law_steps.specs.DidLead.{Taken}
 use Rattle.law_steps.proofs.OperationsRest.{same_cell_or_apart}
 use Rattle.law_steps.proofs.Subjects.{of_ending}
 use Rattle.law_steps.proofs.TakenUpAlone.{taking}
+use Rattle.petal_msg.specs.declared.operation.Action.TheVariants as action
 
 -- two operations differ in stage and version alone
 pub record IsSame (old new : Pending) : Type 0 where

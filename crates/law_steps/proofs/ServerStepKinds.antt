@@ -1,54 +1,29 @@
 -- Each step of a server is a job that the relation names, or idle; it ends in the server's stop, or leaves the server as it was.
-use Rattle.std.proofs.Common.{◌≡◌, ℕ, true, false, List, [], ◌∷◌, ◌++◌, Option, Some, None, refl, ◌∙◌, sym, ap, subst, inl, inr}
-use Rattle.std.specs.Prelude.{Bool}
-use Rattle.petal_base.specs.declared.cell.Cell.{Cell}
-use Rattle.petal_command.specs.declared.command.Command.{Command}
-use Rattle.petal_msg.specs.Kinds.{Glanced, is_logged, subject_of}
-use Rattle.petal_msg.specs.declared.body.Body.{Body}
-use Rattle.petal_msg.specs.declared.letter.Actor.TheVariants as actor
-use Rattle.petal_msg.specs.declared.letter.Letter.{Letter}
-use Rattle.petal_msg.specs.declared.operation.Pending.{Pending}
-use Rattle.spec_history.specs.Claims.{IsPrefix}
-use Rattle.spec_rules.specs.Ballots.{asks_next, first_wanted, starts}
-use Rattle.spec_rules.specs.Boots.{boots, raised, stays}
-use Rattle.spec_rules.specs.Crossing.{crossed, link_jobs, settled_by, stage_jobs}
-use Rattle.spec_rules.specs.Progress.{has_proposed}
-use Rattle.spec_rules.specs.Returns.{proposed}
-use Rattle.spec_rules.specs.Entries.{applies}
-use Rattle.spec_rules.specs.Lists.{In, put_at}
-use Rattle.spec_rules.specs.Log.{Log, LogDone, known, next_place, rev_of}
-use Rattle.spec_rules.specs.Server.{Server, Post, Sender, JobResult, silent, sender, letters_of}
-use Rattle.spec_rules.specs.Writes.{pending_on}
-use Rattle.spec_rules.specs.Jobs.{Acted, works, job_done, crossing, entered, worked, is_overfull, stops, glances, glance_sender, is_log_job, voter_of}
-use Rattle.spec_rules.specs.Jobs.{tick_jobs, tick_posts, does, log_does, wanted_by}
-use Rattle.spec_rules.specs.World.{Setting, World, acts, server_state, server_step, chosen_log, MayServer}
-use Rattle.spec_rules.specs.declared.job.Job.{Job}
-use Rattle.spec_rules.specs.declared.job.Job.TheVariants as job
-use Rattle.spec_rules.specs.declared.step.CommitEnd.TheVariants.{Before, After}
-use Rattle.spec_rules.specs.declared.step.Step.{Step}
-use Rattle.spec_rules.specs.declared.step.Step.TheVariants.{Call, Deliver, Tick, Work, StopIn, Stop, Blank, Boot, Arm, Glance}
-use Rattle.spec_rules.specs.declared.step.WorkEnd.{WorkEnd}
-use Rattle.spec_rules.specs.declared.step.WorkEnd.TheVariants as work_end
-use Rattle.spec_paxos.specs.Chosen.{chosen_log as chosen_by}
-use Rattle.spec_rules.proofs.ListLemmas.{in-append, put_same}
-use Rattle.spec_rules.proofs.Tests.{by_test, all_put, only, true_false}
-use Rattle.law_state.specs.Firm.{Firm}
-use Rattle.law_state.proofs.Steady.{log_rev}
-use Rattle.law_state.specs.Steady.{IsSteady}
+use Rattle.law_steps.proofs.Imports.{[], ◌++◌, ◌∙◌, ◌∷◌, ◌≡◌, Acted, After, Arm, Before, Blank, Body, Bool, Boot, Call, Cell, Command, Deliver, Firm, Glance}
+use Rattle.law_steps.proofs.Imports.{Glanced, In, IsPrefix, IsSteady, Job, JobResult, Letter, List, Log, LogDone, MayServer, None, Option, Pending, Post}
+use Rattle.law_steps.proofs.Imports.{Sender, Server, Setting, Some, Step, Stop, StopIn, Tick, Work, WorkEnd, World, all_put, ap, applies, asks_next, boots}
+use Rattle.law_steps.proofs.Imports.{by_test, chosen_by, chosen_log, crossed, crossing, does, entered, false, first_wanted, glance_sender, glances}
+use Rattle.law_steps.proofs.Imports.{has_proposed, in-append, inl, inr, is_log_job, is_logged, is_overfull, job_done, known, letters_of, link_jobs, log_does}
+use Rattle.law_steps.proofs.Imports.{log_rev, next_place, only, pending_on, proposed, put_at, put_same, raised, refl, rev_of, sender, server_state}
+use Rattle.law_steps.proofs.Imports.{server_step, settled_by, silent, stage_jobs, stages_only, starts, stays, stops, subject_of, subst, sym, tick_jobs}
+use Rattle.law_steps.proofs.Imports.{tick_only, tick_posts, true, true_false, voter_of, wanted_by, worked, works, ℕ}
+use Rattle.spec_rules.specs.World.{acts}
 use Rattle.law_steps.specs.Ready.{Rests}
 use Rattle.law_steps.specs.Operations.{IsStaged}
 use Rattle.law_steps.specs.DidLead.{Asks, Asks_for, Of_the_log}
 use Rattle.law_steps.specs.Did.{Did, Ignores, By_lead}
-use Rattle.law_steps.specs.DidStep.{IsIdle, IsSeated, AreQueued, Starts, By_job, By_ballot, By_entry, Serving, Goes}
-use Rattle.law_steps.specs.DidStep.{Ends, Stays, Wakes, Fails, served_so, stopped_so}
+use Rattle.law_steps.specs.DidStep.{IsIdle, IsSeated, AreQueued, Starts, By_job, By_ballot, By_entry, Serving, Goes, Ends, Stays, Wakes, Fails, served_so}
+use Rattle.law_steps.specs.DidStep.{stopped_so}
 use Rattle.law_steps.proofs.KnownServer.{KnownServer, parts_of}
 use Rattle.law_steps.proofs.Inversion.{IsHeard, did}
 use Rattle.law_steps.proofs.LogJobs.{LogFrame, letter_frame_of, start_frame_of, applied_entry, applied_none}
 use Rattle.law_steps.proofs.Subjects.{no_letters}
+use Rattle.law_steps.proofs.IdleServers.{same_letter, logged_apart, leaves_silent, seated_does}
+use Rattle.petal_msg.specs.declared.letter.Actor.TheVariants as actor
+use Rattle.spec_rules.specs.declared.job.Job.TheVariants as job
+use Rattle.spec_rules.specs.declared.step.WorkEnd.TheVariants as work_end
 use Rattle.law_steps.proofs.TicksAskAgain as ticks
 use Rattle.law_steps.proofs.CaughtBallots as ballots
-use Rattle.law_log.proofs.Queues.{stages_only, tick_only}
-use Rattle.law_steps.proofs.IdleServers.{same_letter, logged_apart, leaves_silent, seated_does}
 
 -- the step makes a stopped server's device blank
 abbrev pub is_blank : Step → Bool

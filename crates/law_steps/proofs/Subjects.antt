@@ -1,44 +1,24 @@
 -- What a job of each subject leaves as it is: a law that does not speak of the subject goes by this alone.
-use Rattle.std.proofs.Common.{◌≡◌, ℕ, false, List, [], Option, Some, None, ◌⊎◌, inl, inr, refl, sym, ap, ◌∙◌, subst}
-use Rattle.std.specs.Prelude.{unwrap_or}
-use Rattle.std.specs.Option.{option_map_or}
-use Rattle.global_tables.specs.declared.link.LinkRow.{LinkRow}
-use Rattle.petal_base.specs.declared.cell.Cell.{Cell}
-use Rattle.petal_msg.specs.Kinds.{Filling, Paired, subject_of}
-use Rattle.petal_msg.specs.declared.body.Body.{Body}
-use Rattle.petal_msg.specs.declared.body.Body.TheVariants as body
-use Rattle.petal_msg.specs.declared.letter.Letter.{Letter}
-use Rattle.petal_msg.specs.declared.operation.Far.{Far}
-use Rattle.petal_msg.specs.declared.operation.Far.TheVariants as far
-use Rattle.petal_msg.specs.declared.operation.Action.{Action}
-use Rattle.petal_msg.specs.declared.operation.Action.TheVariants as action
-use Rattle.petal_msg.specs.declared.operation.Ending.{Ending}
-use Rattle.petal_msg.specs.declared.operation.Ending.TheVariants.{Written, Full}
-use Rattle.petal_msg.specs.declared.operation.OpKind.{OpKind}
-use Rattle.petal_msg.specs.declared.operation.OpKind.TheVariants as kind
-use Rattle.petal_msg.specs.declared.operation.Pending.{Pending}
-use Rattle.spec_rules.specs.Lists.{In}
-use Rattle.spec_state.specs.CellState.{cell_link}
-use Rattle.petal_table.specs.Table.{at}
-use Rattle.spec_rules.specs.Progress.{has_proposed, no_progress, progress_on}
-use Rattle.spec_rules.specs.Server.{PairState, Copies, JobContext, Post, JobResult}
-use Rattle.spec_rules.specs.State.{State, id_of, link_cmp}
-use Rattle.spec_rules.specs.Store.{cell_cmp}
+use Rattle.law_steps.proofs.Imports.{[], ◌∙◌, ◌≡◌, ◌⊎◌, Action, Body, Cell, Copies, Ending, Far, Filling, Full, In, Job, JobContext, JobResult, Letter}
+use Rattle.law_steps.proofs.Imports.{LinkRow, List, None, OpKind, Option, PairState, Paired, Pending, Post, Some, State, Written, acts, ap, at, by_test}
+use Rattle.law_steps.proofs.Imports.{cell_cmp, cell_link, ends, false, gives_back, has_proposed, id_of, inl, inr, link_cmp, next_stage, no_progress}
+use Rattle.law_steps.proofs.Imports.{option_map_or, progress_on, refl, subject_of, subst, sym, tells, unwrap_or, without_pending, ℕ}
 use Rattle.law_steps.specs.Ready.{IsRising}
-use Rattle.spec_rules.specs.Writes.{acts, ends, gives_back, next_stage, tells, without_pending}
-use Rattle.spec_rules.specs.declared.job.Job.{Job}
-use Rattle.spec_rules.specs.declared.job.Job.TheVariants as job
 use Rattle.law_steps.specs.DidRead.{DidRead, Not_here, Shows}
-use Rattle.law_steps.specs.DidLead.{DidLead, Repeats, Marks, Puts, Gives_up, Unmarks, Closes, Opens_alone, Marks_alone, Puts_alone}
-use Rattle.law_steps.specs.DidLead.{Unmarks_alone, Closes_alone, Opens_fill_alone, Goes_on_dead}
+use Rattle.law_steps.specs.DidLead.{DidLead, Repeats, Marks, Puts, Gives_up, Unmarks, Closes, Opens_alone, Marks_alone, Puts_alone, Unmarks_alone}
+use Rattle.law_steps.specs.DidLead.{Closes_alone, Opens_fill_alone, Goes_on_dead}
 use Rattle.law_steps.specs.DidSecond.{DidSecond, Sets_apart, Promises, Declines, Follows}
 use Rattle.law_steps.specs.DidFiller.{DidFiller, Is_filled, Is_out_of_slots}
 use Rattle.law_steps.specs.DidSweep.{DidSweep, Sweeps}
 use Rattle.law_steps.specs.Did.{Did, Ignores, Refuses, By_read, By_lead, By_second, By_holder, By_other, By_filler, By_sweep}
-use Rattle.spec_rules.proofs.Tests.{by_test}
 use Rattle.law_steps.proofs.CopyFrames.{of_holder, of_other}
 use Rattle.law_steps.proofs.Letters.{one_post, posted}
 use Rattle.law_steps.proofs.TakenUpAlone.{taking}
+use Rattle.petal_msg.specs.declared.body.Body.TheVariants as body
+use Rattle.petal_msg.specs.declared.operation.Far.TheVariants as far
+use Rattle.petal_msg.specs.declared.operation.Action.TheVariants as action
+use Rattle.petal_msg.specs.declared.operation.OpKind.TheVariants as kind
+use Rattle.spec_rules.specs.declared.job.Job.TheVariants as job
 
 -- the letter is a read's answer
 pub record HasData (post : Post) : Type 0 where

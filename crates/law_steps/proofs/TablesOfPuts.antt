@@ -1,14 +1,7 @@
 -- Rows of a table that was made by puts: each row is what stands at its key.
-use Rattle.std.proofs.Common.{◌≡◌, List, [], ◌∷◌, Bool, true, false, cond, Some, refl, sym, ap, ◌∙◌, subst, ◌⊎◌, inl, inr}
-use Rattle.std.specs.Prelude.{filter}
-use Rattle.std.specs.declared.cmp.Ordering.{Ordering}
-use Rattle.std.specs.declared.cmp.Ordering.TheVariants.{Less, Equal, Greater}
-use Rattle.std.specs.Ordering.{is_eq, match_ordering, ordering_reverse}
-use Rattle.std.specs.Cmp.{IsTotalOrder, tied_itself}
-use Rattle.std.specs.BTreeMap.{insert_entry, is_at}
-use Rattle.std.specs.Map.{lookup}
-use Rattle.petal_table.specs.Table.{Table, at, put, without}
-use Rattle.spec_rules.specs.Lists.{In}
+use Rattle.law_steps.proofs.Imports.{[], ◌∙◌, ◌∷◌, ◌≡◌, ◌⊎◌, Bool, Equal, Greater, In, IsTotalOrder, Less, List, Ordering, Some, Table, ap, at, cond, false}
+use Rattle.law_steps.proofs.Imports.{filter, inl, inr, insert_entry, is_at, is_eq, lookup, match_ordering, ordering_reverse, put, refl, subst, sym}
+use Rattle.law_steps.proofs.Imports.{tied_itself, true, without}
 use Rattle.law_steps.specs.Ready.{IsRising}
 
 -- a row of this key stands in the table

@@ -1,12 +1,6 @@
 -- What a pending operation is that a holder that is alone takes up.
-use Rattle.petal_table.specs.Table.{Table, put}
-use Rattle.std.proofs.Common.{◌≡◌, ◌≢◌, Bool, Some, refl}
-use Rattle.petal_base.specs.declared.cell.Cell.{Cell}
-use Rattle.petal_msg.specs.declared.operation.Pending.{Pending}
-use Rattle.spec_rules.specs.Store.{cell_cmp}
-use Rattle.spec_rules.specs.Server.{PairState}
-use Rattle.spec_rules.specs.Writes.{pending_on}
-use Rattle.spec_rules.proofs.CellTables.{cell_cmp_total, cell_same, cell_apart}
+use Rattle.law_steps.proofs.Imports.{◌≡◌, ◌≢◌, Bool, Cell, PairState, Pending, Some, Table, cell_apart, cell_cmp, cell_cmp_total, cell_same, pending_on, put}
+use Rattle.law_steps.proofs.Imports.{refl}
 use Rattle.law_steps.specs.DidLead.{Taken, As_it_is, As_told, told}
 use Rattle.law_steps.specs.Ready.{IsRising}
 use Rattle.law_steps.proofs.TablesOfPuts.{put_rises}

@@ -1,40 +1,14 @@
 -- At a tick a server asks again for what its operations and copies wait for, and for nothing else.
-use Rattle.std.proofs.Common.{◌≡◌, ℕ, true, false, length, List, [], ◌∷◌, ◌++◌, Option, Some, None, refl, sym, subst, inl, inr}
-use Rattle.std.specs.Prelude.{nat_lt, not, slice_get}
-use Rattle.std.specs.Option.{option_map_or}
-use Rattle.busy_marks.specs.declared.marks.MarkKind.{MarkKind}
-use Rattle.global_tables.specs.declared.link.LinkRow.{LinkRow}
-use Rattle.std.specs.List.{flat_map}
-use Rattle.petal_base.specs.declared.cell.Cell.{Cell}
-use Rattle.petal_base.specs.Cells.{key_at}
-use Rattle.petal_msg.specs.Kinds.{subject_of}
-use Rattle.petal_msg.specs.declared.body.Body.TheVariants as body
-use Rattle.petal_msg.specs.declared.copying.CopyAction.TheVariants as copy_action
-use Rattle.petal_msg.specs.declared.copying.Copying.{Copying as Copy}
-use Rattle.petal_msg.specs.declared.copying.NextCopy.{NextCopy}
-use Rattle.petal_msg.specs.declared.copying.NextCopy.TheVariants.{Ask, Block, Wait, Nothing}
-use Rattle.petal_msg.specs.declared.operation.Action.{Action}
-use Rattle.petal_msg.specs.declared.operation.Action.TheVariants as action
-use Rattle.petal_msg.specs.declared.operation.Pending.{Pending}
-use Rattle.petal_msg.specs.declared.operation.Stage.{Stage}
-use Rattle.spec_rules.specs.Ballots.{ballot_posts, ask_posts}
-use Rattle.spec_rules.specs.Copies.{copy_awaited, copy_posts, copy_stage, next_copy, page_asked, page_for, page_posts, sends_entry}
-use Rattle.spec_rules.specs.Fills.{fill_posts, fills_row}
-use Rattle.spec_rules.specs.Progress.{copying_on, has_proposed}
-use Rattle.spec_rules.specs.Lists.{In}
-use Rattle.spec_rules.specs.Server.{Post, post_to}
-use Rattle.spec_rules.specs.State.{in_both, is_in, leads_link, live, other_in, second}
-use Rattle.spec_rules.specs.Store.{Stored, cell_cmp, chain_in, epochs_of, mark_left}
-use Rattle.spec_rules.specs.Writes.{pending_on, both_action, alone_action, next_stage}
-use Rattle.spec_rules.specs.Jobs.{voter_of}
-use Rattle.spec_rules.specs.Jobs.{tick_posts, sent_again, copies_again, awaited}
-use Rattle.spec_rules.proofs.ListLemmas.{in-append}
-use Rattle.spec_rules.proofs.CellTables.{cell_cmp_total}
-use Rattle.spec_rules.proofs.Tests.{by_test, by_bool, not_true, only, true_false}
+use Rattle.law_steps.proofs.Imports.{[], ◌++◌, ◌∷◌, ◌≡◌, Action, Ask, Block, Cell, Copy, In, LinkRow, List, MarkKind, NextCopy, None, Nothing, Option}
+use Rattle.law_steps.proofs.Imports.{Pending, Post, Some, Stage, Stored, Wait, alone_action, ask_posts, awaited, ballot_posts, both_action, by_bool, by_test}
+use Rattle.law_steps.proofs.Imports.{cell_cmp, cell_cmp_total, chain_in, copies_again, copy_awaited, copy_posts, copy_stage, copying_on, epochs_of, false}
+use Rattle.law_steps.proofs.Imports.{fill_posts, fills_row, flat_map, has_proposed, in-append, in_both, inl, inr, is_in, key_at, leads_link, length, live}
+use Rattle.law_steps.proofs.Imports.{mark_left, nat_lt, next_copy, next_stage, not, not_true, only, option_map_or, other_in, page_asked, page_for, page_posts}
+use Rattle.law_steps.proofs.Imports.{pending_on, post_to, refl, second, sends_entry, sent_again, slice_get, subject_of, subst, sym, tick_posts, true}
+use Rattle.law_steps.proofs.Imports.{true_false, voter_of, ℕ}
 use Rattle.law_steps.specs.Operations.{IsStaged, Waiting, Putting, Copying, Answering, waiting, putting, copying, answering}
 use Rattle.law_steps.specs.DidLead.{Asks, A_trim, A_copied_entry, A_page, An_entry_to_move, Of_the_log, other_on}
-use Rattle.law_steps.specs.DidStep.{IsSeated}
-use Rattle.law_steps.specs.DidStep.{is_between}
+use Rattle.law_steps.specs.DidStep.{IsSeated, is_between}
 use Rattle.law_steps.specs.Ready.{IsRising}
 use Rattle.law_steps.proofs.KnownServer.{KnownServer, parts_of}
 use Rattle.law_steps.proofs.TablesOfPuts.{at_row}
@@ -44,6 +18,9 @@ use Rattle.law_steps.proofs.InvertLead.{asks_slot, asks_copy, both_next, alone_n
 use Rattle.law_steps.proofs.WhoLeads.{dead_second}
 use Rattle.law_steps.proofs.LogJobs.{ballot_logged, ask_logged}
 use Rattle.law_steps.proofs.IdleServers.{logged_apart}
+use Rattle.petal_msg.specs.declared.body.Body.TheVariants as body
+use Rattle.petal_msg.specs.declared.copying.CopyAction.TheVariants as copy_action
+use Rattle.petal_msg.specs.declared.operation.Action.TheVariants as action
 
 pub in_flat_map : {A B : Type 0} (f : A → List B) (xs : List A) (y : B) → In y (flat_map f xs) → (x : A) × In x xs × In y (f x)
 unfolding In

@@ -1,31 +1,11 @@
 -- What ties a server that runs to what is chosen: a Caught of its own stands at most after its last entry.
-use Rattle.std.proofs.Common.{◌≡◌, ◌<◌, ◌++◌, ℕ, Bool, List, [], ◌∷◌, true, Some, length, sym, ap, ◌∙◌, subst, inl, inr, arith}
-use Rattle.global_tables.specs.Link.{has_server, other_of}
-use Rattle.global_tables.specs.declared.link.LinkRow.{LinkRow}
-use Rattle.global_tables.specs.declared.link.LinkState.TheVariants.{Both, Only}
-use Rattle.petal_base.specs.declared.cell.Cell.{Cell}
-use Rattle.petal_command.specs.declared.command.Command.{Command}
-use Rattle.spec_history.specs.Claims.{IsPrefix}
-use Rattle.spec_state.specs.CellState.{cell_link, serves}
-use Rattle.spec_state.specs.Command.{state_after}
-use Rattle.spec_state.specs.Place.{places_from}
+use Rattle.law_steps.proofs.Imports.{[], ◌++◌, ◌<◌, ◌∙◌, ◌∷◌, ◌≡◌, Bool, Both, ByBoth, ByNone, ByOne, Cell, Command, Firm, HasLater, HasStarted, IsCaughtIn}
+use Rattle.law_steps.proofs.Imports.{IsPrefix, LinkRow, List, Only, Setting, Some, State, StaysSo, World, ap, arith, cell_link, chosen_log, front_plain}
+use Rattle.law_steps.proofs.Imports.{has_proposed, has_server, id_of, in_once, inl, inr, is_alone_on, is_in, length, log_below, log_both, log_steady}
+use Rattle.law_steps.proofs.Imports.{none_some, other_of, places_from, same_numbers, same_place, same_some, server_state, serves, so_alone, stage_at}
+use Rattle.law_steps.proofs.Imports.{state_after, subst, sym, true, true_false, ℕ}
 use Rattle.spec_state.specs.State.{start}
-use Rattle.spec_rules.specs.Progress.{has_proposed}
-use Rattle.spec_rules.specs.State.{State, id_of, is_in, is_alone_on}
-use Rattle.spec_rules.specs.World.{Setting, World, chosen_log, server_state}
-use Rattle.spec_rules.proofs.Tests.{none_some, same_numbers, same_some, true_false}
-use Rattle.law_state.specs.LaterStates.{HasLater}
-use Rattle.law_state.specs.Firm.{Firm}
-use Rattle.law_state.specs.Homes.{stage_at}
-use Rattle.law_state.specs.LinkChanges.{IsCaughtIn, StaysSo}
-use Rattle.law_state.specs.LinkRows.{ByBoth, ByNone, ByOne}
-use Rattle.law_state.specs.StartedBallots.{HasStarted}
-use Rattle.law_state.proofs.CaughtsMadeBoth.{log_both}
-use Rattle.law_state.proofs.Ages.{in_once}
-use Rattle.law_state.proofs.LoneHolders.{so_alone}
 use Rattle.law_state.proofs.GrownStates.{alone_not_both}
-use Rattle.law_state.proofs.Steady.{front_plain, log_below, log_steady}
-use Rattle.law_state.proofs.EntriesTouchLinks.{same_place}
 use Rattle.law_steps.specs.Ties.{StaysAloneOrCaught, StaysInBoth}
 use Rattle.law_steps.proofs.Fronts.{front_long, front_more, front_on, one_front}
 use Rattle.law_steps.proofs.KindsInHistories.{runs_at}

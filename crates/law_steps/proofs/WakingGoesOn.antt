@@ -1,28 +1,12 @@
 -- A server that boots goes on from what it had applied: its device knew that, and no device knows more places than it has
 -- records. And it is not yet In as its next incarnation, of which no Join can be chosen before.
-use Rattle.std.proofs.Common.{◌≡◌, ◌≢◌, ◌⊎◌, inl, inr, ◌+◌, ◌==◌, ◌<◌, ◌≤◌, ℕ, zero, suc, Bool, true, false, List, [], ◌∷◌, length}
-use Rattle.std.proofs.Common.{fold, Some, refl, sym, ap, ◌∙◌, arith}
-use Rattle.std.specs.Prelude.{slice_get}
-use Rattle.script_lines.specs.declared.script.Script.{Script}
-use Rattle.petal_command.specs.declared.command.Command.{Command}
-use Rattle.spec_paxos.specs.Kept.{row_after, empty_row, promise_row, accept_row, choose_row, known_at}
-use Rattle.spec_paxos.specs.declared.record.Row.{Row}
-use Rattle.spec_paxos.specs.declared.record.StateRecord.{StateRecord}
-use Rattle.spec_paxos.specs.declared.record.StateRecord.TheVariants.{Inc, Promise, Accepted, Chosen}
-use Rattle.spec_paxos.proofs.Committed.{known_inc}
-use Rattle.spec_state.specs.Command.{state_after}
-use Rattle.spec_history.specs.Claims.{IsPrefix}
-use Rattle.spec_history.specs.Steps.{AreSteps, world_after}
-use Rattle.spec_history.specs.Sound.{IsSound}
-use Rattle.spec_history.specs.declared.record.Record.{Record}
-use Rattle.spec_rules.specs.Boots.{known_front, raised}
-use Rattle.spec_rules.specs.Entries.{before_known, known_run}
-use Rattle.spec_rules.specs.Log.{Log, known}
-use Rattle.spec_rules.specs.State.{is_in}
-use Rattle.spec_rules.specs.World.{start, setting_of, chosen_log, chosen_state}
-use Rattle.spec_rules.proofs.Tests.{by_bool, by_test, none_some, same_numbers, same_some, true_false}
-use Rattle.law_log.proofs.LogInHistories.{history_agrees, logged, out_has_stopped, who_is_in_has_begun}
-use Rattle.law_log.proofs.LogJobsInSchedule.{run_known}
+use Rattle.law_steps.proofs.Imports.{[], ◌+◌, ◌<◌, ◌==◌, ◌∙◌, ◌∷◌, ◌≡◌, ◌≢◌, ◌≤◌, ◌⊎◌, Accepted, AreSteps, Bool, Command, Inc, IsPrefix, IsSound, List, Log}
+use Rattle.law_steps.proofs.Imports.{Promise, Record, Row, Script, Some, StateRecord, accept_row, ap, arith, before_known, by_bool, by_test, choose_row}
+use Rattle.law_steps.proofs.Imports.{chosen_log, chosen_state, empty_row, false, fold, history_agrees, inl, inr, is_in, known, known_at, known_front}
+use Rattle.law_steps.proofs.Imports.{known_inc, known_run, length, logged, none_some, out_has_stopped, promise_row, raised, refl, row_after, run_known}
+use Rattle.law_steps.proofs.Imports.{same_numbers, same_some, setting_of, slice_get, start, state_after, suc, sym, true, true_false, who_is_in_has_begun}
+use Rattle.law_steps.proofs.Imports.{world_after, zero, ℕ}
+use Rattle.spec_paxos.specs.declared.record.StateRecord.TheVariants.{Chosen}
 use Rattle.law_steps.specs.WakingServers.{MayWake}
 
 -- ### Places that records tell of

@@ -1,23 +1,10 @@
 -- Who leads a link, and how far a cell is, by the definitions alone.
-use Rattle.std.proofs.Common.{◌≡◌, ◌≤◌, ◌<◌, ◌==◌, ℕ, Bool, true, false, Option, Some, None, refl, sym, ap, arith}
-use Rattle.std.specs.Prelude.{if◌then◌else◌, is_some, not, option_and_then, option_map}
-use Rattle.std.specs.Option.{option_map_or}
-use Rattle.global_tables.specs.Map.{tuple_of}
-use Rattle.global_tables.specs.Region.{region_of}
-use Rattle.global_tables.specs.declared.disk.DiskRow.{DiskRow}
-use Rattle.global_tables.specs.declared.disk.RegionState.{RegionState}
-use Rattle.global_tables.specs.declared.disk.RegionState.TheVariants.{Old, Fenced, New}
-use Rattle.global_tables.specs.declared.link.LinkRow.{LinkRow}
-use Rattle.global_tables.specs.declared.link.LinkState.{LinkState}
-use Rattle.global_tables.specs.declared.link.LinkState.TheVariants.{Both, Only, Lost}
-use Rattle.petal_base.specs.declared.cell.Cell.{Cell}
-use Rattle.spec_state.specs.CellState.{cell_link, live_new, live_old, live_under, move_region, owner, row_lead, state_lead}
-use Rattle.spec_state.specs.Command.{is_alone}
-use Rattle.spec_state.specs.Role.{is_the, row_in_both}
-use Rattle.spec_state.specs.State.{is_up}
-use Rattle.spec_rules.specs.State.{State, in_both, is_alone_on, is_lead, leads_link, leaving, live, second}
-use Rattle.spec_rules.proofs.Tests.{by_test, true_false}
-use Rattle.law_state.specs.Homes.{new_stage, old_stage, stage_at, stage_by}
+use Rattle.law_steps.proofs.Imports.{if◌then◌else◌, ◌<◌, ◌==◌, ◌≡◌, ◌≤◌, Bool, Both, Cell, DiskRow, Fenced, LinkRow, LinkState, Lost, New, None, Old, Only}
+use Rattle.law_steps.proofs.Imports.{Option, RegionState, Some, State, ap, arith, by_test, cell_link, false, in_both, is_alone, is_alone_on, is_lead, is_some}
+use Rattle.law_steps.proofs.Imports.{is_the, is_up, leads_link, live, live_new, live_old, live_under, move_region, new_stage, not, old_stage, option_and_then}
+use Rattle.law_steps.proofs.Imports.{option_map, option_map_or, owner, refl, region_of, row_in_both, row_lead, second, stage_at, stage_by, state_lead, sym}
+use Rattle.law_steps.proofs.Imports.{true, true_false, tuple_of, ℕ}
+use Rattle.spec_rules.specs.State.{leaving}
 
 -- ### The lead
 

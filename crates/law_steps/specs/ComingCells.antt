@@ -1,20 +1,8 @@
 -- Entries that move are of cells whose region was on its way when they were sent, and when an operation was opened for them.
-use Rattle.std.specs.Prelude.{◌≡◌, ℕ, true, List, Some, length}
-use Rattle.petal_base.specs.Cells.{cell_of}
-use Rattle.petal_base.specs.declared.cell.Cell.{Cell}
-use Rattle.petal_base.specs.declared.cell.Key.{Key}
-use Rattle.petal_command.specs.declared.command.Command.{Command}
-use Rattle.petal_table.specs.Table.{at}
+use Rattle.law_steps.specs.Imports.{◌≡◌, Cell, Command, In, IsPrefix, Key, Letter, List, Pending, Setting, Some, World, at, cell_cmp, cell_of, chosen_log}
+use Rattle.law_steps.specs.Imports.{coming, length, state_after, true, ℕ}
 use Rattle.petal_msg.specs.declared.body.Body.TheVariants as body
-use Rattle.petal_msg.specs.declared.letter.Letter.{Letter}
 use Rattle.petal_msg.specs.declared.operation.OpKind.TheVariants as kind
-use Rattle.petal_msg.specs.declared.operation.Pending.{Pending}
-use Rattle.spec_state.specs.Command.{state_after}
-use Rattle.spec_history.specs.Claims.{IsPrefix}
-use Rattle.spec_rules.specs.Lists.{In}
-use Rattle.spec_rules.specs.State.{coming}
-use Rattle.spec_rules.specs.Store.{cell_cmp}
-use Rattle.spec_rules.specs.World.{Setting, World, chosen_log}
 
 -- the cell was under the new map of a move, in the region that was on its way, by the entries of this revision
 pub record WasComing (setting : Setting) (w : World) (rev : ℕ) (cell : Cell) : Type 0 where

@@ -1,17 +1,6 @@
 -- What a server may have done: one constructor for each subject, whose rules stand in a file of their own.
-use Rattle.std.specs.Prelude.{◌≡◌, ◌⊎◌, ℕ, Bool, true, false, Some}
-use Rattle.petal_base.specs.declared.cell.Cell.{Cell}
-use Rattle.petal_msg.specs.Kinds.{Refused, subject_of}
-use Rattle.petal_msg.specs.declared.body.Body.{Body}
-use Rattle.petal_msg.specs.declared.body.Body.TheVariants as body
-use Rattle.petal_msg.specs.declared.letter.Actor.{Actor}
-use Rattle.petal_msg.specs.declared.copying.Copying.{Copying}
-use Rattle.petal_msg.specs.declared.operation.Pending.{Pending}
-use Rattle.spec_rules.specs.Progress.{copying_on, has_proposed}
-use Rattle.spec_rules.specs.Reads.{is_all_held}
-use Rattle.spec_rules.specs.State.{held, is_lead}
-use Rattle.spec_rules.specs.Server.{PairState, JobContext, JobResult, silent, says}
-use Rattle.spec_rules.specs.Writes.{Wanted, is_for, is_writes_held, pending_on}
+use Rattle.law_steps.specs.Imports.{◌≡◌, ◌⊎◌, Actor, Body, Bool, Cell, Copying, JobContext, JobResult, PairState, Pending, Refused, Some, Wanted, copying_on}
+use Rattle.law_steps.specs.Imports.{false, has_proposed, held, is_all_held, is_for, is_lead, is_writes_held, pending_on, says, silent, subject_of, true, ℕ}
 use Rattle.law_steps.specs.DidRead.{DidRead}
 use Rattle.law_steps.specs.DidLead.{DidLead}
 use Rattle.law_steps.specs.DidSecond.{DidSecond}
@@ -19,6 +8,7 @@ use Rattle.law_steps.specs.DidHolder.{DidHolder}
 use Rattle.law_steps.specs.DidOther.{DidOther}
 use Rattle.law_steps.specs.DidFiller.{DidFiller}
 use Rattle.law_steps.specs.DidSweep.{DidSweep}
+use Rattle.petal_msg.specs.declared.body.Body.TheVariants as body
 
 -- the new map has nothing of what a read asked for
 abbrev pub is_not_here : Body → Bool

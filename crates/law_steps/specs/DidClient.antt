@@ -1,33 +1,13 @@
 -- What a client may have done: a relation above its step, with what the laws need to know of it.
-use Rattle.std.specs.Prelude.{◌≡◌, ◌+◌, ◌-◌, ℕ, Bool, true, false, List, [], ◌∷◌, ◌++◌, Option, Some, None, length, map, slice_get, if◌then◌else◌}
-use Rattle.petal_command.specs.declared.command.Command.{Command}
-use Rattle.device_faults.specs.declared.plan.CallKind.{CallKind}
-use Rattle.device_faults.specs.declared.which.Which.{Which}
-use Rattle.petal_msg.specs.Kinds.{is_logged, subject_of}
-use Rattle.petal_msg.specs.declared.body.Body.{Body}
+use Rattle.law_steps.specs.Imports.{[], if◌then◌else◌, ◌++◌, ◌+◌, ◌-◌, ◌∷◌, ◌≡◌, Answer, Asked, Body, Bool, CallKind, Client, Command, DiskView, Ending, In}
+use Rattle.law_steps.specs.Imports.{IsPrefix, Line, List, None, Option, Pattern, Post, Reaction, Sight, Some, State, Which, answers, cell_asked, command_of}
+use Rattle.law_steps.specs.Imports.{ended, epoch_for, false, find, is_logged, is_read, is_settled, is_witness, is_write, latest, length, lines_of, map}
+use Rattle.law_steps.specs.Imports.{next_line, pattern_block, refusal, servers_of, slice_get, state_after, subject_of, true, verdict_for, with_sight, ℕ}
 use Rattle.petal_msg.specs.declared.body.Body.TheVariants as body
 use Rattle.petal_msg.specs.declared.letter.Actor.TheVariants as actor
-use Rattle.petal_msg.specs.declared.operation.Ending.{Ending}
 use Rattle.petal_msg.specs.declared.operation.Ending.TheVariants as ending
-use Rattle.script_lines.specs.Pattern.{pattern_block}
-use Rattle.script_lines.specs.declared.answer.Answer.{Answer}
 use Rattle.script_lines.specs.declared.answer.Answer.TheVariants as answer
-use Rattle.script_lines.specs.declared.request.Line.{Line}
-use Rattle.script_lines.specs.declared.request.Pattern.{Pattern}
 use Rattle.script_lines.specs.declared.request.Request.TheVariants as request
-use Rattle.spec_state.specs.State.{latest}
-use Rattle.spec_state.specs.CellState.{cell_asked}
-use Rattle.spec_state.specs.Command.{state_after}
-use Rattle.spec_state.specs.declared.answer.DiskView.{DiskView}
-use Rattle.spec_history.specs.Claims.{IsPrefix}
-use Rattle.spec_rules.specs.Lists.{In}
-use Rattle.spec_state.specs.Settled.{is_settled}
-use Rattle.spec_rules.specs.State.{State, find, servers_of}
-use Rattle.spec_rules.specs.Server.{Post}
-use Rattle.spec_rules.specs.Writes.{ended}
-use Rattle.spec_rules.specs.Clients.{Client, Asked, Reaction, Sight, with_sight, answers, is_read, is_write, epoch_for}
-use Rattle.spec_rules.specs.Clients.{command_of, refusal, verdict_for, is_witness}
-use Rattle.spec_rules.specs.World.{lines_of, next_line}
 
 -- the line of a client's request of this number. The first has number 1
 abbrev pub line_by : List Line → (client seq : ℕ) → Option Line

@@ -1,16 +1,9 @@
 -- What the lead of a link of an old map may have done when it heard how its entries came to the new one, with what was so when it was done, by
 -- its own state.
-use Rattle.std.specs.Prelude.{◌≡◌, ℕ, true, false, List, [], Some}
-use Rattle.global_tables.specs.declared.link.LinkRow.{LinkRow}
-use Rattle.petal_base.specs.declared.cell.Key.{Key}
-use Rattle.petal_msg.specs.declared.body.Body.{Body}
-use Rattle.petal_msg.specs.declared.body.Body.TheVariants as body
-use Rattle.spec_rules.specs.Fills.{link_before, next_fill, region_to_move, with_filled}
-use Rattle.spec_rules.specs.Lists.{In}
-use Rattle.spec_rules.specs.Progress.{with_full}
-use Rattle.spec_rules.specs.Server.{PairState, JobContext, Post, JobResult, silent}
-use Rattle.spec_rules.specs.State.{is_in}
+use Rattle.law_steps.specs.Imports.{[], ◌≡◌, Body, In, JobContext, JobResult, Key, LinkRow, List, PairState, Post, Some, false, is_in, link_before, next_fill}
+use Rattle.law_steps.specs.Imports.{region_to_move, silent, true, with_filled, with_full, ℕ}
 use Rattle.law_steps.specs.DidLead.{IsNextFill}
+use Rattle.petal_msg.specs.declared.body.Body.TheVariants as body
 
 -- the key, of the new map, is the next one of a link of the old map that this server is to move
 pub record IsNextKey (here : JobContext) (own : PairState) (key : Key) (row : LinkRow) : Type 0 where

@@ -1,21 +1,10 @@
 -- What the holder of a link, whose other server is In again, may have done so that the link is brought up to date; and what either
 -- server of a link in Both may have done with an old mark. With what was so when it was done, by its own state.
-use Rattle.std.specs.Prelude.{◌≡◌, ◌≤◌, ◌<◌, ℕ, ◌+◌, true, false, [], ◌∷◌, length, slice_get, Option, Some, None}
-use Rattle.busy_marks.specs.declared.marks.MarkKind.{MarkKind}
-use Rattle.global_tables.specs.declared.link.LinkRow.{LinkRow}
-use Rattle.global_tables.specs.declared.link.LinkState.TheVariants.{Both}
-use Rattle.petal_base.specs.declared.cell.Cell.{Cell}
-use Rattle.petal_base.specs.Cells.{key_at}
-use Rattle.petal_msg.specs.declared.body.Body.{Body}
+use Rattle.law_steps.specs.Imports.{[], ◌+◌, ◌<◌, ◌∷◌, ◌≡◌, ◌≤◌, Block, Body, Both, Cell, Copying, JobContext, JobResult, LinkId, LinkRow, MarkKind, None}
+use Rattle.law_steps.specs.Imports.{Option, PairState, Some, Stored, begins_copy, cell_at, chain_in, closes, copying_on, epochs_of, false, id_of, idle_mark}
+use Rattle.law_steps.specs.Imports.{key_at, length, link_named, mark_left, next_copy, other_in, page_wanted, progress_on, same_block, says_to, silent}
+use Rattle.law_steps.specs.Imports.{slice_get, tells_other, true, turns_page, with_copying, with_full, without_copying, without_mark_on, ℕ}
 use Rattle.petal_msg.specs.declared.body.Body.TheVariants as body
-use Rattle.petal_msg.specs.declared.copying.Copying.{Copying}
-use Rattle.petal_msg.specs.declared.copying.LinkId.{LinkId}
-use Rattle.petal_msg.specs.declared.copying.NextCopy.TheVariants.{Block}
-use Rattle.spec_rules.specs.Copies.{begins_copy, cell_at, closes, idle_mark, next_copy, page_wanted, same_block, tells_other, turns_page}
-use Rattle.spec_rules.specs.Progress.{copying_on, progress_on, with_copying, without_copying, with_full}
-use Rattle.spec_rules.specs.Server.{PairState, JobContext, JobResult, silent, says_to}
-use Rattle.spec_rules.specs.State.{id_of, link_named, other_in}
-use Rattle.spec_rules.specs.Store.{Stored, chain_in, epochs_of, mark_left, without_mark_on}
 use Rattle.spec_rules.specs.declared.job.Job.TheVariants as job
 
 -- the link of this name, which the server holds alone, and whose other server, this one, is In

@@ -1,33 +1,16 @@
 -- What the lead of a cell may have done for a write, or for an entry that moves, rule by rule, with what was so when it was done, by its own
 -- state: as the first of two servers, or as a holder that is alone. Of an operation on a cell that is no longer live nothing is said but that
 -- it goes on by its stage: that there is none is shown above.
-use Rattle.std.specs.Prelude.{◌≡◌, ◌≤◌, ◌<◌, ℕ, Bool, true, false, List, [], Option, Some, None, is_some, option_and_then, slice_get}
-use Rattle.std.specs.Ordering.{nat_cmp}
-use Rattle.busy_marks.specs.declared.marks.MarkKind.TheVariants.{Busy, Stale}
-use Rattle.global_tables.specs.declared.link.LinkRow.{LinkRow}
-use Rattle.petal_base.specs.declared.cell.Cell.{Cell}
-use Rattle.petal_base.specs.declared.cell.Key.{Key}
-use Rattle.petal_base.specs.Cells.{cell_of, key_at}
-use Rattle.petal_table.specs.Table.{at}
-use Rattle.petal_msg.specs.Kinds.{is_logged, subject_of}
-use Rattle.petal_msg.specs.declared.body.Body.{Body}
+use Rattle.law_steps.specs.Imports.{[], ◌<◌, ◌≡◌, ◌≤◌, Body, Bool, Busy, Cell, Copying, Finished, In, JobContext, JobResult, Key, LinkRow, List, Moving, None}
+use Rattle.law_steps.specs.Imports.{Option, PairState, Pending, Post, Some, Stale, Stored, Wanted, acts, at, cell_link, cell_of, chain_in, copying_on, ended}
+use Rattle.law_steps.specs.Imports.{ends, epochs_of, false, fill_operation, finishes, free_of, gives_back, has_proposed, held, in_both, is_alone_on, is_in}
+use Rattle.law_steps.specs.Imports.{is_lead, is_logged, is_some, is_writes_held, key_at, lead, live, marks, nat_cmp, next_fill, next_stage, old_lead, opened}
+use Rattle.law_steps.specs.Imports.{operation, option_and_then, other_in, page_wanted, pending_on, progress_on, puts, region_to_move, says, says_to, second}
+use Rattle.law_steps.specs.Imports.{slice_get, subject_of, target, true, unmarks, with_opened, with_paired, with_pending, with_reserved, without_pending, ℕ}
+use Rattle.law_steps.specs.Operations.{waiting, putting, copying, answering, done_to}
 use Rattle.petal_msg.specs.declared.body.Body.TheVariants as body
 use Rattle.petal_msg.specs.declared.letter.Actor.TheVariants as actor
-use Rattle.petal_msg.specs.declared.copying.Copying.{Copying}
 use Rattle.petal_msg.specs.declared.operation.Ending.TheVariants as ending
-use Rattle.petal_msg.specs.declared.operation.Finished.{Finished}
-use Rattle.petal_msg.specs.declared.operation.Pending.{Pending}
-use Rattle.spec_state.specs.CellState.{cell_link, target}
-use Rattle.spec_rules.specs.Copies.{page_wanted}
-use Rattle.spec_rules.specs.Fills.{Moving, fill_operation, next_fill, region_to_move}
-use Rattle.spec_rules.specs.Lists.{In}
-use Rattle.spec_rules.specs.Progress.{copying_on, has_proposed, progress_on}
-use Rattle.spec_rules.specs.State.{held, second, is_in, is_lead, lead, live, in_both, is_alone_on, other_in}
-use Rattle.spec_rules.specs.Store.{Stored, chain_in, epochs_of, free_of}
-use Rattle.spec_rules.specs.Server.{PairState, JobContext, Post, JobResult, says, says_to}
-use Rattle.spec_rules.specs.Writes.{Wanted, is_writes_held, operation, pending_on, with_pending, without_pending, gives_back, with_reserved, with_paired}
-use Rattle.spec_rules.specs.Writes.{with_opened, opened, old_lead, next_stage, acts, ends, marks, puts, unmarks, finishes, ended}
-use Rattle.law_steps.specs.Operations.{waiting, putting, copying, answering, done_to}
 
 -- to the other server of a cell's link, which this one holds alone, where that is In
 abbrev pub other_on : JobContext → Cell → Option ℕ

@@ -1,19 +1,9 @@
 -- What the other server of a link that one server holds alone may have done so that it is brought up to date, with what was so when it
 -- was done, by its own state.
-use Rattle.std.specs.Prelude.{◌≡◌, ◌<◌, ℕ, true, List, [], ◌∷◌, filter, Option, Some}
-use Rattle.busy_marks.specs.Marks.{above}
-use Rattle.global_tables.specs.declared.link.LinkRow.{LinkRow}
-use Rattle.petal_base.specs.declared.cell.Cell.{Cell}
-use Rattle.petal_base.specs.Cells.{cell_of, key_at}
-use Rattle.petal_msg.specs.declared.body.Body.{Body}
+use Rattle.law_steps.specs.Imports.{[], ◌<◌, ◌∷◌, ◌≡◌, Body, Cell, Entry, JobContext, JobResult, LastCopy, LinkId, LinkRow, List, Option, PairState, Some}
+use Rattle.law_steps.specs.Imports.{above, cell_holder, cell_of, epochs_beyond, filter, free_of, holder_of, key_at, last_copy, least, link_named}
+use Rattle.law_steps.specs.Imports.{marked_blocks, puts_entry, says_to, true, with_last_copy, without_entry, ℕ}
 use Rattle.petal_msg.specs.declared.body.Body.TheVariants as body
-use Rattle.petal_msg.specs.declared.copying.LastCopy.{LastCopy}
-use Rattle.petal_msg.specs.declared.copying.LinkId.{LinkId}
-use Rattle.spec_rules.specs.Copies.{Entry, cell_holder, epochs_beyond, least, marked_blocks, puts_entry}
-use Rattle.spec_rules.specs.Progress.{last_copy, with_last_copy}
-use Rattle.spec_rules.specs.Server.{PairState, JobContext, JobResult, says_to}
-use Rattle.spec_rules.specs.State.{holder_of, link_named}
-use Rattle.spec_rules.specs.Store.{free_of, without_entry}
 use Rattle.spec_rules.specs.declared.job.Job.TheVariants as job
 
 -- what the last copy of a cell does next here: one of the entries that the holder has not is dropped, or the holder is told that none

@@ -1,14 +1,8 @@
 -- What a server, which is In as itself, may have done with a read that it did not refuse.
-use Rattle.std.specs.Prelude.{◌≡◌, ℕ, true, false, None}
-use Rattle.petal_base.specs.declared.cell.Cell.{Cell}
-use Rattle.petal_msg.specs.declared.body.Body.{Body}
+use Rattle.law_steps.specs.Imports.{◌≡◌, Body, Cell, JobContext, JobResult, None, PairState, bytes_of, chain_in, coming, entry_at, false, held, is_all_held}
+use Rattle.law_steps.specs.Imports.{is_in, is_lead, is_under_way, readable, says, true, ℕ}
 use Rattle.petal_msg.specs.declared.body.Body.TheVariants as body
 use Rattle.petal_msg.specs.declared.letter.Actor.TheVariants as actor
-use Rattle.spec_rules.specs.Reads.{is_all_held}
-use Rattle.spec_rules.specs.State.{coming, held, is_in, is_lead, readable}
-use Rattle.spec_rules.specs.Store.{chain_in, entry_at, bytes_of}
-use Rattle.spec_rules.specs.Server.{PairState, JobContext, JobResult, says}
-use Rattle.spec_rules.specs.Writes.{is_under_way}
 
 -- a read that may be answered: the server is In as itself and may read the cell, whose reads no fence holds, and at the cell's lead nothing is
 -- under way there

@@ -1,18 +1,9 @@
 -- What the second server of a cell may have done for a write, rule by rule, with what was so when it was done.
-use Rattle.std.specs.Prelude.{◌≡◌, ◌≤◌, ◌<◌, ℕ, ◌+◌, true, List, Some}
-use Rattle.petal_base.specs.declared.cell.Cell.{Cell}
-use Rattle.petal_base.specs.declared.cell.Key.{Key}
-use Rattle.petal_base.specs.Cells.{cell_of}
-use Rattle.petal_msg.specs.declared.body.Body.{Body}
-use Rattle.petal_msg.specs.declared.body.Body.TheVariants as body
-use Rattle.petal_msg.specs.declared.operation.Far.{Far}
-use Rattle.petal_msg.specs.declared.operation.Far.TheVariants as far
-use Rattle.petal_msg.specs.declared.operation.LastOp.{LastOp}
-use Rattle.spec_rules.specs.State.{first, is_second}
-use Rattle.spec_rules.specs.Store.{free_of}
-use Rattle.spec_rules.specs.Server.{PairState, JobContext, JobResult, says_to}
-use Rattle.spec_rules.specs.Writes.{last_on, with_last, tells, follows}
+use Rattle.law_steps.specs.Imports.{◌+◌, ◌<◌, ◌≡◌, ◌≤◌, Body, Cell, Far, JobContext, JobResult, Key, LastOp, List, PairState, Some, cell_of, first, follows}
+use Rattle.law_steps.specs.Imports.{free_of, is_second, last_on, says_to, tells, true, with_last, ℕ}
 use Rattle.law_steps.specs.Operations.{progress}
+use Rattle.petal_msg.specs.declared.body.Body.TheVariants as body
+use Rattle.petal_msg.specs.declared.operation.Far.TheVariants as far
 
 -- an operation of this number found no slot at its second server: none is free, and the operation is newer than the last one
 -- that the server took part in on the cell, of which no slot is left over

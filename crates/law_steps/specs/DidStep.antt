@@ -1,40 +1,17 @@
 -- What a step of the world may have done: a relation above the step, with what the laws need to know of it.
-use Rattle.std.specs.Prelude.{◌≡◌, ◌⊎◌, ◌<◌, ℕ, Bool, true, false, List, [], ◌∷◌, ◌++◌, Option, Some}
-use Rattle.global_tables.specs.declared.link.LinkRow.{LinkRow}
-use Rattle.petal_command.specs.declared.command.Command.{Command}
-use Rattle.petal_command.specs.declared.command.Command.TheVariants.{Caught}
-use Rattle.petal_msg.specs.Kinds.{Copied, Glanced, Paired, Subject, is_logged, subject_of}
-use Rattle.petal_msg.specs.declared.body.Body.{Body}
-use Rattle.petal_msg.specs.declared.copying.LinkId.{LinkId}
-use Rattle.petal_msg.specs.declared.copying.NextCopy.TheVariants.{Nothing}
-use Rattle.petal_msg.specs.declared.letter.Actor.{Actor}
-use Rattle.petal_msg.specs.declared.letter.Actor.TheVariants as actor
-use Rattle.petal_msg.specs.declared.letter.Letter.{Letter}
-use Rattle.spec_state.specs.Command.{state_after}
-use Rattle.spec_history.specs.Claims.{IsPrefix}
-use Rattle.spec_rules.specs.Boots.{awake, blanked, raised, stays, wakes}
-use Rattle.spec_rules.specs.Copies.{next_copy}
-use Rattle.spec_rules.specs.Crossing.{crossed, settled_by}
-use Rattle.spec_rules.specs.Returns.{proposed}
-use Rattle.spec_rules.specs.Lists.{In}
-use Rattle.spec_rules.specs.Log.{Log, rev_of}
-use Rattle.spec_rules.specs.State.{State, is_in, servers_of}
-use Rattle.spec_rules.specs.Server.{Server, PairState, JobContext, Post, Sender, JobResult, silent, sender, stopped, letters_of}
-use Rattle.spec_rules.specs.Jobs.{Acted, here_of, down_posts}
-use Rattle.spec_rules.specs.Clients.{Reaction}
-use Rattle.spec_rules.specs.World.{Setting, World, acts, before_blanks, reacts, server_state, chosen_log}
-use Rattle.spec_rules.specs.declared.job.Job.{Job}
-use Rattle.spec_rules.specs.declared.job.Job.TheVariants as job
-use Rattle.spec_rules.specs.declared.step.Step.{Step}
-use Rattle.spec_rules.specs.declared.step.Step.TheVariants.{Blank, Boot, Work}
-use Rattle.spec_rules.specs.declared.step.CommitEnd.TheVariants.{After}
-use Rattle.spec_rules.specs.declared.step.WorkEnd.TheVariants as work_end
-use Rattle.law_state.specs.LaterStates.{IsBelow}
-use Rattle.law_state.specs.Plain.{IsPlainLog}
+use Rattle.law_steps.specs.Imports.{[], ◌++◌, ◌<◌, ◌∷◌, ◌≡◌, ◌⊎◌, Acted, Actor, After, Blank, Body, Bool, Boot, Caught, Command, Copied, Glanced, In, IsBelow}
+use Rattle.law_steps.specs.Imports.{IsPlainLog, IsPrefix, Job, JobContext, JobResult, Letter, LinkId, LinkRow, List, Log, Nothing, Option, PairState, Paired}
+use Rattle.law_steps.specs.Imports.{Post, Reaction, Sender, Server, Setting, Some, State, Step, Subject, Work, World, awake, before_blanks, blanked}
+use Rattle.law_steps.specs.Imports.{chosen_log, crossed, down_posts, false, here_of, is_in, is_logged, letters_of, next_copy, proposed, raised, reacts}
+use Rattle.law_steps.specs.Imports.{rev_of, sender, server_state, servers_of, settled_by, silent, state_after, stays, stopped, subject_of, true, wakes, ℕ}
+use Rattle.spec_rules.specs.World.{acts}
 use Rattle.law_steps.specs.DidHolder.{IsHeldWith}
 use Rattle.law_steps.specs.DidLead.{Asks}
 use Rattle.law_steps.specs.Did.{Did}
 use Rattle.law_steps.specs.DidClient.{Turned}
+use Rattle.petal_msg.specs.declared.letter.Actor.TheVariants as actor
+use Rattle.spec_rules.specs.declared.job.Job.TheVariants as job
+use Rattle.spec_rules.specs.declared.step.WorkEnd.TheVariants as work_end
 
 -- a letter that says this was sent to this actor, by a sender of this revision
 pub record Heard (w : World) (to : Actor) (rev : ℕ) (said : Body) : Type 0 where

@@ -1,12 +1,7 @@
 -- What a server may have dropped that it kept of cells which are no longer live, with what was so when it was done, by its own state.
-use Rattle.std.specs.Prelude.{◌≡◌, true, false, [], ◌∷◌, Some}
-use Rattle.petal_base.specs.Cells.{cell_of}
-use Rattle.petal_base.specs.declared.cell.Cell.{Cell}
-use Rattle.petal_msg.specs.declared.dead.Dead.{Dead}
+use Rattle.law_steps.specs.Imports.{[], ◌∷◌, ◌≡◌, Cell, Dead, JobContext, JobResult, PairState, Some, cell_of, false, is_in, live, next_dead, true}
+use Rattle.law_steps.specs.Imports.{without_dead}
 use Rattle.petal_msg.specs.declared.dead.Dead.TheVariants as dead
-use Rattle.spec_rules.specs.Server.{PairState, JobContext, JobResult}
-use Rattle.spec_rules.specs.State.{is_in, live}
-use Rattle.spec_rules.specs.Sweeping.{next_dead, without_dead}
 use Rattle.spec_rules.specs.declared.job.Job.TheVariants as job
 
 -- the cell of an entry or a mark

@@ -1,3 +1,4 @@
+pub mod Imports
 pub mod Operations
 pub mod DidRead
 pub mod DidLead

@@ -1,17 +1,8 @@
 -- How far an operation is, at its lead and at its second server.
-use Rattle.std.specs.Prelude.{◌≡◌, ◌≤◌, ℕ, ◌+◌, Bool, true, false, Option, Some, None}
-use Rattle.petal_base.specs.declared.cell.Cell.{Cell}
-use Rattle.petal_base.specs.Cells.{cell_of}
-use Rattle.petal_msg.specs.declared.operation.Far.{Far}
+use Rattle.law_steps.specs.Imports.{◌+◌, ◌≡◌, ◌≤◌, Bool, Cell, Far, Finished, LastOp, None, Option, Pending, Some, Stage, State, cell_of, false, first_stage}
+use Rattle.law_steps.specs.Imports.{in_both, leads_link, live, stage_at, true, ℕ}
 use Rattle.petal_msg.specs.declared.operation.Far.TheVariants as far
-use Rattle.petal_msg.specs.declared.operation.Finished.{Finished}
-use Rattle.petal_msg.specs.declared.operation.LastOp.{LastOp}
 use Rattle.petal_msg.specs.declared.operation.OpKind.TheVariants as kind
-use Rattle.petal_msg.specs.declared.operation.Pending.{Pending}
-use Rattle.petal_msg.specs.declared.operation.Stage.{Stage}
-use Rattle.spec_rules.specs.State.{State, in_both, leads_link, live}
-use Rattle.spec_rules.specs.Writes.{first_stage}
-use Rattle.law_state.specs.Homes.{stage_at}
 
 -- the stages that an operation rests in while its link is in Both: it waits for its slot at the second server; its block is marked, and it is to put;
 -- it has put, and waits for the second server's copy; the mark is gone, and it is to answer

@@ -1,20 +1,6 @@
 -- What holds of queues and pending operations in every world: the ground on which each step is one of the kinds named.
-use Rattle.std.specs.Prelude.{◌≡◌, ℕ, Bool, true, List, [], ◌∷◌, Some}
-use Rattle.std.specs.declared.cmp.Ordering.{Ordering}
-use Rattle.std.specs.declared.cmp.Ordering.TheVariants.{Less}
-use Rattle.petal_base.specs.declared.cell.Cell.{Cell}
-use Rattle.petal_table.specs.Table.{Table, at}
-use Rattle.petal_msg.specs.declared.operation.Pending.{Pending}
-use Rattle.spec_rules.specs.Lists.{In}
-use Rattle.spec_rules.specs.Progress.{has_proposed}
-use Rattle.spec_rules.specs.State.{State, is_in}
-use Rattle.spec_rules.specs.Store.{cell_cmp}
-use Rattle.spec_rules.specs.World.{Setting, World, server_state, chosen_log, chosen_state}
-use Rattle.spec_history.specs.Claims.{IsPrefix}
-use Rattle.spec_history.specs.Steps.{stepped}
-use Rattle.spec_history.specs.declared.record.Record.{Record}
-use Rattle.law_state.specs.LaterStates.{IsBelow}
-use Rattle.law_state.specs.Firm.{Firm}
+use Rattle.law_steps.specs.Imports.{[], ◌∷◌, ◌≡◌, Bool, Cell, Firm, In, IsBelow, IsPrefix, Less, List, Ordering, Pending, Record, Setting, Some, State, Table}
+use Rattle.law_steps.specs.Imports.{World, at, cell_cmp, chosen_log, chosen_state, has_proposed, is_in, server_state, stepped, true, ℕ}
 use Rattle.law_steps.specs.Operations.{IsStaged}
 use Rattle.law_steps.specs.RestingCopies.{AreResting}
 use Rattle.law_steps.specs.DidStep.{AreQueued}

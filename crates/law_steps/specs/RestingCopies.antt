@@ -1,14 +1,6 @@
 -- What a server remembers of copies, by the links as they are in its own state.
-use Rattle.std.specs.Prelude.{◌≡◌, ◌⊎◌, ℕ, true, false, Some}
-use Rattle.global_tables.specs.declared.link.LinkRow.{LinkRow}
-use Rattle.petal_base.specs.declared.cell.Cell.{Cell}
-use Rattle.petal_msg.specs.declared.copying.Copying.{Copying}
-use Rattle.petal_msg.specs.declared.copying.LastCopy.{LastCopy}
-use Rattle.spec_state.specs.CellState.{cell_link}
-use Rattle.spec_rules.specs.Progress.{copying_on, last_copy, progress_on}
-use Rattle.spec_rules.specs.Server.{PairState}
-use Rattle.spec_rules.specs.State.{State, holder_of, live, other_in}
-use Rattle.law_state.specs.Homes.{stage_at}
+use Rattle.law_steps.specs.Imports.{◌≡◌, ◌⊎◌, Cell, Copying, LastCopy, LinkRow, PairState, Some, State, cell_link, copying_on, false, holder_of, last_copy}
+use Rattle.law_steps.specs.Imports.{live, other_in, progress_on, stage_at, true, ℕ}
 
 -- the cell is live, and of a link that the server holds alone, whose other server is In
 pub record MayCopy (state : State) (me : ℕ) (cell : Cell) : Type 0 where

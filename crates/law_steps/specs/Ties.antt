@@ -1,14 +1,6 @@
 -- What has become of a link from a server's own entries on, or later ones, while the server runs and is In as itself.
-use Rattle.std.specs.Prelude.{◌≡◌, ◌⊎◌, ℕ, List, true}
-use Rattle.global_tables.specs.declared.link.LinkRow.{LinkRow}
-use Rattle.global_tables.specs.declared.link.LinkState.TheVariants.{Both}
-use Rattle.petal_base.specs.declared.cell.Cell.{Cell}
-use Rattle.petal_command.specs.declared.command.Command.{Command}
-use Rattle.spec_state.specs.Command.{state_after}
-use Rattle.spec_rules.specs.Progress.{has_proposed}
-use Rattle.spec_rules.specs.State.{is_alone_on}
-use Rattle.spec_rules.specs.World.{Setting, World, server_state}
-use Rattle.law_state.specs.LinkChanges.{StaysSo}
+use Rattle.law_steps.specs.Imports.{◌≡◌, ◌⊎◌, Both, Cell, Command, LinkRow, List, Setting, StaysSo, World, has_proposed, is_alone_on, server_state}
+use Rattle.law_steps.specs.Imports.{state_after, true, ℕ}
 
 -- of one that was in Both: nothing has touched it, or the server holds it alone
 abbrev pub StaysInBoth : Setting → (n : ℕ) → (front more : List Command) → Cell → LinkRow → Type 0

@@ -1,10 +1,5 @@
 -- What is so of a server that boots.
-use Rattle.std.specs.Prelude.{◌≡◌, ◌+◌, ℕ, false}
-use Rattle.spec_state.specs.Command.{state_after}
-use Rattle.spec_history.specs.Claims.{IsPrefix}
-use Rattle.spec_rules.specs.Boots.{known_front, raised}
-use Rattle.spec_rules.specs.State.{is_in}
-use Rattle.spec_rules.specs.World.{Setting, World, chosen_log}
+use Rattle.law_steps.specs.Imports.{◌+◌, ◌≡◌, IsPrefix, Setting, World, chosen_log, false, is_in, known_front, raised, state_after, ℕ}
 
 -- a server that boots in this world goes on from the entries that it had applied, by which it is not yet In as its next incarnation
 pub record MayWake (setting : Setting) (w : World) (n : ℕ) : Type 0 where

@@ -1,5 +1,4 @@
-use Rattle.petal_command.specs.declared.pax.Pax.TheVariants.{Promise, Accepted}
-use Rattle.spec_paxos.specs.Schedule.{begin}
+use Rattle.law_agreement.proofs.Imports.{Accepted, Promise, begin}
 use Rattle.law_agreement.proofs.SchedulesKeepFacts.{run_holds, begin_holds}
 use Rattle.law_agreement.proofs.letters_stand.Goals as goal
 

@@ -1,5 +1,4 @@
-use Rattle.petal_command.specs.declared.pax.Pax.TheVariants.{Chosen}
-use Rattle.spec_paxos.specs.Schedule.{begin}
+use Rattle.law_agreement.proofs.Imports.{Chosen, begin}
 use Rattle.law_agreement.proofs.SchedulesKeepFacts.{run_holds, begin_holds}
 use Rattle.law_agreement.proofs.told_is_chosen.Goals as goal
 

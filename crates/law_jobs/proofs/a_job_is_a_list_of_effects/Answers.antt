@@ -1,5 +1,5 @@
 -- By the rule of the job.
-use Rattle.law_steps.specs.DidStep.{Handled, own_place}
+use Rattle.law_jobs.proofs.Imports.{Handled, own_place}
 use Rattle.law_jobs.proofs.JobsAreEffects.{effects_of}
 use Rattle.law_jobs.proofs.a_job_is_a_list_of_effects.Goals as goal
 

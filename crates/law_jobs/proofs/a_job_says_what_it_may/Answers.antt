@@ -1,5 +1,5 @@
 -- By the rule of the job.
-use Rattle.law_steps.specs.DidStep.{Handled, own_place}
+use Rattle.law_jobs.proofs.Imports.{Handled, own_place}
 use Rattle.law_jobs.proofs.JobsSay.{letters_of_job}
 use Rattle.law_jobs.proofs.a_job_says_what_it_may.Goals as goal
 

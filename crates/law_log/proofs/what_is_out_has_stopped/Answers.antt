@@ -1,5 +1,6 @@
 -- What is chosen for a server that is Out is its Leave.
-use Rattle.law_log.proofs.LogInHistories.{chosen_leaves, first_incs, kept_incs, out_has_stopped, told_stops, who_is_in_has_begun, who_runs_is_in, who_runs_is_one}
+use Rattle.law_log.proofs.LogInHistories.{chosen_leaves, first_incs, kept_incs, out_has_stopped, told_stops, who_is_in_has_begun, who_runs_is_in}
+use Rattle.law_log.proofs.LogInHistories.{who_runs_is_one}
 use Rattle.law_log.proofs.FirstIncarnationsStay.{unbooted}
 use Rattle.law_log.proofs.what_is_out_has_stopped.Goals as goal
 

@@ -1,5 +1,5 @@
 -- By induction on the history.
-use Rattle.law_jobs.proofs.Runs.{run_of}
+use Rattle.law_run.proofs.Imports.{run_of}
 use Rattle.law_run.proofs.HistoriesAreRuns.{held_after}
 use Rattle.law_run.proofs.contents_are_the_machines.Goals as goal
 

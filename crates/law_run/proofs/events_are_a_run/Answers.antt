@@ -1,5 +1,5 @@
 -- By induction on the history.
-use Rattle.law_jobs.proofs.Runs.{run_of}
+use Rattle.law_run.proofs.Imports.{run_of}
 use Rattle.law_run.proofs.HistoriesAreRuns.{run_after}
 use Rattle.law_run.proofs.events_are_a_run.Goals as goal
 

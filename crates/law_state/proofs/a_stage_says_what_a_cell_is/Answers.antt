@@ -1,5 +1,5 @@
 -- By the row of the disk for which the cell's map was made.
-use Rattle.spec_state.specs.Command.{state_after}
+use Rattle.law_state.proofs.Imports.{state_after}
 use Rattle.law_state.proofs.EntriesOnlyAdd.{log_plain}
 use Rattle.law_state.proofs.Homes.{has_stage}
 use Rattle.law_state.proofs.a_stage_says_what_a_cell_is.Goals as goal

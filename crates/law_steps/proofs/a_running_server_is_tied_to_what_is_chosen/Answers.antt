@@ -1,8 +1,5 @@
 -- A Caught of its own stands at most after its last entry.
-use Rattle.std.proofs.Common.{ap, ◌∙◌}
-use Rattle.spec_state.specs.CellState.{serves}
-use Rattle.spec_rules.specs.World.{setting_of, start}
-use Rattle.spec_rules.proofs.Tests.{number_itself}
+use Rattle.law_steps.proofs.Imports.{◌∙◌, ap, number_itself, serves, setting_of, start}
 use Rattle.law_steps.proofs.WorldsAreFirm.{always_firm}
 use Rattle.law_steps.proofs.KindsInHistories.{firm_after}
 use Rattle.law_steps.proofs.Ties.{running_fronts, stays_alone, stays_both}

@@ -1,5 +1,5 @@
 -- By whose step it is, and its kind.
-use Rattle.std.specs.Prelude.{◌++◌, [], ◌∷◌}
+use Rattle.law_steps.proofs.Imports.{[], ◌++◌, ◌∷◌}
 use Rattle.law_steps.proofs.WorldsAreFirm.{always_firm}
 use Rattle.law_steps.proofs.KindsInHistories.{last_happens}
 use Rattle.law_steps.proofs.each_step_is_of_a_kind.Goals as goal

@@ -1,5 +1,5 @@
 -- By induction on the history.
-use Rattle.spec_rules.specs.World.{setting_of, start}
+use Rattle.law_steps.proofs.Imports.{setting_of, start}
 use Rattle.law_steps.proofs.EntriesReachComingCells.{comes_after, start_comes}
 use Rattle.law_steps.proofs.WorldsAreFirm.{always_firm}
 use Rattle.law_steps.proofs.KindsInHistories.{start_rests}

@@ -1,6 +1,6 @@
 -- By induction on the history.
+use Rattle.law_steps.proofs.Imports.{setting_of, start}
 use Rattle.law_steps.proofs.WorldsAreFirm.{always_firm}
-use Rattle.spec_rules.specs.World.{setting_of, start}
 use Rattle.law_steps.proofs.KindsInHistories.{ready_chosen, rests_after, firm_after, start_rests}
 use Rattle.law_steps.proofs.operations_rest_in_four_stages.Goals as goal
 

@@ -1,6 +1,6 @@
 -- The chosen log is plain.
+use Rattle.law_steps.proofs.Imports.{setting_of, start}
 use Rattle.law_steps.proofs.WorldsAreFirm.{always_firm}
-use Rattle.spec_rules.specs.World.{setting_of, start}
 use Rattle.law_steps.proofs.KindsInHistories.{chosen_steady, firm_after}
 use Rattle.law_steps.proofs.what_is_chosen_is_steady.Goals as goal
 

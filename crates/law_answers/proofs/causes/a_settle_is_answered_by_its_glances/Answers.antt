@@ -1,5 +1,5 @@
 -- By induction on the history.
-use Rattle.law_jobs.proofs.Runs.{run_of}
+use Rattle.law_answers.proofs.Imports.{run_of}
 use Rattle.law_answers.proofs.SettlesAreAnswered.{settled_by}
 use Rattle.law_answers.proofs.causes.a_settle_is_answered_by_its_glances.Goals as goal
 

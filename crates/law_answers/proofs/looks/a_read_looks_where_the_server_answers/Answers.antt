@@ -1,17 +1,7 @@
 -- The run computes.
-use Rattle.std.proofs.Common.{refl}
-use Rattle.petal_command.specs.Ballot.{number}
-use Rattle.spec_paxos.specs.Proposer.{nobody}
-use Rattle.petal_table.specs.Table.{at, put, without}
-use Rattle.spec_rules.specs.Lists.{put_at}
-use Rattle.spec_rules.specs.Ballots.{on_propose, on_pax, starts}
-use Rattle.spec_rules.specs.Entries.{learns, on_news, applies, on_ask}
-use Rattle.spec_rules.specs.Writes.{goes_on, on_write, on_reserve, on_reserved, on_pair_full, on_replicate, on_replicated}
-use Rattle.spec_rules.specs.Reads.{on_read}
-use Rattle.spec_rules.specs.Jobs.{handles, hears_log, does, log_does}
-use Rattle.spec_rules.specs.Clients.{heard, ticked, refusal}
-use Rattle.spec_rules.specs.Sweeping.{next_dead}
-use Rattle.spec_rules.specs.World.{step}
+use Rattle.law_answers.proofs.Imports.{applies, at, does, goes_on, handles, heard, hears_log, learns, log_does, next_dead, nobody, number, on_ask, on_news}
+use Rattle.law_answers.proofs.Imports.{on_pair_full, on_pax, on_propose, on_read, on_replicate, on_replicated, on_reserve, on_reserved, on_write, put, put_at}
+use Rattle.law_answers.proofs.Imports.{refl, refusal, starts, step, ticked, without}
 use Rattle.law_answers.proofs.looks.a_read_looks_where_the_server_answers.Goals as goal
 
 pub returns : goal.returns

@@ -1,5 +1,5 @@
 -- By the kind of the step.
-use Rattle.law_jobs.proofs.Runs.{more_of}
+use Rattle.law_answers.proofs.Imports.{more_of}
 use Rattle.law_answers.proofs.RefusalsHaveReasons.{busy_reason}
 use Rattle.law_answers.proofs.refusals.a_busy_block_has_another_operation.Goals as goal
 

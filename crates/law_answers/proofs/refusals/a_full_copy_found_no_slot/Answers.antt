@@ -1,5 +1,5 @@
 -- By induction on the records.
-use Rattle.law_jobs.proofs.Runs.{run_of}
+use Rattle.law_answers.proofs.Imports.{run_of}
 use Rattle.law_answers.proofs.NoSlotWasReported.{found_none}
 use Rattle.law_answers.proofs.refusals.a_full_copy_found_no_slot.Goals as goal
 

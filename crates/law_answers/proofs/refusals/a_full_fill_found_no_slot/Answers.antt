@@ -1,5 +1,5 @@
 -- By the kind of the step.
-use Rattle.law_jobs.proofs.Runs.{more_of}
+use Rattle.law_answers.proofs.Imports.{more_of}
 use Rattle.law_answers.proofs.RefusalsHaveReasons.{fill_reason}
 use Rattle.law_answers.proofs.refusals.a_full_fill_found_no_slot.Goals as goal
 

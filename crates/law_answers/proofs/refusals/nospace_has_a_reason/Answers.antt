@@ -1,5 +1,5 @@
 -- By induction on the records before.
-use Rattle.law_jobs.proofs.Runs.{more_of}
+use Rattle.law_answers.proofs.Imports.{more_of}
 use Rattle.law_answers.proofs.NoSpaceHasReasons.{no_space_reason}
 use Rattle.law_answers.proofs.refusals.nospace_has_a_reason.Goals as goal
 

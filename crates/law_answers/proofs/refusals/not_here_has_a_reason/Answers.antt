@@ -1,5 +1,5 @@
 -- By the kind of the step.
-use Rattle.law_jobs.proofs.Runs.{more_of}
+use Rattle.law_answers.proofs.Imports.{more_of}
 use Rattle.law_answers.proofs.RefusalsHaveReasons.{nothing_reason}
 use Rattle.law_answers.proofs.refusals.not_here_has_a_reason.Goals as goal
 

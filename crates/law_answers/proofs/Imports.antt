@@ -1,0 +1,126 @@
+-- The names that this crate takes from others, in one place.
+pub use Rattle.law_state.specs.Imports.{if◌then◌else◌, Both, Caught, Cell, Command, DiskRow, DiskView, Drained, Fence, IsPrefix, Join, Leave, LinkRow}
+pub use Rattle.law_state.specs.Imports.{MakeDisk, Moved, PairState, Record, Region, Server, Setting, Snap, Snapshot, StartMove, State, Whole, Witness, World}
+pub use Rattle.law_state.specs.Imports.{cell_asked, cell_link, chosen_log, chosen_state, disk_at, find, is_in, is_up_as, leads_link, leaving, may_join, named}
+pub use Rattle.law_state.specs.Imports.{nat_le, option_map_or, servers_of, serves, slice_get, snapshot_named, state_after}
+unfoldable pub use Rattle.law_state.specs.Imports.{In, at}
+pub use Rattle.law_state.proofs.Imports.{[], ◌&&◌, ◌++◌, ◌+◌, ◌<◌, ◌==◌, ◌||◌, ◌∙◌, ◌∷◌, ◌≡◌, ◌≢◌, ◌≤◌, ◌⊎◌, Bool, FenceKind, Latest, List, None, Option}
+pub use Rattle.law_state.proofs.Imports.{Some, Verdict, act, ap, append-nil, append_assoc, arith, both_true, by_bool, by_test, completes, cond, confirmed}
+pub use Rattle.law_state.proofs.Imports.{effect, false, filter, first, fold-append, following, frozen, in-append, in_both, in_former, in_later, inl, inr}
+pub use Rattle.law_state.proofs.Imports.{is_new, is_some, is_taken, is_the_one, latest, lead, length, length-append, length-set, links_of, map, move_fenced}
+pub use Rattle.law_state.proofs.Imports.{move_of, moved_by, nat_lists_same, nat_lt, nat_tests, none_some, not, not_true, note, number_itself, option_map}
+pub use Rattle.law_state.proofs.Imports.{passed, range_with_len, readable, refl, replicate, row_fenced, row_frozen, row_moving, same_numbers, same_or_apart}
+pub use Rattle.law_state.proofs.Imports.{same_some, second, servers_in, settled, slice_get_past, slice_get_within, some_or_none, subst, suc, sym, told, true}
+pub use Rattle.law_state.proofs.Imports.{true_false, unwrap_or, view-effect, with_disk, with_fence, with_move, zero, ℕ}
+pub use Rattle.law_log.proofs.Imports.{Acted, Actor, After, Answer, AreSteps, AreStepsFrom, Arm, Asked, Before, Blank, Body, Boot, Call, Client, CommitEnd}
+pub use Rattle.law_log.proofs.Imports.{Copies, Deliver, Ending, Firm, Glance, IsPlain, IsPlainLog, IsPlainState, IsSound, Job, JobContext, JobResult, Key}
+pub use Rattle.law_log.proofs.Imports.{Learning, Letter, Line, Log, LogDone, MayActor, MayClient, MayServer, Moving, Pending, Post, Reaction, Request, Script}
+pub use Rattle.law_log.proofs.Imports.{Sight, Step, Stop, StopIn, Tick, Work, WorkEnd, about, acts, all_put, all_put_apart, answered_where, answers}
+pub use Rattle.law_log.proofs.Imports.{asks_and_sends, at_other_rev, awake, blanked, boots, calls, cell_of, chain_in, client_sender, client_state}
+pub use Rattle.law_log.proofs.Imports.{client_step, command_of, down_posts, ended, entered, epoch_for, faults, flat_map, free_of, glance_sender, glances}
+pub use Rattle.law_log.proofs.Imports.{goes_out, goes_out_where, goes_the_old_way, hears, hears_any, hears_of, here_of, holds_link, is_eq, is_from_in}
+pub use Rattle.law_log.proofs.Imports.{is_log_job, is_logged, is_overfull, is_read, is_second, is_settled, is_witness, is_write, job_done, judged, judged_by}
+pub use Rattle.law_log.proofs.Imports.{known, lines_of, link_named, log_plain, moved_as, nat_cmp, nat_cmp_total, next_entries, next_line, next_place}
+pub use Rattle.law_log.proofs.Imports.{pending_on, post_of, post_to, proposed, put_apart, put_same, raised, reacts, readers, replies, rests, rev_of, rounds}
+pub use Rattle.law_log.proofs.Imports.{sees, sees_for, sees_from, sender, sends_or_proposes, server_state, server_step, setting_of, settles, silent, stages}
+pub use Rattle.law_log.proofs.Imports.{stamped, start, stays, stays_open, stepped, stopped, stops, subject_of, takes_all, takes_entries, takes_entry}
+pub use Rattle.law_log.proofs.Imports.{then_goes_out, tick_posts, tied_itself, to_propose, verdict_for, voter_of, wakes, wanted_by, way_now, with_sight}
+pub use Rattle.law_log.proofs.Imports.{witnessed, worked, works, world_after, wrong_rev}
+unfoldable pub use Rattle.law_log.proofs.Imports.{applies, does, goes_on, handles, heard, hears_log, learns, log_does, next_dead, nobody, number, on_ask}
+unfoldable pub use Rattle.law_log.proofs.Imports.{on_news, on_pair_full, on_pax, on_propose, on_read, on_replicate, on_replicated, on_reserve, on_reserved}
+unfoldable pub use Rattle.law_log.proofs.Imports.{on_write, put_at, refusal, repairs, starts, step, sweeps, ticked}
+pub use Rattle.law_steps.specs.Imports.{◌-◌, Finished, Glanced, Less, Paired, Refused, Sender, Subject, Table, bytes_of, cell_cmp, crossed, entry_at}
+pub use Rattle.law_steps.specs.Imports.{letters_of, live, settled_by}
+pub use Rattle.law_steps.proofs.Imports.{ByBoth, ByNone, ByOne, Follows, Greater, HasDied, IsSteady, Logged, Pairs, at-empty, between, by_settled, clock_of}
+pub use Rattle.law_steps.proofs.Imports.{found_at, front_plain, get_within, has_stage, history_grows, in_once, in_up, insert_entry, is_asked, is_at}
+pub use Rattle.law_steps.proofs.Imports.{is_clients, is_none, log_below, log_rev, log_roles, log_steady, lookup, match_ordering, settling}
+unfoldable pub use Rattle.law_steps.proofs.Imports.{put, without}
+pub use Rattle.law_jobs.specs.Imports.{FoundNoSlot, IsBusy, IsHeldBack, IsNewFill, IsReadable, IsRefusal}
+pub use Rattle.law_jobs.proofs.Imports.{A_slot, An_entry_to_move, Asks, By_read, Did, Handled, Happens, IsMoment, Not_here, Rests, Shows, Was, always_firm}
+pub use Rattle.law_jobs.proofs.Imports.{at_apart, at_same, dead_second, front_legal, last_moment, moment_more, own_place, was_same, with_answer, world_more}
+pub use Rattle.law_copies.specs.Imports.{IsRising, no_pairs}
+pub use Rattle.law_copies.proofs.Imports.{Answered, Asks_slot, At, Blanks, By_ballot, By_entry, By_job, Effect, Ends_fill, Fails, Goes, IsLinked, IsSeated}
+pub use Rattle.law_copies.proofs.Imports.{May, Moves, Moves_on, OneMore, Read_asked, Run, Serves, Serving, Stays, Turns, Wakes, Worked, Write_asked, applied}
+pub use Rattle.law_copies.proofs.Imports.{at_row, before_part, below_itself, both_row, by_run, cases_lt, did_count, firm_in, first_state, front_itself}
+pub use Rattle.law_copies.proofs.Imports.{front_long, front_on, grown_in, happened_in, in_get, job_keeps, letters_of_job, longer, more_of, one_front}
+pub use Rattle.law_copies.proofs.Imports.{one_post, own_steady, primary_is_one, put_rises, run_of, said, served_so, setting_in, shown_so, since, stopped_so}
+pub use Rattle.law_copies.proofs.Imports.{turned_asks, without_rev}
+pub use Rattle.law_requests.specs.Imports.{line_by}
+pub use Rattle.law_requests.proofs.Imports.{A_read, A_write, Anew, As_it_was, Begins, Blanks_it, By_operation, By_verdict, By_witness, Fails_it, For_a_fill}
+pub use Rattle.law_requests.proofs.Imports.{For_a_write, Goes_on, Had_no_slot, HasCome, HasEnded, Has_no_space, Heard, IsFinishedFor, IsJudged, IsReason}
+pub use Rattle.law_requests.proofs.Imports.{IsSame, IsSeenAs, Is_declined, Is_new, Is_settled, Is_told, Judges, Of_the_log, Reads, Repeats, Says, Shown}
+pub use Rattle.law_requests.proofs.Imports.{Starts_it, StaysOpen, Stood, Stops_at, Stops_it, Turned, WasSent, after, both_leads, did_come, did_finish}
+pub use Rattle.law_requests.proofs.Imports.{is_refused, lead_is, names, proposed_pairs, rests_in, runs_now, write_refusal}
+pub use Rattle.law_moves.specs.Imports.{IsServing}
+pub use Rattle.law_moves.proofs.Imports.{stage_facts, to_server}
+pub use Rattle.law_answers.specs.Imports.{Event, Look, Read, accepted, asked_by, look_for, old_data, operator, reads_old}
+pub use Rattle.std.proofs.Common.{take}
+pub use Rattle.std.proofs.Math.Seq.{take-append_seam}
+pub use Rattle.std.proofs.lemmas.Grind.{flat_map-append}
+pub use Rattle.std.proofs.lemmas.List.{length-map}
+pub use Rattle.std.specs.List.{fold}
+pub use Rattle.global_tables.specs.View.{queued as with_queued}
+pub use Rattle.law_copies.specs.Pair.{owns_of}
+pub use Rattle.law_jobs.proofs.LettersWereSent.{answers_in, sent_since, stays_sent, still_sent, was_sent}
+pub use Rattle.law_jobs.proofs.OperationsCome.{finished_of}
+pub use Rattle.law_jobs.proofs.Runs.{at_moment, firm_then, follows_in, grown_then, stepped_in}
+pub use Rattle.law_jobs.specs.Effects.{HearsNone, Is_full}
+pub use Rattle.law_jobs.specs.Sayings.{Has_no_slot, to_client}
+pub use Rattle.law_log.proofs.CopyJobsLeaveLog.{IsCalm, calm_mends}
+pub use Rattle.law_log.proofs.FillJobsLeaveLog.{calm_sweeps}
+pub use Rattle.law_log.proofs.FirstIncarnationsStay.{unbooted}
+pub use Rattle.law_log.proofs.LogInHistories.{chosen_is_called_for, who_runs_is_in}
+pub use Rattle.law_log.proofs.PairJobsLeaveLog.{IsDated, dated_again}
+pub use Rattle.law_log.proofs.PairLettersLeaveLog.{calm_handles, calm_stages, calm_where_in, dated_copies_again}
+pub use Rattle.law_log.specs.ProposedCommands.{IsOfLives, NoneBoots, WasWanted}
+pub use Rattle.law_moves.proofs.JobsChangeOneChain.{NeverDead}
+pub use Rattle.law_requests.proofs.LeadJobsKeepRequests.{job_tells}
+pub use Rattle.law_requests.proofs.RequestsInHistories.{asking_after}
+pub use Rattle.law_requests.proofs.ServerStepsKeepRequests.{SaysOk, Scene}
+pub use Rattle.law_requests.specs.AskedRequests.{IsAsked}
+pub use Rattle.law_requests.specs.KnownRequests.{Lives}
+pub use Rattle.law_run.proofs.ContentsAsked.{reader_serves, reads_old_is}
+pub use Rattle.law_run.proofs.DataLetters.{quiet_data}
+pub use Rattle.law_run.proofs.GroundGives.{never_dead}
+pub use Rattle.law_run.proofs.GroundInHistories.{footing_after}
+pub use Rattle.law_run.proofs.LetterNames.{one_actor}
+pub use Rattle.law_run.proofs.ListMembers.{none_pass, of_map}
+pub use Rattle.law_run.proofs.ReadsLookWhereSent.{is_looked}
+pub use Rattle.law_run.proofs.RunScenes.{Grounded}
+pub use Rattle.law_run.specs.MachineTies.{Ground, Named}
+pub use Rattle.law_state.proofs.Caughts.{act_caught}
+pub use Rattle.law_state.proofs.CellsByLinkRows.{both_first, both_reader}
+pub use Rattle.law_state.proofs.DiskRowChanges.{here_now}
+pub use Rattle.law_state.proofs.Disks.{first_at_start}
+pub use Rattle.law_state.proofs.EntriesOnlyAdd.{acting}
+pub use Rattle.law_state.proofs.Fences.{IsRequeued, IsUnsettled, get_after, head_get, ready_by, requeued_awaiting, requeued_itself, requeued_reported}
+pub use Rattle.law_state.proofs.FencesPass.{here_row, one_passed, passed_beside, passed_here, passing, region_beside, region_here, settled_keeps}
+pub use Rattle.law_state.proofs.ListLookups.{find_after, find_front, find_here, get_last, get_set_beside, get_set_here, text_itself}
+pub use Rattle.law_state.proofs.LoneHolders.{lead_first, second_both}
+pub use Rattle.law_state.proofs.Moments.{first_moment, moment_later}
+pub use Rattle.law_state.proofs.MovesOfDisks.{IsNoting, act_moved, act_note, act_start}
+pub use Rattle.law_state.proofs.NamedCells.{asked_takes}
+pub use Rattle.law_state.proofs.Owners.{disk_at_is}
+pub use Rattle.law_state.proofs.SnapsQueueFences.{act_drained, act_snap, none_of}
+pub use Rattle.law_state.specs.LinkRows.{IsBetween}
+pub use Rattle.law_state.specs.Tables.{IsFence, IsForRegion, IsForSnapshot, IsGrown, IsLaterDisk, Of_disk, Of_region}
+pub use Rattle.law_steps.proofs.ClientLetters.{is_ask}
+pub use Rattle.law_steps.proofs.ClientStepKinds.{Turning, client_turns, is_call}
+pub use Rattle.law_steps.proofs.KindsInHistories.{firm_after}
+pub use Rattle.law_steps.proofs.Letters.{Said, said as said_in}
+pub use Rattle.law_steps.proofs.LogJobs.{LogFrame, applied_entry, applied_none, ask_logged, ballot_logged, letter_frame_of, start_frame_of}
+pub use Rattle.law_steps.proofs.ServerStepKinds.{server_serves}
+pub use Rattle.law_steps.specs.DidClient.{Ends, answer_of}
+pub use Rattle.law_steps.specs.DidStep.{IsIdle, Goes as Serves_on, Ends as Stops_so, served}
+pub use Rattle.script_lines.specs.Printed.{answer_line}
+pub use Rattle.script_lines.specs.Requests.{is_snap}
+pub use Rattle.spec_history.specs.Causes.{AreCaused, CauseOf, HasVerdict, HasWitness, WasTold, has_made, is_moving, is_name_taken, lacks_disk, may_answer}
+pub use Rattle.spec_history.specs.Events.{NotThere, accepts, data_among, data_line, data_of, delivers, first_data, first_of, goes_old, is_old_way}
+pub use Rattle.spec_history.specs.Events.{line_of_data, look_by, look_for_data, look_of, looks, same_actor, same_name, turns}
+pub use Rattle.spec_history.specs.Order.{AnsweredComeFirst, AreRising, IsOpenLine, is_answered}
+pub use Rattle.spec_history.specs.Text.{answers_of, text_of, with_given}
+pub use Rattle.spec_rules.specs.Clients.{Sight as Shown_by, is_unread, read_refusal, read_refusal_at, verdict_answer}
+pub use Rattle.spec_rules.specs.Jobs.{shown}
+pub use Rattle.spec_rules.specs.World.{Blanked, Booted, Boots, Control, Deed, IsAnswered, IsDone, IsFree, IsGlanceDue, IsSettleGlance, MayDeliver, MayGlance}
+pub use Rattle.spec_rules.specs.World.{MayStop, StepResult, Stopped, Stops, controls, glanced_in, state_at}
+pub use Rattle.spec_state.specs.Command.{mover_in}

@@ -1,0 +1,27 @@
+-- The names that this crate takes from others, in one place.
+pub use Rattle.law_state.specs.Imports.{[], if◌then◌else◌, ◌++◌, ◌+◌, ◌<◌, ◌==◌, ◌∷◌, ◌≡◌, ◌≢◌, ◌≤◌, ◌⊎◌, Bool, Cell, Command, IsPrefix, LinkRow, List, Lost}
+pub use Rattle.law_state.specs.Imports.{MakeDisk, None, Option, PairState, Record, Server, Setting, Snap, Some, StartMove, State, World, cell_link}
+pub use Rattle.law_state.specs.Imports.{chosen_log, chosen_state, false, is_in, is_lead, length, serves, slice_get, state_after, true, ℕ}
+unfoldable pub use Rattle.law_state.specs.Imports.{In, at}
+pub use Rattle.law_steps.specs.Imports.{Actor, Answer, Asked, Body, Boot, Copying, Entry, Finished, Job, JobContext, Key, LastCopy, Letter, Line, Moving}
+pub use Rattle.law_steps.specs.Imports.{Pending, Step, Work, bytes_of, cell_cmp, cell_of, chain_in, coming, command_of, copying_on, entry_at, filter, first}
+pub use Rattle.law_steps.specs.Imports.{free_of, is_settled, lines_of, map, nat_cmp, pending_on, raised, rev_of, second, server_state, stage_at, stepped}
+pub use Rattle.law_jobs.specs.Imports.{FoundNoSlot, IsBusy, IsHeldBack, IsNewFill, IsNextKey, IsOfCopy, IsReadable}
+pub use Rattle.law_copies.specs.Imports.{is_clients, world_after}
+pub use Rattle.law_requests.specs.Imports.{done_to, line_by}
+pub use Rattle.std.specs.List.{flat_map}
+pub use Rattle.law_state.specs.Moments.{IsMoment}
+pub use Rattle.law_steps.specs.DidStep.{Handled, own_place}
+pub use Rattle.petal_msg.specs.Kinds.{asked_by}
+pub use Rattle.script_lines.specs.declared.answer.Answer.TheVariants.{Data}
+pub use Rattle.script_lines.specs.declared.request.Request.{Request}
+pub use Rattle.script_lines.specs.declared.request.Request.TheVariants.{Read, Settle}
+pub use Rattle.spec_history.specs.Events.{accepted, look_for, old_data, reads_old}
+pub use Rattle.spec_history.specs.Examples.{make_moves, read_moves, sevens, write_moves}
+pub use Rattle.spec_history.specs.Play.{records_of}
+pub use Rattle.spec_machine.specs.declared.event.Event.{Event}
+pub use Rattle.spec_machine.specs.declared.event.Event.TheVariants.{Look}
+pub use Rattle.spec_rules.specs.Jobs.{is_overfull, job_done, operator}
+pub use Rattle.spec_rules.specs.World.{IsOpenLine, client_state, start}
+pub use Rattle.spec_rules.specs.declared.step.CommitEnd.{CommitEnd}
+pub use Rattle.spec_rules.specs.declared.step.Step.TheVariants.{Call, Deliver, Glance, Stop, StopIn}

@@ -1,0 +1,102 @@
+-- The names that this crate takes from others, in one place.
+pub use Rattle.law_state.specs.Imports.{if◌then◌else◌, Both, Caught, Cell, Command, DiskRow, IsPrefix, Join, Leave, LinkId, LinkRow, LinkState, Lost, MapRow}
+pub use Rattle.law_state.specs.Imports.{Moved, Only, PairState, Progress, Record, Server, Setting, State, World, cell_link, chosen_log, chosen_state}
+pub use Rattle.law_state.specs.Imports.{has_server, inc_of, is_in, leads_link, link_at, link_cmp, move_region, option_and_then, option_map_or, other_of}
+pub use Rattle.law_state.specs.Imports.{owner, region_of, row_blanked, serves, source, state_after, target, tuple_of}
+unfoldable pub use Rattle.law_state.specs.Imports.{In, at}
+pub use Rattle.law_state.proofs.Imports.{[], ◌&&◌, ◌++◌, ◌+◌, ◌<◌, ◌==◌, ◌∙◌, ◌∷◌, ◌≡◌, ◌≢◌, ◌≤◌, ◌⊎◌, Bool, List, None, Option, Some, ap, append-nil}
+pub use Rattle.law_state.proofs.Imports.{append_assoc, arith, authority, blanked_state, both_true, by_bool, by_test, cond, false, filter, first, fold}
+pub use Rattle.law_state.proofs.Imports.{in-append, in_both, in_former, in_later, inl, inr, is_alone, is_alone_on, is_link, is_some, is_the_one, length}
+pub use Rattle.law_state.proofs.Imports.{length-append, link_of, links_of, map, nat_lt, nat_tests, none_some, not, number_itself, option_map, range_with_len}
+pub use Rattle.law_state.proofs.Imports.{refl, row_authority, row_lead, same_numbers, same_or_apart, same_some, second, some_or_none, subst, sym, touches}
+pub use Rattle.law_state.proofs.Imports.{true, true_false, unwrap_or, ℕ}
+pub use Rattle.law_log.proofs.Imports.{◌||◌, Acted, AreSteps, Body, Copies, Copying, Dead, Ending, Entry, Equal, Firm, IsPlainLog, IsSound, JobContext}
+pub use Rattle.law_log.proofs.Imports.{JobResult, Key, LastCopy, Letter, Log, Moving, Pending, Post, Script, Step, Stored, about, all_put, awake, blanked}
+pub use Rattle.law_log.proofs.Imports.{cell_holder, cell_of, chain_in, client_sender, copying_on, devices, down_posts, ended, eq_by_cmp, fill_of, flat_map}
+pub use Rattle.law_log.proofs.Imports.{gives_back, has_proposed, holds_link, id_of, is_eq, is_flagged, is_logged, is_second, key_at, last_copy, last_on}
+pub use Rattle.law_log.proofs.Imports.{link_named, log_plain, nat_cmp, pending_on, proposed, put_apart, put_same, raised, ranked, region_to_move, sender}
+pub use Rattle.law_log.proofs.Imports.{server_state, setting_of, stamped, start, subject_of, touches_cell, who_is_in, with_last_copy, without_pending}
+unfoldable pub use Rattle.law_log.proofs.Imports.{put_at}
+pub use Rattle.law_steps.specs.Imports.{IsBelow, Less, Ordering, Paired, Sender, Stage, StaysSo, Subject, Table, cell_cmp, coming, crossed, epochs_beyond}
+pub use Rattle.law_steps.specs.Imports.{letters_of, live, settled_by, stage_at, without_dead, without_entry}
+unfoldable pub use Rattle.law_steps.specs.Imports.{next_fill}
+pub use Rattle.law_steps.proofs.Imports.{ByBoth, ByNone, ByOne, Chain, Filling, Full, Greater, HasStage, IsCaughtIn, IsCaughtStill, IsHeldBy, IsSteady}
+pub use Rattle.law_steps.proofs.Imports.{Logged, Pairs, Store, Written, alone_not_both, alone_row, at-empty, at-where, by_settled, cell_apart, cell_cmp_same}
+pub use Rattle.law_steps.proofs.Imports.{cell_same, comes_before, comes_next, dies, earlier, ends_cell, epoch_at, fill_left, first_key, found_at, front_plain}
+pub use Rattle.law_steps.proofs.Imports.{history_grows, history_is_firm, holder_is_one, is_clients, is_on, is_the, keys_in, keys_of, log_alone, log_below}
+pub use Rattle.law_steps.proofs.Imports.{log_rev, log_roles, log_steady, lookup, max, new_stage, no_copies, not_noted, noted, old_stage, region_leaving}
+pub use Rattle.law_steps.proofs.Imports.{said_to_all, same_id, settling, so_both, stage_by, stage_most, up_some, version_of}
+unfoldable pub use Rattle.law_steps.proofs.Imports.{put}
+pub use Rattle.law_jobs.specs.Imports.{IsFilled, IsNextFill, IsNextKey, Taken, TakenCopy, answering, copying, first_last, progress}
+pub use Rattle.law_jobs.proofs.Imports.{Begins_copy, By_filler, By_holder, By_lead, By_other, By_read, By_second, By_sweep, Closes, Closes_alone, Closes_copy}
+pub use Rattle.law_jobs.proofs.Imports.{CopyStep, Copy_as_is, Copy_synced, Copy_trimmed, Did, DidHolder, DidLead, DidOther, DidSecond, Drops_entry, Follows}
+pub use Rattle.law_jobs.proofs.Imports.{Gives_up, Goes_on_copying, Goes_on_dead, Goes_on_trimming, Handled, Happens, Has_fill, Ignores, IsSame, Is_copied_to}
+pub use Rattle.law_jobs.proofs.Imports.{Is_trimmed, Marks_alone, Of_the_log, Promises, Puts, Puts_alone, Puts_entry, Refuses, Repeats, Rests, Sweeps}
+pub use Rattle.law_jobs.proofs.Imports.{TrimStep, Turns_page, Unmarks_alone, always_firm, at_apart, at_same, chains_with, last_happens, of_read, own_place}
+pub use Rattle.law_jobs.proofs.Imports.{rests_after, row_named, same_cell_or_apart, same_itself, same_on, start_rests, stood, taking}
+pub use Rattle.law_copies.specs.Imports.{WasStarted, blank_joins_in, is_between, kept_store, one_put_ahead}
+pub use Rattle.law_copies.proofs.Imports.{At, BeforeBlank, Blanks, By_ballot, By_caught, By_entry, By_job, By_join, By_leave, Effect, Ends, Fails, Fills}
+pub use Rattle.law_copies.proofs.Imports.{Goes, HasJoinedSince, IsCaughtBy, IsInBoth, IsSeated, May, Serves, Serving, Starts, Stays, Stood, Turns, Wakes}
+pub use Rattle.law_copies.proofs.Imports.{Worked, Writes, applied, before_part, below_itself, by_run, cell_swept, chain_apart, chain_put, chosen_caught_was}
+pub use Rattle.law_copies.proofs.Imports.{copied_chains, counted, counted_by, did_come, drop_apart, drop_none, either_true, first_by, first_state}
+pub use Rattle.law_copies.proofs.Imports.{front_itself, front_long, front_more, front_on, front_within, happened_in, job_keeps, joined_counts, joined_since}
+pub use Rattle.law_copies.proofs.Imports.{kept, kept_by, letters_of_job, link_led_by, live_stage, log_both_place, log_grown, log_lost, log_touched, longer}
+pub use Rattle.law_copies.proofs.Imports.{lost_not_both, none_before_none, of_ending, of_filler, on_row, one_before, one_front, page_chains, past_link}
+pub use Rattle.law_copies.proofs.Imports.{places_grow, primary_is_one, row_joined, run_of, running_fronts, said, second_by, secondary_is_one, setting_in}
+pub use Rattle.law_copies.proofs.Imports.{since, split_last, stage_live, start_plain, stays_alone, stays_both, told_own, tuple_on, turned_asks, without_rev}
+pub use Rattle.law_epochs.proofs.Imports.{AliveIn, IsAt, IsLinked, IsTouchedBy, WasThere, at_by, at_most_or_above, ballot_store, is_at, is_at_so, log_dead}
+pub use Rattle.law_epochs.proofs.Imports.{next_comes, own_plain, place_by, place_of_later, place_touched, proper, proposed_pairs, runs_at, stage_facts}
+pub use Rattle.law_epochs.proofs.Imports.{stands_in}
+pub use Rattle.law_moves.specs.Imports.{HasNewer, IsFilledFrom, IsServing}
+pub use Rattle.law_copies.proofs.CopiesInHistories.{good_after, start_good, step_goes}
+pub use Rattle.law_copies.proofs.EmptyJoins.{after_front, joined_where}
+pub use Rattle.law_copies.proofs.OtherIsNotHolder.{IsOther, held_by, other_apart}
+pub use Rattle.law_copies.proofs.PlacesByFronts.{alive_on, fronts_meet, linked_between, one_place, one_row, places_up, rows_later, state_next}
+pub use Rattle.law_copies.proofs.ServedAtLaterFronts.{alone_or_flagged, both_last, both_since, other_than, same_only, serves_alone, serves_its, unseen_beyond}
+pub use Rattle.law_copies.proofs.StoreHistories.{in_counts, in_own, kept_after}
+pub use Rattle.law_copies.proofs.StoresAlongRecords.{before_last, stays_filled}
+pub use Rattle.law_copies.specs.CopyProgress.{AreCopying, HasSent, IsCaught, IsLeft, IsTold}
+pub use Rattle.law_copies.specs.GoodCopies.{AreTwins, Good, pair_at}
+pub use Rattle.law_copies.specs.Pair.{AreCopies, PairOk, Known as Tells, Working, far, pair_of}
+pub use Rattle.law_copies.specs.Visits.{HasReached, IsHere, IsLast, half, store_by}
+pub use Rattle.law_copies.specs.WaitingStores.{IsOwn}
+pub use Rattle.law_epochs.proofs.EntriesAfterJobs.{did_kept}
+pub use Rattle.law_epochs.proofs.EntriesNeverEarly.{IsKnownBy, all_early, before_then, now_then}
+pub use Rattle.law_epochs.proofs.EntryPredicates.{AreWithin, IsWithin, OfKey, asked_none, is_of_entries, logged_none, none_within, of_key_on, of_no_key}
+pub use Rattle.law_epochs.proofs.EpochScenes.{OneMore, Run, cut, end_of, ends_of}
+pub use Rattle.law_epochs.proofs.EpochsInHistories.{place_timely, running_timely, second_timely}
+pub use Rattle.law_epochs.proofs.FirstNewPlace.{one_in_other}
+pub use Rattle.law_epochs.proofs.KeysToldByJobs.{IsMoverOwn, did_said, mover_store}
+pub use Rattle.law_epochs.proofs.PendingIsInTime.{opened_by, was_opened}
+pub use Rattle.law_epochs.proofs.ReportedHaveNoPending.{resting}
+pub use Rattle.law_jobs.proofs.ChainsApart.{entry_stays}
+pub use Rattle.law_jobs.proofs.CountsGrow.{did_follow}
+pub use Rattle.law_jobs.proofs.FilledAsTold.{As_before, Told_of, did_remember}
+pub use Rattle.law_jobs.proofs.OperationsCome.{restaged}
+pub use Rattle.law_jobs.proofs.Runs.{after}
+pub use Rattle.law_jobs.specs.Effects.{Alone_has, Both_have, Drops, For_a_fill, For_a_write, Goes_on, HasEnded, Has_put, IsSetFor, Is_dead, Is_opened, Sets}
+pub use Rattle.law_jobs.specs.Sayings.{to_server}
+pub use Rattle.law_log.proofs.FillJobsLeaveLog.{filled_beside, filled_here}
+pub use Rattle.law_log.proofs.LogInHistories.{first_incs, join_was_wanted, moved_was_wanted}
+pub use Rattle.law_log.specs.ProposedCommands.{WasMoving}
+pub use Rattle.law_state.proofs.CellsByLinkRows.{alone_authority, both_authority, led_by}
+pub use Rattle.law_state.proofs.EntriesTouchLinks.{map_of}
+pub use Rattle.law_state.proofs.Homes.{row_or_none}
+pub use Rattle.law_state.proofs.LinksAreNoted.{log_noted}
+pub use Rattle.law_state.proofs.NewMapLinks.{or_true}
+pub use Rattle.law_state.proofs.Owners.{no_home, stage_in, stage_is}
+pub use Rattle.law_state.proofs.Steady.{below}
+pub use Rattle.law_state.proofs.TwinsAreOfOneDisk.{IsMoved, cells_same, goal_same, gone_twin, log_comes, log_goes, source_same, start_same, twins_later}
+pub use Rattle.law_state.specs.LaterStates.{KeepsRoles}
+pub use Rattle.law_state.specs.NotedLinks.{HasMovedIn}
+pub use Rattle.law_steps.proofs.EntriesReachComingCells.{comes_after, start_comes}
+pub use Rattle.law_steps.proofs.FillsByJobs.{IsOpenedFill, Is_next, Is_other, did_fills, is_fill}
+pub use Rattle.law_steps.proofs.MovesAreOfComingCells.{leaves_with, next_on, region_left}
+pub use Rattle.law_steps.specs.ComingCells.{WasComing}
+pub use Rattle.law_steps.specs.Operations.{A_fill, A_write, IsOpenedFor, IsStaged}
+pub use Rattle.law_steps.specs.Ties.{HasOwnCaught}
+pub use Rattle.spec_history.specs.Claims.{Matters, Moves}
+pub use Rattle.spec_paxos.specs.Chosen.{chosen_from, vote_place}
+pub use Rattle.spec_rules.specs.State.{leaving}
+pub use Rattle.spec_rules.specs.World.{begins_to_leave, chain_that_counts, frozen_by}
+pub use Rattle.spec_state.specs.CellState.{lead}

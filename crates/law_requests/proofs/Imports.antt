@@ -1,0 +1,78 @@
+-- The names that this crate takes from others, in one place.
+pub use Rattle.law_state.specs.Imports.{if◌then◌else◌, Both, Caught, Cell, Command, DiskView, Drained, IsPrefix, Join, LinkRow, Lost, Only, PairState}
+pub use Rattle.law_state.specs.Imports.{Progress, Record, Server, Setting, State, World, cell_asked, cell_link, chosen_log, chosen_state, find, has_server}
+pub use Rattle.law_state.specs.Imports.{held, inc_of, is_in, is_lead, is_some, is_up, is_writes_held, link_cmp, nat_le, option_and_then, option_map_or}
+pub use Rattle.law_state.specs.Imports.{other_of, places_from, servers_of, serves, slice_get, start, state_after}
+unfoldable pub use Rattle.law_state.specs.Imports.{In, at}
+pub use Rattle.law_state.proofs.Imports.{[], ◌&&◌, ◌++◌, ◌+◌, ◌<◌, ◌==◌, ◌∙◌, ◌∷◌, ◌≡◌, ◌≢◌, ◌≤◌, ◌⊎◌, All, Bool, List, No, None, Option, Some, Writes, ap}
+pub use Rattle.law_state.proofs.Imports.{append-nil, append_assoc, arith, both_true, by_bool, cond, false, filter, in-append, in_both, in_former, in_later}
+pub use Rattle.law_state.proofs.Imports.{inl, inr, is_alone_on, is_the_one, is_the_so, lead, length, length-append, list_any, nat_tests, none_some}
+pub use Rattle.law_state.proofs.Imports.{number_itself, option_map, primary, range_with_len, refl, row_lead, same_numbers, same_or_apart, same_some}
+pub use Rattle.law_state.proofs.Imports.{secondary, some_or_none, subst, sym, true, true_false, unwrap_or, ℕ}
+pub use Rattle.law_log.proofs.Imports.{◌-◌, ◌||◌, Acted, Actor, Answer, AreSteps, Asked, Blank, Body, Client, Copies, Ending, Equal, Firm, IsPlainLog}
+pub use Rattle.law_log.proofs.Imports.{IsSound, JobContext, JobResult, Letter, Line, Log, Pending, Post, Reaction, Request, Script, Sight, Step, Wanted, acts}
+pub use Rattle.law_log.proofs.Imports.{all_put, all_put_apart, awake, blanked, client_sender, command_of, down_posts, ended, has_held_write, has_proposed}
+pub use Rattle.law_log.proofs.Imports.{here_of, id_of, is_eq, is_flagged, is_logged, is_read, is_write, lines_of, log_plain, nat_cmp, no_progress}
+pub use Rattle.law_log.proofs.Imports.{progress_on, put_apart, put_same, raised, reacts, rev_of, sender, server_state, setting_of, stamped, state_in, stays}
+pub use Rattle.law_log.proofs.Imports.{subject_of, wakes, who_is_in, world_after}
+unfoldable pub use Rattle.law_log.proofs.Imports.{put_at, refusal}
+pub use Rattle.law_steps.specs.Imports.{Finished, IsBelow, Less, Ordering, Pattern, Refused, Sender, StaysSo, Subject, Table, cell_cmp, coming, crossed}
+pub use Rattle.law_steps.specs.Imports.{letters_of, live, pattern_block, settled_by, stage_at}
+pub use Rattle.law_steps.proofs.Imports.{ByBoth, ByNone, ByOne, Greater, HasDied, HasLater, HasStage, IsSteady, Logged, Pairs, alone_row, at-empty, between}
+pub use Rattle.law_steps.proofs.Imports.{cell_cmp_same, epoch_at, era_at, front_plain, has_stage, history_is_firm, in_once, in_up, is_at, is_clients}
+pub use Rattle.law_steps.proofs.Imports.{log_alone, log_below, log_rev, log_roles, log_steady, lookup, not, report_among, said_to_all, same_caught}
+pub use Rattle.law_steps.proofs.Imports.{same_place, settling, so_alone, so_both, up_some}
+unfoldable pub use Rattle.law_steps.proofs.Imports.{put}
+pub use Rattle.law_jobs.specs.Imports.{IsNew}
+pub use Rattle.law_jobs.proofs.Imports.{By_filler, By_holder, By_lead, By_other, By_read, By_second, By_sweep, Did, Handled, Happens, Ignores, Ready, Refuses}
+pub use Rattle.law_jobs.proofs.Imports.{Rests, Was, at_apart, at_same, of_read, of_sweep, own_place, was_same}
+pub use Rattle.law_requests.specs.Imports.{done_to, line_by}
+pub use Rattle.std.proofs.lemmas.Bool.{cases_lt}
+pub use Rattle.law_jobs.proofs.JobsSay.{letters_of_job}
+pub use Rattle.law_jobs.proofs.OperationsCome.{HasCome, HasFinished, Is_done, Is_new, None_new, Stood, did_come, did_finish}
+pub use Rattle.law_jobs.proofs.Runs.{At, OneMore, after, by_run, firm_in, grown_in, happened_in, longer, more_of, ready_in, rests_in, run_of, setting_in}
+pub use Rattle.law_jobs.specs.Effects.{Alone_has, Both_have, By_operation, For_a_fill, For_a_write, Had_no_slot, HasEnded, IsFinishedFor, Is_dead}
+pub use Rattle.law_jobs.specs.Effects.{Is_declined}
+pub use Rattle.law_jobs.specs.Sayings.{Ends_fill, Moves, Moves_on, Repeats, Shows_nothing}
+pub use Rattle.law_log.proofs.CaughtsWanted.{kept_proposed}
+pub use Rattle.law_log.proofs.LogInHistories.{chosen_caught_was, join_was_wanted, report_was_made}
+pub use Rattle.law_log.specs.ProposedCommands.{WasDraining}
+pub use Rattle.law_state.proofs.Ages.{age_in, in_age}
+pub use Rattle.law_state.proofs.CellsByLinkRows.{alone_leads as alone_leads_link, both_leads, lead_is, led_by, led_so, lost_leads}
+pub use Rattle.law_state.proofs.EntriesTouchLinks.{places_grow}
+pub use Rattle.law_state.proofs.Eras.{era_low}
+pub use Rattle.law_state.proofs.ErasRiseAfterReports.{log_unheld}
+pub use Rattle.law_state.proofs.GrownStates.{alone_not_both, alone_not_both as alone_row_not_both, lost_not_alone, lost_not_both}
+pub use Rattle.law_state.proofs.Leaves.{both_up, either_true}
+pub use Rattle.law_state.proofs.LoneHolders.{alone_left, both_not_alone, both_row, lead_alone}
+pub use Rattle.law_state.proofs.NamedCells.{asked_only, found_epoch, made_for, told_settled_at}
+pub use Rattle.law_state.proofs.Owners.{disk_on}
+pub use Rattle.law_state.proofs.Roles.{primary_is_one, secondary_is_one}
+pub use Rattle.law_state.proofs.Steady.{log_grown}
+pub use Rattle.law_state.specs.LaterStates.{HasComeSecond}
+pub use Rattle.law_state.specs.LinkChanges.{IsCaughtBy}
+pub use Rattle.law_state.specs.LinkRows.{IsServed}
+pub use Rattle.law_steps.proofs.CopyFrames.{of_holder, of_other}
+pub use Rattle.law_steps.proofs.Fronts.{below_itself, front_itself, front_long, front_more, front_on, front_same, front_within, one_front}
+pub use Rattle.law_steps.proofs.HeldBackForCaughts.{held_as_flag}
+pub use Rattle.law_steps.proofs.KindsInHistories.{chosen_below, chosen_steady, own_below, own_plain, own_steady, proposed_pairs, runs_at, runs_now}
+pub use Rattle.law_steps.proofs.Letters.{said}
+pub use Rattle.law_steps.proofs.Records.{none_before_none, split_last, split_one}
+pub use Rattle.law_steps.proofs.Restages.{was_taken}
+pub use Rattle.law_steps.proofs.Subjects.{of_filler, of_lead, of_second}
+pub use Rattle.law_steps.proofs.Ties.{running_fronts, stays_both}
+pub use Rattle.law_steps.proofs.WakingGoesOn.{may_wake}
+pub use Rattle.law_steps.proofs.WhoLeads.{lead_links}
+pub use Rattle.law_steps.specs.Did.{is_not_here}
+pub use Rattle.law_steps.specs.DidClient.{A_read, A_write, Anew, As_it_was, Begins, Blanks_it, By_verdict, By_witness, Fails_it, Goes_on, Has_no_space}
+pub use Rattle.law_steps.specs.DidClient.{IsCalled, IsJudged, IsReason, IsSame, IsSeenAs, Is_settled, Is_told, Judges, Of_the_log, OnlySays, Reads, Says}
+pub use Rattle.law_steps.specs.DidClient.{Shown, Starts_it, StaysOpen, Stops_at, Stops_it, Turned, WasSent}
+pub use Rattle.law_steps.specs.DidStep.{Blanks, By_ballot, By_entry, By_job, Ends, Fails, Goes, Heard, IsOnward, IsSeated, Serves, Serving, Stays, Turns}
+pub use Rattle.law_steps.specs.DidStep.{Wakes, Worked, served_so, shown_so, stopped_so, without_rev}
+pub use Rattle.law_steps.specs.WakingServers.{AllMayWake}
+pub use Rattle.petal_msg.specs.Kinds.{Answered, Read_asked, Write_asked, is_refused}
+pub use Rattle.script_lines.specs.Requests.{names}
+pub use Rattle.spec_history.specs.Claims.{AreHeldAlong, IsLateAt, IsOver, ReportsHold, Requests, WritesNothingSince}
+pub use Rattle.spec_rules.specs.Clients.{write_refusal}
+pub use Rattle.spec_rules.specs.Server.{no_pairs}
+pub use Rattle.spec_rules.specs.State.{Hold, leaving}

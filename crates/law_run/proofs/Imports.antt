@@ -1,0 +1,167 @@
+-- The names that this crate takes from others, in one place.
+pub use Rattle.law_script.proofs.Imports.{[], ◌&&◌, ◌++◌, ◌+◌, ◌<◌, ◌==◌, ◌>>=◌, ◌||◌, ◌∙◌, ◌∷◌, ◌≡◌, ◌≢◌, ◌⊎◌, BadNumber, BadTuple, Bool, Cause, Err, Line}
+pub use Rattle.law_script.proofs.Imports.{List, None, Ok, Option, Pattern, Request, Result, Script, Some, TextLine, Word, a_call, a_name, a_server, ap, arith}
+pub use Rattle.law_script.proofs.Imports.{codes, cond, false, flat_map, front_word, inl, inr, is_tuple, is_word, length, no_word, not, numbers_of, pieces}
+pub use Rattle.law_script.proofs.Imports.{refl, subst, suc, sym, text_lines, true, words_of, zero, ℕ}
+unfoldable pub use Rattle.law_script.proofs.Imports.{a_tuple, boot_of, client_request, fault_of, filled_of, first_line, four_words, halves_of, in_limits}
+unfoldable pub use Rattle.law_script.proofs.Imports.{lines_after, move_of, net_line, one_word, operator_request, read_of, script_of, servers_line, snap_of}
+unfoldable pub use Rattle.law_script.proofs.Imports.{spread_of, stop_at, stop_of, three_words, two_words, write_of}
+pub use Rattle.law_state.specs.Imports.{if◌then◌else◌, Both, Caught, Cell, Command, DiskRow, DiskView, Drained, Fenced, IsPrefix, Join, Leave, LinkRow}
+pub use Rattle.law_state.specs.Imports.{LinkState, Lost, MapRow, Move, New, Old, Only, PairState, Record, RegionState, Server, Setting, Snapshot, State}
+pub use Rattle.law_state.specs.Imports.{World, blank_joins_from, cell_asked, cell_link, chosen_log, chosen_state, disk_at, find, has_map, has_server, held}
+pub use Rattle.law_state.specs.Imports.{inc_of, is_in, is_lead, leads_link, leaves, move_region, named, nat_le, option_and_then, option_map_or, other_of}
+pub use Rattle.law_state.specs.Imports.{owner, region_of, row_blanked, servers_of, serves, slice_get, snapshot, snapshot_named, source, state_after, tuple_of}
+unfoldable pub use Rattle.law_state.specs.Imports.{In, at}
+pub use Rattle.law_state.proofs.Imports.{◌≤◌, append-nil, append_assoc, authority, blanked_state, both_true, by_bool, by_test, drop, filter, fold}
+pub use Rattle.law_state.proofs.Imports.{fold-append, in-append, in_both, in_former, in_later, is_all_held, is_alone, is_alone_on, is_disk, is_fenced}
+pub use Rattle.law_state.proofs.Imports.{is_some, is_the_one, is_the_so, map, map_asked, nat_lists_same, nat_tests, none_some, number_itself, option_map}
+pub use Rattle.law_state.proofs.Imports.{range_with_len, readable, region_at, same_name, same_numbers, same_or_apart, same_some, second, slice_get_within}
+pub use Rattle.law_state.proofs.Imports.{some_or_none, source_in, touches, true_false, unwrap_or, view_of}
+pub use Rattle.law_log.proofs.Imports.{Acted, Actor, After, Answer, AreSteps, AreStepsFrom, Asked, Before, Blank, Body, Boot, Call, Client, Deliver, Ending}
+pub use Rattle.law_log.proofs.Imports.{Equal, Firm, IsPlainLog, IsPlainState, IsSound, Job, JobContext, JobResult, Key, LastCopy, Letter, Log, LogDone}
+pub use Rattle.law_log.proofs.Imports.{MayActor, OpKind, Pending, Post, Reaction, Sight, Step, StopIn, Stored, Work, WorkEnd, about, acts, all_put}
+pub use Rattle.law_log.proofs.Imports.{all_put_apart, answers, awake, blanked, boots, cell_of, chain_in, client_sender, client_state, client_step, command_of}
+pub use Rattle.law_log.proofs.Imports.{copying_on, crossing, devices, down_posts, ended, ends, entered, epoch_for, fill_operation, first_wanted, gives_back}
+pub use Rattle.law_log.proofs.Imports.{has_proposed, hears, hears_any, hears_of, here_of, holds_link, id_of, is_eq, is_flagged, is_log_job, is_logged}
+pub use Rattle.law_log.proofs.Imports.{is_overfull, is_read, is_second, is_under_way, is_write, job_done, known, link_named, log_plain, nat_cmp}
+pub use Rattle.law_log.proofs.Imports.{nat_cmp_total, next_line, next_place, post_of, proposed, put_apart, put_same, raised, ranked, reacts, rev_of, sender}
+pub use Rattle.law_log.proofs.Imports.{server_state, server_step, setting_of, stamped, start, state_in, stays, stepped, stopped, stops, subject_of, voter_of}
+pub use Rattle.law_log.proofs.Imports.{wakes, wanted_by, without_pending, worked, works, world_after}
+unfoldable pub use Rattle.law_log.proofs.Imports.{applies, does, heard, log_does, refusal, starts, step}
+pub use Rattle.law_steps.specs.Imports.{Busy, Finished, Glanced, IsBelow, Less, Ordering, Refused, Sender, Stage, Stale, StaysSo, Subject, Table}
+pub use Rattle.law_steps.specs.Imports.{before_blanks, bytes_of, cell_cmp, coming, crossed, entry_at, epochs_beyond, letters_of, live, old_lead, operation}
+pub use Rattle.law_steps.specs.Imports.{pattern_block, puts, settled_by, stage_at, with_paired, with_reserved}
+pub use Rattle.law_steps.proofs.Imports.{ByBoth, ByNone, ByOne, Chain, Follows, Greater, HasDied, HasLater, HasStage, IsCaughtStill, IsHeldBy, IsSteady}
+pub use Rattle.law_steps.proofs.Imports.{Pairs, Store, alone_not_both, at-empty, cell_apart, cell_cmp_same, cell_same, clock_of, epoch_at, found_at}
+pub use Rattle.law_steps.proofs.Imports.{front_plain, get_within, history_agrees, history_grows, history_is_firm, in_once, insert_entry, is_at, is_clients}
+pub use Rattle.law_steps.proofs.Imports.{log_alone, log_below, log_rev, log_roles, log_steady, lookup, match_ordering, max, new_stage, old_stage}
+pub use Rattle.law_steps.proofs.Imports.{out_has_stopped, same_place, settling, so_alone, so_both, stage_by, version_of, with_mark_at}
+unfoldable pub use Rattle.law_steps.proofs.Imports.{put}
+pub use Rattle.law_jobs.specs.Imports.{IsReadable, IsRefusal, Taken, answering, progress}
+pub use Rattle.law_jobs.proofs.Imports.{An_entry_to_move, Asks, Asks_for, By_filler, By_holder, By_lead, By_other, By_read, By_second, By_sweep, Closes}
+pub use Rattle.law_jobs.proofs.Imports.{Closes_alone, Did, DidLead, DidOther, DidSecond, Gives_up, Goes_on_dead, Handled, Happens, Has_fill, Has_no_room}
+pub use Rattle.law_jobs.proofs.Imports.{Ignores, IsMoment, Is_full, Marks, Marks_alone, Not_here, Of_the_log, Opens, Opens_alone, Opens_fill}
+pub use Rattle.law_jobs.proofs.Imports.{Opens_fill_alone, Puts, Puts_alone, Ready, Refuses, Repeats, Rests, Shows, Sweeps, Unmarks, Unmarks_alone}
+pub use Rattle.law_jobs.proofs.Imports.{always_firm, at_apart, at_same, chains_with, dead_second, front_legal, of_read, of_sweep, own_place, rests_after}
+pub use Rattle.law_jobs.proofs.Imports.{same_cell_or_apart, start_rests, stood, taking, world_more}
+pub use Rattle.law_copies.specs.Imports.{IsRising, blank_joins_in, kept_store, no_pairs, one_put_ahead}
+pub use Rattle.law_copies.proofs.Imports.{AllMayWake, Answered, At, BeforeBlank, Blanks, By_ballot, By_caught, By_entry, By_job, By_join, By_leave, Ends}
+pub use Rattle.law_copies.proofs.Imports.{Ends_fill, Fails, Goes, HasJoinedSince, IsLater, IsSeated, Moves, Moves_on, OneMore, Run, Says, Serves, Serving}
+pub use Rattle.law_copies.proofs.Imports.{Stays, Turns, Wakes, Worked, alone_by, at_row, before_part, both_row, by_run, cases_lt, chain_apart, chain_put}
+pub use Rattle.law_copies.proofs.Imports.{chosen_caught_was, counted, counted_by, either_true, firm_in, front_itself, front_long, front_more, front_on}
+pub use Rattle.law_copies.proofs.Imports.{get_in, grown_in, held_as_flag, in_get, is_at_work, kept, kept_by, lead_links, letters_of_job, live_stage}
+pub use Rattle.law_copies.proofs.Imports.{log_grown, log_lost, log_touched, longer, may_wake, of_ending, of_filler, of_holder, of_other, of_second}
+pub use Rattle.law_copies.proofs.Imports.{one_before, one_front, one_post, other_between, own_steady, places_grow, posted, primary_is_one, put_rises, putting}
+pub use Rattle.law_copies.proofs.Imports.{row_joined, run_of, said, second_by, secondary_is_one, served_so, setting_in, shown_so, stopped_so, turned_asks}
+pub use Rattle.law_copies.proofs.Imports.{without_rev}
+pub use Rattle.law_requests.specs.Imports.{done_to, line_by}
+pub use Rattle.law_requests.proofs.Imports.{Alone_has, Begins, Blanks_it, Both_have, By_operation, By_verdict, By_witness, Fails_it, Goes_on, Had_no_slot}
+pub use Rattle.law_requests.proofs.Imports.{Has_no_space, Heard, IsCalled, IsFinishedFor, IsJudged, IsReason, IsSeenAs, Is_dead, Is_declined, Is_settled}
+pub use Rattle.law_requests.proofs.Imports.{Is_told, Judges, OnlySays, Reads, Shown, Starts_it, StaysOpen, Stops_at, Stops_it, Turned, both_leads}
+pub use Rattle.law_requests.proofs.Imports.{chosen_steady, did_finish, disk_on, front_same, is_refused, leaving, led_by, own_below, own_plain, rests_in}
+pub use Rattle.law_requests.proofs.Imports.{runs_now, write_refusal}
+pub use Rattle.law_moves.specs.Imports.{HasNewer, IsFilledFrom, IsServing}
+pub use Rattle.law_moves.proofs.Imports.{AliveIn, AreCopies, AreCopying, AreTwins, Good, HasSent, IsAt, IsCaught, IsLast, IsLeft, IsLinked, IsOther, IsOwn}
+pub use Rattle.law_moves.proofs.Imports.{IsStaged, IsTold, PairOk, WasThere, Working, alive_on, alone_authority, alone_or_flagged, at_by, begins_to_leave}
+pub use Rattle.law_moves.proofs.Imports.{both_authority, both_last, both_since, chain_that_counts, chosen_from, far, fronts_meet, frozen_by, good_after, half}
+pub use Rattle.law_moves.proofs.Imports.{held_by, in_counts, in_own, joined_where, lead, linked_between, no_home, one_place, one_row, other_apart, other_than}
+pub use Rattle.law_moves.proofs.Imports.{pair_at, pair_of, place_by, place_of_later, place_touched, places_up, rows_later, source_same, stage_facts, stage_in}
+pub use Rattle.law_moves.proofs.Imports.{stage_is, start_good, step_goes, store_by, unseen_beyond, vote_place}
+pub use Rattle.std.proofs.Math.Seq.{drop-append_seam}
+pub use Rattle.std.proofs.lemmas.Cmp.{nat_list_eq_equiv}
+pub use Rattle.std.proofs.lemmas.List.{length-append}
+pub use Rattle.std.proofs.lemmas.List.Folds.{find-append}
+pub use Rattle.std.specs.List.{cons_option, filter_map}
+pub use Rattle.std.specs.Option.{option_or}
+pub use Rattle.law_copies.proofs.CopiesInHistories.{KeepsOn, KeptAfter, start_visits}
+pub use Rattle.law_copies.proofs.LastCopies.{of_last, past_last, past_of}
+pub use Rattle.law_copies.proofs.MarksPrecedePuts.{marks_first}
+pub use Rattle.law_copies.proofs.OtherIsNotHolder.{held_not_lead}
+pub use Rattle.law_copies.proofs.PlacesByFronts.{dead_not, linked_alive}
+pub use Rattle.law_copies.proofs.RolesOfWorkers.{other_alone}
+pub use Rattle.law_copies.proofs.ServedAtLaterFronts.{AllStarted, been_below, holder_is_one, holds_since, reached_here}
+pub use Rattle.law_copies.proofs.StoreHistories.{always_empty}
+pub use Rattle.law_copies.proofs.TwoCopyRules.{copies_after, covered_after}
+pub use Rattle.law_copies.specs.CopyProgress.{IsLastCopy, IsTrimming, links_of}
+pub use Rattle.law_copies.specs.LoneSteps.{IsLeftBy}
+pub use Rattle.law_copies.specs.Pair.{IsAhead, IsPutting, Pair, number_of, owns_of}
+pub use Rattle.law_copies.specs.Visits.{Visits}
+pub use Rattle.law_jobs.proofs.OperationsCome.{finished_of}
+pub use Rattle.law_jobs.proofs.Runs.{at_moment, firm_then, follows_in, grown_then, stepped_in}
+pub use Rattle.law_jobs.specs.Sayings.{to_client}
+pub use Rattle.law_moves.proofs.EpochHistories.{early_after, pending_timely, place_timely, second_timely}
+pub use Rattle.law_moves.proofs.FillsAtSeconds.{second_after}
+pub use Rattle.law_moves.proofs.JobsChangeOneChain.{A_copy, An_asked, An_own, CopiesSo, Drops, Is_dropped, Is_dropped_first, Is_put, NeverDead, Nothing_new}
+pub use Rattle.law_moves.proofs.JobsChangeOneChain.{Of_the_dead, OtherStores, PutsAsked, PutsCopy, PutsOwn, StoresSo, copied_apart, did_stores, holder_chains}
+pub use Rattle.law_moves.proofs.JobsChangeOneChain.{lead_stores, other_changes, second_stores, swept}
+pub use Rattle.law_moves.proofs.KnownOfMoves.{comes_after, dead_frozen, filling_after, over_after, rule_after}
+pub use Rattle.law_moves.proofs.MovesInHistories.{known_after}
+pub use Rattle.law_moves.specs.EntryEpochs.{AreEarly}
+pub use Rattle.law_moves.specs.Fills.{Has, IsFrozen}
+pub use Rattle.law_moves.specs.InTime.{IsTimely}
+pub use Rattle.law_requests.proofs.IncarnationsGoOn.{no_earlier, ran_now}
+pub use Rattle.law_requests.proofs.LeadsAtTwoPlaces.{leader_alone, one_lead, same_only}
+pub use Rattle.law_requests.proofs.OpenBesideRunning.{open_beside}
+pub use Rattle.law_requests.proofs.OpenWhileRunning.{open_at_place, open_running, pending_here}
+pub use Rattle.law_requests.proofs.OpenedAfterReport.{reports_hold}
+pub use Rattle.law_requests.proofs.RequestsInHistories.{AskingAlong, asking_along, first_lives, more_lives, one_more, reports_known, requests_after}
+pub use Rattle.law_requests.proofs.RequestsInHistories.{start_along, start_asking, start_lives}
+pub use Rattle.law_requests.proofs.RequestsKnownLater.{pending_further}
+pub use Rattle.law_requests.proofs.StepsKeepRequests.{GoesOn, ended_later, happens_asking, happens_later, proposed_pairs}
+pub use Rattle.law_requests.proofs.WritesAtLaterFronts.{write_stays}
+pub use Rattle.law_requests.specs.AskedRequests.{IsOpen, IsRead, IsWrite}
+pub use Rattle.law_requests.specs.KnownRequests.{AskingBy, EndKnownAt, Has_pending, Known, KnowsReports, Lives, PendingFor, ReadKnown, asked_for, lives_after}
+pub use Rattle.law_requests.specs.KnownRequests.{seen}
+pub use Rattle.law_script.proofs.TakenLines.{is_accepted}
+pub use Rattle.law_script.specs.Laws.{Does, asks, line_at, nets, skipped, waits}
+pub use Rattle.law_state.proofs.CaughtsMadeBoth.{log_held_or_both}
+pub use Rattle.law_state.proofs.CellsByLinkRows.{dead_authority, dead_reader, lost_authority, read_by}
+pub use Rattle.law_state.proofs.Disks.{log_disks}
+pub use Rattle.law_state.proofs.ErasRiseAfterReports.{log_unread}
+pub use Rattle.law_state.proofs.LaterDisks.{AreFresh, HasRowLater, fresh_rows, known_row, later_place, later_rows, old_or_new, stays_row}
+pub use Rattle.law_state.proofs.LinksAreNoted.{log_twins}
+pub use Rattle.law_state.proofs.ListLookups.{find_after, find_front, find_none, get_front, none_find, text_itself}
+pub use Rattle.law_state.proofs.Owners.{epoch_in, epoch_is, home_later, map_made}
+pub use Rattle.law_state.proofs.Steady.{viewed}
+pub use Rattle.law_state.specs.Disks.{AreDisks}
+pub use Rattle.law_state.specs.Homes.{stage_under}
+pub use Rattle.law_state.specs.LaterStates.{HasLaterView, IsSecondary}
+pub use Rattle.law_state.specs.LinkRows.{IsBetween}
+pub use Rattle.law_state.specs.Tables.{IsGrown, IsLaterDisk, IsRowAt}
+pub use Rattle.law_steps.proofs.ClientLetters.{is_ask}
+pub use Rattle.law_steps.proofs.ClientStepKinds.{client_turns, is_call}
+pub use Rattle.law_steps.proofs.KindsInHistories.{happens, ready_chosen, rests_next}
+pub use Rattle.law_steps.proofs.LogJobs.{LogFrame, applied_entry, applied_none, letter_frame_of, start_frame_of}
+pub use Rattle.law_steps.proofs.Records.{split_fronts}
+pub use Rattle.law_steps.proofs.ServerStepKinds.{chosen_same, server_serves}
+pub use Rattle.law_steps.proofs.TicksAskAgain.{in_flat_map}
+pub use Rattle.law_steps.specs.DidClient.{answer_of}
+pub use Rattle.law_steps.specs.DidStep.{served}
+pub use Rattle.petal_base.specs.Block.{zero_block}
+pub use Rattle.petal_script.specs.Fields.{a_block, a_byte, a_device, a_kind}
+pub use Rattle.spec_history.specs.Claims.{AreCaughtUp, AreHeld, AreInAsThen, AreSnapshots, CopiesStayEqual, CopiesWaitEqual, HasAppliedNone, HasEqualCopies}
+pub use Rattle.spec_history.specs.Claims.{Holds, IsCatching, IsStill, Law, SnapshotsStay, machine_after, place_in}
+pub use Rattle.spec_history.specs.Contents.{content_at, content_where, entry_at_home, entry_before, entry_by, entry_of, first_entry, has_at_home}
+pub use Rattle.spec_history.specs.Contents.{has_content_at, has_content_where, home_of, old_cell}
+pub use Rattle.spec_history.specs.Events.{Change, IsRunOf, NotThere, accepted, accepts, after_step, all_there, asks_old, before_step, begins, begun}
+pub use Rattle.spec_history.specs.Events.{blocks_in, blocks_of, change_by, changed_blocks, data_among, data_line, data_of, end_by, end_of, events_of}
+pub use Rattle.spec_history.specs.Events.{first_data, first_of, freeze_of, freezes, freezes_on, had_content, has_content_next, is_changed, job_asks_old}
+pub use Rattle.spec_history.specs.Events.{joined, look_by, look_for, look_for_data, look_of, make_of, makes, old_data, open_write, reads_old, same_actor}
+pub use Rattle.spec_history.specs.Events.{snapshots_of, taken, taker, takes, takes_on, told, told_from, told_with, turns, with_first, write_asked, write_by}
+pub use Rattle.spec_history.specs.Events.{writes_so}
+pub use Rattle.spec_machine.specs.Machine.{Plain, blank, but_of, disk_of, has_content, is_named, is_of, is_snap_named, open_of, remembers, same_bytes, stands}
+pub use Rattle.spec_machine.specs.Machine.{with_disk}
+unfoldable pub use Rattle.spec_machine.specs.Machine.{content}
+pub use Rattle.spec_machine.specs.Run.{IsOpen as IsUnderWay, May, MayEnd, MayLook, Obeys, changed, frozen, replay, written}
+unfoldable pub use Rattle.spec_machine.specs.Run.{after}
+pub use Rattle.spec_machine.specs.declared.event.Event.{Event}
+pub use Rattle.spec_machine.specs.declared.event.Event.TheVariants.{Begin, End, Freeze, Look, Make, Take}
+pub use Rattle.spec_machine.specs.declared.event.Write.{Write}
+pub use Rattle.spec_machine.specs.declared.event.WriteEnd.{WriteEnd}
+pub use Rattle.spec_machine.specs.declared.state.Open.{Open}
+pub use Rattle.spec_machine.specs.declared.state.PlainDisk.{PlainDisk}
+pub use Rattle.spec_machine.specs.declared.state.PlainSnapshot.{PlainSnapshot}
+pub use Rattle.spec_rules.proofs.Settled.{IsSettling}
+pub use Rattle.spec_rules.specs.Clients.{counts}
+pub use Rattle.spec_rules.specs.Store.{or_else}
+pub use Rattle.spec_state.specs.CellState.{named_cell, named_map, old_map, read_cell, read_map}

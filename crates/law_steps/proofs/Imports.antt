@@ -1,0 +1,119 @@
+-- The names that this crate takes from others, in one place.
+pub use Rattle.law_state.specs.Imports.{if◌then◌else◌, Both, Caught, Cell, Command, DiskRow, DiskView, Fenced, IsPrefix, LinkId, LinkRow, LinkState, Lost}
+pub use Rattle.law_state.specs.Imports.{Move, New, Old, Only, PairState, Progress, Record, RegionState, Server, Setting, State, World, after, cell_asked}
+pub use Rattle.law_state.specs.Imports.{cell_link, chosen_log, chosen_state, find, has_server, held, inc_of, is_in, is_lead, is_some, is_up, is_writes_held}
+pub use Rattle.law_state.specs.Imports.{leads_link, leaving, link_at, link_cmp, move_region, nat_le, option_and_then, option_map_or, other_of, owner}
+pub use Rattle.law_state.specs.Imports.{places_from, region_of, servers_of, serves, slice_get, source, state_after, target, tuple_of}
+unfoldable pub use Rattle.law_state.specs.Imports.{In, at}
+pub use Rattle.law_state.proofs.Imports.{[], ◌&&◌, ◌++◌, ◌+◌, ◌<◌, ◌==◌, ◌||◌, ◌∙◌, ◌∷◌, ◌≡◌, ◌≢◌, ◌≤◌, ◌⊎◌, Bool, List, None, Option, Some, ap, append-nil}
+pub use Rattle.law_state.proofs.Imports.{append_assoc, arith, both_true, by_bool, by_test, cond, drop, false, filter, fold-append, in-append, in_both}
+pub use Rattle.law_state.proofs.Imports.{in_former, in_later, inl, inr, is_all_held, is_alone, is_alone_on, is_fenced, is_link, latest, lead, length}
+pub use Rattle.law_state.proofs.Imports.{length-append, link_of, list_any, live_new, live_old, live_under, map, mover, nat_lt, nat_tests, none_some, not_true}
+pub use Rattle.law_state.proofs.Imports.{number_itself, option_map, range_with_len, readable, refl, row_lead, same_numbers, same_or_apart, same_some, second}
+pub use Rattle.law_state.proofs.Imports.{some_or_none, state_lead, subst, suc, sym, touches, true, true_false, unwrap_or, zero, ℕ}
+pub use Rattle.law_log.proofs.Imports.{Accepted, Acted, Action, Actor, After, Again, Answer, AreSteps, AreStepsFrom, Arm, Ask, Asked, Before, Blank, Block}
+pub use Rattle.law_log.proofs.Imports.{Body, Boot, Call, Client, Collecting, Copies, CopyAction, Copying, Dead, Decided, Deliver, Ending, Entry, Equal, Far}
+pub use Rattle.law_log.proofs.Imports.{Firm, Glance, Grows, Heard, Idle, Inc, IsPlain, IsPlainLog, IsPlainState, IsSound, IsTotalOrder, Job, JobContext}
+pub use Rattle.law_log.proofs.Imports.{JobResult, Key, LastCopy, LastOp, Learning, Letter, Line, Log, LogDone, MayActor, MayClient, MayServer, Moving, Newer}
+pub use Rattle.law_log.proofs.Imports.{NextCopy, Older, OpKind, Pax, Pending, Phase, Post, Promise, Reaction, Refused, Request, Script, Send, Sight}
+pub use Rattle.law_log.proofs.Imports.{StateRecord, Step, Stop, StopIn, Stored, Tick, Voter, Voting, Wait, Wanted, Work, WorkEnd, about, above, all_put}
+pub use Rattle.law_log.proofs.Imports.{answered_where, answers, answers_page, applies_known, applies_then, ask_posts, asking, asks_and_sends, at_other_rev}
+pub use Rattle.law_log.proofs.Imports.{awaited, awake, ballot_posts, before_known, begins_copy, blanked, boots, called, calls, catches_up, caught_links}
+pub use Rattle.law_log.proofs.Imports.{cell_at, cell_holder, cell_of, chain_in, clears_old_marks, client_state, client_step, comes_out, command_of}
+pub use Rattle.law_log.proofs.Imports.{copies_again, copies_with, copy_acts, copy_awaited, copy_posts, copy_stage, copying_on, crossing, down_posts, draining}
+pub use Rattle.law_log.proofs.Imports.{ended, ends, entered, epoch_for, eq_by_cmp, fill_of, fill_operation, fill_posts, fills_row, first_wanted, flat_map}
+pub use Rattle.law_log.proofs.Imports.{follows_once, free_of, gives_back, glance_sender, glances, goes_for, goes_on_with, goes_out, goes_out_where}
+pub use Rattle.law_log.proofs.Imports.{goes_the_old_way, has_command, has_epoch, has_majority, has_proposed, hear, hears, hears_any, hears_entry, hears_fill}
+pub use Rattle.law_log.proofs.Imports.{hears_fill_full, hears_filled, hears_hello, hears_of, hears_of_ballot, hears_page, hears_pair_full, hears_replicate}
+pub use Rattle.law_log.proofs.Imports.{hears_replicated, hears_reserve, hears_reserved, hears_sync, hears_sync_full, hears_synced, hears_trim, hears_trim_of}
+pub use Rattle.law_log.proofs.Imports.{hears_trimmed, holds_link, id_of, idle_mark, is_caught, is_due, is_eq, is_flagged, is_from_in, is_kept_back}
+pub use Rattle.law_log.proofs.Imports.{is_log_job, is_logged, is_next, is_nothing, is_open, is_overfull, is_pending_for, is_read, is_replicating}
+pub use Rattle.law_log.proofs.Imports.{is_reserving, is_second, is_settled, is_syncing, is_under_way, is_witness, is_write, job_done, judged, judged_by}
+pub use Rattle.law_log.proofs.Imports.{keeps, key_at, known, known_at, known_front, known_inc, known_run, last_copy, last_on, learns_first, link_before}
+pub use Rattle.law_log.proofs.Imports.{link_jobs, link_named, log_plain, mends_found, moved_as, moving, nat_cmp, next_entries, next_line, next_place}
+pub use Rattle.law_log.proofs.Imports.{no_progress, only, opened, opens, opens_fill, other_in, own_join, own_leave, own_wants, page_asked, page_for}
+pub use Rattle.law_log.proofs.Imports.{page_posts, page_wanted, pending_on, post_in_turn, post_of, post_to, posts_for, progress_on, proposed, proposes}
+pub use Rattle.law_log.proofs.Imports.{put_same, puts_entry, raised, reacts, read_posts, read_posts_at, region_to_move, repair_after, repairs_row, replies}
+pub use Rattle.law_log.proofs.Imports.{reserves, rests, returning, rev_of, rounds, said, same_block, says, sees, sees_for, sees_from, sender, sends_entry}
+pub use Rattle.law_log.proofs.Imports.{sends_key, sends_moving, sends_or_proposes, sent_again, server_state, server_step, setting_of, settles, silent}
+pub use Rattle.law_log.proofs.Imports.{stage_jobs, stamped, start, starts_for, state_in, stays, stays_open, stepped, stops, subject_of, sweeps_with, takes}
+pub use Rattle.law_log.proofs.Imports.{takes_all, takes_entries, takes_entry, takes_mark, takes_newer, tells, then_goes_out, tick_jobs, tick_posts}
+pub use Rattle.law_log.proofs.Imports.{tied_itself, to_propose, trims_again, trims_first, trims_for, trims_newly, unknown_from, verdict_for, voter_of, wakes}
+pub use Rattle.law_log.proofs.Imports.{wanted, wanted_by, way_now, with_copied, with_copying, with_full, with_last_copy, with_leave, with_opened, with_page}
+pub use Rattle.law_log.proofs.Imports.{with_progress, with_sight, without_copying, without_pending, witnessed, worked, works, world_after, write_posts}
+pub use Rattle.law_log.proofs.Imports.{wrong_rev}
+unfoldable pub use Rattle.law_log.proofs.Imports.{applies, copies_on, does, goes_on, handles, heard, hears_log, learns, log_does, next_copy, next_dead}
+unfoldable pub use Rattle.law_log.proofs.Imports.{on_ask, on_down, on_fill, on_fill_full, on_filled, on_hello, on_hello_ask, on_news, on_pair_full, on_pax}
+unfoldable pub use Rattle.law_log.proofs.Imports.{on_propose, on_read, on_replicate, on_replicated, on_reserve, on_reserved, on_sync, on_sync_full, on_synced}
+unfoldable pub use Rattle.law_log.proofs.Imports.{on_trim, on_trimmed, on_write, put_at, refusal, repairs, starts, step, sweeps, ticked, trims_on}
+pub use Rattle.law_steps.specs.Imports.{Busy, Copied, Finished, Glanced, IsBelow, Less, MarkKind, Nothing, Ordering, Paired, Pattern, Sender, Stage, Stale}
+pub use Rattle.law_steps.specs.Imports.{StaysSo, Subject, Table, acts, bytes_of, cell_cmp, coming, crossed, entry_at, epochs_beyond, epochs_of, holder_of}
+pub use Rattle.law_steps.specs.Imports.{least, letters_of, live, mark_left, marked_blocks, marks, next_stage, old_lead, operation, pattern_block, puts}
+pub use Rattle.law_steps.specs.Imports.{settled_by, stage_at, unmarks, with_paired, with_pending, with_reserved}
+unfoldable pub use Rattle.law_steps.specs.Imports.{next_fill}
+pub use Rattle.std.proofs.Common.{fold}
+pub use Rattle.std.specs.BTreeMap.{insert_entry, is_at}
+pub use Rattle.std.specs.Map.{lookup}
+pub use Rattle.std.specs.Ordering.{match_ordering, ordering_reverse}
+pub use Rattle.std.specs.Prelude.{is_none, max, not}
+pub use Rattle.std.specs.declared.cmp.Ordering.TheVariants.{Greater}
+pub use Rattle.busy_marks.specs.Marks.{lesser}
+pub use Rattle.busy_marks.specs.declared.marks.Mark.{Mark}
+pub use Rattle.law_log.proofs.BallotFlags.{caught_put, progress_beside, progress_here, same_caught, same_id}
+pub use Rattle.law_log.proofs.CaughtsWanted.{caught_among}
+pub use Rattle.law_log.proofs.ClientStepsKeepLog.{newly_asked}
+pub use Rattle.law_log.proofs.ListPlaces.{among_at, kept_among}
+pub use Rattle.law_log.proofs.LogInHistories.{history_agrees, history_grows, history_is_firm, logged, out_has_stopped, who_is_in_has_begun}
+pub use Rattle.law_log.proofs.LogJobsInSchedule.{all_leaves, own_leaves, run_known}
+pub use Rattle.law_log.proofs.MovedsWanted.{move_among}
+pub use Rattle.law_log.proofs.ProposersInSchedule.{first_among, said_to_all}
+pub use Rattle.law_log.proofs.Queues.{stages_only, tick_only}
+pub use Rattle.law_log.proofs.ReportsWanted.{report_among}
+pub use Rattle.law_log.proofs.ServerStepsKeepLog.{join_only}
+pub use Rattle.law_state.proofs.Ages.{between, in_once, in_up, no_less, up_some}
+pub use Rattle.law_state.proofs.CaughtsMadeBoth.{log_alone, log_both}
+pub use Rattle.law_state.proofs.CellsByLinkRows.{IsHeldBy}
+pub use Rattle.law_state.proofs.EntriesTouchLinks.{entry_stays, same_place}
+pub use Rattle.law_state.proofs.GrownStates.{goes_on_itself, goes_on_on}
+pub use Rattle.law_state.proofs.Homes.{has_stage}
+pub use Rattle.law_state.proofs.ListLookups.{found_at, get_within}
+pub use Rattle.law_state.proofs.LoneHolders.{alone_not_both, alone_row, so_alone, so_both}
+pub use Rattle.law_state.proofs.MembershipChanges.{found_itself}
+pub use Rattle.law_state.proofs.NewMapLinks.{either_false}
+pub use Rattle.law_state.proofs.Roles.{holder_is_one, log_roles}
+pub use Rattle.law_state.proofs.Stages.{stage_most}
+pub use Rattle.law_state.proofs.Steady.{front_plain, log_below, log_rev, log_steady}
+pub use Rattle.law_state.specs.Ages.{age_of}
+pub use Rattle.law_state.specs.Homes.{HasDied, HasStage, epoch_at, era_at, new_stage, old_stage, stage_by}
+pub use Rattle.law_state.specs.LaterStates.{HasLater}
+pub use Rattle.law_state.specs.LinkChanges.{IsCaughtIn, IsCaughtStill}
+pub use Rattle.law_state.specs.LinkRows.{ByBoth, ByNone, ByOne}
+pub use Rattle.law_state.specs.StartedBallots.{HasStarted}
+pub use Rattle.law_state.specs.Steady.{IsSteady}
+pub use Rattle.petal_command.specs.declared.pax.Pax.TheVariants.{Accept, Chosen, Prepare}
+pub use Rattle.petal_msg.specs.Kinds.{Filling, Logged, is_asked}
+pub use Rattle.petal_msg.specs.declared.copying.Copying.{Copying as Copy}
+pub use Rattle.petal_msg.specs.declared.operation.Ending.TheVariants.{Full, Written}
+pub use Rattle.petal_table.proofs.Rows.{at-empty, at-where}
+unfoldable pub use Rattle.petal_table.specs.Table.{put, without}
+pub use Rattle.spec_history.specs.Steps.{Follows}
+pub use Rattle.spec_paxos.specs.Chosen.{chosen_log as chosen_by}
+pub use Rattle.spec_paxos.specs.Kept.{accept_row, choose_row, empty_row, promise_row, row_after}
+pub use Rattle.spec_paxos.specs.declared.record.Row.{Row}
+pub use Rattle.spec_rules.proofs.CellTables.{cell_apart, cell_cmp_same, cell_cmp_total, cell_gone, cell_gone_apart, cell_same}
+pub use Rattle.spec_rules.proofs.Settled.{by_settled, settling}
+pub use Rattle.spec_rules.specs.Ballots.{asks_next, to_all, to_unheard}
+pub use Rattle.spec_rules.specs.Copies.{blocks_left, is_kept_on, is_link_under_way, next_block, stored_blocks}
+pub use Rattle.spec_rules.specs.Crossing.{dies, ends_cell, ends_link}
+pub use Rattle.spec_rules.specs.Fills.{comes_before, comes_next, earlier, fill_left, first_key, keys_in, keys_of, not_noted}
+pub use Rattle.spec_rules.specs.Log.{acceptor}
+pub use Rattle.spec_rules.specs.Reads.{reply_of}
+pub use Rattle.spec_rules.specs.Server.{Pairs, no_copies}
+pub use Rattle.spec_rules.specs.State.{is_on, is_whole}
+pub use Rattle.spec_rules.specs.Store.{Chain, Store, version_of, with_entry, with_mark_on, with_ticket}
+pub use Rattle.spec_rules.specs.Sweeping.{dead_in, dead_key, dead_mark}
+pub use Rattle.spec_rules.specs.World.{clock_of, line_in, received}
+pub use Rattle.spec_rules.specs.Writes.{alone_action, both_action, has_slot, is_clients, standing, with_mark_at}
+pub use Rattle.spec_state.specs.CellState.{noted, region_leaving, region_on_way}
+pub use Rattle.spec_state.specs.Place.{touches_cell}
+pub use Rattle.spec_state.specs.Role.{is_the, row_in_both}
