@@ -13,5 +13,5 @@ pub use again::letters_after;
 pub use copy_transfer::{
     CopiedEntry, copy_on, on_sync, on_sync_full, on_synced, on_trim, on_trimmed, trim_on,
 };
-pub use link::{repair_jobs, repair};
+pub use link::{repair, repair_jobs};
 pub use page::{on_hello, on_hello_ask};

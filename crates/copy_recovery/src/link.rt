@@ -11,7 +11,9 @@ use crate::page::page_wanted;
 use copy_transfer::{begin, cell_at, followed, idle_mark, next_copy, other_in};
 use global_state::{LinkRow, LinkState};
 use kept_chains::{mark_left, unmark};
-use pair_memory::{JobResult, FollowUp, JobContext, PairMemory, WorkError, link_id, say_to, silent};
+use pair_memory::{
+    FollowUp, JobContext, JobResult, PairMemory, WorkError, link_id, say_to, silent,
+};
 use petal_base::{BlockNo, NoMemory, ServerId};
 use petal_disk::Disk;
 use petal_msg::{LinkId, NextCopy};
@@ -146,7 +148,12 @@ fn is_block(next: NextCopy) -> bool
 }
 
 /// Whether a copy waits to be begun, or a mark to be taken away.
-fn waits_for_job<D: Disk>(here: &JobContext, side: &PairMemory, store: &Store<D>, row: &LinkRow) -> bool
+fn waits_for_job<D: Disk>(
+    here: &JobContext,
+    side: &PairMemory,
+    store: &Store<D>,
+    row: &LinkRow,
+) -> bool
     ensures { result ≡ copies.waits_for_job here.now (own_of side.now store.now) row.now row.now.state }
 {
     match row.state {
@@ -178,7 +185,11 @@ fn jobs_of<D: Disk>(
 ///
 /// # Errors
 /// Out of memory.
-pub fn repair_jobs<D: Disk>(here: &JobContext, side: &PairMemory, store: &Store<D>) -> Result<Vec<Job>, NoMemory>
+pub fn repair_jobs<D: Disk>(
+    here: &JobContext,
+    side: &PairMemory,
+    store: &Store<D>,
+) -> Result<Vec<Job>, NoMemory>
     ensures { IfOk result (λ jobs. jobs.items ≡ copies.repair_jobs here.now (own_of side.now store.now)) }
 {
     Ok(jobs_of(here.alloc(), here, side, store, here.state().links())?)

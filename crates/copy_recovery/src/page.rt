@@ -11,7 +11,9 @@ use busy_marks::MarkKind;
 use global_state::{LinkRow, holder_of};
 use kept_chains::mark;
 use link_blocks::{cell_at, followed, marked_above, other_in};
-use pair_memory::{JobResult, FollowUp, JobContext, PairMemory, WorkError, link_id, say_to, silent};
+use pair_memory::{
+    FollowUp, JobContext, JobResult, PairMemory, WorkError, link_id, say_to, silent,
+};
 use petal_base::BlockNo;
 use petal_disk::Disk;
 use petal_msg::{Body, LinkId, Progress};

@@ -7,7 +7,7 @@ ghost use Rattle.pair_memory.specs.JobResult.{IsSaid};
 
 use crate::copy::trim_body;
 use link_blocks::other_on;
-use pair_memory::{JobResult, JobContext, PairMemory, WorkError, only};
+use pair_memory::{JobContext, JobResult, PairMemory, WorkError, only};
 use petal_base::{Cell, NoMemory, Op};
 use petal_disk::Disk;
 use petal_msg::Copying;

@@ -21,7 +21,9 @@ ghost use Rattle.copy_transfer.specs.Stages.{copied_in};
 use busy_marks::MarkKind;
 use kept_chains::{Found, epochs, mark_left, nth, read_nth, unmark};
 use link_blocks::{followed, other_on};
-use pair_memory::{Copies, JobResult, FollowUp, JobContext, PairMemory, WorkError, link_id, say_to, silent};
+use pair_memory::{
+    Copies, FollowUp, JobContext, JobResult, PairMemory, WorkError, link_id, say_to, silent,
+};
 use petal_base::{BlockNo, Cell, Key, NoMemory};
 use petal_disk::{DeviceError, Disk};
 use petal_msg::{Body, CopyAction, Copying, Progress};

@@ -15,7 +15,7 @@ ghost use Rattle.copy_transfer.specs.Entries.{dropped};
 
 use kept_chains::{drop_entry, epochs};
 use link_blocks::{followed, holder_on};
-use pair_memory::{JobResult, FollowUp, JobContext, PairMemory, WorkError, say_to, silent};
+use pair_memory::{FollowUp, JobContext, JobResult, PairMemory, WorkError, say_to, silent};
 use petal_base::{Cell, Epoch, Key, NoMemory, Op, Sequence, ServerId};
 use petal_disk::Disk;
 use petal_msg::{Body, LastCopy};

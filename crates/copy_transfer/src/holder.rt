@@ -8,7 +8,7 @@ ghost use Rattle.pair_memory.specs.PairMemory.{own_of, HasTicketsAt};
 ghost use Rattle.pair_memory.specs.JobResult.{IsDone, IsSaid};
 
 use crate::copy::{copy_acts, has_next};
-use pair_memory::{JobResult, JobContext, PairMemory, WorkError, silent};
+use pair_memory::{JobContext, JobResult, PairMemory, WorkError, silent};
 use petal_base::{Cell, NoMemory, Op};
 use petal_disk::Disk;
 use petal_msg::Copying;
@@ -64,7 +64,13 @@ pub fn on_trimmed<D: Disk>(
 }
 
 /// Whether the copy waits for the answer to its next entry.
-fn is_syncing<D: Disk>(side: &PairMemory, store: &Store<D>, cell: Cell, copy: Copying, op: Op) -> bool
+fn is_syncing<D: Disk>(
+    side: &PairMemory,
+    store: &Store<D>,
+    cell: Cell,
+    copy: Copying,
+    op: Op,
+) -> bool
     ensures { result ≡ copies.is_syncing (own_of side.now store.now) cell copy op }
 {
     let _ = side;

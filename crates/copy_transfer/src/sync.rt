@@ -14,7 +14,7 @@ ghost use Rattle.pair_memory.specs.JobResult.{IsDone, IsSaid};
 ghost use Rattle.copy_transfer.specs.Entries.{entry_of, one_more};
 
 use link_blocks::holder_on;
-use pair_memory::{JobResult, JobContext, PairMemory, WorkError, only, put_new, say_to, silent};
+use pair_memory::{JobContext, JobResult, PairMemory, WorkError, only, put_new, say_to, silent};
 use petal_base::{Cell, Key, NoMemory, Op, ServerId, SharedBlock, Version};
 use petal_disk::Disk;
 use petal_msg::{Body, LastCopy};

@@ -2,7 +2,7 @@
 
 ghost use Rattle.std.specs.Prelude.{◌≡◌, []};
 
-use pair_memory::{JobResult, FollowUp, JobContext};
+use pair_memory::{FollowUp, JobContext, JobResult};
 use petal_base::Sequence;
 
 /// No letter is sent, and this job follows the job up.

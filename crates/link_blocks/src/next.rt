@@ -97,7 +97,12 @@ fn next_block<D: Disk>(
 
 /// What is next of a link that this server holds alone, and whose other server is In.
 #[tactic(auto, unfolding(spec_rules::specs::Copies::next_copy))]
-pub fn next_copy<D: Disk>(here: &JobContext, side: &PairMemory, store: &Store<D>, row: &LinkRow) -> NextCopy
+pub fn next_copy<D: Disk>(
+    here: &JobContext,
+    side: &PairMemory,
+    store: &Store<D>,
+    row: &LinkRow,
+) -> NextCopy
     ensures { result ≡ copies.next_copy here.now.state row.now (own_of side.now store.now) }
 {
     let progress = side.copies.progress_on(link_id(row));

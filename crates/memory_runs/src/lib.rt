@@ -17,7 +17,7 @@ pub use parts::{Parts, play_parts};
 use petal_base::{Cell, NoMemory, Sequence, ServerId, SharedBlock};
 use petal_script::{Script, read_script};
 use petal_world::{Record, World, are_in_order};
-use random_runs::{Random, Count, Habit, Tale, script_by, simulate};
+use random_runs::{Count, Habit, Random, Tale, script_by, simulate};
 use std::alloc::Global;
 use std::test::Fail;
 use step_runner::{FirstHosts, Row, Run, play_case};

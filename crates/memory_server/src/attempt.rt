@@ -7,7 +7,7 @@ ghost use Rattle.memory_server.specs.Ends.{job_end};
 
 use petal_base::Sequence;
 use petal_msg::Letter;
-use server_host::{StepEnd, HostResult};
+use server_host::{HostResult, StepEnd};
 use spec_rules::{CommitEnd, WorkEnd};
 
 /// What a job or a boot comes to that was tried.

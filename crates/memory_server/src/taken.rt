@@ -5,7 +5,7 @@ ghost use Rattle.server_host.specs.declared.step_end.StepEnd.TheVariants as step
 
 use petal_base::Sequence;
 use petal_msg::Letter;
-use server_host::{StepEnd, HostResult};
+use server_host::{HostResult, StepEnd};
 
 /// A step that is no job and no boot.
 pub fn done(letters: Sequence<Letter>) -> HostResult

@@ -168,11 +168,7 @@ impl<'a> JobContext<'a> {
     }
 
     /// One letter to a server, where there is one.
-    pub fn say_to(
-        &self,
-        server: Option<ServerId>,
-        body: Body,
-    ) -> Result<Sequence<Letter>, NoMemory>
+    pub fn say_to(&self, server: Option<ServerId>, body: Body) -> Result<Sequence<Letter>, NoMemory>
         ensures { IfOk result (λ letters. letters ≡ letters_of (sender self.now) 0 (post_to server body)) }
     {
         match server {

@@ -8,10 +8,10 @@
 
 mod copies;
 mod crossing;
-mod job_result;
 mod ends;
 mod error;
 mod job_context;
+mod job_result;
 mod links;
 mod replies;
 mod sending;
@@ -20,9 +20,9 @@ mod slots;
 
 pub use copies::Copies;
 pub use crossing::{enter_all, entry_jobs, lacks_room};
-pub use job_result::{JobResult, FollowUp, only};
 pub use error::WorkError;
 pub use job_context::JobContext;
+pub use job_result::{FollowUp, JobResult, only};
 pub use kept_chains::{Store, next_marked, next_stored};
 pub use links::link_id;
 pub use replies::{ended, finish, say, say_to, silent};

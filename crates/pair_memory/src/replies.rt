@@ -6,9 +6,9 @@ ghost use Rattle.spec_rules.specs.Writes as writes;
 ghost use Rattle.pair_memory.specs.PairMemory.{own_of, HasTicketsAt};
 ghost use Rattle.pair_memory.specs.JobResult.{IsSaid};
 
-use crate::job_result::{JobResult, only};
 use crate::error::WorkError;
 use crate::job_context::JobContext;
+use crate::job_result::{JobResult, only};
 use crate::side::PairMemory;
 use kept_chains::Store;
 use petal_base::{ClientId, Seq, Sequence, ServerId};
@@ -16,7 +16,11 @@ use petal_disk::Disk;
 use petal_msg::{Actor, Body, Ending, Finished};
 
 /// Nothing is sent.
-pub fn silent<D: Disk>(here: &JobContext, side: &PairMemory, store: &Store<D>) -> Result<JobResult, WorkError>
+pub fn silent<D: Disk>(
+    here: &JobContext,
+    side: &PairMemory,
+    store: &Store<D>,
+) -> Result<JobResult, WorkError>
     requires { HasTicketsAt side.now store.now }
     ensures { IsSaid here.now side.now side.now store.now store.now result (rules.silent (own_of side.now store.now)) }
 {

@@ -286,7 +286,12 @@ impl<H: Host> World<H> {
     /// record is kept. `NotAllowed` comes exactly where the step is not one of the world's in this state, or stops, blanks, arms, boots or
     /// glances at a server otherwise than the operator's line says; a job is allowed with each end or with none, also where the plan of a
     /// device stops the server in it. After it ran out of memory the step did not happen, and none follows.
-    pub fn step(&mut self, alloc: Global, actor: Actor, step: &Step) -> Result<StepResult, WorldError>
+    pub fn step(
+        &mut self,
+        alloc: Global,
+        actor: Actor,
+        step: &Step,
+    ) -> Result<StepResult, WorldError>
         ensures allowed { OnOk result (MayPlay self.old actor step.now) }
         ensures ok { IfOk result (λ stepped. self.new ≡ played self.old actor (ended step.now stepped.end)) }
         ensures told { IfOk result (λ stepped. stepped ≡ told_by self.old actor (ended step.now stepped.end)) }

@@ -7,12 +7,12 @@
 #![tactic(auto)]
 
 mod answers;
-mod client_plan;
-mod schedule_state;
 mod backoff;
-mod playing;
+mod client_plan;
 mod mailboxes;
+mod playing;
 mod rounds;
+mod schedule_state;
 
 pub use answers::Answers;
 pub use playing::Playing;

@@ -7,8 +7,8 @@ ghost use Rattle.server_host.specs.Desks.{first_sites};
 ghost use Rattle.server_host.specs.Playable.{AreNumbered, AreOrdered};
 
 use crate::client_plan::PlannedLine;
-use crate::schedule_state::ScheduleState;
 use crate::mailboxes::Handing;
+use crate::schedule_state::ScheduleState;
 use client_core::Order;
 use petal_base::{CLIENTS, ClientId, NoMemory, OPERATOR, Sequence, ServerId};
 use petal_msg::{Actor, Body, Letter, SharedLetter};

@@ -1,7 +1,7 @@
 //! What the rounds keep beside the world.
 
-use crate::client_plan::{ClientPlan, callers_of};
 use crate::backoff::Backoff;
+use crate::client_plan::{ClientPlan, callers_of};
 use crate::mailboxes::Mailboxes;
 use petal_base::{CLIENTS, NoMemory};
 use script_lines::Script;

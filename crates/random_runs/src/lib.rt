@@ -4,14 +4,14 @@
 //! blocks.
 #![tactic(auto)]
 
-mod random;
 mod count;
 mod cuts;
+mod random;
 mod scripts;
 mod simulation;
 mod struck;
 
-pub use random::Random;
 pub use count::Count;
+pub use random::Random;
 pub use scripts::{Tale, script_by};
 pub use simulation::{Habit, simulate, simulate_struck};

@@ -1,8 +1,8 @@
 //! Worlds stepped by chance.
 
-use crate::random::Random;
 use crate::count::{Count, counted};
 use crate::cuts::{boot_cut_off, stop_cut_off};
+use crate::random::Random;
 use crate::struck::{arm_any, arm_running, arm_stopped, disarm};
 use oracle_events::{Looks, Stores};
 use petal_base::{NoMemory, OPERATOR, ServerId};

@@ -6,7 +6,7 @@ ghost use Rattle.pair_memory.specs.JobResult.{IsDone};
 ghost use Rattle.pair_memory.specs.PairMemory.{HasTicketsAt, own_of};
 
 use crate::answer::{answer_read, said};
-use pair_memory::{JobResult, JobContext, PairMemory, WorkError, say, silent};
+use pair_memory::{JobContext, JobResult, PairMemory, WorkError, say, silent};
 use petal_base::{Cell, ClientId, Epoch, Seq};
 use petal_disk::{DeviceError, Disk};
 use petal_msg::Actor;

@@ -13,7 +13,9 @@ use crate::letters::fill_letter;
 use crate::next::{fill_of, left_after};
 use crate::region::link_before;
 use global_state::LinkRow;
-use pair_memory::{JobResult, JobContext, PairMemory, WorkError, link_id, only, silent, with_letter};
+use pair_memory::{
+    JobContext, JobResult, PairMemory, WorkError, link_id, only, silent, with_letter,
+};
 use petal_base::{Key, Sequence, ServerId};
 use petal_disk::{DeviceError, Disk};
 use petal_msg::Body;

@@ -123,7 +123,12 @@ pub fn left_after<D: Disk>(
 }
 
 /// What is left of the link, where this server is to move it.
-pub fn fill_of<D: Disk>(here: &JobContext, side: &PairMemory, store: &Store<D>, row: &LinkRow) -> Option<Key>
+pub fn fill_of<D: Disk>(
+    here: &JobContext,
+    side: &PairMemory,
+    store: &Store<D>,
+    row: &LinkRow,
+) -> Option<Key>
     ensures { result ≡ fills.fill_of here.now.state here.now.me row.now (own_of side.now store.now) }
 {
     left_after(here, store, row, &last_filled(side, row))

@@ -15,7 +15,7 @@ use crate::search::{dead_entry, dead_mark};
 use busy_marks::MarkKind;
 use global_state::GlobalState;
 use kept_chains::{drop_entry, unmark};
-use pair_memory::{JobResult, FollowUp, JobContext, PairMemory, WorkError, silent};
+use pair_memory::{FollowUp, JobContext, JobResult, PairMemory, WorkError, silent};
 use petal_base::{Cell, Key, Sequence};
 use petal_disk::Disk;
 use petal_msg::Dead;
@@ -90,7 +90,11 @@ fn unmark_one<D: Disk>(
 /// `Failed` where the device failed, and `JournalFull` only where the store's journal had all its records: the entries are as they
 /// were, and the server is to be stopped.
 #[tactic(auto, unfolding(spec_rules::specs::Sweeping::sweep_one))]
-pub fn sweep_one<D: Disk>(here: &JobContext, side: &PairMemory, store: &mut Store<D>) -> Result<JobResult, WorkError>
+pub fn sweep_one<D: Disk>(
+    here: &JobContext,
+    side: &PairMemory,
+    store: &mut Store<D>,
+) -> Result<JobResult, WorkError>
     requires { HasTicketsAt side.now store.old }
     ensures { IsDone D.Disk here.now side.now side.now store.old store.new result (sweeping.sweeps here.now (own_of side.now store.old)) }
 {

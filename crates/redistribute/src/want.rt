@@ -51,7 +51,11 @@ fn with_found(wants: &mut Vec<Command>, found: Option<Command>) -> Result<(), No
 ///
 /// # Errors
 /// Out of memory, or where a link has no number that a command can name.
-pub fn moving<D: Disk>(here: &JobContext, side: &PairMemory, store: &Store<D>) -> Result<Vec<Command>, NoMemory>
+pub fn moving<D: Disk>(
+    here: &JobContext,
+    side: &PairMemory,
+    store: &Store<D>,
+) -> Result<Vec<Command>, NoMemory>
     ensures { IfOk result (λ wants. wants.items ≡ flat_map (fills.moved_of here.now (own_of side.now store.now)) here.now.state.links) }
 {
     let mut wants = Vec::new(here.alloc());

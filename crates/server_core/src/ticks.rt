@@ -23,7 +23,7 @@ use petal_base::{NoMemory, Sequence};
 use petal_disk::{DeviceError, Disk};
 use petal_msg::Letter;
 use server_jobs::{
-    copy_letters_after, fills_after, has_dead, is_in, repair_jobs, own_wants, write_letters_after,
+    copy_letters_after, fills_after, has_dead, is_in, own_wants, repair_jobs, write_letters_after,
 };
 use server_store::Store;
 use spec_rules::Job;
@@ -85,7 +85,11 @@ fn job_where(alloc: Global, may: bool, job: Job) -> Result<Vec<Job>, NoMemory>
 }
 
 /// An idle proposer is to start a ballot where a command is wanted.
-fn start_jobs<D: Disk>(alloc: Global, parts: &ServerMemory, store: &Store<D>) -> Result<Vec<Job>, NoMemory>
+fn start_jobs<D: Disk>(
+    alloc: Global,
+    parts: &ServerMemory,
+    store: &Store<D>,
+) -> Result<Vec<Job>, NoMemory>
     ensures { IfOk result (λ jobs. jobs.items
         ≡ start_jobs parts.now.log.phase (wants_in parts.now.log parts.now.side (store_of store.now))) }
 {
@@ -95,7 +99,11 @@ fn start_jobs<D: Disk>(alloc: Global, parts: &ServerMemory, store: &Store<D>) ->
 }
 
 /// Links of which something waits are to be mended, and what is left of cells that are live no longer is to be dropped.
-fn link_jobs<D: Disk>(alloc: Global, parts: &ServerMemory, store: &Store<D>) -> Result<Vec<Job>, NoMemory>
+fn link_jobs<D: Disk>(
+    alloc: Global,
+    parts: &ServerMemory,
+    store: &Store<D>,
+) -> Result<Vec<Job>, NoMemory>
     ensures { IfOk result (λ jobs. jobs.items ≡ (if is_in (state_of parts.now.log) parts.now.log.voter.me parts.now.log.voter.inc
         then repair_jobs (here_in parts.now) (own_in parts.now.side (store_of store.now))
         ++ sweep_jobs (here_in parts.now) (own_in parts.now.side (store_of store.now)) else [])) }

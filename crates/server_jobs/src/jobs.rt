@@ -9,7 +9,7 @@ ghost use Rattle.pair_memory.specs.JobResult.{HasVersions, IsDone};
 use crate::letters::{at_other_rev, handle};
 use copy_recovery::{copy_on, repair, trim_on};
 use global_state::GlobalState;
-use pair_memory::{JobResult, JobContext, PairMemory, WorkError, silent};
+use pair_memory::{JobContext, JobResult, PairMemory, WorkError, silent};
 use petal_base::{Cell, Inc, ServerId};
 use petal_disk::Disk;
 use petal_msg::{Actor, Letter};

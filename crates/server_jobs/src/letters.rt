@@ -9,7 +9,7 @@ ghost use Rattle.pair_memory.specs.JobResult.{HasVersions, IsDone, IsSaid};
 use copy_recovery::{
     CopiedEntry, on_hello, on_hello_ask, on_sync, on_sync_full, on_synced, on_trim, on_trimmed,
 };
-use pair_memory::{JobResult, JobContext, PairMemory, WorkError, say, silent};
+use pair_memory::{JobContext, JobResult, PairMemory, WorkError, say, silent};
 use petal_base::{MapId, Seq};
 use petal_disk::Disk;
 use petal_msg::{Actor, Body, Letter, LinkId};

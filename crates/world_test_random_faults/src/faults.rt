@@ -3,7 +3,7 @@
 use memory_runs::{Memory, SEEDS, simulate_all, start};
 use petal_base::ServerId;
 use petal_disk::{CallKind, Plan, Which};
-use random_runs::{Random, Count, Habit, Tale, script_by, simulate_struck};
+use random_runs::{Count, Habit, Random, Tale, script_by, simulate_struck};
 use std::alloc::Global;
 use std::test::Fail;
 

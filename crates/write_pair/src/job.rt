@@ -9,7 +9,7 @@ ghost use Rattle.pair_memory.specs.JobResult.{HasVersions, IsDone};
 
 use crate::lead::{Wanted, on_pair_full, on_replicated, on_reserved, on_write};
 use crate::second::{on_replicate, on_reserve};
-use pair_memory::{JobResult, JobContext, PairMemory, WorkError, silent};
+use pair_memory::{JobContext, JobResult, PairMemory, WorkError, silent};
 use petal_disk::Disk;
 use petal_msg::{Body, Letter};
 use server_store::Store;

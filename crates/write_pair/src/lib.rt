@@ -10,4 +10,4 @@ mod second;
 
 pub use job::on_letter;
 pub use lead::{Moving, go_on, letters_after, on_fill};
-pub use pair_memory::{JobResult, JobContext, PairMemory, WorkError};
+pub use pair_memory::{JobContext, JobResult, PairMemory, WorkError};

@@ -15,7 +15,9 @@ ghost use Rattle.pair_memory.specs.PairMemory.{needs_apart, own_of, HasTicketsAt
 ghost use Rattle.pair_memory.specs.JobResult.{HasVersions, IsDone, IsSaid};
 
 use kept_chains::next_version;
-use pair_memory::{JobResult, JobContext, PairMemory, WorkError, give_back, keep, only, say_to, silent, spend};
+use pair_memory::{
+    JobContext, JobResult, PairMemory, WorkError, give_back, keep, only, say_to, silent, spend,
+};
 use petal_base::{Cell, Key, NoMemory, Op, Sequence, SharedBlock};
 use petal_disk::Disk;
 use petal_msg::{Body, Far, LastOp, Letter};

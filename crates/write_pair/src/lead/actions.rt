@@ -10,7 +10,7 @@ ghost use Rattle.write_pair.specs.Moved.{IsMoved};
 
 use crate::lead::stage::next_stage;
 use crate::lead::stages::{answer, drop_operation, flags, put_own, wait};
-use pair_memory::{JobResult, JobContext, PairMemory, WorkError, silent};
+use pair_memory::{JobContext, JobResult, PairMemory, WorkError, silent};
 use petal_base::Cell;
 use petal_disk::Disk;
 use petal_msg::{Action, Body, Pending};

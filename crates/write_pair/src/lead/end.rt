@@ -5,7 +5,7 @@ ghost use Rattle.spec_rules.specs.Writes as writes;
 ghost use Rattle.pair_memory.specs.PairMemory.{own_of, HasTicketsAt};
 ghost use Rattle.pair_memory.specs.JobResult.{IsSaid};
 
-use pair_memory::{JobResult, JobContext, PairMemory, WorkError, finish, say_to, silent};
+use pair_memory::{JobContext, JobResult, PairMemory, WorkError, finish, say_to, silent};
 use petal_base::Key;
 use petal_disk::Disk;
 use petal_msg::{Body, Ending, OpKind, Pending};

@@ -16,7 +16,7 @@ use crate::lead::open::open;
 use crate::lead::stage::first_stage;
 use kept_chains::has_entry;
 use pair_lock::{OpKind, Pending};
-use pair_memory::{JobResult, JobContext, PairMemory, WorkError, say_to, silent};
+use pair_memory::{JobContext, JobResult, PairMemory, WorkError, say_to, silent};
 use petal_base::{Key, NoMemory, Op, SharedBlock};
 use petal_disk::Disk;
 use petal_msg::Body;

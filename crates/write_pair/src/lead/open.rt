@@ -14,7 +14,7 @@ ghost use Rattle.write_pair.specs.Opened.{IsOpened, begun};
 use crate::lead::actions::go_on;
 use crate::lead::end::end;
 use pair_lock::PairLock;
-use pair_memory::{JobResult, JobContext, PairMemory, WorkError, give_back, keep};
+use pair_memory::{JobContext, JobResult, PairMemory, WorkError, give_back, keep};
 use petal_base::{Cell, NoMemory, Op};
 use petal_disk::Disk;
 use petal_msg::{Ending, Pending};
@@ -38,7 +38,11 @@ fn add_pending(next: &mut Op, locks: &mut PairLock, op: &Pending) -> Result<(), 
 }
 
 /// The operation is opened, with a slot of its own; false where no slot is free.
-fn begin<D: Disk>(side: &mut PairMemory, store: &mut Store<D>, op: &Pending) -> Result<bool, NoMemory>
+fn begin<D: Disk>(
+    side: &mut PairMemory,
+    store: &mut Store<D>,
+    op: &Pending,
+) -> Result<bool, NoMemory>
     requires tickets { HasTicketsAt side.old store.old }
     requires none { at cell_cmp side.old.pending op.now.cell ≡ None }
     ensures room { IfOk result (λ begun. begun ≡ nat_lt 0 (free_of (store_of store.old))) }

@@ -11,7 +11,7 @@ ghost use Rattle.pair_memory.specs.JobResult.{HasVersions, IsDone, IsSaid};
 
 use crate::lead::actions::act;
 use crate::lead::end::end;
-use pair_memory::{JobResult, JobContext, PairMemory, WorkError, give_back, silent};
+use pair_memory::{JobContext, JobResult, PairMemory, WorkError, give_back, silent};
 use petal_base::{Cell, Op};
 use petal_disk::Disk;
 use petal_msg::{Ending, Pending};

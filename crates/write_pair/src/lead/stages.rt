@@ -17,7 +17,7 @@ ghost use Rattle.write_pair.specs.Moved.{IsMoved};
 use crate::lead::end::end;
 use busy_marks::MarkKind;
 use kept_chains::{mark, next_version, unmark};
-use pair_memory::{JobResult, FollowUp, JobContext, PairMemory, WorkError, give_back, only, spend};
+use pair_memory::{FollowUp, JobContext, JobResult, PairMemory, WorkError, give_back, only, spend};
 use petal_base::{Cell, Sequence};
 use petal_disk::Disk;
 use petal_msg::{Body, Ending, Pending, Stage};
@@ -60,7 +60,12 @@ pub fn answer<D: Disk>(
 }
 
 /// The operation ends without an answer; a slot that it has not used is free again.
-pub fn drop_operation<D: Disk>(here: &JobContext, side: &mut PairMemory, store: &mut Store<D>, op: &Pending) -> JobResult
+pub fn drop_operation<D: Disk>(
+    here: &JobContext,
+    side: &mut PairMemory,
+    store: &mut Store<D>,
+    op: &Pending,
+) -> JobResult
     requires tickets { HasTicketsAt side.old store.old }
     requires moved { IsMoved side.old.pending op.now }
     ensures { IsSaid here.now side.old side.new store.old store.new (Ok result)

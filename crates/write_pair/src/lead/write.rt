@@ -17,7 +17,7 @@ use crate::lead::open::open;
 use crate::lead::stage::first_stage;
 use global_state::Hold;
 use pair_lock::{OpKind, Pending, is_clients};
-use pair_memory::{JobResult, JobContext, PairMemory, WorkError, ended, say, silent};
+use pair_memory::{JobContext, JobResult, PairMemory, WorkError, ended, say, silent};
 use petal_base::{Cell, ClientId, Epoch, Key, NoMemory, Op, Seq, SharedBlock};
 use petal_disk::Disk;
 use petal_msg::{Actor, Body};
