@@ -30,10 +30,10 @@ unfoldable pub use Rattle.law_steps.proofs.Imports.{put}
 pub use Rattle.law_jobs.specs.Imports.{IsFilled, IsNextFill, IsNextKey, Taken, TakenCopy, answering, copying, first_last, progress}
 pub use Rattle.law_jobs.proofs.Imports.{Begins_copy, By_filler, By_holder, By_lead, By_other, By_read, By_second, By_sweep, Closes, Closes_alone, Closes_copy}
 pub use Rattle.law_jobs.proofs.Imports.{CopyStep, Copy_as_is, Copy_synced, Copy_trimmed, Did, DidHolder, DidLead, DidOther, DidSecond, Drops_entry, Follows}
-pub use Rattle.law_jobs.proofs.Imports.{Gives_up, Goes_on_copying, Goes_on_dead, Goes_on_trimming, Handled, Happens, Has_fill, Ignores, IsSame, Is_copied_to}
-pub use Rattle.law_jobs.proofs.Imports.{Is_trimmed, Marks_alone, Of_the_log, Promises, Puts, Puts_alone, Puts_entry, Refuses, Repeats, Rests, Sweeps}
-pub use Rattle.law_jobs.proofs.Imports.{TrimStep, Turns_page, Unmarks_alone, always_firm, at_apart, at_same, chains_with, last_happens, of_read, own_place}
-pub use Rattle.law_jobs.proofs.Imports.{rests_after, row_named, same_cell_or_apart, same_itself, same_on, start_rests, stood, taking}
+pub use Rattle.law_jobs.proofs.Imports.{Gives_up, Goes_on_copying, Goes_on_dead, Goes_on_trimming, Handled, Happens, Ignores, IsSame, Is_copied_to}
+pub use Rattle.law_jobs.proofs.Imports.{Is_trimmed, Marks_alone, Promises, Puts, Puts_alone, Puts_entry, Refuses, Rests, Sweeps, TrimStep, Turns_page}
+pub use Rattle.law_jobs.proofs.Imports.{Unmarks_alone, always_firm, at_apart, at_same, chains_with, last_happens, of_read, own_place, rests_after, row_named}
+pub use Rattle.law_jobs.proofs.Imports.{same_cell_or_apart, same_itself, same_on, start_rests, stood, taking}
 pub use Rattle.law_copies.specs.Imports.{WasStarted, blank_joins_in, is_between, kept_store, one_put_ahead}
 pub use Rattle.law_copies.proofs.Imports.{At, BeforeBlank, Blanks, By_ballot, By_caught, By_entry, By_job, By_join, By_leave, Effect, Ends, Fails, Fills}
 pub use Rattle.law_copies.proofs.Imports.{Goes, HasJoinedSince, IsCaughtBy, IsInBoth, IsSeated, May, Serves, Serving, Starts, Stays, Stood, Turns, Wakes}
