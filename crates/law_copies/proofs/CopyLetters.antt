@@ -2,13 +2,13 @@
 use Rattle.law_copies.proofs.Imports.{[], ◌<◌, ◌∙◌, ◌≡◌, Body, Bool, Cell, Copying, Did, Ends_fill, In, IsCopying, Is_synced, JobContext, JobResult, LastCopy}
 use Rattle.law_copies.proofs.Imports.{LinkId, LinkRow, Moves, Moves_on, None, Option, PairState, Post, Says, Some, Stored, Syncs, Tells_page, Trims, about}
 use Rattle.law_copies.proofs.Imports.{above, among_least, ap, cell_holder, cell_link, chain_in, ended, epochs_beyond, epochs_of, false, filter, holder_of}
-use Rattle.law_copies.proofs.Imports.{is_between, last_copy, least, letters_of_job, link_named, live, marked_blocks, refl, same_some, slice_get, subject_of}
-use Rattle.law_copies.proofs.Imports.{subst, sym, true, true_false, ℕ}
+use Rattle.law_copies.proofs.Imports.{is_between, last_copy, least, letters_of_job, link_named, live, logged_apart, marked_blocks, refl, same_some, slice_get}
+use Rattle.law_copies.proofs.Imports.{subject_of, subst, sym, true, true_false, ℕ}
 use Rattle.law_jobs.specs.Sayings.{Ends}
 use Rattle.law_copies.specs.CopyProgress.{IsOfLink, IsTold, HasTrimmed, HasSent, HasPut}
 use Rattle.law_copies.proofs.LeftToCopy.{marked_on}
 use Rattle.law_copies.proofs.ChainsRise.{in_left}
-use Rattle.law_copies.proofs.MuteLettersTellNothing.{told_mute, ended_mute, moved_mute, logged_mute}
+use Rattle.law_copies.proofs.MuteLettersTellNothing.{told_mute, ended_mute, moved_mute}
 use Rattle.petal_msg.specs.declared.body.Body.TheVariants as body
 use Rattle.law_jobs.specs.Sayings as says
 
@@ -72,7 +72,7 @@ module _ (heard : Body → Type 0) (here : JobContext) (own : PairState) where
     telling _ (Ends_fill op how to ended is none so) e = told_mute row vh vo _ (moved_mute op.key how)
     telling post (Moves _ same next) e = told_mute row vh vo post.body (ap (λ (p : Post). is_between (subject_of p.body)) next.is)
     telling post (Moves_on key of _ same h is next) e = told_mute row vh vo post.body (ap (λ (p : Post). is_between (subject_of p.body)) next.is)
-    telling post (says.Of_the_log _ logged) e = told_mute row vh vo post.body (logged_mute (subject_of post.body) logged)
+    telling post (says.Of_the_log _ logged) e = told_mute row vh vo post.body (logged_apart (subject_of post.body) logged)
     telling _ _ e = tt
 
   -- ### Pages
@@ -98,7 +98,7 @@ module _ (heard : Body → Type 0) (here : JobContext) (own : PairState) where
   page_answered done post (Moves _ same next) f = pageless post.body (ap (λ (p : Post). is_between (subject_of p.body)) next.is) f
   page_answered done post (Moves_on key row _ same h is next) f =
       pageless post.body (ap (λ (p : Post). is_between (subject_of p.body)) next.is) f
-  page_answered done post (says.Of_the_log _ logged) f = pageless post.body (logged_mute (subject_of post.body) logged) f
+  page_answered done post (says.Of_the_log _ logged) f = pageless post.body (logged_apart (subject_of post.body) logged) f
   page_answered done _ _ f = true_false f refl
 
   pub page_sent : (done : JobResult) → Did heard here own done → (post : Post) → In post done.posts → (map link : ℕ) (after block : Option ℕ)

@@ -78,6 +78,7 @@ pub use Rattle.law_state.proofs.ListLookups.{get_in, in_get}
 pub use Rattle.law_state.proofs.LoneHolders.{IsBothRow, both_not_alone, both_row, second_secondary}
 pub use Rattle.law_state.proofs.NewMapLinks.{in_map}
 pub use Rattle.law_state.proofs.Roles.{primary_is_one, secondary_is_one}
+pub use Rattle.law_state.proofs.SnapsQueueFences.{none_of}
 pub use Rattle.law_state.proofs.Steady.{linked, log_grown, tuple_on}
 pub use Rattle.law_state.specs.Joins.{HasJoinedSince}
 pub use Rattle.law_state.specs.LinkChanges.{By_caught, By_join, By_leave, IsCaughtBy, IsHeldStill, row_joined}
@@ -89,6 +90,7 @@ pub use Rattle.law_steps.proofs.CopyFrames.{of_holder, of_other}
 pub use Rattle.law_steps.proofs.FillsByJobs.{Fills, Stood, Writes, did_come}
 pub use Rattle.law_steps.proofs.Fronts.{below_itself, front_itself, front_long, front_more, front_on, front_within, one_front}
 pub use Rattle.law_steps.proofs.HeldBackForCaughts.{held_as_flag}
+pub use Rattle.law_steps.proofs.IdleServers.{logged_apart}
 pub use Rattle.law_steps.proofs.InvertHolder.{untrue}
 pub use Rattle.law_steps.proofs.InvertLead.{is_copying}
 pub use Rattle.law_steps.proofs.KindsInHistories.{own_steady}

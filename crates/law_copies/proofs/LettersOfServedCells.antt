@@ -3,13 +3,13 @@ use Rattle.law_copies.proofs.Imports.{◌∙◌, ◌≡◌, ◌⊎◌, Asks_copy
 use Rattle.law_copies.proofs.Imports.{Has_slot, In, IsCopiedFor, IsCopying, IsOfCopy, Is_begun, Is_copied, Is_further, Is_sync_full, Is_synced, JobContext}
 use Rattle.law_copies.proofs.Imports.{JobResult, LastCopy, May, Moves, Moves_on, PairState, Pending, Post, Says, Some, Syncs, Tells_page, Trims, about, ap}
 use Rattle.law_copies.proofs.Imports.{applied, by_bool, cell_apart, cell_of, dead_second, ended, false, follows, inl, inr, is_between, is_lead, is_second}
-use Rattle.law_copies.proofs.Imports.{job_keeps, last_copy, lead_links, leads_link, letters_of_job, live, none_some, pending_on, refl, same_cell_or_apart}
-use Rattle.law_copies.proofs.Imports.{same_some, second, subject_of, subst, sym, true, true_false, ℕ}
+use Rattle.law_copies.proofs.Imports.{job_keeps, last_copy, lead_links, leads_link, letters_of_job, live, logged_apart, none_some, pending_on, refl}
+use Rattle.law_copies.proofs.Imports.{same_cell_or_apart, same_some, second, subject_of, subst, sym, true, true_false, ℕ}
 use Rattle.law_jobs.specs.Sayings.{Ends}
 use Rattle.law_copies.specs.LoneSteps.{IsFit}
 use Rattle.law_copies.proofs.ForeignCellsStay.{IsIdleAt, second_live}
 use Rattle.law_copies.proofs.LeftToCopy.{next_is}
-use Rattle.law_copies.proofs.MuteLettersTellNothing.{logged_mute, ended_mute, moved_mute}
+use Rattle.law_copies.proofs.MuteLettersTellNothing.{ended_mute, moved_mute}
 use Rattle.law_copies.proofs.RolesOfWorkers.{IsHeldHere, begun_held, entry_lives, taken_held, taken_lives}
 use Rattle.law_copies.proofs.WorkedCell.{IsHeldBy}
 use Rattle.petal_msg.specs.declared.body.Body.TheVariants as body
@@ -101,7 +101,7 @@ module _ (heard : Body → Type 0) (here : JobContext) (own : PairState) where
     may_speak new lives _ (Ends_fill op how to ended is none so) e = inl (moved_mute op.key how)
     may_speak new lives post (Moves _ same next) e = inl (ap (λ (p : Post). is_between (subject_of p.body)) next.is)
     may_speak new lives post (Moves_on key row _ same h is next) e = inl (ap (λ (p : Post). is_between (subject_of p.body)) next.is)
-    may_speak new lives post (says.Of_the_log _ logged) e = inl (logged_mute (subject_of post.body) logged)
+    may_speak new lives post (says.Of_the_log _ logged) e = inl (logged_apart (subject_of post.body) logged)
     may_speak new lives _ _ e = inl refl
 
     did_say : (done : JobResult) → Did heard here own done → (post : Post) → In post done.posts → (about post.body).cell ≡ Some q → MaySpeak post.body

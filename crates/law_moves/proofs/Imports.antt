@@ -48,12 +48,14 @@ pub use Rattle.law_epochs.proofs.Imports.{AliveIn, IsAt, IsLinked, IsTouchedBy, 
 pub use Rattle.law_epochs.proofs.Imports.{next_comes, own_plain, place_by, place_of_later, place_touched, proper, proposed_pairs, runs_at, stage_facts}
 pub use Rattle.law_epochs.proofs.Imports.{stands_in}
 pub use Rattle.law_moves.specs.Imports.{HasNewer, IsFilledFrom, IsServing}
+pub use Rattle.law_copies.proofs.ChainsRise.{in_kept, in_left, in_mapped}
 pub use Rattle.law_copies.proofs.CopiesInHistories.{good_after, start_good, step_goes}
 pub use Rattle.law_copies.proofs.EmptyJoins.{after_front, joined_where}
+pub use Rattle.law_copies.proofs.NewPlaces.{half_store}
 pub use Rattle.law_copies.proofs.OtherIsNotHolder.{IsOther, held_by, other_apart}
 pub use Rattle.law_copies.proofs.PlacesByFronts.{alive_on, fronts_meet, linked_between, one_place, one_row, places_up, rows_later, state_next}
 pub use Rattle.law_copies.proofs.ServedAtLaterFronts.{alone_or_flagged, both_last, both_since, other_than, same_only, serves_alone, serves_its, unseen_beyond}
-pub use Rattle.law_copies.proofs.StoreHistories.{in_counts, in_own, kept_after}
+pub use Rattle.law_copies.proofs.StoreHistories.{in_counts, in_own, kept_after, own_by}
 pub use Rattle.law_copies.proofs.StoresAlongRecords.{before_last, stays_filled}
 pub use Rattle.law_copies.specs.CopyProgress.{AreCopying, HasSent, IsCaught, IsLeft, IsTold}
 pub use Rattle.law_copies.specs.GoodCopies.{AreTwins, Good, pair_at}
@@ -89,6 +91,7 @@ pub use Rattle.law_state.proofs.Steady.{below}
 pub use Rattle.law_state.proofs.TwinsAreOfOneDisk.{IsMoved, cells_same, goal_same, gone_twin, log_comes, log_goes, source_same, start_same, twins_later}
 pub use Rattle.law_state.specs.LaterStates.{KeepsRoles}
 pub use Rattle.law_state.specs.NotedLinks.{HasMovedIn}
+pub use Rattle.law_steps.proofs.CopiesRest.{in_none}
 pub use Rattle.law_steps.proofs.EntriesReachComingCells.{comes_after, start_comes}
 pub use Rattle.law_steps.proofs.FillsByJobs.{IsOpenedFill, Is_next, Is_other, did_fills, is_fill}
 pub use Rattle.law_steps.proofs.MovesAreOfComingCells.{leaves_with, next_on, region_left}
