@@ -323,7 +323,8 @@ module _ (heard : Body → Type 0) (here : JobContext) (links : ℕ) (row : Link
     did_step : (done : JobResult) → Did heard here own done → Step done
     did_step _ Ignores = itself cell own f.old
     did_step _ (Refuses to said is why because) = itself cell own f.old
-    did_step done (By_read _ d) = subst (λ (x : PairState). HolderStep heard links row cell vo own x) (sym (of_read heard here own done d).same) (itself cell own f.old)
+    did_step done (By_read _ d) =
+        subst (λ (x : PairState). HolderStep heard links row cell vo own x) (sym (of_read heard here own done d).same) (itself cell own f.old)
     did_step done (By_lead _ d) = writes.lead_step heard here links row vo own cell f done d
     did_step done (By_second _ d) = second_step done d
     did_step done (By_holder _ d) = holder_step done d

@@ -25,9 +25,6 @@ module _ (heard : Body → Type 0) (here : JobContext) (links : ℕ) (row : Link
     abbrev k : IsTaken own now op
     k = taking own now op taken
 
-    abbrev idle : copying_on own op.cell ≡ None
-    idle = steps.pending_idle heard f.old k.old k.was
-
     abbrev unflagged : is_flagged own (id_of row) ≡ false
     unflagged = steps.pending_unflagged heard f.old k.old k.was
 
@@ -56,7 +53,7 @@ module _ (heard : Body → Type 0) (here : JobContext) (links : ℕ) (row : Link
         → (chain_in now.store.chains op.cell ≢ [] → chain_in to.store.chains op.cell ≢ [])
         → IsRising nat_cmp (chain_in to.store.chains op.cell) → HolderStep heard links row op.cell vo own to
     taken_step to copies next marks chain stored rises =
-        steps.write_step heard f.old idle unflagged to (copies ∙ k.copies)
+        steps.write_step heard f.old (steps.pending_idle heard f.old k.old k.was) unflagged to (copies ∙ k.copies)
         (let e = next in let e' = k.next in omega arith)
         (λ m. marks (taken_marks m)) (elim chain [ inl same ↦ inl (same ∙ taken_chain) | inr m ↦ inr m ])
         (λ some. stored (λ none. some (sym taken_chain ∙ none))) rises

@@ -3,10 +3,10 @@ use Rattle.law_copies.proofs.Imports.{◌+◌, ◌∙◌, ◌≡◌, ◌≢◌, 
 use Rattle.law_copies.proofs.Imports.{IsReady, Is_full, JobContext, JobResult, Marks, Marks_alone, None, Opens, Opens_alone, Opens_fill, Opens_fill_alone}
 use Rattle.law_copies.proofs.Imports.{PairState, Pending, Puts, Puts_alone, Some, Stage, Stale, Store, Taken, Unmarks, Unmarks_alone, about, acts, ap, arith}
 use Rattle.law_copies.proofs.Imports.{at, both_not_alone, by_test, cell_apart, cell_cmp, cell_gone, cell_gone_apart, cell_of, cell_same, chain_apart}
-use Rattle.law_copies.proofs.Imports.{chain_in, chain_put, copying, ends, false, fill_operation, finishes, gives_back, has_proposed, in_both, inl, inr}
-use Rattle.law_copies.proofs.Imports.{is_alone_on, live, marks, nat_cmp, next_stage, of_ending, operation, put, put_put, puts, putting, refl}
-use Rattle.law_copies.proofs.Imports.{same_cell_or_apart, second, so_both, stage_live, subst, sym, taking, true, true_false, unmarks, version_of, waiting}
-use Rattle.law_copies.proofs.Imports.{with_mark_at, with_opened, with_paired, with_pending, with_reserved, without, without_pending, ℕ}
+use Rattle.law_copies.proofs.Imports.{chain_in, chain_put, copying, ends, false, fill_operation, finishes, gives_back, has_proposed, inl, inr, is_alone_on}
+use Rattle.law_copies.proofs.Imports.{live, marks, nat_cmp, next_stage, of_ending, operation, put, put_put, puts, putting, refl, same_cell_or_apart, second}
+use Rattle.law_copies.proofs.Imports.{so_both, stage_live, subst, sym, taking, true, true_false, unmarks, version_of, waiting, with_mark_at, with_opened}
+use Rattle.law_copies.proofs.Imports.{with_paired, with_pending, with_reserved, without, without_pending, ℕ}
 use Rattle.law_copies.specs.Pair.{pair_of, PairOk, Keeps, Known}
 use Rattle.law_copies.specs.Visits.{AliveIn}
 use Rattle.law_copies.proofs.CellInBoth.{CellInBoth}
@@ -34,9 +34,6 @@ module _ (it : CellInBoth) (ready : IsReady it.here.state it.here.me (has_propos
 
   abbrev K : PairState → Type 0
   K new = Keeps (pair_of own second_own cell) (pair_of new second_own cell)
-
-  cell_both : in_both here.state cell ≡ true
-  cell_both = so_both here.state cell row is_row both_row
 
   -- the same at the cell of an operation, where it is this one
   ok_at : (q : Cell) → q ≡ cell → PairOk (pair_of own second_own q)
@@ -77,7 +74,8 @@ module _ (it : CellInBoth) (ready : IsReady it.here.state it.here.me (has_propos
 
   -- a cell that one server holds alone is another one
   not_alone : (q : Cell) (n : ℕ) → is_alone_on here.state n q ≡ true → {B : Type 0} → q ≡ cell → B
-  not_alone q n on e = true_false (subst (λ (c : Cell). is_alone_on here.state n c ≡ true) e on) (both_not_alone here.state n cell cell_both)
+  not_alone q n on e = true_false (subst (λ (c : Cell). is_alone_on here.state n c ≡ true) e on)
+      (both_not_alone here.state n cell (so_both here.state cell row is_row both_row))
 
   -- ### Its own operations
 

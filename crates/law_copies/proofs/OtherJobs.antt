@@ -1,13 +1,13 @@
 -- Each job of the other server of a link that one server holds alone keeps a cell of it.
-use Rattle.law_copies.proofs.Imports.{◌<◌, ◌∙◌, ◌≡◌, ◌⊎◌, Begins, Body, By_filler, By_holder, By_lead, By_other, By_read, By_second, By_sweep, Cell, Copying}
-use Rattle.law_copies.proofs.Imports.{Did, DidHolder, DidLead, DidOther, DidSecond, Drops_entry, Entry, Goes_on, Goes_on_trimming, Ignores, In, IsBothRow}
-use Rattle.law_copies.proofs.Imports.{IsCopying, IsMarked, IsOfCopy, Is_copied_to, Is_trimmed, JobContext, JobResult, LastCopy, LinkRow, List, MarkKind}
-use Rattle.law_copies.proofs.Imports.{Option, PairState, Post, Puts_entry, Refuses, Replies, Says, Some, Store, TrimStep, about, above, ap, arith, cell_of}
-use Rattle.law_copies.proofs.Imports.{chain_in, filter, first_last, inl, inr, is_alone, is_marked, is_on, is_second, last_copy, letters_of_job, marked_blocks}
-use Rattle.law_copies.proofs.Imports.{of_read, other_of, puts_entry, refl, same_cell_or_apart, same_some, subst, sym, true, with_last_copy, ℕ}
+use Rattle.law_copies.proofs.Imports.{◌<◌, ◌∙◌, ◌≡◌, ◌⊎◌, Begins, Body, Cell, Copying, Did, DidHolder, DidOther, Drops_entry, Entry, Goes_on}
+use Rattle.law_copies.proofs.Imports.{Goes_on_trimming, In, IsBothRow, IsCopying, IsMarked, IsOfCopy, Is_copied_to, Is_trimmed, JobContext, JobResult}
+use Rattle.law_copies.proofs.Imports.{LastCopy, LinkRow, List, MarkKind, Option, PairState, Post, Puts_entry, Replies, Says, Some, Store, TrimStep, about}
+use Rattle.law_copies.proofs.Imports.{above, ap, arith, cell_of, chain_in, filter, first_last, inl, inr, is_alone, is_marked, is_on, last_copy}
+use Rattle.law_copies.proofs.Imports.{letters_of_job, marked_blocks, other_of, puts_entry, refl, same_cell_or_apart, same_some, subst, sym, true}
+use Rattle.law_copies.proofs.Imports.{with_last_copy, ℕ}
 use Rattle.law_copies.specs.CopyProgress.{AreCopying, IsPage, IsTold, IsUpTo}
 use Rattle.law_copies.specs.LoneSteps.{IsFollowing, KeepsCell, OtherKeeps, StaysTold, IsLeftBy}
-use Rattle.law_copies.proofs.ForeignCellsStay.{away}
+use Rattle.law_copies.proofs.ForeignCellsStay.{away, beside, Is_kept, Of_holder, Of_other}
 use Rattle.law_copies.proofs.OtherServerChanges.{CopiedEntry}
 use Rattle.law_copies.proofs.OwnPartFrames.{keeps_itself}
 use Rattle.law_copies.proofs.LastCopies.{past_last, past_of, stays_told, to_put, to_trimmed}
@@ -17,8 +17,7 @@ use Rattle.law_copies.proofs.ChainsRise.{in_kept}
 use Rattle.law_copies.proofs.CopyLetters.{page_after, page_block, page_link, page_map, page_sent, telling}
 use Rattle.law_copies.proofs.RolesOfWorkers.{IsHeldHere, IsOtherOf, alone_not_row, alone_not_second, holder_works, kept_lives, named_id, one_named}
 use Rattle.law_copies.proofs.RolesOfWorkers.{other_alone, other_not_alone, other_not_leading, other_row, begun_held, taken_held}
-use Rattle.law_copies.proofs.WorkedCell.{Away, IsLedHere, filler_beside, holder_beside, holder_cell, lead_beside, lead_cell, lead_leads, led_alive}
-use Rattle.law_copies.proofs.WorkedCell.{other_beside, other_cell, second_beside, second_follows, sweep_beside}
+use Rattle.law_copies.proofs.WorkedCell.{Away, holder_beside, holder_cell, led_alive, other_beside, other_cell}
 use Rattle.petal_msg.specs.declared.body.Body.TheVariants as body
 use Rattle.law_copies.proofs.OtherServerChanges as following
 
@@ -115,40 +114,26 @@ module _ {heard : Body → Type 0} {here : JobContext} {links : ℕ} {row : Link
     no_both : IsBothRow here.state cell → ⊥
     no_both b = alone_not_row here f.fit.steady cell row f.is (other_of here.me row) mine.alone b
 
-    beside : (new : PairState) → KeepsCell cell own new → Stays new
-    beside new k = record {
+    stays : (new : PairState) → KeepsCell cell own new → Stays new
+    stays new k = record {
       copying = following.kept_copying f.old new k.rest;
       told = following.kept_told f.old new k.rest;
       marks = k.marks;
       changes = inl k.rest.chain;
     }
 
-    lead_here : (done : JobResult) → DidLead heard here own done → Stays done.own
-    lead_here done d = beside done.own
-        (lead_beside heard here own f.fit.ready done d cell
-        (away (IsLedHere heard here own) cell
-        (λ led. other_not_leading here f.fit.steady cell row f.is f.by f.held (led_alive heard here own cell f.alive led))
-        (lead_cell heard here own done d)
-        (lead_leads heard here own f.fit.ready done d)))
-
-    second_here : (done : JobResult) → DidSecond heard here own done → Stays done.own
-    second_here done d = beside done.own
-        (second_beside heard here own done d cell
-        (λ e. alone_not_second here f.fit.steady cell row f.is (other_of here.me row) mine.alone
-        (subst (λ (c : Cell). is_second here.state here.me c ≡ true) (sym e) (second_follows heard here own done d))))
-
     holder_here : (done : JobResult) → DidHolder heard here own done → Stays done.own
-    holder_here done d = beside done.own
+    holder_here done d = stays done.own
         (holder_beside heard here own done d cell
         (away (λ c. IsHeldHere here c ⊎ IsBothRow here.state c) cell
         (λ w. elim w [ inl held ↦ no_holder held | inr both ↦ no_both both ])
         (holder_cell heard here own done d) (holder_works heard here own f.fit done d)))
 
     other_apart : (done : JobResult) (d : DidOther heard here own done) → Away cell (other_cell heard here own done d) → Stays done.own
-    other_apart done d apart = beside done.own (other_beside heard here own done d cell apart)
+    other_apart done d apart = stays done.own (other_beside heard here own done d cell apart)
 
     other_here : (done : JobResult) → DidOther heard here own done → Stays done.own
-    other_here _ (Replies to said reply) = beside own (keeps_itself cell own)
+    other_here _ (Replies to said reply) = stays own (keeps_itself cell own)
     other_here done (Is_copied_to number c epochs holder _ h held newer step) = elim (same_cell_or_apart cell c) [
       | inl e ↦ copied_to cell f number epochs holder done (subst (λ (x : Cell). heard (body.Trim number x epochs)) (sym e) h)
           (λ last is. newer last (subst (λ (x : Cell). last_copy own x ≡ Some last) e is))
@@ -169,15 +154,13 @@ module _ {heard : Body → Type 0} {here : JobContext} {links : ℕ} {row : Link
     ]
 
     here_by : (done : JobResult) → Did heard here own done → Stays done.own
-    here_by _ Ignores = beside own (keeps_itself cell own)
-    here_by _ (Refuses to said is why because) = beside own (keeps_itself cell own)
-    here_by done (By_read _ d) = beside done.own (subst (KeepsCell cell own) (sym (of_read heard here own done d).same) (keeps_itself cell own))
-    here_by done (By_lead _ d) = lead_here done d
-    here_by done (By_second _ d) = second_here done d
-    here_by done (By_holder _ d) = holder_here done d
-    here_by done (By_other _ d) = other_here done d
-    here_by done (By_filler _ d) = beside done.own (filler_beside heard here own done d cell)
-    here_by done (By_sweep _ d) = beside done.own (sweep_beside heard here own done d cell f.alive (f.fit.bare cell))
+    here_by done did = elim (beside heard here own f.fit cell
+        (λ led. other_not_leading here f.fit.steady cell row f.is f.by f.held (led_alive heard here own cell f.alive led))
+        (λ e. alone_not_second here f.fit.steady cell row f.is (other_of here.me row) mine.alone e) f.alive done did) [
+          | Is_kept kept ↦ stays done.own kept
+          | Of_holder d ↦ holder_here done d
+          | Of_other d ↦ other_here done d
+        ]
 
     -- ### Letters
 
@@ -219,14 +202,14 @@ module _ {heard : Body → Type 0} {here : JobContext} {links : ℕ} {row : Link
     -- what is kept
     pub follows : (done : JobResult) → Did heard here own done → OtherKeeps links row cell vh own done
     follows done d =
-        let stays = here_by done d in
+        let kept = here_by done d in
         record {
           here = record {
-            copying = stays.copying;
-            told = stays.told;
+            copying = kept.copying;
+            told = kept.told;
             says = λ post i e. says_told done.own post (letters_of_job heard here own done d post i) e;
-            marks = stays.marks;
-            changes = stays.changes;
+            marks = kept.marks;
+            changes = kept.changes;
           };
           pages = page_is done d;
           rising = did_rising heard here own f.fit.rising done d cell;

@@ -3,10 +3,10 @@ use Rattle.law_copies.proofs.Imports.{◌+◌, ◌<◌, ◌∙◌, ◌≡◌, �
 use Rattle.law_copies.proofs.Imports.{By_second, By_sweep, Cell, Copying, Declines, Did, DidLead, DidSecond, Ends_fill, Fills, Follows, Has_copy, Has_slot}
 use Rattle.law_copies.proofs.Imports.{Ignores, IsReady, JobResult, Key, List, Moves, Moves_on, None, PairState, Pairs, Pending, Post, Promises, Refuses, Says}
 use Rattle.law_copies.proofs.Imports.{Sets_apart, Some, Stage, Stood, Store, Writes, about, ap, arith, at, cell_cmp, cell_of, cell_same, chain_apart}
-use Rattle.law_copies.proofs.Imports.{chain_in, copying_on, did_come, did_ready, ended, follows, has_proposed, in_both, inl, inr, is_between, is_clients}
-use Rattle.law_copies.proofs.Imports.{is_lead, is_the, lead_links, leads_link, letters_of_job, nat_cmp, of_filler, of_holder, of_lead, of_other, of_read}
-use Rattle.law_copies.proofs.Imports.{of_second, of_sweep, option_and_then, pending_on, progress, refl, row_lead, same_cell_or_apart, same_numbers, same_some}
-use Rattle.law_copies.proofs.Imports.{stage_at, stage_live, state_lead, subject_of, subst, sym, tells, told_own, true, true_false, with_last, with_tickets, ℕ}
+use Rattle.law_copies.proofs.Imports.{chain_in, copying_on, did_come, did_ready, ended, follows, has_proposed, inl, inr, is_between, is_clients, is_lead}
+use Rattle.law_copies.proofs.Imports.{is_the, lead_links, leads_link, letters_of_job, nat_cmp, of_filler, of_holder, of_lead, of_other, of_read, of_second}
+use Rattle.law_copies.proofs.Imports.{of_sweep, option_and_then, pending_on, progress, refl, row_lead, same_cell_or_apart, same_numbers, same_some, stage_at}
+use Rattle.law_copies.proofs.Imports.{stage_live, state_lead, subject_of, subst, sym, tells, told_own, true, true_false, with_last, with_tickets, ℕ}
 use Rattle.law_copies.specs.BothSteps.{LacksFill, LeadKeeps, SecondKeeps}
 use Rattle.law_copies.specs.Pair.{AreCopies, HaveMarks, IsRecalled, Keeps, Known, PairOk, pair_of, ceiling_of}
 use Rattle.law_copies.specs.LoneSteps.{IsBare}
@@ -26,9 +26,6 @@ use Rattle.law_copies.proofs.BesideTwins as beside
 
 module _ (it : CellInBoth) where
   open it use {heard, here, own, steady, cell, row, is_row, alive, both_row}
-
-  cell_both : in_both here.state cell ≡ true
-  cell_both = beside.cell_both it
 
   -- ### The first server
 
@@ -110,7 +107,7 @@ module _ (it : CellInBoth) where
           let staged = (did_ready heard here own ready done did).staged cell op is in
           let on = stage_live here.state cell staged.born alive in
           record {
-            rests = staged.stage on cell_both;
+            rests = staged.stage on (beside.cell_both it);
             marks = (job_marked heard here own steady ready marks idle done did).marks cell op on is;
           }
 
@@ -175,11 +172,6 @@ module _ (it : CellInBoth) where
           (lead_beside heard here own ready done d cell
           (away (IsLedHere heard here own) cell led_not (lead_cell heard here own done d) (lead_leads heard here own ready done d))).rest.chain
 
-      follow_off : (new : PairState) → chain_in new.store.chains cell ≡ chain_in own.store.chains cell
-          → at cell_cmp new.pairs.last cell ≡ at cell_cmp own.pairs.last cell
-          → Keeps (pair_of first own cell) (pair_of first new cell)
-      follow_off = follow.off heard here first own cell ok known
-
       -- it follows, or copy and last operation stay
       abbrev Stays : PairState → Type 0
       Stays new = (chain_in new.store.chains cell ≡ chain_in own.store.chains cell) × (at cell_cmp new.pairs.last cell ≡ at cell_cmp own.pairs.last cell)
@@ -200,7 +192,7 @@ module _ (it : CellInBoth) where
       step_follows : (done : JobResult) → Did heard here own done → Keeps (pair_of first own cell) (pair_of first done.own cell)
       step_follows done did = elim (follows_or_stays done did) [
         | inl d ↦ follow.second_keeps heard here first own cell ok known done d
-        | inr same ↦ follow_off done.own same.0 same.1
+        | inr same ↦ follow.off heard here first own cell ok known done.own same.0 same.1
       ]
 
       -- ### What it says
