@@ -62,6 +62,7 @@ pub use Rattle.std.proofs.lemmas.Grind.{flat_map-append}
 pub use Rattle.std.proofs.lemmas.List.{length-map}
 pub use Rattle.std.specs.List.{fold}
 pub use Rattle.global_tables.specs.View.{queued as with_queued}
+pub use Rattle.law_copies.proofs.ChainsRise.{all_left}
 pub use Rattle.law_copies.specs.Pair.{owns_of}
 pub use Rattle.law_jobs.proofs.LettersWereSent.{answers_in, sent_since, stays_sent, still_sent, was_sent}
 pub use Rattle.law_jobs.proofs.OperationsCome.{finished_of}
@@ -85,10 +86,11 @@ pub use Rattle.law_run.proofs.ContentsAsked.{reader_serves, reads_old_is}
 pub use Rattle.law_run.proofs.DataLetters.{quiet_data}
 pub use Rattle.law_run.proofs.GroundGives.{never_dead}
 pub use Rattle.law_run.proofs.GroundInHistories.{footing_after}
-pub use Rattle.law_run.proofs.LetterNames.{one_actor}
-pub use Rattle.law_run.proofs.ListMembers.{none_pass, of_map}
-pub use Rattle.law_run.proofs.ReadsLookWhereSent.{is_looked}
+pub use Rattle.law_run.proofs.Machine.{or_former}
+pub use Rattle.law_run.proofs.OldReads.{same_data, same_seq}
+pub use Rattle.law_run.proofs.ReadsLookWhereSent.{is_looked, one_client, some_first}
 pub use Rattle.law_run.proofs.RunScenes.{Grounded}
+pub use Rattle.law_run.proofs.SearchesFindData.{HasData, in_data, some_data}
 pub use Rattle.law_run.specs.MachineTies.{Ground, Named}
 pub use Rattle.law_state.proofs.Caughts.{act_caught}
 pub use Rattle.law_state.proofs.CellsByLinkRows.{both_first, both_reader}
@@ -102,7 +104,8 @@ pub use Rattle.law_state.proofs.LoneHolders.{lead_first, second_both}
 pub use Rattle.law_state.proofs.Moments.{first_moment, moment_later}
 pub use Rattle.law_state.proofs.MovesOfDisks.{IsNoting, act_moved, act_note, act_start}
 pub use Rattle.law_state.proofs.NamedCells.{asked_takes}
-pub use Rattle.law_state.proofs.Owners.{disk_at_is}
+pub use Rattle.law_state.proofs.NewMapLinks.{in_map, or_true}
+pub use Rattle.law_state.proofs.Owners.{disk_at_is, either_of}
 pub use Rattle.law_state.proofs.SnapsQueueFences.{act_drained, act_snap, none_of}
 pub use Rattle.law_state.specs.LinkRows.{IsBetween}
 pub use Rattle.law_state.specs.Tables.{IsFence, IsForRegion, IsForSnapshot, IsGrown, IsLaterDisk, Of_disk, Of_region}

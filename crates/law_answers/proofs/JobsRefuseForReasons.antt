@@ -5,11 +5,11 @@ use Rattle.law_answers.proofs.Imports.{IsSeated, IsSteady, Is_declined, Is_new, 
 use Rattle.law_answers.proofs.Imports.{Refused, Repeats, Some, Stood, Table, Was, Work, World, ap, arith, at, both_first, both_leads, both_row, by_bool}
 use Rattle.law_answers.proofs.Imports.{cell_cmp, chosen_log, dead_second, did_come, did_count, did_finish, ended, false, finished_of, first, in_both, in_once}
 use Rattle.law_answers.proofs.Imports.{inl, inr, is_clients, is_in, is_logged, is_second, is_the_one, lead_first, leads_link, letters_of_job, live, moved_as}
-use Rattle.law_answers.proofs.Imports.{none_some, one_front, own_place, own_steady, pending_on, put, refl, same_some, second, second_both, state_after}
-use Rattle.law_answers.proofs.Imports.{subject_of, subst, sym, to_client, to_server, true, true_false, was_same, ℕ}
+use Rattle.law_answers.proofs.Imports.{none_some, one_client, one_front, own_place, own_steady, pending_on, put, refl, same_some, second, second_both}
+use Rattle.law_answers.proofs.Imports.{state_after, subject_of, subst, sym, to_client, to_server, true, true_false, was_same, ℕ}
 use Rattle.law_answers.specs.Refusals.{HadNoSlot, At_the_lead, At_the_second, Refusals}
-use Rattle.law_answers.proofs.SlotLetters.{is_slot, is_of_slots, not_full, logged_not_full, one_client, AsksFor, TellsNone, JobRefuses, Scene, still}
-use Rattle.law_answers.proofs.SlotLetters.{moved_not_full}
+use Rattle.law_answers.proofs.SlotLetters.{is_slot, is_of_slots, not_full, logged_not_full, AsksFor, TellsNone, JobRefuses, Scene, still, moved_not_full}
+use Rattle.law_answers.proofs.SlotLetters.{one_server}
 use Rattle.law_steps.specs.DidLead.{Of_the_log}
 use Rattle.law_jobs.specs.Sayings.{Says}
 use Rattle.petal_msg.specs.declared.body.Body.TheVariants as body
@@ -51,9 +51,6 @@ module _ (R S : ℕ → ℕ → Type 0) (scene : Scene R S) where
 
   abbrev hears : Body → Type 0
   hears = Handled w n
-
-  one_server : {i j : ℕ} → actor.Server i ≡ actor.Server j → i ≡ j
-  one_server e = cc
 
   -- an operation that the second server has no slot for: its letter has the server's revision, so it is of this incarnation
   declined_op : (op : Pending) → hears (body.PairFull op.op op.cell) → at cell_cmp own.pairs.pending op.cell ≡ Some op → is_clients op.kind ≡ true

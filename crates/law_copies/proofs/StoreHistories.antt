@@ -60,7 +60,7 @@ until_plain servers until chosen entry plain stands c i =
     let front = front_on until (until ++ entry ∷ []) chosen (front_more until entry) stands in
     plain c (subst (In c) (sym front.is) (in_former c until front.later i))
 
-own_by : (joins : ℕ) (o : Option BeforeBlank) → ((b : BeforeBlank) → o ≡ Some b → b.joins ≢ joins) → (store : Store) → kept_store joins o store ≡ store
+pub own_by : (joins : ℕ) (o : Option BeforeBlank) → ((b : BeforeBlank) → o ≡ Some b → b.joins ≢ joins) → (store : Store) → kept_store joins o store ≡ store
 own_by joins None apart store = refl
 own_by joins (Some b) apart store = by_test (λ s. s ≡ store) (b.joins == joins) b.store store
     (λ same. absurd (apart b refl (same_numbers b.joins joins same))) (λ other. refl)

@@ -30,10 +30,10 @@ unfoldable pub use Rattle.law_steps.proofs.Imports.{put}
 pub use Rattle.law_jobs.specs.Imports.{IsFilled, IsNextFill, IsNextKey, Taken, TakenCopy, answering, copying, first_last, progress}
 pub use Rattle.law_jobs.proofs.Imports.{Begins_copy, By_filler, By_holder, By_lead, By_other, By_read, By_second, By_sweep, Closes, Closes_alone, Closes_copy}
 pub use Rattle.law_jobs.proofs.Imports.{CopyStep, Copy_as_is, Copy_synced, Copy_trimmed, Did, DidHolder, DidLead, DidOther, DidSecond, Drops_entry, Follows}
-pub use Rattle.law_jobs.proofs.Imports.{Gives_up, Goes_on_copying, Goes_on_dead, Goes_on_trimming, Handled, Happens, Has_fill, Ignores, IsSame, Is_copied_to}
-pub use Rattle.law_jobs.proofs.Imports.{Is_trimmed, Marks_alone, Of_the_log, Promises, Puts, Puts_alone, Puts_entry, Refuses, Repeats, Rests, Sweeps}
-pub use Rattle.law_jobs.proofs.Imports.{TrimStep, Turns_page, Unmarks_alone, always_firm, at_apart, at_same, chains_with, last_happens, of_read, own_place}
-pub use Rattle.law_jobs.proofs.Imports.{rests_after, row_named, same_cell_or_apart, same_itself, same_on, start_rests, stood, taking}
+pub use Rattle.law_jobs.proofs.Imports.{Gives_up, Goes_on_copying, Goes_on_dead, Goes_on_trimming, Handled, Happens, Ignores, IsSame, Is_copied_to}
+pub use Rattle.law_jobs.proofs.Imports.{Is_trimmed, Marks_alone, Promises, Puts, Puts_alone, Puts_entry, Refuses, Rests, Sweeps, TrimStep, Turns_page}
+pub use Rattle.law_jobs.proofs.Imports.{Unmarks_alone, always_firm, at_apart, at_same, chains_with, last_happens, of_read, own_place, rests_after, row_named}
+pub use Rattle.law_jobs.proofs.Imports.{same_cell_or_apart, same_itself, same_on, start_rests, stood, taking}
 pub use Rattle.law_copies.specs.Imports.{WasStarted, blank_joins_in, is_between, kept_store, one_put_ahead}
 pub use Rattle.law_copies.proofs.Imports.{At, BeforeBlank, Blanks, By_ballot, By_caught, By_entry, By_job, By_join, By_leave, Effect, Ends, Fails, Fills}
 pub use Rattle.law_copies.proofs.Imports.{Goes, HasJoinedSince, IsCaughtBy, IsInBoth, IsSeated, May, Serves, Serving, Starts, Stays, Stood, Turns, Wakes}
@@ -48,12 +48,14 @@ pub use Rattle.law_epochs.proofs.Imports.{AliveIn, IsAt, IsLinked, IsTouchedBy, 
 pub use Rattle.law_epochs.proofs.Imports.{next_comes, own_plain, place_by, place_of_later, place_touched, proper, proposed_pairs, runs_at, stage_facts}
 pub use Rattle.law_epochs.proofs.Imports.{stands_in}
 pub use Rattle.law_moves.specs.Imports.{HasNewer, IsFilledFrom, IsServing}
+pub use Rattle.law_copies.proofs.ChainsRise.{in_kept, in_left, in_mapped}
 pub use Rattle.law_copies.proofs.CopiesInHistories.{good_after, start_good, step_goes}
 pub use Rattle.law_copies.proofs.EmptyJoins.{after_front, joined_where}
+pub use Rattle.law_copies.proofs.NewPlaces.{half_store}
 pub use Rattle.law_copies.proofs.OtherIsNotHolder.{IsOther, held_by, other_apart}
 pub use Rattle.law_copies.proofs.PlacesByFronts.{alive_on, fronts_meet, linked_between, one_place, one_row, places_up, rows_later, state_next}
 pub use Rattle.law_copies.proofs.ServedAtLaterFronts.{alone_or_flagged, both_last, both_since, other_than, same_only, serves_alone, serves_its, unseen_beyond}
-pub use Rattle.law_copies.proofs.StoreHistories.{in_counts, in_own, kept_after}
+pub use Rattle.law_copies.proofs.StoreHistories.{in_counts, in_own, kept_after, own_by}
 pub use Rattle.law_copies.proofs.StoresAlongRecords.{before_last, stays_filled}
 pub use Rattle.law_copies.specs.CopyProgress.{AreCopying, HasSent, IsCaught, IsLeft, IsTold}
 pub use Rattle.law_copies.specs.GoodCopies.{AreTwins, Good, pair_at}
@@ -89,6 +91,7 @@ pub use Rattle.law_state.proofs.Steady.{below}
 pub use Rattle.law_state.proofs.TwinsAreOfOneDisk.{IsMoved, cells_same, goal_same, gone_twin, log_comes, log_goes, source_same, start_same, twins_later}
 pub use Rattle.law_state.specs.LaterStates.{KeepsRoles}
 pub use Rattle.law_state.specs.NotedLinks.{HasMovedIn}
+pub use Rattle.law_steps.proofs.CopiesRest.{in_none}
 pub use Rattle.law_steps.proofs.EntriesReachComingCells.{comes_after, start_comes}
 pub use Rattle.law_steps.proofs.FillsByJobs.{IsOpenedFill, Is_next, Is_other, did_fills, is_fill}
 pub use Rattle.law_steps.proofs.MovesAreOfComingCells.{leaves_with, next_on, region_left}

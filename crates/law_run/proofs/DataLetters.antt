@@ -8,7 +8,7 @@ use Rattle.law_run.proofs.Imports.{is_refused, letters_of, letters_of_job, map, 
 use Rattle.law_run.proofs.Imports.{own_place, owns_of, post_of, posted, range_with_len, refl, said, same_some, stamped, subject_of, subst, sym, to_client}
 use Rattle.law_run.proofs.Imports.{true, true_false, without_pending, ℕ}
 use Rattle.law_run.specs.WritesGoOn.{is_held, Onward}
-use Rattle.law_run.proofs.ReadsLookWhereSent.{is_looked}
+use Rattle.law_run.proofs.ReadsLookWhereSent.{is_looked, one_client}
 use Rattle.law_run.proofs.Machine.{held_onward}
 use Rattle.law_run.proofs.LeadPutsThatCount.{finish_held}
 use Rattle.law_run.proofs.EventsOfServerSteps.{ServerStep, ends_of}
@@ -143,9 +143,6 @@ module _ (heard : Body → Type 0) (here : JobContext) (own : PairState) (never 
   quiet_data _ (By_sweep done d) quiet post i = absurd ((of_sweep heard here own done d).silent post i)
 
 -- ### Writes that end as written
-
-one_client : {c d : ℕ} → actor.Client c ≡ actor.Client d → c ≡ d
-one_client e = cc
 
 ended_written : (seq : ℕ) (how : Ending) (other : ℕ) → ended seq how ≡ body.Written other → how ≡ ending.Written
 ended_written seq ending.Written other e = refl

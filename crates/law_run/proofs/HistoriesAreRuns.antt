@@ -4,8 +4,8 @@ use Rattle.law_run.proofs.Imports.{IsMoment, IsPlainLog, IsPrefix, IsRunOf, IsSo
 use Rattle.law_run.proofs.Imports.{Setting, SnapshotsStay, Some, State, Step, World, acts, always_empty, ap, append-nil, append_assoc, at-empty, at_moment}
 use Rattle.law_run.proofs.Imports.{before_part, begins, blank, cell_cmp, change_by, chosen_log, client_state, client_step, client_turns, copies_after}
 use Rattle.law_run.proofs.Imports.{covered_after, events_of, firm_in, firm_then, flat_map, follows_in, freezes, front_legal, grown_then, history_agrees}
-use Rattle.law_run.proofs.Imports.{history_grows, is_call, joined, longer, look_of, machine_after, makes, marks_first, nat_cmp, next_line, none_some}
-use Rattle.law_run.proofs.Imports.{open_write, out_has_stopped, own_steady, reacts, refl, replay, reports_hold, requests_after, rule_after, run_of}
+use Rattle.law_run.proofs.Imports.{history_grows, is_call, joined, longer, look_of, machine_after, makes, marks_first, nat_cmp, next_line, none_chosen}
+use Rattle.law_run.proofs.Imports.{none_some, open_write, out_has_stopped, own_steady, reacts, refl, replay, reports_hold, requests_after, rule_after, run_of}
 use Rattle.law_run.proofs.Imports.{server_serves, server_state, server_step, setting_in, setting_of, start, state_after, step, stepped, stepped_in, subst}
 use Rattle.law_run.proofs.Imports.{sym, takes, told, told_from, told_with, ℕ}
 use Rattle.spec_history.specs.Events.{ended, ends}
@@ -22,7 +22,7 @@ use Rattle.law_run.proofs.ServerStepsAllowed.{step_told}
 use Rattle.law_run.proofs.BlanksTellNothing.{blank_follow, blank_told}
 use Rattle.law_run.proofs.EventsOfServerSteps.{IsMiddle, ServesAt}
 use Rattle.law_run.proofs.SnapshotsNeverChange.{contents_still}
-use Rattle.law_run.proofs.GroundInHistories.{along_at, footed_on, footing_after, grown_at, none_chosen}
+use Rattle.law_run.proofs.GroundInHistories.{along_at, footed_on, footing_after, grown_at}
 use Rattle.law_run.proofs.RunScenes.{Followed}
 use Rattle.petal_msg.specs.declared.letter.Actor.TheVariants as actor
 

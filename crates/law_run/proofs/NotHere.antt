@@ -9,7 +9,7 @@ use Rattle.law_run.proofs.Imports.{source, stage_at, stage_facts, state_after, s
 use Rattle.law_run.proofs.ChosenDisks.{cell_comes, cell_lives, cell_old, content_is, disks_now, has_content_is, plain_now}
 use Rattle.law_run.proofs.MachineTakesWrites.{was_has, was_kept}
 use Rattle.law_run.proofs.EntryAtEpoch.{AreUpTo}
-use Rattle.law_run.proofs.ReadsLookWhereSent.{Accepts, AreGrounded, Looked, letter_looks}
+use Rattle.law_run.proofs.ReadsLookWhereSent.{Accepts, AreGrounded, Looked, letter_looks, one_client}
 use Rattle.law_run.proofs.ContentsByCells.{entry_over, has_over}
 use Rattle.law_run.proofs.OldReads.{IsFoundAt, found}
 use Rattle.law_run.proofs.Overlay.{entry_there, has_below}
@@ -87,9 +87,6 @@ module _ (this : ServerStep) where
 
     same_client : f.client ≡ client
     same_client = one_client (sym f.to ∙ to)
-      where
-        one_client : {c d : ℕ} → actor.Client c ≡ actor.Client d → c ≡ d
-        one_client e = cc
 
     abbrev old : Cell
     old = f.old.cell

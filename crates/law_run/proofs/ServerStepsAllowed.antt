@@ -2,10 +2,11 @@
 use Rattle.law_run.proofs.Imports.{[], ◌+◌, ◌||◌, ◌∙◌, ◌≡◌, Acted, AreStepsFrom, Body, By_ballot, By_entry, By_job, By_read, Cell, Command, Did, Ends, Fails}
 use Rattle.law_run.proofs.Imports.{Goes, Handled, In, IsSeated, IsSettling, Job, JobContext, JobResult, Letter, Line, List, Log, NeverDead, None, Not_here}
 use Rattle.law_run.proofs.Imports.{Option, PairState, Pairs, Pending, Plain, Post, Sender, Serving, Shows, Some, Stays, Store, Wakes, Worked, World, ap, at}
-use Rattle.law_run.proofs.Imports.{awake, cell_cmp, chain_in, chosen_log, chosen_same, copying_on, crossed, did_stores, down_posts, false, inl, is_some}
-use Rattle.law_run.proofs.Imports.{is_under_way, letters_of, named_cell, own_place, owns_of, proposed_pairs, raised, refl, rev_of, said, sender, served_so}
-use Rattle.law_run.proofs.Imports.{server_state, servers_of, settled_by, settling, stamped, stopped_so, subst, sym, true, true_false, without_rev, ℕ}
-use Rattle.law_run.proofs.GroundGives.{never_dead, proposed_store}
+use Rattle.law_run.proofs.Imports.{awake, ballot_store, cell_cmp, chain_in, chosen_log, chosen_same, copying_on, crossed, did_stores, down_posts, false}
+use Rattle.law_run.proofs.Imports.{in_none, inl, is_some, is_under_way, letters_of, named_cell, own_place, owns_of, proposed_pairs, raised, refl, rev_of}
+use Rattle.law_run.proofs.Imports.{said, sender, served_so, server_state, servers_of, settled_by, settling, stamped, stopped_so, subst, sym, true, true_false}
+use Rattle.law_run.proofs.Imports.{without_rev, ℕ}
+use Rattle.law_run.proofs.GroundGives.{never_dead}
 use Rattle.law_run.proofs.NotHere.{not_here_told}
 use Rattle.law_run.proofs.ReadsShowContents.{AreCalm, data_of, show_told}
 use Rattle.law_run.proofs.EventsOfServerSteps.{LooksTold, Next, ServerStep, ServerTold, ServesAt, after_step, kept_here, later_world, letters, new}
@@ -146,10 +147,6 @@ module _ (at : ServesAt) where
           (λ k onward held. did_job this k runs onward (never runs) done seated did held refl))
           (unended_looks this (without_rev here) downs refl downs_end)
 
-    no_posts : (post : Post) → In post [] → IsUnended post
-    unfolding In
-    no_posts post i = absurd i
-
     -- a step that changes no chain, and ends no request
     calm_step : (acted : Acted) (serving : Serving at.setting at.w at.n at.what acted) (next : Next at acted) → IsSame acted
         → acted.server.own.store.chains ≡ own.store.chains
@@ -174,9 +171,9 @@ module _ (at : ServesAt) where
         serving next same later
     goes_told _ _ queue runs (By_ballot log started posts applied starts says) serving next same later =
         let pairs = proposed_pairs (server_state at.setting at.w at.n) own started in
-        calm_step _ serving next same (ap (λ (s : Store). s.chains) (proposed_store (server_state at.setting at.w at.n) own started))
+        calm_step _ serving next same (ap (λ (s : Store). s.chains) (ballot_store (server_state at.setting at.w at.n) own started))
         (λ k onward. kept_own (step_of _ serving next) k onward
-        (ap (λ (s : Store). s.chains) (proposed_store (server_state at.setting at.w at.n) own started))
+        (ap (λ (s : Store). s.chains) (ballot_store (server_state at.setting at.w at.n) own started))
         (λ on. As_before runs (ap (λ (p : Pairs). p.finished) pairs) (ap (λ (p : Pairs). p.pending) pairs)))
         (sender here) posts refl (λ post i. logged_unended post.body (says post i))
     goes_told _ _ queue runs (By_entry log entry more front) serving next same later =
@@ -184,7 +181,7 @@ module _ (at : ServesAt) where
         calm_step _ serving next same settled.chains
         (λ k onward. kept_own (step_of _ serving next) k onward settled.chains
         (λ on. As_before runs (ap (λ (p : Pairs). p.finished) settled.pairs) (ap (λ (p : Pairs). p.pending) settled.pairs)))
-        (sender here) [] refl no_posts
+        (sender here) [] refl (λ post i. in_none post i)
 
     ends_told : (log : Log) (done : JobResult) (runs : (at.w.servers at.n).life.running ≡ true) → Worked at.setting at.w at.n log done
         → (serving : Serving at.setting at.w at.n at.what (stopped_so at.setting at.w at.n log done))
@@ -193,9 +190,9 @@ module _ (at : ServesAt) where
     ends_told _ _ runs (By_job log done applied did seat) serving next same = job_stopped log runs done seat did serving next same
     ends_told _ _ runs (By_ballot log started posts applied starts says) serving next same =
         let pairs = proposed_pairs (server_state at.setting at.w at.n) own started in
-        calm_step _ serving next same (ap (λ (s : Store). s.chains) (proposed_store (server_state at.setting at.w at.n) own started))
+        calm_step _ serving next same (ap (λ (s : Store). s.chains) (ballot_store (server_state at.setting at.w at.n) own started))
         (λ k onward. kept_own (step_of _ serving next) k onward
-        (ap (λ (s : Store). s.chains) (proposed_store (server_state at.setting at.w at.n) own started))
+        (ap (λ (s : Store). s.chains) (ballot_store (server_state at.setting at.w at.n) own started))
         (λ on. As_before runs (ap (λ (p : Pairs). p.finished) pairs) (ap (λ (p : Pairs). p.pending) pairs)))
         (without_rev here) downs refl downs_end
     ends_told _ _ runs (By_entry log entry more front) serving next same =
@@ -219,7 +216,7 @@ module _ (at : ServesAt) where
         downs refl downs_end
     rest_told _ (Fails booted asleep) of_it next same later =
         calm_step _ of_it next same refl (λ k onward. kept_own (step_of _ of_it next) k onward refl (λ on. true_false on asleep))
-        (without_rev here) [] refl no_posts
+        (without_rev here) [] refl (λ post i. in_none post i)
 
     -- a server that runs after the step ran before, or has nothing in memory
     serves_kept : (acted : Acted) (serving of_it : Serving at.setting at.w at.n at.what acted) (next : Next at acted)
