@@ -12,20 +12,20 @@ pub use Rattle.law_state.proofs.Imports.{not_true, number_itself, option_and_the
 pub use Rattle.law_state.proofs.Imports.{same_some, second, secondary, slice_get, slice_get-map, slice_get_within, some_or_none, state_lead, subst, sym}
 pub use Rattle.law_state.proofs.Imports.{touches, true, true_false, unwrap_or, ℕ}
 pub use Rattle.law_log.proofs.Imports.{if◌then◌else◌, ◌||◌, Acted, Action, AreSteps, Ask, Blank, Block, Body, Copies, Copying, Dead, Ending, Entry, Equal}
-pub use Rattle.law_log.proofs.Imports.{Far, Firm, IsPlain, IsPlainLog, IsPlainState, IsSound, JobContext, JobResult, Key, LastCopy, LastOp, Letter, Life, Log}
-pub use Rattle.law_log.proofs.Imports.{NextCopy, Pending, Post, Reaction, Script, Step, Stored, Wait, about, above, all_put_apart, awake, begins_copy}
-pub use Rattle.law_log.proofs.Imports.{blanked, cell_at, cell_holder, cell_of, chain_in, client_sender, closes, copying_on, ended, ends, eq_by_cmp}
-pub use Rattle.law_log.proofs.Imports.{fill_operation, finishes, gives_back, has_proposed, holds_link, id_of, idle_mark, is_eq, is_flagged, is_logged}
-pub use Rattle.law_log.proofs.Imports.{is_second, is_under_way, key_at, last_copy, link_named, log_plain, map, moved_as, nat_cmp, nat_cmp_total, no_progress}
-pub use Rattle.law_log.proofs.Imports.{opened, other_in, pending_on, post_of, progress_on, proposed, put_apart, put_same, puts_entry, raised, ranked, reacts}
-pub use Rattle.law_log.proofs.Imports.{same_block, sender, server_state, setting_of, silent, stamped, start, state_in, stays, subject_of, tells, tied_itself}
-pub use Rattle.law_log.proofs.Imports.{wakes, with_copied, with_copying, with_full, with_last_copy, with_opened, with_page, with_progress, without_copying}
-pub use Rattle.law_log.proofs.Imports.{without_pending, world_after}
+pub use Rattle.law_log.proofs.Imports.{Far, Firm, HasProperTuple, HasProperTuples, IsSettledState, IsSound, JobContext, JobResult, Key, LastCopy, LastOp}
+pub use Rattle.law_log.proofs.Imports.{Letter, Life, Log, NextCopy, Pending, Post, Reaction, Script, Step, Stored, Wait, about, above, acts, all_put_apart}
+pub use Rattle.law_log.proofs.Imports.{awake, begins_copy, blanked, cell_at, cell_holder, cell_of, chain_in, client_sender, closes, copying_on, ended, ends}
+pub use Rattle.law_log.proofs.Imports.{eq_by_cmp, fill_operation, finishes, gives_back, has_proposed, holds_link, id_of, idle_mark, is_eq, is_flagged}
+pub use Rattle.law_log.proofs.Imports.{is_logged, is_second, is_under_way, key_at, last_copy, link_named, log_plain, map, moved_as, nat_cmp, nat_cmp_total}
+pub use Rattle.law_log.proofs.Imports.{no_progress, opened, other_in, pending_on, post_of, progress_on, proposed, put_apart, put_same, puts_entry, raised}
+pub use Rattle.law_log.proofs.Imports.{ranked, reacts, same_block, sender, server_state, setting_of, silent, stamped, start, state_in, stays, subject_of}
+pub use Rattle.law_log.proofs.Imports.{tells, tied_itself, wakes, with_copied, with_copying, with_full, with_last_copy, with_opened, with_page, with_progress}
+pub use Rattle.law_log.proofs.Imports.{without_copying, without_pending, world_after}
 unfoldable pub use Rattle.law_log.proofs.Imports.{next_copy, put_at}
-pub use Rattle.law_steps.specs.Imports.{Busy, IsBelow, MarkKind, Nothing, Paired, Sender, Stage, Stale, StaysSo, Subject, Table, acts, before_blanks}
-pub use Rattle.law_steps.specs.Imports.{cell_cmp, crossed, epochs_beyond, epochs_of, follows, holder_of, least, letters_of, live, marked_blocks, marks}
-pub use Rattle.law_steps.specs.Imports.{next_stage, operation, puts, settled_by, stage_at, unmarks, with_last, with_paired, with_pending, with_reserved}
-pub use Rattle.law_steps.specs.Imports.{without_dead, without_entry, without_mark_on}
+pub use Rattle.law_steps.specs.Imports.{Busy, IsBelow, MarkKind, Nothing, Paired, Sender, Stage, Stale, StaysSo, Subject, Table, before_blanks, cell_cmp}
+pub use Rattle.law_steps.specs.Imports.{crossed, epochs_beyond, epochs_of, follows, holder_of, least, letters_of, live, marked_blocks, marks, next_stage}
+pub use Rattle.law_steps.specs.Imports.{operation, puts, settled_by, stage_at, unmarks, with_last, with_paired, with_pending, with_reserved, without_dead}
+pub use Rattle.law_steps.specs.Imports.{without_entry, without_mark_on}
 pub use Rattle.law_steps.proofs.Imports.{ByBoth, ByNone, ByOne, Chain, Greater, HasDied, HasStarted, IsCaughtStill, IsSteady, Less, Logged, Mark, Ordering}
 pub use Rattle.law_steps.proofs.Imports.{Pairs, Store, alone_row, at-empty, at-where, blocks_left, cell_apart, cell_cmp_same, cell_cmp_total, cell_gone}
 pub use Rattle.law_steps.proofs.Imports.{cell_gone_apart, cell_same, dies, either_false, ends_cell, ends_link, found_at, front_plain, history_grows}
@@ -55,7 +55,7 @@ pub use Rattle.law_jobs.proofs.ChainsApart.{page_chains}
 pub use Rattle.law_jobs.proofs.CountsGrow.{did_count}
 pub use Rattle.law_jobs.proofs.JobsAreEffects.{job_keeps}
 pub use Rattle.law_jobs.proofs.JobsKeepChains.{chains_keep}
-pub use Rattle.law_jobs.proofs.JobsSay.{letters_of_job, none_in}
+pub use Rattle.law_jobs.proofs.JobsSay.{letters_of_job}
 pub use Rattle.law_jobs.proofs.MarksApart.{mark_beside, mark_kept, mark_there, stale_kept, unmark_apart, unmark_beside, unmark_none}
 pub use Rattle.law_jobs.proofs.Runs.{At, OneMore, Run, before_part, by_run, firm_in, grown_in, happened_in, longer, more_of, run_of, setting_in, since}
 pub use Rattle.law_jobs.specs.Effects.{Counts, Effect, IsCopiedFor, Is_begun, Is_copied, Is_further, May, applied}
@@ -94,7 +94,7 @@ pub use Rattle.law_steps.proofs.IdleServers.{logged_apart}
 pub use Rattle.law_steps.proofs.InvertHolder.{untrue}
 pub use Rattle.law_steps.proofs.InvertLead.{is_copying}
 pub use Rattle.law_steps.proofs.KindsInHistories.{own_steady}
-pub use Rattle.law_steps.proofs.Letters.{one_post, posted, said}
+pub use Rattle.law_steps.proofs.Letters.{said}
 pub use Rattle.law_steps.proofs.ListPlaces.{parted}
 pub use Rattle.law_steps.proofs.LogHistories.{chosen_join_acts, join_has_begun, join_was_wanted}
 pub use Rattle.law_steps.proofs.OneWorld.{proposed_as}
@@ -107,13 +107,13 @@ pub use Rattle.law_steps.proofs.Ties.{running_fronts, stays_alone, stays_both}
 pub use Rattle.law_steps.proofs.WakingGoesOn.{may_wake}
 pub use Rattle.law_steps.proofs.WhoLeads.{lead_links, led_by_link, live_stage, stage_live}
 pub use Rattle.law_steps.specs.DidSecond.{with_tickets}
-pub use Rattle.law_steps.specs.DidStep.{Blanks, By_ballot, By_entry, By_job, Ends, Fails, Goes, IsBallotFor, IsSeated, Serves, Serving, Starts, Stays, Turns}
-pub use Rattle.law_steps.specs.DidStep.{Wakes, Worked, served_so, shown_so, stopped_so, without_rev}
+pub use Rattle.law_steps.specs.DidStep.{Blanks, By_ballot, By_entry, By_job, Ends, Fails, Goes, IsBallotFor, IsSeatedOrMute, Serves, Serving, Starts, Stays}
+pub use Rattle.law_steps.specs.DidStep.{Turns, Wakes, Worked, served_so, shown_so, stopped_so, without_rev}
 pub use Rattle.law_steps.specs.DidSweep.{cell_swept}
 pub use Rattle.law_steps.specs.Operations.{putting}
 pub use Rattle.law_steps.specs.ProposedCommands.{WasReturning}
 pub use Rattle.law_steps.specs.WakingServers.{AllMayWake}
-pub use Rattle.petal_msg.specs.Kinds.{Answered, Read_asked, Write_asked, is_paired}
+pub use Rattle.petal_msg.specs.Kinds.{Read_asked, Write_asked, is_paired}
 pub use Rattle.petal_msg.specs.declared.operation.Far.TheVariants.{Replicated, Reserved}
 pub use Rattle.spec_history.specs.Claims.{AreCovered, Covered, MarksFirst, TwoCopies, is_at_work}
 pub use Rattle.spec_rules.proofs.Applied.{rev_after}

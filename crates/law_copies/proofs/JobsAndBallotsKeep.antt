@@ -1,5 +1,5 @@
 -- What a job, and a ballot that is started, keeps by itself.
-use Rattle.law_copies.proofs.Imports.{[], ◌+◌, ◌∙◌, ◌≡◌, ◌≢◌, ◌≤◌, Both, Caught, Cell, Command, Did, Handled, In, IsMarked, IsPlainState, IsRising}
+use Rattle.law_copies.proofs.Imports.{[], ◌+◌, ◌∙◌, ◌≡◌, ◌≢◌, ◌≤◌, Both, Caught, Cell, Command, Did, Handled, In, IsMarked, IsRising, IsSettledState}
 use Rattle.law_copies.proofs.Imports.{JobContext, JobResult, LinkId, LinkRow, List, None, Option, PairState, Pairs, Post, Some, Starts, Store, ap, arith, at}
 use Rattle.law_copies.proofs.Imports.{both, cell_cmp, cell_link, chain_in, chosen_log, did_count, eq_by_cmp, false, front_plain, holder_of, holds_link, id_of}
 use Rattle.law_copies.proofs.Imports.{inl, is_between, is_logged, is_marked, link_cmp, link_named, log_plain, logged_apart, nat_cmp, own_place, progress}
@@ -39,7 +39,7 @@ module _ (it : AtSeat) where
   abbrev own : PairState
   own = (w.servers k).own
 
-  plain_here : IsPlainState setting.servers (server_state setting w k)
+  plain_here : IsSettledState setting.servers (server_state setting w k)
   plain_here = log_plain setting.servers (w.servers k).log.applied
       (front_plain setting.servers (w.servers k).log.applied (chosen_log setting w) firm.plain (firm.servers k))
 

@@ -1,12 +1,13 @@
 -- What a step of the first server of a cell in Both keeps of its two copies.
 use Rattle.law_copies.proofs.Imports.{◌+◌, ◌∙◌, ◌≡◌, ◌≢◌, ◌≤◌, Action, Body, Busy, Cell, Chain, Closes, Closes_alone, DidLead, Gives_up, Goes_on_dead}
 use Rattle.law_copies.proofs.Imports.{IsReady, Is_full, JobContext, JobResult, Marks, Marks_alone, None, Opens, Opens_alone, Opens_fill, Opens_fill_alone}
-use Rattle.law_copies.proofs.Imports.{PairState, Pending, Puts, Puts_alone, Some, Stage, Stale, Store, Taken, Unmarks, Unmarks_alone, about, acts, ap, arith}
-use Rattle.law_copies.proofs.Imports.{at, both_not_alone, by_test, cell_apart, cell_cmp, cell_gone, cell_gone_apart, cell_of, cell_same, chain_apart}
-use Rattle.law_copies.proofs.Imports.{chain_in, chain_put, copying, ends, false, fill_operation, finishes, gives_back, has_proposed, inl, inr, is_alone_on}
-use Rattle.law_copies.proofs.Imports.{live, marks, nat_cmp, next_stage, of_ending, operation, put, put_put, puts, putting, refl, same_cell_or_apart, second}
-use Rattle.law_copies.proofs.Imports.{so_both, stage_live, subst, sym, taking, true, true_false, unmarks, version_of, waiting, with_mark_at, with_opened}
-use Rattle.law_copies.proofs.Imports.{with_paired, with_pending, with_reserved, without, without_pending, ℕ}
+use Rattle.law_copies.proofs.Imports.{PairState, Pending, Puts, Puts_alone, Some, Stage, Stale, Store, Taken, Unmarks, Unmarks_alone, about, ap, arith, at}
+use Rattle.law_copies.proofs.Imports.{both_not_alone, by_test, cell_apart, cell_cmp, cell_gone, cell_gone_apart, cell_of, cell_same, chain_apart, chain_in}
+use Rattle.law_copies.proofs.Imports.{chain_put, copying, ends, false, fill_operation, finishes, gives_back, has_proposed, inl, inr, is_alone_on, live, marks}
+use Rattle.law_copies.proofs.Imports.{nat_cmp, next_stage, of_ending, operation, put, put_put, puts, putting, refl, same_cell_or_apart, second, so_both}
+use Rattle.law_copies.proofs.Imports.{stage_live, subst, sym, taking, true, true_false, unmarks, version_of, waiting, with_mark_at, with_opened, with_paired}
+use Rattle.law_copies.proofs.Imports.{with_pending, with_reserved, without, without_pending, ℕ}
+use Rattle.spec_rules.specs.Writes.{acts}
 use Rattle.law_copies.specs.Pair.{pair_of, PairOk, Keeps, Known}
 use Rattle.law_copies.specs.Visits.{AliveIn}
 use Rattle.law_copies.proofs.CellInBoth.{CellInBoth}

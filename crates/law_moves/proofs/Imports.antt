@@ -10,7 +10,7 @@ pub use Rattle.law_state.proofs.Imports.{fold, in-append, in_both, in_former, in
 pub use Rattle.law_state.proofs.Imports.{length-append, link_of, links_of, map, nat_lt, nat_tests, none_some, not, number_itself, option_and_then, option_map}
 pub use Rattle.law_state.proofs.Imports.{option_map_or, range_with_len, refl, row_authority, row_lead, same_numbers, same_or_apart, same_some, second}
 pub use Rattle.law_state.proofs.Imports.{some_or_none, subst, sym, touches, true, true_false, unwrap_or, ℕ}
-pub use Rattle.law_log.proofs.Imports.{◌||◌, Acted, AreSteps, Body, Copies, Copying, Dead, Ending, Entry, Equal, Firm, IsPlainLog, IsSound, JobContext}
+pub use Rattle.law_log.proofs.Imports.{◌||◌, Acted, AreSteps, Body, Copies, Copying, Dead, Ending, Entry, Equal, Firm, HasProperTuples, IsSound, JobContext}
 pub use Rattle.law_log.proofs.Imports.{JobResult, Key, LastCopy, Letter, Log, Moving, Pending, Post, Script, Step, Stored, about, all_put, awake, blanked}
 pub use Rattle.law_log.proofs.Imports.{cell_holder, cell_of, chain_in, client_sender, copying_on, devices, down_posts, ended, eq_by_cmp, fill_of, flat_map}
 pub use Rattle.law_log.proofs.Imports.{gives_back, has_proposed, holds_link, id_of, is_eq, is_flagged, is_logged, is_second, key_at, last_copy, last_on}
@@ -36,14 +36,15 @@ pub use Rattle.law_jobs.proofs.Imports.{Unmarks_alone, always_firm, at_apart, at
 pub use Rattle.law_jobs.proofs.Imports.{same_cell_or_apart, same_itself, same_on, start_rests, stood, taking}
 pub use Rattle.law_copies.specs.Imports.{WasStarted, blank_joins_in, is_between, kept_store, one_put_ahead}
 pub use Rattle.law_copies.proofs.Imports.{At, BeforeBlank, Blanks, By_ballot, By_caught, By_entry, By_job, By_join, By_leave, Effect, Ends, Fails, Fills}
-pub use Rattle.law_copies.proofs.Imports.{Goes, HasJoinedSince, IsCaughtBy, IsInBoth, IsSeated, May, Serves, Serving, Starts, Stays, Stood, Turns, Wakes}
-pub use Rattle.law_copies.proofs.Imports.{Worked, Writes, applied, before_part, below_itself, by_run, cell_swept, chain_apart, chain_put, chosen_caught_was}
-pub use Rattle.law_copies.proofs.Imports.{copied_chains, counted, counted_by, did_come, drop_apart, drop_none, either_true, first_by, first_state}
-pub use Rattle.law_copies.proofs.Imports.{front_itself, front_long, front_more, front_on, front_within, happened_in, job_keeps, joined_counts, joined_since}
-pub use Rattle.law_copies.proofs.Imports.{kept, kept_by, letters_of_job, link_led_by, live_stage, log_both_place, log_grown, log_lost, log_touched, longer}
-pub use Rattle.law_copies.proofs.Imports.{lost_not_both, none_before_none, of_ending, of_filler, on_row, one_before, one_front, page_chains, past_link}
-pub use Rattle.law_copies.proofs.Imports.{places_grow, primary_is_one, row_joined, run_of, running_fronts, said, second_by, secondary_is_one, setting_in}
-pub use Rattle.law_copies.proofs.Imports.{since, split_last, stage_live, start_plain, stays_alone, stays_both, told_own, tuple_on, turned_asks, without_rev}
+pub use Rattle.law_copies.proofs.Imports.{Goes, HasJoinedSince, IsCaughtBy, IsInBoth, IsSeatedOrMute, May, Serves, Serving, Starts, Stays, Stood, Turns}
+pub use Rattle.law_copies.proofs.Imports.{Wakes, Worked, Writes, applied, before_part, below_itself, by_run, cell_swept, chain_apart, chain_put}
+pub use Rattle.law_copies.proofs.Imports.{chosen_caught_was, copied_chains, counted, counted_by, did_come, drop_apart, drop_none, either_true, first_by}
+pub use Rattle.law_copies.proofs.Imports.{first_state, front_itself, front_long, front_more, front_on, front_within, happened_in, in_none, job_keeps}
+pub use Rattle.law_copies.proofs.Imports.{joined_counts, joined_since, kept, kept_by, letters_of_job, link_led_by, live_stage, log_both_place, log_grown}
+pub use Rattle.law_copies.proofs.Imports.{log_lost, log_touched, longer, lost_not_both, none_before_none, of_ending, of_filler, on_row, one_before, one_front}
+pub use Rattle.law_copies.proofs.Imports.{page_chains, past_link, places_grow, primary_is_one, row_joined, run_of, running_fronts, said, second_by}
+pub use Rattle.law_copies.proofs.Imports.{secondary_is_one, setting_in, since, split_last, stage_live, start_plain, stays_alone, stays_both, told_own}
+pub use Rattle.law_copies.proofs.Imports.{tuple_on, turned_asks, without_rev}
 pub use Rattle.law_epochs.proofs.Imports.{AliveIn, IsAt, IsLinked, IsTouchedBy, WasThere, at_by, at_most_or_above, ballot_store, is_at, is_at_so, log_dead}
 pub use Rattle.law_epochs.proofs.Imports.{next_comes, own_plain, place_by, place_of_later, place_touched, proper, proposed_pairs, runs_at, stage_facts}
 pub use Rattle.law_epochs.proofs.Imports.{stands_in}
@@ -91,7 +92,6 @@ pub use Rattle.law_state.proofs.Steady.{below}
 pub use Rattle.law_state.proofs.TwinsAreOfOneDisk.{IsMoved, cells_same, goal_same, gone_twin, log_comes, log_goes, source_same, start_same, twins_later}
 pub use Rattle.law_state.specs.LaterStates.{KeepsRoles}
 pub use Rattle.law_state.specs.NotedLinks.{HasMovedIn}
-pub use Rattle.law_steps.proofs.CopiesRest.{in_none}
 pub use Rattle.law_steps.proofs.EntriesReachComingCells.{comes_after, start_comes}
 pub use Rattle.law_steps.proofs.FillsByJobs.{IsOpenedFill, Is_next, Is_other, did_fills, is_fill}
 pub use Rattle.law_steps.proofs.MovesAreOfComingCells.{leaves_with, next_on, region_left}

@@ -1,12 +1,12 @@
 -- What the laws below say of the world after a legal history: who serves a link at later fronts, whose store counts, and what the two servers of a
 -- link have.
-use Rattle.law_moves.proofs.Imports.{◌<◌, ◌∙◌, ◌≡◌, ◌≤◌, ◌⊎◌, AliveIn, AreTwins, Bool, Both, Cell, Command, Firm, Good, HasJoinedSince, HasStage, IsBelow}
-use Rattle.law_moves.proofs.Imports.{IsLast, IsLinked, IsOwn, IsPlainLog, IsPrefix, IsServing, IsSteady, Join, KeepsRoles, LinkRow, List, PairState, Pairs}
-use Rattle.law_moves.proofs.Imports.{Rests, Run, Some, State, Store, WasThere, after_front, always_firm, arith, blank_joins_in, cell_link, chosen_state}
-use Rattle.law_moves.proofs.Imports.{counted, end_of, false, front_itself, front_plain, has_server, history_is_firm, in_own, inl, inr, is_in, join_was_wanted}
-use Rattle.law_moves.proofs.Imports.{joined_counts, joined_since, kept, kept_after, log_below, log_roles, log_steady, own_by, place_by, places_up, refl}
-use Rattle.law_moves.proofs.Imports.{rests_after, runs_at, serves, stage_at, stage_facts, stands_in, start, start_rests, stays_filled, sym, true, true_false}
-use Rattle.law_moves.proofs.Imports.{ℕ}
+use Rattle.law_moves.proofs.Imports.{◌<◌, ◌∙◌, ◌≡◌, ◌≤◌, ◌⊎◌, AliveIn, AreTwins, Bool, Both, Cell, Command, Firm, Good, HasJoinedSince, HasProperTuples}
+use Rattle.law_moves.proofs.Imports.{HasStage, IsBelow, IsLast, IsLinked, IsOwn, IsPrefix, IsServing, IsSteady, Join, KeepsRoles, LinkRow, List, PairState}
+use Rattle.law_moves.proofs.Imports.{Pairs, Rests, Run, Some, State, Store, WasThere, after_front, always_firm, arith, blank_joins_in, cell_link}
+use Rattle.law_moves.proofs.Imports.{chosen_state, counted, end_of, false, front_itself, front_plain, has_server, history_is_firm, in_own, inl, inr, is_in}
+use Rattle.law_moves.proofs.Imports.{join_was_wanted, joined_counts, joined_since, kept, kept_after, log_below, log_roles, log_steady, own_by, place_by}
+use Rattle.law_moves.proofs.Imports.{places_up, refl, rests_after, runs_at, serves, stage_at, stage_facts, stands_in, start, start_rests, stays_filled, sym}
+use Rattle.law_moves.proofs.Imports.{true, true_false, ℕ}
 use Rattle.law_moves.proofs.PlacesAreVisits.{seen_after, were}
 
 pub row_serving : (state : State) (n : ℕ) (cell : Cell) (row : LinkRow) → cell_link state cell ≡ Some row → has_server n row ≡ true
@@ -38,7 +38,7 @@ module _ (it : Run) where
   pub rests : Rests setting w
   rests = rests_after setting (start setting) records (always_firm script records sound legal) (start_rests script) legal
 
-  pub plain_at : (front : List Command) → IsPrefix front chosen → IsPlainLog script.servers front
+  pub plain_at : (front : List Command) → IsPrefix front chosen → HasProperTuples script.servers front
   plain_at front lies = front_plain script.servers front chosen firm.plain lies
 
   pub steady_at : (front : List Command) → IsPrefix front chosen → IsSteady (By front)

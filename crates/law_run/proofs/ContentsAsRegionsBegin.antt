@@ -1,7 +1,7 @@
 -- What is chosen grows: by which cells a block's content is told after a step, and before it. A region that begins its way has what counted at the
 -- old map, and one that has come has at the new one all that was frozen.
 use Rattle.law_run.proofs.Imports.{if◌then◌else◌, ◌&&◌, ◌||◌, ◌∙◌, ◌≡◌, ◌≤◌, ◌⊎◌, AreDisks, Bool, Cell, Chain, DiskRow, Has, HasRowLater, HasStage, In}
-use Rattle.law_run.proofs.Imports.{IsPlainState, None, Option, Some, Stored, ap, arith, authority, begins_to_leave, by_bool, bytes_of, cases_lt, chain_in}
+use Rattle.law_run.proofs.Imports.{IsSettledState, None, Option, Some, Stored, ap, arith, authority, begins_to_leave, by_bool, bytes_of, cases_lt, chain_in}
 use Rattle.law_run.proofs.Imports.{chain_that_counts, content_at, counted, disk_at, disk_on, entry_at, entry_before, entry_by, entry_of, false, first_entry}
 use Rattle.law_run.proofs.Imports.{get_in, has_content_at, has_map, inl, inr, is_some, kept, leaving, log_twins, map_made, named_cell, none_some, not}
 use Rattle.law_run.proofs.Imports.{old_cell, option_and_then, option_map, refl, same_some, stage_at, stage_facts, sym, true, true_false, ℕ}
@@ -17,7 +17,7 @@ use Rattle.law_run.proofs.EventsOfServerSteps.{ServerStep, ends_of, grounded, un
 module _ (this : ServerStep) where
   open ends_of this use {v, top, end, chosen, after}
 
-  plain_after : IsPlainState this.setting.servers after
+  plain_after : IsSettledState this.setting.servers after
   plain_after = plain_now this.setting v this.next.firm
 
   disks_then : AreDisks chosen

@@ -1,7 +1,7 @@
 -- What is chosen grows: whose copy of a cell counts after the step, and what becomes of its entries. Where the cell's second server leaves, and
 -- the first one is one put ahead, the first one's write is taken; and where a link is in Both again, or held by the other server, the copies are equal.
 use Rattle.law_run.proofs.Imports.{[], ◌++◌, ◌+◌, ◌<◌, ◌==◌, ◌∙◌, ◌∷◌, ◌≡◌, ◌≢◌, ◌≤◌, ◌⊎◌, AliveIn, AreTwins, Bool, Both, ByBoth, ByNone, ByOne, Cell, Chain}
-use Rattle.law_run.proofs.Imports.{Good, IsCaughtStill, IsFrozen, IsLast, IsLater, IsLinked, IsOpen, IsPlainLog, IsSteady, IsTimely, LinkRow, Lost, None}
+use Rattle.law_run.proofs.Imports.{Good, HasProperTuples, IsCaughtStill, IsFrozen, IsLast, IsLater, IsLinked, IsOpen, IsSteady, IsTimely, LinkRow, Lost, None}
 use Rattle.law_run.proofs.Imports.{Only, PairState, Pending, Some, Store, Stored, WasThere, alone_authority, ap, arith, asked_for, at, authority}
 use Rattle.law_run.proofs.Imports.{both_authority, by_bool, cell_cmp, chain_in, chosen_steady, counted, counted_by, entry_at, entry_by, entry_of, epoch_at}
 use Rattle.law_run.proofs.Imports.{false, far, front_itself, front_long, front_more, front_on, half, half_store, has_server, holder_is_one, inl, inr}
@@ -22,7 +22,7 @@ use Rattle.law_run.proofs.FirstIsOneAhead.{copied_low}
 module _ (this : ServerStep) (same_store : (new this).store.chains ≡ (owns_of this.w this.n).store.chains) where
   open ends_of this use {v, top, end, chosen, after}
 
-  abbrev plain_end : IsPlainLog this.setting.servers end
+  abbrev plain_end : HasProperTuples this.setting.servers end
   plain_end = this.next.firm.plain
 
   pub steady : IsSteady chosen

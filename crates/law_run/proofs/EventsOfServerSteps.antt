@@ -1,6 +1,6 @@
 -- What the machine is told of a server's step: takes, disks that are made, snapshots that are taken, and looks.
 use Rattle.law_run.proofs.Imports.{[], ◌++◌, ◌<◌, ◌∙◌, ◌∷◌, ◌≡◌, ◌≢◌, Acted, AllMayWake, AreEarly, Body, By_ballot, By_entry, By_job, Cell, Chain, Command}
-use Rattle.law_run.proofs.Imports.{DiskRow, Ends, Event, Fails, Firm, Goes, Good, Handled, In, IsBelow, IsGrown, IsOwn, IsPlainState, IsPrefix, JobContext}
+use Rattle.law_run.proofs.Imports.{DiskRow, Ends, Event, Fails, Firm, Goes, Good, Handled, In, IsBelow, IsGrown, IsOwn, IsPrefix, IsSettledState, JobContext}
 use Rattle.law_run.proofs.Imports.{JobResult, Letter, List, Log, None, Obeys, Option, PairState, Plain, Record, Server, Serving, Setting, Some, State, Stays}
 use Rattle.law_run.proofs.Imports.{Step, Store, Visits, Wakes, Worked, World, acts, all_put, ap, arith, at_row, authority, before_blanks, begins_to_leave}
 use Rattle.law_run.proofs.Imports.{blank_joins_in, by_test, chain_in, chain_that_counts, change_by, chosen_log, chosen_state, counted, counted_by, entry_at}
@@ -151,7 +151,7 @@ module _ (this : ServerStep) where
     front = (this.w.servers this.n).log.applied;
   }
 
-  pub plain_chosen : IsPlainState this.setting.servers (chosen_state this.setting this.w)
+  pub plain_chosen : IsSettledState this.setting.servers (chosen_state this.setting this.w)
   plain_chosen = plain_now this.setting this.w this.along.firm
 
   -- ### Servers

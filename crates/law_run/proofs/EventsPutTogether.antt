@@ -1,6 +1,6 @@
 -- What the machine is told of a server's step, put together: takes, then disks that are made, then snapshots that are taken, then looks.
 use Rattle.law_run.proofs.Imports.{[], ◌++◌, ◌==◌, ◌∙◌, ◌≡◌, ◌≤◌, AreDisks, AreSnapshots, Bool, Cell, Chain, DiskRow, Event, Holds, In, IsLaterDisk}
-use Rattle.law_run.proofs.Imports.{IsPlainState, List, None, Obeys, Option, Plain, Snapshot, Some, State, Stored, ap, append-nil, arith, authority, by_bool}
+use Rattle.law_run.proofs.Imports.{IsSettledState, List, None, Obeys, Option, Plain, Snapshot, Some, State, Stored, ap, append-nil, arith, authority, by_bool}
 use Rattle.law_run.proofs.Imports.{bytes_of, chain_in, chosen_state, content_at, counted, disk_at, disk_of, entry_at, entry_before, entry_by, entry_of}
 use Rattle.law_run.proofs.Imports.{epoch_at, false, find_none, first_entry, flat_map, found_at, fresh_rows, get_in, has_content_at, has_map, in-append}
 use Rattle.law_run.proofs.Imports.{in_former, in_get, in_later, in_map, in_mapped, in_none, inl, inr, is_disk, is_some, kept, later_place, later_rows, length}
@@ -35,10 +35,10 @@ module _ (this : ServerStep) where
   abbrev more : List DiskRow
   more = later_rows before after
 
-  one : IsPlainState this.setting.servers before
+  one : IsSettledState this.setting.servers before
   one = plain_now this.setting this.w this.along.firm
 
-  two : IsPlainState this.setting.servers after
+  two : IsSettledState this.setting.servers after
   two = plain_now this.setting v this.next.firm
 
   abbrev has : DiskRow → (epoch block : ℕ) → Bool

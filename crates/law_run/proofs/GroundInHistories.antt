@@ -1,7 +1,7 @@
 -- The ground of a legal history is there at its beginning, and each step of it keeps it.
 use Rattle.law_run.proofs.Imports.{[], ◌++◌, ◌∙◌, ◌∷◌, ◌≡◌, ◌⊎◌, AllMayWake, AllStarted, AreSteps, AskingAlong, At, Caught, Cell, Command, Firm, Follows}
-use Rattle.law_run.proofs.Imports.{Good, Happens, In, IsGrown, IsOwn, IsPlainLog, IsPrefix, IsSound, IsSteady, KeepsOn, KnowsReports, List, OneMore, Option}
-use Rattle.law_run.proofs.Imports.{PairState, Ready, Record, Run, Script, Setting, Some, State, World, ap, at_by, blank_joins_in, by_run, by_test}
+use Rattle.law_run.proofs.Imports.{Good, Happens, HasProperTuples, In, IsGrown, IsOwn, IsPrefix, IsSound, IsSteady, KeepsOn, KnowsReports, List, OneMore}
+use Rattle.law_run.proofs.Imports.{Option, PairState, Ready, Record, Run, Script, Setting, Some, State, World, ap, at_by, blank_joins_in, by_run, by_test}
 use Rattle.law_run.proofs.Imports.{chosen_caught_was, chosen_log, chosen_state, counted, early_after, firm_in, firm_then, first_lives, follows_in, front_on}
 use Rattle.law_run.proofs.Imports.{grown_in, grown_then, happens, happens_asking, happens_later, in_counts, in_own, inl, inr, is_in, lives_after, log_below}
 use Rattle.law_run.proofs.Imports.{log_grown, log_plain, log_steady, longer, may_wake, more_lives, none_chosen, none_some, one_more, pending_timely, place_by}
@@ -29,7 +29,7 @@ epochs_after script records sound legal = record {
   early = early_after script records sound legal;
 }
 
-module _ (script : Script) (sound : IsSound script) (whole : List Command) (all : IsPlainLog (setting_of script).servers whole) where
+module _ (script : Script) (sound : IsSound script) (whole : List Command) (all : HasProperTuples (setting_of script).servers whole) where
   abbrev setting : Setting
   setting = setting_of script
 
@@ -227,13 +227,13 @@ first_ground state script sound ready wake = record {
 -- ### Of a run
 
 -- the footing of a world, after the run's records
-pub record IsFooted (run : Run) (whole : List Command) (all : IsPlainLog run.script.servers whole) (w : World) : Type 0 where
+pub record IsFooted (run : Run) (whole : List Command) (all : HasProperTuples run.script.servers whole) (w : World) : Type 0 where
   pub footing : Footing run.script run.sound whole all w
   pub records_are : footing.ground.records ≡ run.records
 
 -- in view of a log, of which what is chosen is a front
 abbrev FootedBelow : Run → Type 0
-FootedBelow run = (whole : List Command) (all : IsPlainLog run.script.servers whole) → IsPrefix (chosen_log (setting_in run) (after run)) whole
+FootedBelow run = (whole : List Command) (all : HasProperTuples run.script.servers whole) → IsPrefix (chosen_log (setting_in run) (after run)) whole
     → IsFooted run whole all (after run)
 
 footed_first : (script : Script) (sound : IsSound script) (legal : AreSteps script []) → FootedBelow (run_of script sound [] legal)
@@ -245,12 +245,12 @@ footed_first script sound legal whole all front =
     record { footing = record { ground = first.now; known = first.known; lives_are = first.lives_are }; records_are = first.records_are }
 
 -- one record on
-pub record IsOn (it : OneMore) (whole : List Command) (all : IsPlainLog it.prior.script.servers whole) (v : World) : Type 0 where
+pub record IsOn (it : OneMore) (whole : List Command) (all : HasProperTuples it.prior.script.servers whole) (v : World) : Type 0 where
   pub footing : Footing it.prior.script it.prior.sound whole all v
   pub records_are : footing.ground.records ≡ (longer it).records
   pub middle : IsMiddle (setting_in it.prior) (after it.prior) v footing.ground.records footing.ground.good.visits
 
-pub footed_on : (it : OneMore) (whole : List Command) (all : IsPlainLog it.prior.script.servers whole)
+pub footed_on : (it : OneMore) (whole : List Command) (all : HasProperTuples it.prior.script.servers whole)
     → IsPrefix (chosen_log (setting_in it.prior) (after (longer it))) whole → FootedBelow it.prior
     → IsOn it whole all (stepped (setting_in it.prior) (after it.prior) it.own).world
 footed_on it whole all front old =

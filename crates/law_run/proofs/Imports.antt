@@ -18,7 +18,7 @@ pub use Rattle.law_state.proofs.Imports.{is_the_one, is_the_so, map, map_asked, 
 pub use Rattle.law_state.proofs.Imports.{option_map, option_map_or, range_with_len, readable, region_at, same_name, same_numbers, same_or_apart, same_some}
 pub use Rattle.law_state.proofs.Imports.{second, slice_get, slice_get_within, some_or_none, source_in, touches, true_false, unwrap_or, view_of}
 pub use Rattle.law_log.proofs.Imports.{Acted, Actor, After, Answer, AreSteps, AreStepsFrom, Asked, Before, Blank, Body, Boot, Call, Client, Deliver, Ending}
-pub use Rattle.law_log.proofs.Imports.{Equal, Firm, IsPlainLog, IsPlainState, IsSound, Job, JobContext, JobResult, Key, LastCopy, Letter, Log, LogDone}
+pub use Rattle.law_log.proofs.Imports.{Equal, Firm, HasProperTuples, IsSettledState, IsSound, Job, JobContext, JobResult, Key, LastCopy, Letter, Log, LogDone}
 pub use Rattle.law_log.proofs.Imports.{MayActor, OpKind, Pending, Post, Reaction, Sight, Step, StopIn, Stored, Work, WorkEnd, about, acts, all_put}
 pub use Rattle.law_log.proofs.Imports.{all_put_apart, answers, awake, blanked, boots, cell_of, chain_in, client_sender, client_state, client_step, command_of}
 pub use Rattle.law_log.proofs.Imports.{copying_on, crossing, down_posts, ended, ends, entered, epoch_for, fill_operation, first_wanted, gives_back}
@@ -45,46 +45,44 @@ pub use Rattle.law_jobs.proofs.Imports.{Opens_fill_alone, Puts, Puts_alone, Read
 pub use Rattle.law_jobs.proofs.Imports.{always_firm, at_apart, at_same, chains_with, dead_second, front_legal, of_read, of_sweep, own_place, rests_after}
 pub use Rattle.law_jobs.proofs.Imports.{same_cell_or_apart, start_rests, stood, taking, world_more}
 pub use Rattle.law_copies.specs.Imports.{IsRising, blank_joins_in, kept_store, no_pairs, one_put_ahead}
-pub use Rattle.law_copies.proofs.Imports.{AllMayWake, Answered, At, BeforeBlank, Blanks, By_ballot, By_caught, By_entry, By_job, By_join, By_leave, Ends}
-pub use Rattle.law_copies.proofs.Imports.{Ends_fill, Fails, Goes, HasJoinedSince, IsLater, IsSeated, Moves, Moves_on, OneMore, Run, Says, Serves, Serving}
-pub use Rattle.law_copies.proofs.Imports.{Stays, Turns, Wakes, Worked, alone_by, at_row, before_part, both_row, by_run, cases_lt, chain_apart, chain_put}
+pub use Rattle.law_copies.proofs.Imports.{AllMayWake, At, BeforeBlank, Blanks, By_ballot, By_caught, By_entry, By_job, By_join, By_leave, Ends, Ends_fill}
+pub use Rattle.law_copies.proofs.Imports.{Fails, Goes, HasJoinedSince, IsLater, IsSeatedOrMute, Moves, Moves_on, OneMore, Run, Says, Serves, Serving, Stays}
+pub use Rattle.law_copies.proofs.Imports.{Turns, Wakes, Worked, alone_by, at_row, before_part, both_row, by_run, cases_lt, chain_apart, chain_put}
 pub use Rattle.law_copies.proofs.Imports.{chosen_caught_was, counted, counted_by, either_true, firm_in, front_itself, front_long, front_more, front_on}
-pub use Rattle.law_copies.proofs.Imports.{get_in, grown_in, held_as_flag, in_get, is_at_work, kept, kept_by, lead_links, letters_of_job, live_stage}
-pub use Rattle.law_copies.proofs.Imports.{log_grown, log_lost, log_touched, longer, may_wake, of_ending, of_filler, of_holder, of_other, of_second}
-pub use Rattle.law_copies.proofs.Imports.{one_before, one_front, one_post, other_between, own_steady, places_grow, posted, primary_is_one, put_rises, putting}
+pub use Rattle.law_copies.proofs.Imports.{get_in, grown_in, held_as_flag, in_get, in_map, in_none, is_at_work, kept, kept_by, lead_links, letters_of_job}
+pub use Rattle.law_copies.proofs.Imports.{live_stage, log_grown, log_lost, log_touched, longer, may_wake, of_ending, of_filler, of_holder, of_other}
+pub use Rattle.law_copies.proofs.Imports.{of_second, one_before, one_front, other_between, own_steady, places_grow, primary_is_one, put_rises, putting}
 pub use Rattle.law_copies.proofs.Imports.{row_joined, run_of, said, second_by, secondary_is_one, served_so, setting_in, shown_so, stopped_so, turned_asks}
 pub use Rattle.law_copies.proofs.Imports.{without_rev}
 pub use Rattle.law_requests.specs.Imports.{done_to, line_by}
-pub use Rattle.law_requests.proofs.Imports.{Alone_has, Begins, Blanks_it, Both_have, By_operation, By_verdict, By_witness, Fails_it, Goes_on, Had_no_slot}
-pub use Rattle.law_requests.proofs.Imports.{Has_no_space, Heard, IsCalled, IsFinishedFor, IsJudged, IsReason, IsSeenAs, Is_dead, Is_declined, Is_settled}
-pub use Rattle.law_requests.proofs.Imports.{Is_told, Judges, OnlySays, Reads, Shown, Starts_it, StaysOpen, Stops_at, Stops_it, Turned, both_leads}
+pub use Rattle.law_requests.proofs.Imports.{Alone_has, Answered, Begins, Blanks_it, Both_have, By_operation, By_verdict, By_witness, Fails_it, Goes_on}
+pub use Rattle.law_requests.proofs.Imports.{Had_no_slot, Has_no_space, Heard, IsCalled, IsFinishedFor, IsJudged, IsReason, IsSeenAs, Is_dead, Is_declined}
+pub use Rattle.law_requests.proofs.Imports.{Is_settled, Is_told, Judges, OnlySays, Reads, Shown, Starts_it, StaysOpen, Stops_at, Stops_it, Turned, both_leads}
 pub use Rattle.law_requests.proofs.Imports.{chosen_steady, did_finish, disk_on, front_same, is_refused, leaving, led_by, own_below, own_plain, rests_in}
 pub use Rattle.law_requests.proofs.Imports.{runs_now, write_refusal}
 pub use Rattle.law_moves.specs.Imports.{HasNewer, IsFilledFrom, IsServing}
 pub use Rattle.law_moves.proofs.Imports.{AliveIn, AreCopies, AreCopying, AreTwins, Good, HasSent, IsAt, IsCaught, IsLast, IsLeft, IsLinked, IsOther, IsOwn}
-pub use Rattle.law_moves.proofs.Imports.{IsStaged, IsTold, PairOk, WasThere, Working, alive_on, alone_authority, alone_or_flagged, at_by, begins_to_leave}
-pub use Rattle.law_moves.proofs.Imports.{both_authority, both_last, both_since, chain_that_counts, far, fronts_meet, frozen_by, good_after, half, held_by}
-pub use Rattle.law_moves.proofs.Imports.{in_counts, in_own, joined_where, lead, linked_between, no_home, one_place, one_row, other_apart, other_than, pair_at}
-pub use Rattle.law_moves.proofs.Imports.{pair_of, place_by, place_of_later, place_touched, places_up, rows_later, source_same, stage_facts, stage_in}
-pub use Rattle.law_moves.proofs.Imports.{stage_is, start_good, step_goes, store_by, unseen_beyond}
+pub use Rattle.law_moves.proofs.Imports.{IsStaged, IsTold, PairOk, WasThere, Working, alive_on, alone_authority, alone_or_flagged, at_by, ballot_store}
+pub use Rattle.law_moves.proofs.Imports.{begins_to_leave, both_authority, both_last, both_since, chain_that_counts, far, fronts_meet, frozen_by, good_after}
+pub use Rattle.law_moves.proofs.Imports.{half, half_store, held_by, in_counts, in_kept, in_left, in_mapped, in_own, joined_where, lead, linked_between}
+pub use Rattle.law_moves.proofs.Imports.{no_home, one_place, one_row, other_apart, other_than, pair_at, pair_of, place_by, place_of_later, place_touched}
+pub use Rattle.law_moves.proofs.Imports.{places_up, rows_later, source_same, stage_facts, stage_in, stage_is, start_good, step_goes, store_by, unseen_beyond}
 pub use Rattle.std.proofs.Math.Seq.{drop-append_seam}
 pub use Rattle.std.proofs.lemmas.Cmp.{nat_list_eq_equiv}
 pub use Rattle.std.proofs.lemmas.List.{length-append}
 pub use Rattle.std.proofs.lemmas.List.Folds.{find-append}
 pub use Rattle.std.specs.List.{cons_option, filter_map}
 pub use Rattle.std.specs.Option.{option_or}
-pub use Rattle.law_copies.proofs.ChainsRise.{all_left, in_kept, in_left, in_mapped}
+pub use Rattle.law_copies.proofs.ChainsRise.{all_left}
 pub use Rattle.law_copies.proofs.CopiesInHistories.{KeepsOn, KeptAfter, start_visits}
 pub use Rattle.law_copies.proofs.LastCopies.{of_last, past_last, past_of}
 pub use Rattle.law_copies.proofs.LeftToCopy.{tied}
 pub use Rattle.law_copies.proofs.MarksPrecedePuts.{marks_first}
-pub use Rattle.law_copies.proofs.NewPlaces.{half_store}
 pub use Rattle.law_copies.proofs.OtherIsNotHolder.{held_not_lead}
 pub use Rattle.law_copies.proofs.PlacesByFronts.{dead_not, linked_alive}
 pub use Rattle.law_copies.proofs.RolesOfWorkers.{other_alone}
 pub use Rattle.law_copies.proofs.ServedAtLaterFronts.{AllStarted, been_below, holder_is_one, holds_since, reached_here}
 pub use Rattle.law_copies.proofs.StoreHistories.{always_empty}
-pub use Rattle.law_copies.proofs.StoreJobs.{ballot_store}
 pub use Rattle.law_copies.proofs.TwoCopyRules.{copies_after, covered_after}
 pub use Rattle.law_copies.specs.CopyProgress.{IsLastCopy, IsTrimming, links_of}
 pub use Rattle.law_copies.specs.LoneSteps.{IsLeftBy}
@@ -127,7 +125,6 @@ pub use Rattle.law_state.proofs.ErasRiseAfterReports.{log_unread}
 pub use Rattle.law_state.proofs.LaterDisks.{AreFresh, HasRowLater, fresh_rows, known_row, later_place, later_rows, old_or_new, stays_row}
 pub use Rattle.law_state.proofs.LinksAreNoted.{log_twins}
 pub use Rattle.law_state.proofs.ListLookups.{find_after, find_front, find_none, get_front, none_find, text_itself}
-pub use Rattle.law_state.proofs.NewMapLinks.{in_map}
 pub use Rattle.law_state.proofs.Owners.{epoch_in, epoch_is, home_later, map_made}
 pub use Rattle.law_state.proofs.Steady.{viewed}
 pub use Rattle.law_state.specs.Disks.{AreDisks}
@@ -137,8 +134,8 @@ pub use Rattle.law_state.specs.LinkRows.{IsBetween}
 pub use Rattle.law_state.specs.Tables.{IsGrown, IsLaterDisk, IsRowAt}
 pub use Rattle.law_steps.proofs.ClientLetters.{is_ask}
 pub use Rattle.law_steps.proofs.ClientStepKinds.{client_turns, is_call}
-pub use Rattle.law_steps.proofs.CopiesRest.{in_none}
 pub use Rattle.law_steps.proofs.KindsInHistories.{happens, ready_chosen, rests_next}
+pub use Rattle.law_steps.proofs.Letters.{one_post, posted}
 pub use Rattle.law_steps.proofs.LogJobs.{LogFrame, applied_entry, applied_none, letter_frame_of, start_frame_of}
 pub use Rattle.law_steps.proofs.Records.{split_fronts}
 pub use Rattle.law_steps.proofs.ServerStepKinds.{chosen_same, server_serves}

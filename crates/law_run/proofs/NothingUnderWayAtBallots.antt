@@ -1,7 +1,7 @@
 -- A server at work that has started a ballot for a Caught has nothing under way on the link: an operation would be held, and a copy was closed.
 -- And the two copies are equal while nothing touches the link.
 use Rattle.law_run.proofs.Imports.{◌++◌, ◌==◌, ◌∙◌, ◌≡◌, ◌≢◌, ◌⊎◌, AliveIn, AreCaughtUp, AreInAsThen, AreSteps, Bool, Both, Cell, Command, CopiesStayEqual}
-use Rattle.law_run.proofs.Imports.{CopiesWaitEqual, HasAppliedNone, HasDied, HasEqualCopies, IsAt, IsBetween, IsCatching, IsLast, IsPlainLog, IsPrefix}
+use Rattle.law_run.proofs.Imports.{CopiesWaitEqual, HasAppliedNone, HasDied, HasEqualCopies, HasProperTuples, IsAt, IsBetween, IsCatching, IsLast, IsPrefix}
 use Rattle.law_run.proofs.Imports.{IsSound, KeptAfter, LinkRow, List, None, Only, Option, PairOk, PairState, Record, Rests, Script, Server, Setting, Some}
 use Rattle.law_run.proofs.Imports.{State, StaysSo, Store, WasThere, World, alive_on, alone_by, always_firm, ap, arith, asking_along, at, at_by, both_true}
 use Rattle.law_run.proofs.Imports.{cell_cmp, cell_link, chain_in, chosen_log, chosen_state, copying_on, counted, false, front_itself, front_legal, front_on}
@@ -61,7 +61,7 @@ module _ (script : Script) (records : List Record) (sound : IsSound script) (leg
   abbrev chosen : List Command
   chosen = chosen_log setting w
 
-  plain : IsPlainLog script.servers chosen
+  plain : HasProperTuples script.servers chosen
   plain = (history_is_firm script records sound legal).plain
 
   legal_front : (front back : List Record) → records ≡ front ++ back → AreSteps script front

@@ -12,7 +12,7 @@ use Rattle.law_run.proofs.EntryAtEpoch.{AreUpTo}
 use Rattle.law_run.proofs.GroundGives.{never_dead}
 use Rattle.law_run.proofs.ReadsLookWhereSent.{Accepts, AreGrounded, ground_now, is_looked, who_accepts}
 use Rattle.law_run.proofs.ContentsAsked.{known_read, own_up_to, reader_serves, reads_old_is}
-use Rattle.law_run.proofs.DataLetters.{IsUnended, downs_unended, glances_unended, logged_unended, quiet_data, unended_no_data}
+use Rattle.law_run.proofs.DataLetters.{IsUnended, downs_unended, glances_unended, logged_unended, mute_data, unended_no_data}
 use Rattle.law_run.proofs.RunScenes.{Grounded}
 use Rattle.law_run.proofs.SearchesFindData.{IsAmong, in_data, some_data}
 use Rattle.petal_msg.specs.declared.body.Body.TheVariants as body
@@ -72,7 +72,7 @@ module _ (g : Grounded) (steady : IsSteady g.state) (y stamp : ℕ) (letter : Le
   job_shows done d runs h =
       let s = said (sender (own_place setting u y)) stamp 0 done.posts letter h in
       let never : NeverDead (own_place setting u y) (owns_of u y) = never_dead g steady y runs in
-      true_false (ap is_looked (sym s.body ∙ says)) (quiet_data (Handled u y) (own_place setting u y) (owns_of u y) never done d tt s.post s.there)
+      true_false (ap is_looked (sym s.body ∙ says)) (mute_data (Handled u y) (own_place setting u y) (owns_of u y) never done d tt s.post s.there)
 
   pub shows : (what : Step) (acted : Acted) → Serving setting u y what acted → In letter (stamped stamp acted.letters) → S
   shows what _ (Goes log done queue runs (By_job log' done' applied did seat) queued works) h = job_shows done did runs h
