@@ -63,8 +63,8 @@ cast_holds n w h s p b v up asked =
 
 -- a letter that asks for no vote
 
-abbrev pub IsMute : Pax → Type 0
-IsMute l = (p : ℕ) (b : Ballot) (v : Command) → l ≡ Accept p b v → ⊥
+abbrev pub IsQuiet : Pax → Type 0
+IsQuiet l = (p : ℕ) (b : Ballot) (v : Command) → l ≡ Accept p b v → ⊥
 
 sent_later : (w : World) (s : ℕ) (l : Pax) → IsLater w (send w s l)
 sent_later w s l = record { rises = λ s p. omega arith; letters = λ f x i. in_there _ _ _ i; votes = λ x i. i; fresh = λ s p d u i. inl i }
@@ -78,16 +78,16 @@ backed_one_more n w h s l fact f x i =
     elim (in_cons (sent f x) (sent s l) w.letters i) [ inl e ↦ let of : f ≡ s = cc in let is : x ≡ l = cc in rw (of, is) fact | inr old ↦ h.backed f x old ]
 
 -- a quiet letter asks for nothing
-asked_before : (w : World) (s : ℕ) (l : Pax) → IsMute l → (p : ℕ) (d : Ballot) (v : Command) → Asked (send w s l) p d v → Asked w p d v
+asked_before : (w : World) (s : ℕ) (l : Pax) → IsQuiet l → (p : ℕ) (d : Ballot) (v : Command) → Asked (send w s l) p d v → Asked w p d v
 asked_before w s l quiet p d v i = elim (in_cons _ _ _ i) [ inl e ↦ absurd (quiet p d v (cc)) | inr old ↦ old ]
 
-not_asked_still : (w : World) (s : ℕ) (l : Pax) → IsMute l → (q : Option Phase) → HasNotAsked w q → HasNotAsked (send w s l) q
+not_asked_still : (w : World) (s : ℕ) (l : Pax) → IsQuiet l → (q : Option Phase) → HasNotAsked w q → HasNotAsked (send w s l) q
 not_asked_still w s l quiet None h = h
 not_asked_still w s l quiet (Some Idle) h = h
 not_asked_still w s l quiet (Some (Collecting p b want who best)) h = λ d v i. h d v (asked_before w s l quiet p d v i)
 not_asked_still w s l quiet (Some (Voting p b v who)) h = h
 
-pub send_holds : (n : ℕ) (w : World) → Holds n w → (s : ℕ) (l : Pax) → IsMute l → IsBacked n w s l → Holds n (send w s l)
+pub send_holds : (n : ℕ) (w : World) → Holds n w → (s : ℕ) (l : Pax) → IsQuiet l → IsBacked n w s l → Holds n (send w s l)
 send_holds n w h s l quiet fact = record {
   backed = λ f x i. later_backed n w _ (sent_later w s l) f x (backed_one_more n w h s l fact f x i);
   knows = λ i. later_knows w _ (sent_later w s l) i _ (h.knows i);
@@ -224,7 +224,7 @@ HasOrigin e w s (Some (Voting p b v who)) = ⊤
 pub data IsMove (n : ℕ) (e : Event) (w : World) : World → Type 0 where
   Promises : (s p : ℕ) → (a : Acceptor) → promised w s p ≤ rank a.promised → a.accepted ≡ (w.acceptors s p).accepted → IsMove n e w (keep w s p a)
   Casts : (s p : ℕ) → (b : Ballot) → (v : Command) → promised w s p ≤ number b + 1 → Asked w p b v → IsMove n e w (cast_in w s p b v)
-  Sends : (s : ℕ) → (l : Pax) → IsMute l → IsBacked n w s l → IsMove n e w (send w s l)
+  Sends : (s : ℕ) → (l : Pax) → IsQuiet l → IsBacked n w s l → IsMove n e w (send w s l)
   Turns : (s : ℕ) → (q : Option Phase) → Knows w s q → HasNotAsked w q → HasOrigin e w s q → IsMove n e w (turn w s q)
   Asks : (s p : ℕ) → (b : Ballot) → (want : Command) → (who : List Bool) → (best : Option (Ballot × Command)) → Knows w s (Some (Collecting p b want who best))
       → HasNotAsked w (Some (Collecting p b want who best)) → IsSafe n w p b (to_propose want best) → Origin e w s p want
