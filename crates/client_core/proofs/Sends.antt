@@ -34,7 +34,8 @@ pub open_sent : (core : ClientView) (state : State) (asked : Asked) (sent : Sent
 open_sent core state asked sent at_state is_open is = rw (← at_state) (rw is_open (is core.client))
 
 -- the open request goes out in another state, with more entries applied
-pub open_sent_in : (core : ClientView) (state : State) (log : List Command) (witnesses : ℕ) (asked : Asked) (way : Way) (sent : Sent) → core.client.asked ≡ Some asked
+pub open_sent_in : (core : ClientView) (state : State) (log : List Command) (witnesses : ℕ) (asked : Asked) (way : Way) (sent : Sent)
+    → core.client.asked ≡ Some asked
     → way ≡ way_of asked
     → ((client : Client) → goes_out state core.me (record client { asks = core.client.asks }) (on_way asked witnesses way)
     ≡ sent_by client (on_way asked witnesses way) sent)
@@ -63,7 +64,8 @@ pub called_is : (core new : ClientView) (line : ℕ) (request : Request) (asked 
     → ((client : Client) → goes_out (state_of core) core.me (record client { asks = core.client.asks }) asked ≡ sent_by client asked sent)
     → letters ≡ letters_of (record { from = actor.Client core.me; inc = 0; rev = length core.client.applied }) 0 (posts_of sent.post)
     → new ≡ record core { client = record core.client { seq = asked.seq; asks = sent.asks; asked = Some (sent_last sent.last asked) } }
-    → ◌≡◌ {A = ClientView × Reaction} (new, record { letters = letters; answer = None }) (at_core core (called (state_of core) core.me core.client line request))
+    → ◌≡◌ {A = ClientView × Reaction} (new, record { letters = letters; answer = None })
+    (at_core core (called (state_of core) core.me core.client line request))
 called_is core new line request asked sent letters asked_is sent_is letters_are new_is =
     let goes : called (state_of core) core.me core.client line request ≡ goes_out (state_of core) core.me (record core.client { seq = asked.seq }) asked =
     rw asked_is refl in

@@ -40,7 +40,8 @@ failed_is (store.BadRecord index) may is = absurd may
 failed_is store.NoMemory may is = absurd (cc)
 
 -- a job whose one commit was refused, and whose side is as before
-refused_done : {D T : Type 0} (device : Ghosts D) (here : JobContext) (old new : PairMemory) (before after : Holdings D) (e : StoreError) (rule : JobResult) → new ≡ old
+refused_done : {D T : Type 0} (device : Ghosts D) (here : JobContext) (old new : PairMemory) (before after : Holdings D) (e : StoreError) (rule : JobResult)
+    → new ≡ old
     → IsCommit {T = T} device before after (Err e) rule.own.store → IsDone device here old new before after (Err (work_error e)) rule
 refused_done {D = D} device here old new before after e rule same commit = record {
   done = tt;
@@ -63,7 +64,8 @@ refused_done {D = D} device here old new before after e rule same commit = recor
 }
 
 -- what the side has of copies is as before
-pub refused_page : {D T : Type 0} (device : Ghosts D) (here : JobContext) (old : PairMemory) (copies : Copies) (before after : Holdings D) (e : StoreError) (rule : JobResult)
+pub refused_page : {D T : Type 0} (device : Ghosts D) (here : JobContext) (old : PairMemory) (copies : Copies) (before after : Holdings D)
+    (e : StoreError) (rule : JobResult)
     → copies ≡ old.copies → IsCommit {T = T} device before after (Err e) rule.own.store
     → IsDone device here old (record old { copies = copies }) before after (Err (work_error e)) rule
 refused_page device here old copies before after e rule same commit =

@@ -122,7 +122,8 @@ trimmed_is here own number cell copy is counts =
     ∙ ap (λ (b : Bool). if b then copies_on here (with_copying own cell moved) cell else silent own) counts
     ∙ acts_there here own cell moved)
 
-pub synced_is : (here : JobContext) (own : PairState) (number : ℕ) (cell : Cell) (index : ℕ) (copy next : Copying) → at cell_cmp own.copies.pending cell ≡ Some copy
+pub synced_is : (here : JobContext) (own : PairState) (number : ℕ) (cell : Cell) (index : ℕ) (copy next : Copying)
+    → at cell_cmp own.copies.pending cell ≡ Some copy
     → is_syncing own cell copy number ≡ true → (copy.index == index) ≡ true → next ≡ record copy { index = copy.index + 1 }
     → copy_acts here (with_copying own cell next) cell next (copy_stage own.store cell next) ≡ on_synced here own number cell index
 unfolding on_synced

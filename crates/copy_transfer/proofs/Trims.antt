@@ -89,7 +89,8 @@ unfolding trims_on
 newly_is here own cell holder last is =
     λ i. trims_for (with_last_copy own cell last) cell (sym is i) (sym (cell_same own.copies.last cell last) i)
 
-module _ (here : JobContext) (own : PairState) (cell : Cell) (copy : LastCopy) (holder : ℕ) (is : cell_holder here cell ≡ Some holder) (begins : copy.index ≡ 0) where
+module _ (here : JobContext) (own : PairState) (cell : Cell) (copy : LastCopy) (holder : ℕ) (is : cell_holder here cell ≡ Some holder)
+    (begins : copy.index ≡ 0) where
   -- the copy as the letter begins it
   begun : with_last_copy own cell (record { op = copy.op; epochs = copy.epochs; index = 0 }) ≡ with_last_copy own cell copy
   begun = λ i. with_last_copy own cell (record { op = copy.op; epochs = copy.epochs; index = sym begins i })

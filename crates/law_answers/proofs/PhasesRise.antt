@@ -25,7 +25,8 @@ insert_after (row ∷ rows) b number answer below =
     ∙ ap (λ more. row ∷ more) (insert_after rows b number answer (λ other i. below other (inr i)))
 
 -- an answer of a greater number is put after
-put_following : (a b : Table ℕ Answer) (number : ℕ) (answer : Answer) → AreBelow a number → put nat_cmp (a ++ b) number answer ≡ a ++ put nat_cmp b number answer
+put_following : (a b : Table ℕ Answer) (number : ℕ) (answer : Answer) → AreBelow a number
+    → put nat_cmp (a ++ b) number answer ≡ a ++ put nat_cmp b number answer
 unfolding put
 put_following a b number answer below = insert_after a b number answer below
 

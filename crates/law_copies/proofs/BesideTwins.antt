@@ -35,7 +35,8 @@ module _ (it : CellInBoth) where
   holder_chain done (Begins_copy id r other q _ held next step) = step_chain _ q _ done step
   holder_chain done (Goes_on_copying q now copy _ taken step) = step_chain now q copy done step ∙ taken_chain q now copy taken
     where
-      taken_chain : (q : Cell) (now : PairState) (copy : Copying) → TakenCopy heard own q now copy → chain_in now.store.chains cell ≡ chain_in own.store.chains cell
+      taken_chain : (q : Cell) (now : PairState) (copy : Copying) → TakenCopy heard own q now copy
+          → chain_in now.store.chains cell ≡ chain_in own.store.chains cell
       taken_chain q _ _ (Copy_as_is copy is) = refl
       taken_chain q _ _ (Copy_trimmed copy h is fresh) = refl
       taken_chain q _ _ (Copy_synced copy h is trimmed lt) = refl

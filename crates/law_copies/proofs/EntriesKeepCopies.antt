@@ -122,7 +122,8 @@ module _ (it : AtEntry) where
 
   -- ### In Both
 
-  pair_then : (front : List Command) (place : ℕ) (cell : Cell) (n m : ℕ) (one other : Option PairState) → visits n place cell ≡ one → visits m place cell ≡ other
+  pair_then : (front : List Command) (place : ℕ) (cell : Cell) (n m : ℕ) (one other : Option PairState) → visits n place cell ≡ one
+      → visits m place cell ≡ other
       → pair_of (half one (olds front n)) (half other (olds front m)) cell ≡ pair_at (news front) visits place cell n m
   pair_then front place cell n m one other e f =
       pair_same one other (olds front n) (olds front m) (news front n) (news front m) cell (leaves front n cell).chain (leaves front m cell).chain

@@ -26,7 +26,8 @@ half_store (Some own) store = refl
 
 -- what a server has in memory of the place it recalls
 recalled_half : (visit : Option PairState) (a : Store) (cell : Cell)
-    → ((own : PairState) (op : Pending) → visit ≡ Some own → at cell_cmp own.pairs.pending cell ≡ Some op → IsRecalled op a cell) → AreRecalled (half visit a) cell
+    → ((own : PairState) (op : Pending) → visit ≡ Some own → at cell_cmp own.pairs.pending cell ≡ Some op → IsRecalled op a cell)
+    → AreRecalled (half visit a) cell
 recalled_half None a cell recalled op there = none_some (at-empty cell_cmp cell) there
 recalled_half (Some own) a cell recalled op there = recalled own op refl there
 

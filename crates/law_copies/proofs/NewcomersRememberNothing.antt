@@ -50,7 +50,8 @@ module _ (own : PairState) (row : LinkRow) (cell : Cell) (fresh : IsFresh own ro
     sent = λ by copy is there op. none_some (ap (λ (o : PairState). copying_on o cell) (sym (same_some is)) ∙ fresh.copying) there;
   }
 
-  pub fresh_holder_told : (other : Option PairState) (said : Body) → (about said).cell ≡ Some cell → IsTold row None other said → IsTold row (Some own) other said
+  pub fresh_holder_told : (other : Option PairState) (said : Body) → (about said).cell ≡ Some cell → IsTold row None other said
+      → IsTold row (Some own) other said
   fresh_holder_told other (body.Trim number q epochs) e (inl past) = inl past
   fresh_holder_told other (body.Trim number q epochs) e (inr asked) = no_own asked.met
   fresh_holder_told other (body.Trimmed number q) e told = told

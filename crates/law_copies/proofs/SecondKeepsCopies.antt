@@ -26,7 +26,8 @@ module _ (heard : Body → Type 0) (here : JobContext) (first own : PairState) (
   known_at said h q is e = subst (λ (c : Cell). Known (pair_of first own c) said) (sym e) (known said h (is ∙ ap Some e))
 
   -- copy and last operation stay
-  pub off : (new : PairState) → chain_in new.store.chains cell ≡ chain_in own.store.chains cell → at cell_cmp new.pairs.last cell ≡ at cell_cmp own.pairs.last cell
+  pub off : (new : PairState) → chain_in new.store.chains cell ≡ chain_in own.store.chains cell
+      → at cell_cmp new.pairs.last cell ≡ at cell_cmp own.pairs.last cell
       → Keeps (pair_of first own cell) (pair_of first new cell)
   off new chain last =
       subst (Keeps (pair_of first own cell)) (λ i. record {

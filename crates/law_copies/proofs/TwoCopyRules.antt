@@ -67,7 +67,8 @@ module _ (setting : Setting) (records : List Record) (w : World) (firm : Firm se
     pub in_mind : (op : Pending) → (pair_at stores good.visits place cell n m).pending ≡ Some op → IsInMind op
     in_mind op = by (good.visits n place cell) refl
       where
-        by : (o : Option PairState) → good.visits n place cell ≡ o → (pair_of (half o (stores n)) (half (good.visits m place cell) (stores m)) cell).pending ≡ Some op
+        by : (o : Option PairState) → good.visits n place cell ≡ o
+            → (pair_of (half o (stores n)) (half (good.visits m place cell) (stores m)) cell).pending ≡ Some op
             → IsInMind op
         by None e there = none_some (at-empty cell_cmp cell) there
         by (Some own) e there = record { own = own; visit = e; there = there }

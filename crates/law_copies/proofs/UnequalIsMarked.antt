@@ -47,7 +47,8 @@ equal_or_busy first second cell ok recalled = elim (copied (pair_of first second
 ]
 
 -- the first one: an unequal block is marked there
-pub covered_first : (row : LinkRow) (first second : PairState) (cell : Cell) (visit : Option PairState) → PairOk (pair_of first second cell) → AreRecalled first cell
+pub covered_first : (row : LinkRow) (first second : PairState) (cell : Cell) (visit : Option PairState)
+    → PairOk (pair_of first second cell) → AreRecalled first cell
     → IsCovered row cell first.store second.store visit
 covered_first row first second cell visit ok recalled = elim (equal_or_busy first second cell ok recalled) [
   | inl same ↦ Is_equal same

@@ -37,7 +37,8 @@ pub record IsFit (heard : Body → Type 0) (here : JobContext) (own : PairState)
 -- ### At the holder
 
 -- the server holds the cell's link alone, and what stands before the job, where the other server has been as this
-pub record IsHolding (heard : Body → Type 0) (here : JobContext) (links : ℕ) (row : LinkRow) (cell : Cell) (own : PairState) (other : Option PairState) : Type 0 where
+pub record IsHolding (heard : Body → Type 0) (here : JobContext) (links : ℕ) (row : LinkRow) (cell : Cell) (own : PairState)
+    (other : Option PairState) : Type 0 where
   pub fit : IsFit heard here own
   pub is : cell_link here.state cell ≡ Some row
   pub alive : stage_at here.state cell < 4
@@ -64,7 +65,8 @@ PagesOf heard row cell now visit = (after block : Option ℕ) → heard (body.He
 
 -- what the job keeps, with what is known of what it sends; a mark goes only by a copy, whose other server was there; what the holder
 -- has stays; and nothing is changed of the cell once a ballot was started for the link's Caught
-pub record HolderKeeps (heard : Body → Type 0) (links : ℕ) (row : LinkRow) (cell : Cell) (own : PairState) (other : Option PairState) (done : JobResult) : Type 0 where
+pub record HolderKeeps (heard : Body → Type 0) (links : ℕ) (row : LinkRow) (cell : Cell) (own : PairState) (other : Option PairState)
+    (done : JobResult) : Type 0 where
   pub copying : AreCopying links row cell (Some done.own) other
   pub told : StaysTold row cell (Some own) other (Some done.own) other
   pub says : (post : Post) → In post done.posts → (about post.body).cell ≡ Some cell → IsTold row (Some done.own) other post.body
@@ -87,7 +89,8 @@ pub record BallotKeeps (links : ℕ) (row : LinkRow) (cell : Cell) (own : PairSt
 -- ### At the other server
 
 -- the server is the other one of the cell's link, and what stands before the job, where the holder has been as this
-pub record IsFollowing (heard : Body → Type 0) (here : JobContext) (links : ℕ) (row : LinkRow) (cell : Cell) (holder : Option PairState) (own : PairState) : Type 0 where
+pub record IsFollowing (heard : Body → Type 0) (here : JobContext) (links : ℕ) (row : LinkRow) (cell : Cell) (holder : Option PairState)
+    (own : PairState) : Type 0 where
   pub fit : IsFit heard here own
   pub is : cell_link here.state cell ≡ Some row
   pub alive : stage_at here.state cell < 4

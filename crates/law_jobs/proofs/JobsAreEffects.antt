@@ -183,7 +183,8 @@ module _ (heard : Body → Type 0) (here : JobContext) (own : PairState) where
   copy_step_to : (now : PairState) (cell : Cell) (copy : Copying) (done : JobResult) → CopyStep here now cell copy done → To now → To done.own
   copy_step_to now cell copy _ (Unmarks_copied which synced left) so = Then now (effect.Unmarks which cell) so tt
   copy_step_to now cell copy _ (Closes_copy synced left) so =
-      Then _ (effect.Is_full false) (copied_to cell (cell_link here.state cell) refl (without_copying now cell) cell.block (Then now (effect.Ends_copy cell) so tt))
+      Then _ (effect.Is_full false)
+      (copied_to cell (cell_link here.state cell) refl (without_copying now cell) cell.block (Then now (effect.Ends_copy cell) so tt))
       (λ e. true_false e refl)
   copy_step_to now cell copy _ _ so = so
 

@@ -94,7 +94,8 @@ module _ (heard : Body → Type 0) (here : JobContext) (own : PairState) where
       let there : at nat_cmp (put nat_cmp own.pairs.finished of now) client ≡ Some last = ap (λ t. at nat_cmp t client) (sym same) ∙ is in
       elim (same_or_apart client of) [
         | inl e ↦
-            let one : now ≡ last = same_some (sym (at_same own.pairs.finished of now) ∙ ap (at nat_cmp (put nat_cmp own.pairs.finished of now)) (sym e) ∙ there) in
+            let one : now ≡ last =
+            same_some (sym (at_same own.pairs.finished of now) ∙ ap (at nat_cmp (put nat_cmp own.pairs.finished of now)) (sym e) ∙ there) in
             inr (subst (λ c. IsFinishedFor heard here own pending c last) (sym e) (subst (IsFinishedFor heard here own pending of) one why))
         | inr ne ↦ inl (sym (at_apart own.pairs.finished of now client ne) ∙ there)
       ]

@@ -220,7 +220,8 @@ calm_copying : (here : JobContext) (own : PairState) (cell : Cell) (copy : Copyi
 calm_copying here own cell copy =
     calm_from own (with_copying own cell copy) _ (record { flags = λ id h. h }) (calm_copies here (with_copying own cell copy) cell)
 
-calm_hears_trimmed : (here : JobContext) (own : PairState) (number : ℕ) (cell : Cell) (copy : Option Copying) → IsCalm own (hears_trimmed here own number cell copy)
+calm_hears_trimmed : (here : JobContext) (own : PairState) (number : ℕ) (cell : Cell) (copy : Option Copying)
+    → IsCalm own (hears_trimmed here own number cell copy)
 calm_hears_trimmed here own number cell None = calm_silent own
 calm_hears_trimmed here own number cell (Some copy) =
     by_test (IsCalm own) ((copy.op == number) && not copy.trimmed) _ _ (λ e. calm_copying here own cell _) (λ e. calm_silent own)
@@ -254,7 +255,8 @@ calm_sync_full own number cell = calm_hears_full own number cell (copying_on own
 
 -- ### A tick
 
-dated_copy : (here : JobContext) (own : PairState) (cell : Cell) (copy : Copying) (what : CopyAction) (post : Post) → Among post (copy_awaited here own cell copy what)
+dated_copy : (here : JobContext) (own : PairState) (cell : Cell) (copy : Copying) (what : CopyAction) (post : Post)
+    → Among post (copy_awaited here own cell copy what)
     → IsDated post.body
 dated_copy here own cell copy copy_action.Trim post i = (calm_act here own cell copy copy_action.Trim).quiet.posts post i
 dated_copy here own cell copy copy_action.Sync post i = (calm_act here own cell copy copy_action.Sync).quiet.posts post i
@@ -279,7 +281,8 @@ dated_page own row other (Block cell) post i = no_posts post i
 dated_page own row other Wait post i = no_posts post i
 dated_page own row other Nothing post i = no_posts post i
 
-dated_page_for : (state : State) (own : PairState) (row : LinkRow) (other : Option ℕ) (post : Post) → Among post (page_for state own row other) → IsDated post.body
+dated_page_for : (state : State) (own : PairState) (row : LinkRow) (other : Option ℕ) (post : Post)
+    → Among post (page_for state own row other) → IsDated post.body
 dated_page_for state own row None post i = no_posts post i
 dated_page_for state own row (Some other) post i = dated_page own row other (next_copy state row own) post i
 

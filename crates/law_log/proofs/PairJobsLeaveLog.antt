@@ -167,7 +167,8 @@ pair_write here own want =
     by_test (Leaves own) (is_lead here.state here.me want.cell) _ _ (λ e. pair_takes here own want _) (λ e. pair_silent own)
 
 -- where an operation is pending, or none
-pair_found : (own : PairState) (what : Option Pending → JobResult) → Leaves own (what None) → ((op : Pending) → Leaves own (what (Some op))) → (o : Option Pending)
+pair_found : (own : PairState) (what : Option Pending → JobResult) → Leaves own (what None)
+    → ((op : Pending) → Leaves own (what (Some op))) → (o : Option Pending)
     → Leaves own (what o)
 pair_found own what none some None = none
 pair_found own what none some (Some op) = some op
@@ -208,7 +209,8 @@ unfolding on_reserve
 pair_reserve here own number cell =
     by_test (Leaves own) (is_second here.state here.me cell) _ _ (λ e. pair_hears_reserve here own cell number (last_on own cell)) (λ e. pair_silent own)
 
-pair_once : (here : JobContext) (own : PairState) (number : ℕ) (key : Key) (bytes : List ℕ) (how : Far) → Leaves own (follows_once here own number key bytes how)
+pair_once : (here : JobContext) (own : PairState) (number : ℕ) (key : Key) (bytes : List ℕ) (how : Far)
+    → Leaves own (follows_once here own number key bytes how)
 pair_once here own number key bytes far.Reserved = pair_tells here _ (cell_of key) number far.Replicated
 pair_once here own number key bytes far.Replicated = pair_tells here own (cell_of key) number far.Replicated
 
@@ -231,7 +233,8 @@ dated_awaited here own op action.Reserve post i = (pair_act here own op action.R
 dated_awaited here own op action.Replicate post i = (pair_act here own op action.Replicate).quiet.posts post i
 dated_awaited here own op _ post i = no_posts post i
 
-pub dated_again : (here : JobContext) (own : PairState) (rows : List (Cell × Pending)) (post : Post) → Among post (flat_map (λ row. sent_again here own row.1) rows)
+pub dated_again : (here : JobContext) (own : PairState) (rows : List (Cell × Pending)) (post : Post)
+    → Among post (flat_map (λ row. sent_again here own row.1) rows)
     → IsDated post.body
 dated_again here own [] post i = no_posts post i
 dated_again here own (row ∷ rows) post i = elim (in-append post (sent_again here own row.1) (flat_map (λ row. sent_again here own row.1) rows) i) [

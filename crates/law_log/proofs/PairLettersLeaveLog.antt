@@ -83,7 +83,8 @@ harmless_letter here own letter =
     (λ g. harmless own _ (calm_handles here own letter.body))))
 
 -- where the server is In as itself
-pub calm_where_in : (here : JobContext) (own : PairState) (done : JobResult) → IsCalm own done → IsCalm own (if is_in here.state here.me here.inc then done else silent own)
+pub calm_where_in : (here : JobContext) (own : PairState) (done : JobResult) → IsCalm own done
+    → IsCalm own (if is_in here.state here.me here.inc then done else silent own)
 calm_where_in here own done calm = by_test (IsCalm own) (is_in here.state here.me here.inc) _ _ (λ e. calm) (λ e. calm_silent own)
 
 pub harmless_job : (here : JobContext) (own : PairState) (what : Job) → IsHarmless own (does here own what)

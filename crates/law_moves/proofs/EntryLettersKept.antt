@@ -52,7 +52,8 @@ module _ (it : OneMore) (known : WasKnown it) where
   }
 
   -- what a server that runs says of the next entry of a link
-  module _ (y : ℕ) (runs : (Was y).life.running ≡ true) (now : PairState) (post : Post) (kept : now.store ≡ (Was y).own.store) (told : HasTold it known y now.filled)
+  module _ (y : ℕ) (runs : (Was y).life.running ≡ true) (now : PairState) (post : Post) (kept : now.store ≡ (Was y).own.store)
+      (told : HasTold it known y now.filled)
       (f : IsNextFill (own_place setting w y) now post) where
     abbrev log : List Command
     log = (Was y).log.applied

@@ -48,7 +48,8 @@ module _ (it : OneMore) (all : WereKnown it) where
     asked_then past later e m cell op is fills = elim (split_last front own past later e) [
       | inl same ↦ now_so.asked m cell op (subst (λ rs. at cell_cmp ((At script rs).servers m).own.pairs.pending cell ≡ Some op) same is) fills
       | inr more ↦ subst (λ rs. IsFrozen setting (At script rs) op.rev op.key op.bytes) (sym e)
-          (frozen_on script sound past later (subst (AreSteps script) e legal) op.rev op.key op.bytes ((all past more.0 more.1).filled.asked m cell op is fills))
+          (frozen_on script sound past later (subst (AreSteps script) e legal) op.rev op.key op.bytes
+          ((all past more.0 more.1).filled.asked m cell op is fills))
     ]
 
     -- the two copies of a link in Both by what is chosen

@@ -58,7 +58,8 @@ pub data Says (heard : Body → Type 0) (here : JobContext) (own : PairState) (d
   Is_there : (moving : Moving) → IsFilled heard here own moving → post.body ≡ body.Filled moving.key → done.own ≡ own → Says heard here own done post
   Is_done : (op : Pending) → pending_on own op.cell ≡ Some op → in_both here.state op.cell ≡ true → op.stage ≡ answering → op.kind ≡ kind.Fill
       → post.body ≡ body.Filled op.key → at cell_cmp done.own.pairs.pending op.cell ≡ None → Says heard here own done post
-  Is_done_alone : (now : PairState) (op : Pending) → Taken own now op → is_alone_on here.state here.me op.cell ≡ true → op.stage.put ≡ true → op.kind ≡ kind.Fill
+  Is_done_alone : (now : PairState) (op : Pending) → Taken own now op → is_alone_on here.state here.me op.cell ≡ true
+      → op.stage.put ≡ true → op.kind ≡ kind.Fill
       → post.body ≡ body.Filled op.key → at cell_cmp done.own.pairs.pending op.cell ≡ None → Says heard here own done post
   Asks_copy : (op : Pending) → pending_on own op.cell ≡ Some op → op.stage ≡ copying → post.body ≡ body.Replicate op.op op.key op.version op.bytes
       → Says heard here own done post

@@ -36,7 +36,8 @@ module _ (it : OneMore) (known : WasKnown it) where
   abbrev Was : ℕ → Server
   Was n = w.servers n
 
-  entered_filled : (n : ℕ) (entry : Command) (own : PairState) → own ≡ settled_by (own_place setting w n) entry (crossed (server_state setting w n) entry (Was n).own)
+  entered_filled : (n : ℕ) (entry : Command) (own : PairState)
+      → own ≡ settled_by (own_place setting w n) entry (crossed (server_state setting w n) entry (Was n).own)
       → own.filled ≡ (crossed (server_state setting w n) entry (Was n).own).filled
   entered_filled n entry own is =
       ap (λ (o : PairState). o.filled) is

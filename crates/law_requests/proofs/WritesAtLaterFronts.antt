@@ -8,7 +8,8 @@ use Rattle.law_requests.specs.AskedRequests.{IsRead, IsWrite}
 -- ### By a log
 
 -- a read of a cell that is coming was not told that the new map has nothing
-pub coming_untold : (servers : ℕ) (log : List Command) → HasProperTuples servers log → (lines : List Line) (client seq : ℕ) (told : Bool) (cell : Cell) (epoch : ℕ)
+pub coming_untold : (servers : ℕ) (log : List Command) → HasProperTuples servers log
+    → (lines : List Line) (client seq : ℕ) (told : Bool) (cell : Cell) (epoch : ℕ)
     → IsRead (state_after servers log) lines client seq told cell epoch → coming (state_after servers log) cell ≡ true → told ≡ false
 coming_untold servers log plain lines client seq false cell epoch read comes = refl
 coming_untold servers log plain lines client seq true cell epoch read comes =

@@ -71,7 +71,8 @@ pub below_at : (setting : Setting) (w : World) → Firm setting w → (front : L
 below_at setting w firm front prefix = log_below setting.servers front (chosen_log setting w) firm.plain prefix
 
 -- the entries that a server has applied stay
-worked_grows : (setting : Setting) (w : World) (n : ℕ) (log : Log) (done : JobResult) → Worked setting w n log done → IsPrefix (w.servers n).log.applied log.applied
+worked_grows : (setting : Setting) (w : World) (n : ℕ) (log : Log) (done : JobResult) → Worked setting w n log done
+    → IsPrefix (w.servers n).log.applied log.applied
 worked_grows setting w n _ _ (By_job log done same did seat) = front_same _ _ same
 worked_grows setting w n _ _ (By_ballot log started posts same starts says) = front_same _ _ same
 worked_grows setting w n _ _ (By_entry log entry more front) = record { later = entry ∷ []; is = more }

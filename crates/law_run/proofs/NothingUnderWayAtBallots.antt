@@ -108,7 +108,8 @@ module _ (script : Script) (records : List Record) (sound : IsSound script) (leg
     ]
 
     -- the two copies by the last stores are those that count
-    by_stores : (one other : ℕ) → chain_in (store_by setting good.stores chosen one).chains cell ≡ chain_in (store_by setting good.stores chosen other).chains cell
+    by_stores : (one other : ℕ)
+        → chain_in (store_by setting good.stores chosen one).chains cell ≡ chain_in (store_by setting good.stores chosen other).chains cell
         → chain_in ((counted setting w).servers one).own.store.chains cell ≡ chain_in ((counted setting w).servers other).own.store.chains cell
     by_stores one other same =
         ap (λ (s : Store). chain_in s.chains cell) (sym (good.now one)) ∙ same ∙ ap (λ (s : Store). chain_in s.chains cell) (good.now other)

@@ -73,7 +73,8 @@ module _ (this : ServerStep) (k : Plain) where
     finished : (i c : ℕ) (last : Finished) → (v.servers i).life.running ≡ true → at nat_cmp (owns_of v i).pairs.finished c ≡ Some last
         → last.ending ≡ ending.Written → IsOpen (this.w.clients c) last.seq → is_held k c ≡ true
     finished i c last on is how still = elim (same_or_apart i this.n) [
-      | inl e ↦ job.finished c last (runs_here i e on) (sym (ap (λ (h : PairState). at nat_cmp h.pairs.finished c) (ap (owns_of v) e ∙ own_now this)) ∙ is) how still
+      | inl e ↦ job.finished c last (runs_here i e on)
+          (sym (ap (λ (h : PairState). at nat_cmp h.pairs.finished c) (ap (owns_of v) e ∙ own_now this)) ∙ is) how still
       | inr ne ↦
           held_onward this.m k c onward
           (this.follow.finished i c last (ran_other i ne on) (sym (ap (λ (h : PairState). at nat_cmp h.pairs.finished c) (own_other this i ne)) ∙ is) how still)

@@ -103,7 +103,16 @@ is_script text s = (script_taken (text_lines text) None s, taken_script (text_li
 
 at_front : (lines : List TextLine) (r : Refusal) → RefusedFrom lines None r ⊎ EndsBare lines None r → IsFirstRefused lines r ⊎ IsWithoutLines lines r
 at_front lines r (inl h) =
-    inl (record { front = h.front; line = h.line; following = h.following; before = h.before; lies = h.lies; taken = h.taken; wrong = h.wrong; number = h.number })
+    inl (record {
+      front = h.front;
+      line = h.line;
+      following = h.following;
+      before = h.before;
+      lies = h.lies;
+      taken = h.taken;
+      wrong = h.wrong;
+      number = h.number;
+    })
 at_front lines r (inr h) = inr (record { taken = h.taken; line = h.line; cause = h.cause })
 
 from_front : (lines : List TextLine) (r : Refusal) → IsFirstRefused lines r ⊎ IsWithoutLines lines r → script_from lines None ≡ Err r

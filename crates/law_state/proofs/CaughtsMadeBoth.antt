@@ -112,7 +112,8 @@ stays_row row server holder has alone =
 
 module _ (servers : ℕ) where
   -- where nothing touches the link after the entry
-  made_both : (s : State) → IsSettledState servers s → (entry : Command) → HasProperTuple servers entry → (rest : List Command) (cell : Cell) (row next now : LinkRow)
+  made_both : (s : State) → IsSettledState servers s → (entry : Command) → HasProperTuple servers entry
+      → (rest : List Command) (cell : Cell) (row next now : LinkRow)
       → cell_link s cell ≡ Some row → touches s entry row ≡ true → cell_link (after s entry) cell ≡ Some next → IsLater row next
       → StaysSo cell next (after s entry) (fold after (after s entry) rest) → places_from (after s entry) rest next ≡ 0
       → next ≡ now → now.state ≡ Both → IsCaughtLast s (entry ∷ rest) cell now
@@ -169,7 +170,8 @@ module _ (servers : ℕ) where
       ]
 
   -- one that a server holds alone leaves that state by a Caught first, or by the holder's Join with an empty store
-  alone_until : (entries : List Command) (s : State) → IsSettledState servers s → HasProperTuples servers entries → (cell : Cell) (row now : LinkRow) (holder : ℕ)
+  alone_until : (entries : List Command) (s : State) → IsSettledState servers s → HasProperTuples servers entries
+      → (cell : Cell) (row now : LinkRow) (holder : ℕ)
       (whole : Bool) → cell_link s cell ≡ Some (held_row row holder whole) → cell_link (fold after s entries) cell ≡ Some now
       → HeldUntil s entries cell row now holder whole
   unfolding In

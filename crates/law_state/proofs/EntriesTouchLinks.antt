@@ -164,14 +164,16 @@ module _ (servers : ℕ) (s : State) (p : IsSettledState servers s) (cell : Cell
 
 -- ### An entry that touches the link
 
-module _ (servers : ℕ) (s : State) (p : IsSettledState servers s) (cell : Cell) (row : LinkRow) (is : cell_link s cell ≡ Some row) (served : IsServed s row) where
+module _ (servers : ℕ) (s : State) (p : IsSettledState servers s) (cell : Cell) (row : LinkRow) (is : cell_link s cell ≡ Some row)
+    (served : IsServed s row) where
   -- who is In after the entry, by what its command does
   seats_after : (entry : Command) → HasProperTuple servers entry → (server : ℕ) (now : Option ℕ) → IsReseated s (act entry s) server now
       → IsReseated s (after s entry) server now
   seats_after entry plain server now h =
       record { here = inc_settled (act entry s) server ∙ h.here; beside = λ n ne. inc_settled (act entry s) n ∙ h.beside n ne }
 
-  row_after : (entry : Command) → HasProperTuple servers entry → (now : LinkRow) → cell_link (act entry s) cell ≡ Some now → cell_link (after s entry) cell ≡ Some now
+  row_after : (entry : Command) → HasProperTuple servers entry → (now : LinkRow) → cell_link (act entry s) cell ≡ Some now
+      → cell_link (after s entry) cell ≡ Some now
   row_after entry plain now e = cell_settled (act entry s) cell ∙ e
 
   pub touched : (entry : Command) → HasProperTuple servers entry → touches s entry row ≡ true → IsTouchedBy cell row s entry
@@ -238,13 +240,15 @@ module _ (servers : ℕ) (s : State) (p : IsSettledState servers s) (cell : Cell
   touched (Moved of region link) plain on = let f : false ≡ true = on in absurd cc
   touched (Witness client seq turn) plain on = let f : false ≡ true = on in absurd cc
 
-pub log_entry_stays : (servers : ℕ) (log : List Command) (entry : Command) (cell : Cell) (row : LinkRow) → HasProperTuples servers log → HasProperTuple servers entry
+pub log_entry_stays : (servers : ℕ) (log : List Command) (entry : Command) (cell : Cell) (row : LinkRow) → HasProperTuples servers log
+    → HasProperTuple servers entry
     → cell_link (state_after servers log) cell ≡ Some row → touches (state_after servers log) entry row ≡ false
     → StaysSo cell row (state_after servers log) (after (state_after servers log) entry) ⊎ HasDied (after (state_after servers log) entry) cell
 log_entry_stays servers log entry cell row all plain is off =
     entry_stays servers (state_after servers log) (log_plain servers log all) cell row is entry plain off
 
-pub log_touched : (servers : ℕ) (log : List Command) (entry : Command) (cell : Cell) (row : LinkRow) → HasProperTuples servers log → HasProperTuple servers entry
+pub log_touched : (servers : ℕ) (log : List Command) (entry : Command) (cell : Cell) (row : LinkRow) → HasProperTuples servers log
+    → HasProperTuple servers entry
     → cell_link (state_after servers log) cell ≡ Some row → touches (state_after servers log) entry row ≡ true
     → IsTouchedBy cell row (state_after servers log) entry
 log_touched servers log entry cell row all plain is on =
@@ -289,7 +293,8 @@ map_of servers s p cell row is = elim (some_or_none (tuple_of s.maps cell.map)) 
   | inr none ↦ none_some (ap (option_and_then (λ ids. link_at s.links cell.map (link_of (length ids) cell.block))) none) is
 ]
 
-pub still_dead : (servers : ℕ) (s : State) → IsSettledState servers s → (entries : List Command) → HasProperTuples servers entries → (cell : Cell) → HasDied s cell
+pub still_dead : (servers : ℕ) (s : State) → IsSettledState servers s → (entries : List Command) → HasProperTuples servers entries
+    → (cell : Cell) → HasDied s cell
     → HasDied (fold after s entries) cell
 still_dead servers s p entries all cell gone =
     let step = folding servers entries s p all in

@@ -98,7 +98,8 @@ pub fn who_is_in_has_joined()
 /// that does is the Leave of one of them, a Join, or the link's Caught. A longer log has no fewer places of a link, and where it has as many
 /// it says the same of it, or its map is dead.
 pub fn an_entry_that_does_not_touch_a_link()
-    ensures stays { (servers : ℕ) (log : List Command) (entry : Command) (cell : Cell) (row : LinkRow) → HasProperTuples servers log → HasProperTuple servers entry
+    ensures stays { (servers : ℕ) (log : List Command) (entry : Command) (cell : Cell) (row : LinkRow) → HasProperTuples servers log
+        → HasProperTuple servers entry
         → cell_link (state_after servers log) cell ≡ Some row → touches (state_after servers log) entry row ≡ false
         → StaysSo cell row (state_after servers log) (after (state_after servers log) entry) ⊎ HasDied (after (state_after servers log) entry) cell }
     ensures touched { (servers : ℕ) (log : List Command) (entry : Command) (cell : Cell) (row : LinkRow) → HasProperTuples servers log
@@ -124,7 +125,8 @@ pub fn a_link_is_in_both_again_by_its_caught()
         × IsLostIn servers front whole holder ⊎ IsCaughtStill servers front whole cell row holder fills }
     ensures lost { (servers : ℕ) (front whole : List Command) → HasProperTuples servers whole → IsPrefix front whole → (cell : Cell) (row now : LinkRow)
         → cell_link (state_after servers front) cell ≡ Some row → row.state ≡ Lost → cell_link (state_after servers whole) cell ≡ Some now → now.state ≡ Lost }
-    ensures both { (servers : ℕ) (front whole : List Command) → HasProperTuples servers whole → IsPrefix front whole → (cell : Cell) (row : LinkRow) (one other : ℕ)
+    ensures both { (servers : ℕ) (front whole : List Command) → HasProperTuples servers whole → IsPrefix front whole
+        → (cell : Cell) (row : LinkRow) (one other : ℕ)
         → cell_link (state_after servers front) cell ≡ Some row → row.state ≡ Both → is_in (state_after servers front) row.primary one ≡ true
         → is_in (state_after servers front) row.secondary other ≡ true → is_in (state_after servers whole) row.primary one ≡ true
         → is_in (state_after servers whole) row.secondary other ≡ true → places_from (start servers) whole row ≡ places_from (start servers) front row }
@@ -184,7 +186,8 @@ pub fn a_stage_says_what_a_cell_is()
 
 /// A link of an old map is noted after its Moved, and a region has moved after those of all links.
 pub fn a_region_moves_after_its_links()
-    ensures noted { (servers : ℕ) (whole : List Command) (cell : Cell) (link : ℕ) → HasProperTuples servers whole → stage_at (state_after servers whole) cell ≡ 3
+    ensures noted { (servers : ℕ) (whole : List Command) (cell : Cell) (link : ℕ) → HasProperTuples servers whole
+        → stage_at (state_after servers whole) cell ≡ 3
         → is_noted (state_after servers whole) cell.map (region_of cell.block) link ≡ true → HasMovedIn servers whole cell link }
     ensures dead { (servers : ℕ) (whole : List Command) (cell : Cell) (link : ℕ) → HasProperTuples servers whole → stage_at (state_after servers whole) cell ≡ 4
         → link < links_of (state_after servers whole) cell.map → HasMovedIn servers whole cell link }

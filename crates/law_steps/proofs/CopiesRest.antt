@@ -154,7 +154,8 @@ cell_left state id row own named block i =
     whole = by_test (λ (ys : List ℕ). In block ys → In block (stored_blocks state row own)) (is_whole row.state) _ _
         (λ t j. in_filter (above (progress_on own row).copied) block (stored_blocks state row own) j) (λ t j. in_none block j)
 
-next_on : (state : State) (id : LinkId) (row : LinkRow) (own : PairState) → link_named state id ≡ Some row → (cell : Cell) → next_copy state row own ≡ Block cell
+next_on : (state : State) (id : LinkId) (row : LinkRow) (own : PairState) → link_named state id ≡ Some row → (cell : Cell)
+    → next_copy state row own ≡ Block cell
     → IsNextOn state row own cell
 unfolding next_copy
 next_on state id row own named cell =
@@ -238,7 +239,8 @@ module _ (here : JobContext) (own : PairState) (r : AreResting here.state here.m
       by other (Some row) is = record { row = row; is = is; holder = holder; held = sym (ap (option_and_then (holder_of here.me)) is) ∙ held }
 
 -- a step of a copy
-step_rests : (here : JobContext) (own : PairState) (cell : Cell) (copy : Copying) (done : JobResult) → AreResting here.state here.me own → CopyStep here own cell copy done
+step_rests : (here : JobContext) (own : PairState) (cell : Cell) (copy : Copying) (done : JobResult) → AreResting here.state here.me own
+    → CopyStep here own cell copy done
     → AreResting here.state here.me done.own
 step_rests here own cell copy _ r (Unmarks_copied kind synced left) = resting_equal here.state here.me own _ refl r
 step_rests here own cell copy _ r (Closes_copy synced left) =
@@ -264,7 +266,8 @@ page_rests here own row (Some block) r =
     let marked : PairState = record own { store = with_mark_on own.store mark.Stale (cell_at row block) } in
     progress_put here marked (resting_equal here.state here.me own marked refl r) row (record (progress_on own row) { after = Some block }) (λ t. t)
 
-holder_rests : (heard : Body → Type 0) (here : JobContext) (own : PairState) (done : JobResult) → AreResting here.state here.me own → DidHolder heard here own done
+holder_rests : (heard : Body → Type 0) (here : JobContext) (own : PairState) (done : JobResult) → AreResting here.state here.me own
+    → DidHolder heard here own done
     → AreResting here.state here.me done.own
 holder_rests heard here own _ r (Asks_page id row other held fresh) = r
 holder_rests heard here own _ r (Turns_page id row other after block h held fresh so) = page_rests here own row block r
@@ -284,7 +287,8 @@ trim_rests : (here : JobContext) (own : PairState) (cell : Cell) (last : LastCop
 trim_rests here own cell last holder _ r (Is_trimmed none) = r
 trim_rests here own cell last holder _ r (Drops_entry epoch epochs is) = resting_equal here.state here.me own _ refl r
 
-other_rests : (heard : Body → Type 0) (here : JobContext) (own : PairState) (done : JobResult) → AreResting here.state here.me own → DidOther heard here own done
+other_rests : (heard : Body → Type 0) (here : JobContext) (own : PairState) (done : JobResult) → AreResting here.state here.me own
+    → DidOther heard here own done
     → AreResting here.state here.me done.own
 other_rests heard here own done r (Is_copied_to number cell epochs holder _ h held newer step) =
     trim_rests here (with_last_copy own cell (first_last number epochs)) cell (first_last number epochs) holder done

@@ -98,7 +98,8 @@ page_caught own row None other = caught_put own row (record (progress_on own row
 page_caught own row (Some block) other = caught_put own row (record (progress_on own row) { after = Some block }) other refl
 
 -- where the copy was changed first
-frame_from : (own now : PairState) (done : JobResult) → now.pairs.pending ≡ own.pairs.pending → now.pairs.finished ≡ own.pairs.finished → now.pairs.last ≡ own.pairs.last
+frame_from : (own now : PairState) (done : JobResult) → now.pairs.pending ≡ own.pairs.pending → now.pairs.finished ≡ own.pairs.finished
+    → now.pairs.last ≡ own.pairs.last
     → own.pairs.next ≤ now.pairs.next → (IsRising cell_cmp own.copies.pending → IsRising cell_cmp now.copies.pending)
     → ((row : LinkRow) → (progress_on now row).caught ≡ (progress_on own row).caught) → CopyFrame now done → CopyFrame own done
 frame_from own now done pending finished last le rises caught f = record {
@@ -159,7 +160,8 @@ trim_frame own cell last holder _ (Drops_entry epoch epochs is) = same own _ ref
     (λ post i. no_posts post i) (one_stage cell)
 
 -- what it answers is of copies
-reply_copied : (heard : Body → Type 0) (here : JobContext) (own : PairState) (to : Option ℕ) (said : Body) → OtherReply heard here own to said → subject_of said ≡ Copied
+reply_copied : (heard : Body → Type 0) (here : JobContext) (own : PairState) (to : Option ℕ) (said : Body) → OtherReply heard here own to said
+    → subject_of said ≡ Copied
 reply_copied heard here own _ _ (Answers_page id row after h is) = refl
 reply_copied heard here own _ _ _ = refl
 

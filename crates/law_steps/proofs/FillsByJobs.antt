@@ -51,7 +51,8 @@ operation_other : (said : Body) → is_of_operation said ≡ true → is_fill sa
 operation_other (body.Fill key bytes) e = true_false e refl
 operation_other _ e = refl
 
-asks_fill : (here : JobContext) (own : PairState) (done : JobResult) → own.filled ≡ done.own.filled → (post : Post) → Asks here own post → SaysFill here own done post
+asks_fill : (here : JobContext) (own : PairState) (done : JobResult) → own.filled ≡ done.own.filled → (post : Post) → Asks here own post
+    → SaysFill here own done post
 asks_fill here own done same post (An_entry_to_move _ next) = Is_next own refl same next
 asks_fill here own done same post (Of_the_log _ e) = Is_other (logged_said post.body e)
 asks_fill here own done same _ _ = Is_other refl

@@ -82,7 +82,8 @@ either_so true b e = true_false refl e
 either_so false b e = refl
 
 -- of the link for which it starts no operation is pending
-beside : (here : JobContext) (own : PairState) (id : LinkId) (s : IsBallotFor here own id) (cell : Cell) (op : Pending) → at cell_cmp own.pairs.pending cell ≡ Some op
+beside : (here : JobContext) (own : PairState) (id : LinkId) (s : IsBallotFor here own id) (cell : Cell) (op : Pending)
+    → at cell_cmp own.pairs.pending cell ≡ Some op
     → (row : LinkRow) → cell_link here.state cell ≡ Some row → eq_by_cmp link_cmp (id_of row) (id_of s.row) ≡ false
 beside here own id s cell op there row is = by_bool (eq_by_cmp link_cmp (id_of row) (id_of s.row))
     (λ t.

@@ -101,7 +101,8 @@ leaves_with state key map region map_is region_is = by (mover state map) refl
 pub stage_facts : (servers : ℕ) (log : List Command) → HasProperTuples servers log → (cell : Cell) → HasStage (state_after servers log) cell
 stage_facts servers log plain cell = let p = log_plain servers log plain in has_stage (state_after servers log) p.rows p.homes cell
 
-pub next_comes : (servers : ℕ) (log : List Command) → HasProperTuples servers log → (here : JobContext) → here.state ≡ state_after servers log → (own : PairState) (post : Post)
+pub next_comes : (servers : ℕ) (log : List Command) → HasProperTuples servers log → (here : JobContext) → here.state ≡ state_after servers log
+    → (own : PairState) (post : Post)
     → (f : IsNextFill here own post) → coming (state_after servers log) f.cell ≡ true
 next_comes servers log plain here state_is own post f =
     let state = state_after servers log in

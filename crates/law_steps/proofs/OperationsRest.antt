@@ -48,7 +48,8 @@ opened_same : (op new : Pending) → new.kind ≡ op.kind → new.client ≡ op.
 opened_same op new kind client seq (A_write is) = A_write (kind ∙ is)
 opened_same op new kind client seq (A_fill is no_client no_seq) = A_fill (kind ∙ is) (client ∙ no_client) (seq ∙ no_seq)
 
-module _ (heard : Body → Type 0) (here : JobContext) (own : PairState) (ready : IsReady here.state here.me (has_proposed here.state own) own.pairs.pending) where
+module _ (heard : Body → Type 0) (here : JobContext) (own : PairState)
+    (ready : IsReady here.state here.me (has_proposed here.state own) own.pairs.pending) where
   abbrev t : Table Cell Pending
   t = own.pairs.pending
 
@@ -177,7 +178,8 @@ module _ (heard : Body → Type 0) (here : JobContext) (own : PairState) (ready 
       (λ o there. subst (IsStaged here.state here.me (has_proposed here.state own) op.cell) (same_some (sym k.there ∙ there))
       (dead_staged now op op taken off refl refl refl refl refl))
 
-  dead_ready : (now : PairState) (op : Pending) → Taken own now op → live here.state op.cell ≡ false → (next : Action) → R (acts here now op next).own.pairs.pending
+  dead_ready : (now : PairState) (op : Pending) → Taken own now op → live here.state op.cell ≡ false → (next : Action)
+      → R (acts here now op next).own.pairs.pending
   dead_ready now op taken off action.Reserve = dead_stays now op taken off
   dead_ready now op taken off (action.Mark which) =
       taken_put now op (with_mark_at op which true) taken (dead_staged now op (with_mark_at op which true) taken off refl refl refl refl refl)

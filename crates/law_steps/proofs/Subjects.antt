@@ -212,7 +212,8 @@ module _ (heard : Body → Type 0) (here : JobContext) (own : PairState) where
     silent = λ post i. i;
   }
 
-  same_copies : (done : JobResult) → done.own.copies ≡ own.copies → (state : State) (cell : Cell) → has_proposed state done.own cell ≡ has_proposed state own cell
+  same_copies : (done : JobResult) → done.own.copies ≡ own.copies → (state : State) (cell : Cell)
+      → has_proposed state done.own cell ≡ has_proposed state own cell
   same_copies done e state cell =
       ap (λ (c : Copies). option_map_or (λ (row : LinkRow). (unwrap_or (at link_cmp c.progress (id_of row)) no_progress).caught) (cell_link state cell) false) e
 

@@ -26,7 +26,8 @@ pub record IsTaken (own now : PairState) (op : Pending) : Type 0 where
 abbrev with_table : PairState → Table Cell Pending → PairState
 with_table own t = record own { pairs = record own.pairs { pending = t } }
 
-taken_by : (own : PairState) (t : Table Cell Pending) (op old : Pending) (reserved paired : Bool) → op ≡ told old reserved paired → pending_on own op.cell ≡ Some old
+taken_by : (own : PairState) (t : Table Cell Pending) (op old : Pending) (reserved paired : Bool) → op ≡ told old reserved paired
+    → pending_on own op.cell ≡ Some old
     → pending_on (with_table own t) op.cell ≡ Some op
     → ((cell : Cell) → cell ≢ op.cell → pending_on (with_table own t) cell ≡ pending_on own cell)
     → (IsRising cell_cmp own.pairs.pending → IsRising cell_cmp t) → IsTaken own (with_table own t) op

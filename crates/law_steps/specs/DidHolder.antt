@@ -49,7 +49,8 @@ pub data DidHolder (heard : Body → Type 0) (here : JobContext) (own : PairStat
   Turns_page : (id : LinkId) (row : LinkRow) (other : ℕ) (after block : Option ℕ) → heard (body.Hello id.map id.link after block) → IsHeldWith here id row other
       → (progress_on own row).paged ≡ false → same_block after (progress_on own row).after ≡ true
       → DidHolder heard here own (turns_page own row (progress_on own row) block)
-  Begins_copy : (id : LinkId) (row : LinkRow) (other : ℕ) (cell : Cell) (done : JobResult) → IsHeldWith here id row other → next_copy here.state row own ≡ Block cell
+  Begins_copy : (id : LinkId) (row : LinkRow) (other : ℕ) (cell : Cell) (done : JobResult) → IsHeldWith here id row other
+      → next_copy here.state row own ≡ Block cell
       → CopyStep here (begins_copy own cell) cell (first_copy own.pairs.next) done → DidHolder heard here own done
   Goes_on_copying : (cell : Cell) (now : PairState) (copy : Copying) (done : JobResult) → TakenCopy heard own cell now copy → CopyStep here now cell copy done
       → DidHolder heard here own done

@@ -26,7 +26,8 @@ abbrev settled_own : PairState → PairState
 settled_own own = record own { store = settled own.store }
 
 -- where the journal has no room, the rule has one record more than that
-pub lacking : {D : Type 0} (here : JobContext) (entry : Option Command) (side : PairMemory) (before : Holdings D) → lacks_room here.me here.inc entry before ≡ true
+pub lacking : {D : Type 0} (here : JobContext) (entry : Option Command) (side : PairMemory) (before : Holdings D)
+    → lacks_room here.me here.inc entry before ≡ true
     → (before.log.region.count ≡ journal_records) × ((crossed_by here entry (own_of side before)).store.records ≡ length before.log.records + 1)
 lacking here None side before is = absurd (cc)
 lacking here (Some entry) side before is =

@@ -76,6 +76,7 @@ module _ {D : Type 0} (device : Ghosts D) (stays : (d : D) → device.came_to d 
       }
 
 -- what was refused for memory left all as it was
-pub all_same : {D : Type 0} (here : JobContext) (old new : PairMemory) (old_store new_store : Holdings D) (rule : rules.JobResult) → new ≡ old → new_store ≡ old_store
+pub all_same : {D : Type 0} (here : JobContext) (old new : PairMemory) (old_store new_store : Holdings D) (rule : rules.JobResult)
+    → new ≡ old → new_store ≡ old_store
     → IsSaid here old new old_store new_store (Err NoMemory) rule
 all_same here old new old_store new_store rule same held = rw (same, held) (record { done = tt; keeps = tt; err = (refl, refl, refl); store = refl })

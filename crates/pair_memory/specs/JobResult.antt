@@ -64,7 +64,8 @@ module _ {D : Type 0} where
   -- the store shows it after the job too, and after one that was refused for memory, which left all but the device's state as it
   -- was. A crash at any moment leaves the store before the job, or the rule's after it. Any other refusal left the entries.
   -- `JournalFull` comes only where the journal has no room for the record of the job
-  pub record IsDone (device : Ghosts D) (here : JobContext) (old new : PairMemory) (before after : Holdings D) (result : Result JobResult WorkError) (rule : Rule) : Type 0 where
+  pub record IsDone (device : Ghosts D) (here : JobContext) (old new : PairMemory) (before after : Holdings D) (result : Result JobResult WorkError)
+      (rule : Rule) : Type 0 where
     pub done : IfOk result (λ done. device.observable → IsBy here (own_of new after) done rule)
     pub keeps : OnOk result (HasTicketsAt new after)
     pub holds : device.observable → HoldsAt device before → OnOk result (HoldsAt device after)

@@ -92,7 +92,8 @@ adds_phases script history old new joins rising ordered legal w =
     ∙ joins w.ended w.front.following rising (subst (IsLegal script) w.front.is legal).steps first in
     record {
       count = length (text_of w.ended);
-      new_is = w.text ∙ ap (λ t. old ++ t) (sym (take-append_seam (text_of w.ended) (text_of w.front.following)) ∙ ap (take (length (text_of w.ended))) (sym is));
+      new_is = w.text
+          ∙ ap (λ t. old ++ t) (sym (take-append_seam (text_of w.ended) (text_of w.front.following)) ∙ ap (take (length (text_of w.ended))) (sym is));
     }
 
 pub adds_last : (script : Script) (history : List Record) (old new : List ℕ) → JoinsText script → AreRising script.lines → AreOrdered script.lines

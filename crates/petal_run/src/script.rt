@@ -165,7 +165,8 @@ fn play<R: Wait, W: Sink>(rt: &R, alloc: Global, script: Script, sink: &mut W) -
     requires ordered { AreOrdered script.lines }
     requires rising { AreRising script.lines }
     ensures known { (result.status ≡ status_ended) ⊎ (result.status ≡ status_no_memory) ⊎ (result.status ≡ status_sink_failed) }
-    ensures done { W.observable → result.status ≡ status_ended → Done (Play script) result.status result.history.records [] (W.taken sink.old) (W.taken sink.new) }
+    ensures done { W.observable → result.status ≡ status_ended
+        → Done (Play script) result.status result.history.records [] (W.taken sink.old) (W.taken sink.new) }
     ensures in_part { W.observable → (result.status ≡ status_no_memory) ⊎ (result.status ≡ status_sink_failed)
         → DoneInPart (Play script) result.history.records (W.taken sink.old) (W.taken sink.new) }
     ensures whole_phase { result.status ≡ status_sink_failed → EndsWithPhase (Play script) result.history.records }

@@ -118,9 +118,19 @@ module _ (w : World) (n : ℕ) where
 
   pub may_stop_by : (w.servers n).life.running ≡ true → w.control.hand ≡ None → IsToStop w n → MayStop w n
   may_stop_by runs empty (inl by) =
-      record { runs = runs; asked = by.1.asked; opened = by.1.opened; stops = is_stops by.1.asked.request n w.control.hand (inl (stop_asked by.1.asked.request n by.1.order_is)) empty }
+      record {
+        runs = runs;
+        asked = by.1.asked;
+        opened = by.1.opened;
+        stops = is_stops by.1.asked.request n w.control.hand (inl (stop_asked by.1.asked.request n by.1.order_is)) empty;
+      }
   may_stop_by runs empty (inr by) =
-      record { runs = runs; asked = by.1.asked; opened = by.1.opened; stops = is_stops by.1.asked.request n w.control.hand (inr (blank_asked by.1.asked.request n by.1.order_is)) empty }
+      record {
+        runs = runs;
+        asked = by.1.asked;
+        opened = by.1.opened;
+        stops = is_stops by.1.asked.request n w.control.hand (inr (blank_asked by.1.asked.request n by.1.order_is)) empty;
+      }
 
   pub blanked_by : MayBlank w n → IsGiven w Blank n
   blanked_by may = (

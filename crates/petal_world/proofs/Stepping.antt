@@ -196,7 +196,8 @@ stop_posts : (here : JobContext) (server : Server) (stamp : ℕ) → ArePosted (
 stop_posts here server stamp = record { sender = record { from = actor.Server here.me; inc = here.inc; rev = 0 }; posts = _; from = refl; are = refl }
 
 -- a full journal stops the server
-room_posts : (full : Bool) (here : JobContext) (server : Server) (acted : Acted) (stamp : ℕ) → ArePosted (actor.Server here.me) stamp (stamped stamp acted.letters)
+room_posts : (full : Bool) (here : JobContext) (server : Server) (acted : Acted) (stamp : ℕ)
+    → ArePosted (actor.Server here.me) stamp (stamped stamp acted.letters)
     → ArePosted (actor.Server here.me) stamp (stamped stamp (if full then stops here server else acted).letters)
 room_posts true here server acted stamp posted = stop_posts here server stamp
 room_posts false here server acted stamp posted = posted
@@ -256,7 +257,8 @@ server_posts (Boot end) state n stamp server = boot_posts end (here_of state n s
 server_posts (Glance line round) state n stamp server = glance_posts line round (here_of state n server) server stamp
 server_posts _ state n stamp server = record { sender = sender (here_of state n server); posts = []; from = refl; are = refl }
 
-module _ (setting : Setting) (w : World) (actors : Actors) (h : Shows setting w actors) (n : ℕ) (what : Step) (stamp : ℕ) (may : MayServer what setting w n) where
+module _ (setting : Setting) (w : World) (actors : Actors) (h : Shows setting w actors) (n : ℕ) (what : Step) (stamp : ℕ)
+    (may : MayServer what setting w n) where
   abbrev desk : Desk
   desk = desk_of setting w n
 

@@ -327,7 +327,8 @@ impl<H: Host> World<H> {
         ensures told { IfOk result (λ stepped. stepped ≡ told_by self.old actor (ended step.now stepped.end)) }
         ensures not_allowed { IsErrOf result error.NotAllowed → MayStep (setting_of self.old.script) (world_of self.old) actor step.now → ⊥ }
         ensures unchanged { IsErrOf result error.NotAllowed → self.new ≡ self.old }
-        ensures no_memory { IsErrOf result error.NoMemory → (self.new.script ≡ self.old.script) × (self.new.records ≡ self.old.records) × (self.new.over ≡ true) }
+        ensures no_memory { IsErrOf result error.NoMemory → (self.new.script ≡ self.old.script) × (self.new.records ≡ self.old.records)
+            × (self.new.over ≡ true) }
     {
         if self.over {
             return Err(WorldError::NoMemory);

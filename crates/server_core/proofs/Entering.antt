@@ -77,7 +77,8 @@ module _ {D A B : Type 0} (device : Ghosts D) {here : JobContext} {entry : Optio
     run = is.run;
   }
 
-module _ {D : Type 0} (device : Ghosts D) (records : List StateRecord) (old : ServerView) (before : Holdings D) (there : slice_get old.queue 0 ≡ Some job.Apply) where
+module _ {D : Type 0} (device : Ghosts D) (records : List StateRecord) (old : ServerView) (before : Holdings D)
+    (there : slice_get old.queue 0 ≡ Some job.Apply) where
   abbrev rule : PairState
   rule = crossed_by (here_in old) (next_known old.log records) (own_of old.side before)
 

@@ -85,7 +85,8 @@ pub many : (n : ℕ) → n ≡ journal_records + 1 → nat_lt journal_records n 
 many n is = grind (arith, nat_tests)
 
 -- where both journals have room for what the job leaves
-pub fits : (here : JobContext) (server : Server) (left : Acted) → left.server.own.store.records ≤ journal_records → length left.server.log.records ≤ journal_records
+pub fits : (here : JobContext) (server : Server) (left : Acted) → left.server.own.store.records ≤ journal_records
+    → length left.server.log.records ≤ journal_records
     → where_room here server left ≡ left
 fits here server left store records =
     rw (few left.server.own.store.records store, few (length left.server.log.records) records) refl

@@ -68,7 +68,8 @@ module _ {D : Type 0} where
 
   -- the first job, of the agreed log, is done as the rule says at this store, where the device tells its bytes and stands for the
   -- records; the rest is as of each job of the log. The store is not called
-  pub record IsLogWork (device : Ghosts D) (store : Store) (old new : ServerView) (before after : Keeping D) (result : Result (List Letter) WorkError) : Type 0 where
+  pub record IsLogWork (device : Ghosts D) (store : Store) (old new : ServerView) (before after : Keeping D)
+      (result : Result (List Letter) WorkError) : Type 0 where
     pub work : IfOk result (λ letters. device.observable → logs.HoldsAt device before → store.records ≤ journal_records
         → acted new store after.records letters ≡ works (here_in old) (server_of old store before.records) old.queue)
     pub life : (new.running ≡ old.running) × (new.log.voter ≡ old.log.voter)
@@ -84,7 +85,8 @@ module _ {D : Type 0} where
     pub run : device.came_to before.disk after.disk
 
 -- either journal has no room for the record of the first job; nothing changed, and the rule lets the server stop
-pub record IsFullWork {D E : Type 0} (device : Ghosts D) (other : Ghosts E) (old new : ServerView) (before after : Holdings D) (state left : Keeping E) : Type 0 where
+pub record IsFullWork {D E : Type 0} (device : Ghosts D) (other : Ghosts E) (old new : ServerView) (before after : Holdings D)
+    (state left : Keeping E) : Type 0 where
   pub count : (before.log.region.count ≡ journal_records) ⊎ (state.region.count ≡ journal_records)
   pub same : (new ≡ old) × (after ≡ before) × (left ≡ state)
   pub stops : device.observable → other.observable → HoldsAt device before → logs.HoldsAt other state → Stops old (store_of before) state.records

@@ -405,7 +405,8 @@ impl<D: Disk> Store<D> {
     ) -> Result<Option<Entry>, Failed>
         requires { length into.old ≡ block_bytes }
         ensures found { IfOk result (λ found. found ≡ newest key_of (record { map = map; block = block; epoch = epoch }) (listed self.old.entries)) }
-        ensures content { OnOk result (D.observable → into.new ≡ content_of (newest key_held (record { map = map; block = block; epoch = epoch }) self.old.entries)) }
+        ensures content { OnOk result
+            (D.observable → into.new ≡ content_of (newest key_held (record { map = map; block = block; epoch = epoch }) self.old.entries)) }
         ensures zeros { IfOk result (λ found. IfNone found (into.new ≡ zero_block)) }
         ensures same { self.new ≡ record self.old { disk = self.new.disk } }
         ensures device { KeepsDevice D.size D.seen D.may_leave D.moment D.left_since self.old.disk self.new.disk }

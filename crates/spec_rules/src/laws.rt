@@ -42,7 +42,8 @@ pub fn only_the_lead_takes_a_write()
 
 /// A request that its lead has finished, or that is older, changes nothing there: it is answered again or dropped.
 pub fn a_finished_request_changes_nothing()
-    ensures { (here : JobContext) (own : PairState) (want : Wanted) (last : Finished) → at nat_cmp own.pairs.finished want.client ≡ Some last → want.seq ≤ last.seq
+    ensures { (here : JobContext) (own : PairState) (want : Wanted) (last : Finished)
+        → at nat_cmp own.pairs.finished want.client ≡ Some last → want.seq ≤ last.seq
         → (on_write here own want).own ≡ own }
 {}
 

@@ -25,7 +25,8 @@ length-awaiting servers [] = refl
 length-awaiting servers (fence ∷ fences) = refl
 
 -- a fence that is ready leaves one fewer
-pub length-following : (servers : List ℕ) (queue : List Fence) (fence : Fence) → ready queue ≡ Some fence → length queue ≡ suc (length (following servers queue))
+pub length-following : (servers : List ℕ) (queue : List Fence) (fence : Fence) → ready queue ≡ Some fence
+    → length queue ≡ suc (length (following servers queue))
 length-following servers [] fence is = cc
 length-following servers (first ∷ fences) fence is = ap suc (sym (length-awaiting servers fences))
 

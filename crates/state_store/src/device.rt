@@ -283,7 +283,8 @@ fn read_journal<D: Disk>(
 fn read_device<D: Disk>(alloc: Global, disk: &mut D) -> Result<(Journal<128>, Register), StateError>
     ensures region { IfOk result (λ o. (o.0.base ≡ journal_base) × (o.0.limit ≡ journal_records)) }
     ensures size { IfOk result (λ o. device_bytes ≤ D.size disk.new) }
-    ensures found { IfOk result (λ o. D.observable → (take header_bytes (D.seen disk.old) ≡ header) × JournalCounts (D.seen disk.old) (bodies_of o.1.history.items)) }
+    ensures found { IfOk result
+        (λ o. D.observable → (take header_bytes (D.seen disk.old) ≡ header) × JournalCounts (D.seen disk.old) (bodies_of o.1.history.items)) }
     ensures spelled { IfOk result (λ o. AreSpelled o.1.history.items) }
     ensures same { (records : List StateRecord) → IfOk result (λ o. D.observable → StandsFor (D.seen disk.old) records → o.1.history.items ≡ records) }
     ensures holds { (records : List StateRecord)

@@ -43,7 +43,8 @@ re_pending t own = record own { pairs = record own.pairs { pending = t } }
 abbrev given_up : PairState → Cell → Bool → PairState
 given_up own cell put = if put then without_pending own cell else gives_back (without_pending own cell)
 
-module _ {D : Type 0} (here : JobContext) (side : PairMemory) (store : Holdings D) (op : Pending) (h : HasTicketsAt side store) (m : IsMoved side.pending op) where
+module _ {D : Type 0} (here : JobContext) (side : PairMemory) (store : Holdings D) (op : Pending) (h : HasTicketsAt side store)
+    (m : IsMoved side.pending op) where
   needs : needs_own (at cell_cmp side.pending op.cell) ≡ not op.stage.put
   needs = ap needs_own m.there ∙ ap not m.put
 
@@ -239,7 +240,8 @@ own_is (Some p) cell op is own = let same : p ≡ op = cc in ap (λ (q : Pending
 -- an action without a call of the device, where it is the next one
 pub said_acts : {D : Type 0} (device : Ghosts D) (stays : (d : D) → device.came_to d d)
     (only_now : (d : D) (c : List ℕ) → device.left_since d (device.moment d) c → device.may_leave d c)
-    (here : JobContext) (own : PairState) (op : Pending) (old new : PairMemory) (before after : Holdings D) (answer : Result JobResult WorkError) (next is : Action)
+    (here : JobContext) (own : PairState) (op : Pending) (old new : PairMemory) (before after : Holdings D)
+    (answer : Result JobResult WorkError) (next is : Action)
     → next ≡ is → IsSaid here old new before after answer (acts here own op is)
     → IsDone device here old new before after answer (acts here own op next)
 said_acts device stays only_now here own op old new before after answer next is same said =

@@ -24,7 +24,8 @@ use Rattle.pair_memory.specs.Slots.{IsOutAt}
 use Rattle.pair_memory.proofs.Tickets as tickets
 use Rattle.write_pair.specs.Opened.{IsOpened, begun}
 
-module _ {D : Type 0} (op : Pending) (side : PairMemory) (store : Holdings D) (h : HasTicketsAt side store) (none : at cell_cmp side.pending op.cell ≡ None) where
+module _ {D : Type 0} (op : Pending) (side : PairMemory) (store : Holdings D) (h : HasTicketsAt side store)
+    (none : at cell_cmp side.pending op.cell ≡ None) where
   own_none : at cell_cmp side.own op.cell ≡ None
   own_none = tickets.own_none side.pending side.last side.own side.apart store.tickets h op.cell (ap needs_own none)
 
@@ -91,11 +92,13 @@ module _ {D : Type 0} (op : Pending) (side : PairMemory) (store : Holdings D) (h
     }
 
     -- what its first stage leaves, as seen from before it was opened; unless that was refused, as it is taken back then
-    pub opened_done : (here : JobContext) (device : Ghosts D) (last : PairMemory) (left : Holdings D) (result : Result JobResult WorkError) (room : Bool) → room ≡ true
+    pub opened_done : (here : JobContext) (device : Ghosts D) (last : PairMemory) (left : Holdings D) (result : Result JobResult WorkError) (room : Bool)
+        → room ≡ true
         → ¬ (result ≡ Err NoMemory) → ¬ (result ≡ Err JournalFull) → IsDone device here new last after left result (goes_on here (own_of new after) op.cell)
         → IsDone device here side last store left result (begun here (own_of side store) op room)
     opened_done here device last left result room is memory full stage =
-        rw is (subst (λ (rule : Rule). IsDone device here side last store left result rule) (ap (λ (own : PairState). goes_on here own op.cell) opened_is) (record {
+        rw is (subst (λ (rule : Rule). IsDone device here side last store left result rule)
+        (ap (λ (own : PairState). goes_on here own op.cell) opened_is) (record {
           done = stage.done;
           keeps = stage.keeps;
           holds = λ told holds. stage.holds told (subst (HoldsAt device) (sym opened.store) holds);

@@ -6,7 +6,8 @@ use Rattle.spec_history.specs.Text.{text_of}
 use Rattle.spec_history.specs.declared.record.Record.{Record}
 use Rattle.plain_schedule.specs.Phases.{Progress, records_of}
 use Rattle.petal_run.specs.Said.{WrotePhases}
-use Rattle.petal_run.proofs.Telling.{ended_all, done_play, play_legal, play_wrote, play_last, play_ends, adds_phases, adds_last, none_added, none_wrote, nothing_legal}
+use Rattle.petal_run.proofs.Telling.{ended_all, done_play, play_legal, play_wrote, play_last, play_ends, adds_phases}
+use Rattle.petal_run.proofs.Telling.{adds_last, none_added, none_wrote, nothing_legal}
 use Rattle.petal_run.proofs.script.play.Goals as goal
 
 pub returns-in-Ok-clause-done : goal.returns-in-Ok-clause-done

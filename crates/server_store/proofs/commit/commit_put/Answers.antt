@@ -6,7 +6,8 @@ use Rattle.data_device.specs.declared.record.StoreRecord.TheVariants as kind
 use Rattle.data_device.specs.Kept.{kept_of}
 use Rattle.server_store.specs.Shown.{ShowsEither}
 use Rattle.data_device.specs.Slots.{slot_start, slot_bytes}
-use Rattle.server_store.proofs.Commits.{held-following, slot-following, keeps_after, keeps-still, shows-still, committed, logs_of, shows-put, ShowsChange, on_ok}
+use Rattle.server_store.proofs.Commits.{held-following, slot-following, keeps_after, keeps-still, shows-still, committed}
+use Rattle.server_store.proofs.Commits.{logs_of, shows-put, ShowsChange, on_ok}
 use Rattle.server_store.proofs.Contents.{held-apart, slot-written}
 use Rattle.server_store.proofs.commit.commit_put.Goals as goal
 use Rattle.petal_base.specs.Block.{block_bytes}

@@ -43,7 +43,10 @@ returns c = record {
   told = refl;
   waits = waits;
   glance = record {
-    may = (one_of_three, inl (record { asked = start_of 3 2; opened = record { is = booted.is; first = booted.first }; line_is = refl; once = refl; done = (refl, inr refl) }));
+    may = (
+      one_of_three,
+      inl (record { asked = start_of 3 2; opened = record { is = booted.is; first = booted.first }; line_is = refl; once = refl; done = (refl, inr refl) }),
+    );
     clock = few 3 refl;
     receives = none_yet;
     goes_on = refl;

@@ -27,7 +27,10 @@ unfolding put_at heard refusal step
 returns c = record {
   may_not = may_not;
   glance = record {
-    may = (one_of_three, inl (record { asked = start_of 4 3; opened = record { is = asked.is; first = asked.first }; line_is = refl; once = refl; done = (refl, inl runs) }));
+    may = (
+      one_of_three,
+      inl (record { asked = start_of 4 3; opened = record { is = asked.is; first = asked.first }; line_is = refl; once = refl; done = (refl, inl runs) }),
+    );
     clock = few 4 refl;
     receives = none_yet;
     goes_on = refl;

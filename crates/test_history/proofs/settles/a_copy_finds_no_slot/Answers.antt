@@ -21,7 +21,10 @@ returns c = record {
   closed = refl;
   full = refl;
   glance = record {
-    may = (none_of_three, inr (record { place = 0; own = line_of 3 8 request.Settle; is = refl; called = omega arith; line_is = refl; request_is = refl; counts = omega arith }));
+    may = (
+      none_of_three,
+      inr (record { place = 0; own = line_of 3 8 request.Settle; is = refl; called = omega arith; line_is = refl; request_is = refl; counts = omega arith }),
+    );
     clock = few _ refl;
     receives = none_yet;
     goes_on = refl;

@@ -28,7 +28,10 @@ returns c = record {
   stopped = refl;
   told = refl;
   glance = record {
-    may = (one_of_three, inl (record { asked = asked_for 3 1; opened = record { is = stopped.is; first = stopped.first }; line_is = refl; once = refl; done = (refl, refl) }));
+    may = (
+      one_of_three,
+      inl (record { asked = asked_for 3 1; opened = record { is = stopped.is; first = stopped.first }; line_is = refl; once = refl; done = (refl, refl) }),
+    );
     clock = one_step;
     receives = none_yet;
     goes_on = refl;

@@ -27,7 +27,10 @@ unfolding put_at heard refusal step
 returns c = record {
   may_not = may_not;
   glance = record {
-    may = (one_of_three, inl (record { asked = asked_for 4 2; opened = record { is = asked.is; first = asked.first }; line_is = refl; once = refl; done = (refl, rests) }));
+    may = (
+      one_of_three,
+      inl (record { asked = asked_for 4 2; opened = record { is = asked.is; first = asked.first }; line_is = refl; once = refl; done = (refl, rests) }),
+    );
     clock = two_steps;
     receives = none_yet;
     goes_on = refl;

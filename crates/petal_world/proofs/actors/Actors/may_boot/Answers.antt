@@ -11,7 +11,8 @@ pub returns-then-has : goal.returns-then-has
 returns-then-has g c = λ setting w h is.
     let rests = runs_as setting w c.args.server c.args.desk.now.desk c.is_running.result is
     (c.is_running.ensures ∙ ap (λ (d : Equipped). d.desk.site.server.life.running) c.desk.view_is) ∙ c.if-is_running.false in
-    let inc = inc_as setting w c.args.server c.args.desk.now.desk c.inc.result is (c.inc.ensures ∙ ap (λ (d : Equipped). d.desk.site.server.life.inc) c.desk.view_is) in
+    let inc = inc_as setting w c.args.server c.args.desk.now.desk c.inc.result is
+    (c.inc.ensures ∙ ap (λ (d : Equipped). d.desk.site.server.life.inc) c.desk.view_is) in
     let raises : (w.servers c.args.server).life.inc < greatest_u32 = subst (λ k. k < greatest_u32) (sym inc) c.if-inc-ge4294967295.false in
     let blanked : w.control.hand ≡ Some (c.args.server, Blanked) =
     sym (ap (λ (k : Actors). k.control.hand) c.self.view_is ∙ ap (λ (k : Control). k.hand) h.control) ∙ c.has.ensures.0 c.if-has.true in (
@@ -26,7 +27,8 @@ pub returns : goal.returns
 returns g c = λ setting w h is.
     let rests = runs_as setting w c.args.server c.args.desk.now.desk c.is_running.result is
     (c.is_running.ensures ∙ ap (λ (d : Equipped). d.desk.site.server.life.running) c.desk.view_is) ∙ c.if-is_running.false in
-    let inc = inc_as setting w c.args.server c.args.desk.now.desk c.inc.result is (c.inc.ensures ∙ ap (λ (d : Equipped). d.desk.site.server.life.inc) c.desk.view_is) in
+    let inc = inc_as setting w c.args.server c.args.desk.now.desk c.inc.result is
+    (c.inc.ensures ∙ ap (λ (d : Equipped). d.desk.site.server.life.inc) c.desk.view_is) in
     let raises : (w.servers c.args.server).life.inc < greatest_u32 = subst (λ k. k < greatest_u32) (sym inc) c.if-inc-ge4294967295.false in
     let empty : w.control.hand ≡ None =
     sym (ap (λ (k : Actors). k.control.hand) c.self.view_is ∙ ap (λ (k : Control). k.hand) h.control) ∙ c.is_empty.ensures.0 c.if-not-is_empty.false in (

@@ -18,7 +18,8 @@ invariant_of-result g c =
       control = c.new-2.result;
     } in
     let waiting = subst (λ (lines : List Line). Await lines [] c.in_ok-start-3.field-0) c.as_slice.ensures c.in_ok-start-3.ensures in
-    subst (λ (rs : List Record). IsKept (record { script = c.args.script; records = rs; phase = 0; floor = 0; over = false; free = false }) actors c.none.result)
+    subst
+    (λ (rs : List Record). IsKept (record { script = c.args.script; records = rs; phase = 0; floor = 0; over = false; free = false }) actors c.none.result)
     (sym c.new-4.ensures)
     (start_kept g.H.Host.seen g.H.Host.armed c.args.hosts c.args.script actors c.none.result c.requires.ordered c.requires.hosts c.requires.unarmed
     c.in_ok-start.ensures c.in_ok-start-2.ensures c.new.ensures waiting c.new-2.ensures c.none.ensures)

@@ -36,7 +36,8 @@ invariant_of-self g c =
     let noted = c.after-errand.ensures
     ∙ errand_by (setting_of play.script) (world_of play) c.args.actor c.args.step.now i.errand c.runs.result (option_copied c.next_order.result)
     runs line in
-    kept_ended play i.actors i.errand c.args.actor c.args.step.now c.self.invariant going may obeys c.take.new.actors c.in-Ok.stepped.end c.stamp_of-stamp.result
+    kept_ended play i.actors i.errand c.args.actor c.args.step.now c.self.invariant going may obeys c.take.new.actors
+    c.in-Ok.stepped.end c.stamp_of-stamp.result
     c.phase_for-phase.result c.in-Ok.stepped c.after-errand.result c.stamp_of-stamp.ensures c.phase_for-phase.ensures c.in-Ok.ensures.ok.1
     c.in-Ok.ensures.plans noted c.take.new.records c.in-Ok.ensures.ok.0
 
@@ -56,7 +57,8 @@ returns-in-Ok-clause-told g c =
     ∙ errand_by (setting_of play.script) (world_of play) c.args.actor c.args.step.now i.errand c.runs.result (option_copied c.next_order.result)
     runs line in
     subst (λ (p : Play). c.in-Ok.stepped ≡ told_by p c.args.actor (ended c.args.step.now c.in-Ok.stepped.end)) c.self.view_is
-    (told_ended play i.actors i.errand c.args.actor c.args.step.now c.self.invariant going may obeys c.take.new.actors c.in-Ok.stepped.end c.stamp_of-stamp.result
+    (told_ended play i.actors i.errand c.args.actor c.args.step.now c.self.invariant going may obeys c.take.new.actors
+    c.in-Ok.stepped.end c.stamp_of-stamp.result
     c.phase_for-phase.result c.in-Ok.stepped c.after-errand.result c.stamp_of-stamp.ensures c.phase_for-phase.ensures c.in-Ok.ensures.ok.1
     c.in-Ok.ensures.plans noted)
 
@@ -78,7 +80,8 @@ returns-in-Ok-clause-ok g c =
     let new : Play =
     record { script = i.script; records = c.take.new.records; phase = i.phase; floor = i.floor; over = i.over; free = i.free } in
     subst (λ (p : Play). new ≡ played p c.args.actor (ended c.args.step.now c.in-Ok.stepped.end)) c.self.view_is
-    (played_ended play i.actors i.errand c.args.actor c.args.step.now c.self.invariant going may obeys c.take.new.actors c.in-Ok.stepped.end c.stamp_of-stamp.result
+    (played_ended play i.actors i.errand c.args.actor c.args.step.now c.self.invariant going may obeys c.take.new.actors
+    c.in-Ok.stepped.end c.stamp_of-stamp.result
     c.phase_for-phase.result c.in-Ok.stepped c.after-errand.result c.stamp_of-stamp.ensures c.phase_for-phase.ensures c.in-Ok.ensures.ok.1
     c.in-Ok.ensures.plans noted c.take.new.records c.in-Ok.ensures.ok.0)
 

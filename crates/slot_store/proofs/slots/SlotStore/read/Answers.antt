@@ -10,5 +10,6 @@ returns-clause-bytes g c =
     let at = subst (λ (at : ℕ). OnOk c.read.result (g.D.Disk.observable → c.read.new.into ≡ part file at (length c.args.into.now)))
     c.start-at.ensures c.read.ensures.bytes in
     let whole =
-    subst (λ (n : ℕ). OnOk c.read.result (g.D.Disk.observable → c.read.new.into ≡ part file (slot_start c.self.inside.base c.args.slot) n)) c.requires.block at in
+    subst (λ (n : ℕ). OnOk c.read.result (g.D.Disk.observable → c.read.new.into ≡ part file (slot_start c.self.inside.base c.args.slot) n)) c.requires.block
+    at in
     rw (← c.self.view_is) whole
