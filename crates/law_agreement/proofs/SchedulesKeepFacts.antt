@@ -12,10 +12,11 @@ use Rattle.law_agreement.proofs.LaterWorldsSay.{later_cast}
 use Rattle.law_agreement.proofs.MovesKeepFacts.{keep_later, cast_in, one_server, not_in_nobody, Origin, HasOrigin, Promises, Casts, Sends, Turns, Asks}
 use Rattle.law_agreement.proofs.MovesKeepFacts.{Learns, Raises, move_holds, Leads, Still, goes, last, keeps}
 use Rattle.law_agreement.proofs.Quorum.{meet}
+use Rattle.spec_paxos.proofs.standing.Reported.{higher_ranks}
 
 -- tests
 
-either : (b : Bool) → (b ≡ true) ⊎ (b ≡ false)
+pub either : (b : Bool) → (b ≡ true) ⊎ (b ≡ false)
 either true = inl refl
 either false = inr refl
 
@@ -35,13 +36,13 @@ pub record IsFor (p : ℕ) (b : Ballot) (place : ℕ) (ballot : Ballot) : Type 0
   pub place_is : p ≡ place
   pub ballot_is : b ≡ ballot
 
-for_them : (p : ℕ) (b : Ballot) (place : ℕ) (ballot : Ballot) → is_for p b place ballot ≡ true → IsFor p b place ballot
+pub for_them : (p : ℕ) (b : Ballot) (place : ℕ) (ballot : Ballot) → is_for p b place ballot ≡ true → IsFor p b place ballot
 for_them p b place ballot e =
     let k = and_both (p == place) (same b ballot) e in
     record { place_is = grind (arith, nat_tests); ballot_is = same_ballot b ballot k.1 }
 
 -- who is in a list that one more joined
-joined : (who : List Bool) (from k : ℕ) → is_in (set who from true) k ≡ true → (k ≡ from) ⊎ (is_in who k ≡ true)
+pub joined : (who : List Bool) (from k : ℕ) → is_in (set who from true) k ≡ true → (k ≡ from) ⊎ (is_in who k ≡ true)
 joined who from k e = joined_by who from k e (k == from) refl
   where
     joined_by : (who : List Bool) (from k : ℕ) → is_in (set who from true) k ≡ true → (b : Bool) → (k == from) ≡ b → (k ≡ from) ⊎ (is_in who k ≡ true)
@@ -49,14 +50,6 @@ joined who from k e = joined_by who from k e (k == from) refl
     joined_by who from k e false f = inr (let d : k ≢ from = grind (arith, nat_tests) in rw get_or-set_other at e)
 
 -- the proposer collects
-
-higher_ranks : (a b : Option (Ballot × Command)) → (rank_of a ≤ rank_of (higher a b)) × (rank_of b ≤ rank_of (higher a b))
-higher_ranks a b = by a b (nat_lt (rank_of a) (rank_of b)) refl
-  where
-    by : (a b : Option (Ballot × Command)) (t : Bool) → nat_lt (rank_of a) (rank_of b) ≡ t
-        → (rank_of a ≤ rank_of (if t then b else a)) × (rank_of b ≤ rank_of (if t then b else a))
-    by a b true e = (grind (arith, nat_tests), grind (arith, nat_tests))
-    by a b false e = (grind (arith, nat_tests), grind (arith, nat_tests))
 
 higher_cast : (w : World) (p : ℕ) (a b : Option (Ballot × Command)) → SomeoneCast w p a → SomeoneCast w p b → SomeoneCast w p (higher a b)
 higher_cast w p a b h k = elim (nat_lt (rank_of a) (rank_of b)) as (λ t. SomeoneCast w p (if t then b else a)) [ true ↦ k | false ↦ h ]
@@ -109,7 +102,7 @@ is_safe n w h s place ballot want who (Some y) k most c lt = elim (lt_or_ge c (n
 
 -- the proposer hears a letter
 
-at_true : (n : ℕ) (who : List Bool) → has_majority n who ≡ true → IsMajority n (is_in who)
+pub at_true : (n : ℕ) (who : List Bool) → has_majority n who ≡ true → IsMajority n (is_in who)
 at_true n who is = grind (arith, nat_tests)
 
 collects : (n : ℕ) (e : Event) (w : World) → Holds n w → (s p : ℕ) (b : Ballot) (want : Command) (who : List Bool) (best : Option (Ballot × Command))

@@ -161,18 +161,18 @@ commits_is old new entry (inr more) = elim (committed_as old entry) [
 
 -- ### Which records there are
 
-in_front : {X : Type 0} (x : X) (xs ys : List X) → In x xs → In x (xs ++ ys)
+pub in_front : {X : Type 0} (x : X) (xs ys : List X) → In x xs → In x (xs ++ ys)
 unfolding In
 in_front x [] ys h = absurd h
 in_front x (y ∷ xs) ys (inl is) = inl is
 in_front x (y ∷ xs) ys (inr later) = inr (in_front x xs ys later)
 
-in_last : {X : Type 0} (x : X) (xs : List X) → In x (xs ++ x ∷ [])
+pub in_last : {X : Type 0} (x : X) (xs : List X) → In x (xs ++ x ∷ [])
 unfolding In
 in_last x [] = inl refl
 in_last x (y ∷ xs) = inr (in_last x xs)
 
-in_either : {X : Type 0} (x y : X) (xs : List X) → In x (xs ++ y ∷ []) → In x xs ⊎ (x ≡ y)
+pub in_either : {X : Type 0} (x y : X) (xs : List X) → In x (xs ++ y ∷ []) → In x xs ⊎ (x ≡ y)
 unfolding In
 in_either x y [] (inl is) = inr is
 in_either x y [] (inr h) = absurd h
@@ -254,7 +254,7 @@ accepted_in records place b c = elim (committed_as records (Accepted place b c))
 
 -- ### What is kept
 
-fold_last : {A X : Type 0} (f : A → X → A) (a : A) (xs : List X) (x : X) → fold f a (xs ++ x ∷ []) ≡ f (fold f a xs) x
+pub fold_last : {A X : Type 0} (f : A → X → A) (a : A) (xs : List X) (x : X) → fold f a (xs ++ x ∷ []) ≡ f (fold f a xs) x
 fold_last f a [] x = refl
 fold_last f a (y ∷ ys) x = fold_last f (f a y) ys x
 

@@ -5,3 +5,4 @@ pub mod Proposer
 pub mod Kept
 pub mod Chosen
 pub mod Schedule
+pub mod standing

@@ -8,8 +8,10 @@
 
 mod commits;
 mod phase;
+mod promises;
 mod record;
 
-pub use commits::{commit_is_told, commit_keeps};
+pub use commits::{commit_is_told, commit_keeps, standing_commit_is_told, standing_commit_keeps};
 pub use phase::{Heard, Phase};
+pub use promises::{a_promise_lists_its_range, highest_is_of_one_place, next_is_the_least_place};
 pub use record::{Row, StateRecord};

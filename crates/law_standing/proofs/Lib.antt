@@ -1,0 +1,5 @@
+pub mod StandingFacts
+pub mod LaterStandingWorlds
+pub mod StandingMovesKeepFacts
+pub mod StandingSchedulesKeepFacts
+pub mod StandingChosenWasWanted

@@ -1,0 +1,13 @@
+use Rattle.std.proofs.Common.{refl}
+use Rattle.petal_command.specs.Ballot.{number}
+use Rattle.spec_paxos.specs.Member.{In, put}
+use Rattle.spec_paxos.specs.Proposer.{nobody}
+use Rattle.law_standing.proofs.schedules.a_later_ballot_takes_over.Goals as goal
+
+pub returns-clause-stands : goal.returns-clause-stands
+unfolding number In put nobody
+returns-clause-stands c x y = refl
+
+pub returns-clause-letters : goal.returns-clause-letters
+unfolding number In put nobody
+returns-clause-letters c x y = refl
