@@ -1,5 +1,15 @@
 mod Append
 pub mod Counting
 pub mod Frame
+mod Formatted
+mod Found
+mod Generations
+mod Grouped
+mod Groups
+mod Halving
+mod Heads
+mod Ranges
+mod Rows
 mod Slots
 pub mod Gates
+mod Turned

@@ -1,7 +1,7 @@
 -- Where records lie, and what bytes of a range mean for the others.
-use Rattle.std.proofs.Common.{◌≡◌, ◌⊎◌, inl, inr, ℕ, suc, ◌+◌, ◌*◌, ◌<◌, ◌≤◌, List, take, drop, get_or, sym, ◌∙◌, ap, arith}
+use Rattle.std.proofs.Common.{◌≡◌, ◌⊎◌, inl, inr, ℕ, suc, ◌+◌, ◌-◌, ◌*◌, ◌<◌, ◌≤◌, List, take, drop, get_or, sym, ◌∙◌, ap, arith}
 use Rattle.std.proofs.Math.Nat.{mul-suc, mul-le-mul_left}
-use Rattle.std.proofs.lemmas.List.{get_or-drop, drop-take, get_or-take}
+use Rattle.std.proofs.lemmas.List.{get_or-drop, drop-take, drop-drop, take-take, get_or-take}
 use Rattle.petal_disk.specs.Disk.{Torn, part}
 use Rattle.petal_disk.proofs.Tearing.{torn_front, torn_rest}
 
@@ -36,3 +36,16 @@ same_part at n k m x y torn where_it_is = elim where_it_is [
   | inl before ↦ sym (drop-take k m y) ∙ ap (λ (l : List ℕ). drop k l) (torn_front (k + m) at n x y before torn) ∙ drop-take k m x
   | inr following ↦ ap (λ (l : List ℕ). take m l) (torn_rest k at n x y following torn)
 ]
+
+-- a byte of a part
+pub byte_of_part : (file : List ℕ) (at n k : ℕ) → k < n → get_or (part file at n) k 0 ≡ get_or file (at + k) 0
+byte_of_part file at n k lt = get_or-take n (drop at file) k 0 lt ∙ get_or-drop at file k 0
+
+-- a part of a part
+pub part_of_part : (file : List ℕ) (at n k m : ℕ) → k + m ≤ n → part (part file at n) k m ≡ part file (at + k) m
+part_of_part file at n k m le =
+    let split : k + (n - k) ≡ n = omega arith in
+    ap (λ (j : ℕ). take m (drop k (take j (drop at file)))) (sym split)
+    ∙ ap (λ (l : List ℕ). take m l) (drop-take k (n - k) (drop at file))
+    ∙ take-take m (n - k) (drop k (drop at file)) (omega arith)
+    ∙ ap (λ (l : List ℕ). take m l) (drop-drop k at file)

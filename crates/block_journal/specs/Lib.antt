@@ -1,3 +1,6 @@
+pub mod Groups
+pub mod Halves
+pub mod Heads
 pub mod Pieces
 pub mod Records
 pub mod Region
