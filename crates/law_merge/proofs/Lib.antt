@@ -1,0 +1,6 @@
+pub mod OwnHands
+pub mod OwnPlans
+pub mod OwnStepsFollow
+pub mod RecordedLetters
+pub mod RecordsGrow
+pub mod WhoseRecords
