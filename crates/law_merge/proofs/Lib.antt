@@ -1,3 +1,4 @@
+pub mod CalledLines
 pub mod OwnHands
 pub mod OwnPlans
 pub mod OwnStepsFollow

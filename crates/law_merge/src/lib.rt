@@ -6,15 +6,18 @@
 #![tactic(auto)]
 
 ghost use Rattle.std.specs.Prelude.{◌≡◌, ◌++◌, ◌∷◌, [], ℕ, List, None};
+ghost use Rattle.petal_msg.specs.declared.letter.Actor.TheVariants.{Client};
 ghost use Rattle.petal_msg.specs.declared.letter.Letter.{Letter};
 ghost use Rattle.script_lines.specs.declared.script.Script.{Script};
 ghost use Rattle.spec_rules.specs.Lists.{In};
 ghost use Rattle.spec_rules.specs.World.{IsFree, setting_of, start};
+ghost use Rattle.spec_rules.specs.declared.step.Step.TheVariants.{Call};
 ghost use Rattle.spec_history.specs.Controls.{errand_along, no_errand};
 ghost use Rattle.spec_history.specs.Legal.{IsLegal};
 ghost use Rattle.spec_history.specs.Steps.{AreSteps, world_after};
 ghost use Rattle.spec_history.specs.declared.record.Record.{Record};
 ghost use Rattle.law_merge.specs.Alone.{of_server};
+ghost use Rattle.law_merge.specs.Called.{IsOpenOrAnswered};
 ghost use Rattle.law_merge.specs.Hands.{hand_along};
 ghost use Rattle.law_merge.specs.Joined.{AreJoinedIn, IsJoined, MakeOneRun};
 
@@ -41,4 +44,11 @@ pub fn joined_records_grow()
         → IsJoined (setting_of script) (world_after (setting_of script) (start (setting_of script)) front)
         (errand_along (setting_of script) (start (setting_of script)) no_errand front) own
         → AreJoinedIn script (front ++ own ∷ []) }
+{}
+
+/// A line that was called is open, or it was answered.
+pub fn a_called_line_is_open_or_answered()
+    ensures { (script : Script) (records : List Record) (own : Record) (caller number : ℕ) → AreSteps script records → In own records
+        → own.actor ≡ Client caller → own.step ≡ Call number
+        → IsOpenOrAnswered (world_after (setting_of script) (start (setting_of script)) records) caller number }
 {}
