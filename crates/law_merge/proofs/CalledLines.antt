@@ -1,5 +1,7 @@
 -- A line that was called is open until it is answered.
-use Rattle.std.proofs.Common.{◌≡◌, ℕ, Bool, true, List, [], ◌∷◌, Option, Some, None, ◌⊎◌, inl, inr, refl, sym, ap, ◌∙◌, subst}
+use Rattle.std.proofs.Common.{◌≡◌, ◌<◌, ℕ, Bool, true, List, [], ◌∷◌, Option, Some, None, ◌⊎◌, inl, inr, refl, sym, ap, ◌∙◌, subst, arith}
+use Rattle.std.proofs.lemmas.Bool.{cases_lt}
+use Rattle.std.specs.Prelude.{slice_get}
 use Rattle.petal_msg.specs.declared.body.Body.{Body}
 use Rattle.petal_msg.specs.declared.letter.Actor.{Actor}
 use Rattle.petal_msg.specs.declared.letter.Actor.TheVariants as actor
@@ -7,7 +9,8 @@ use Rattle.script_lines.specs.declared.answer.Answer.{Answer}
 use Rattle.script_lines.specs.declared.request.Line.{Line}
 use Rattle.spec_rules.specs.Clients.{Asked, Client, Reaction}
 use Rattle.spec_rules.specs.Lists.{In, put_at}
-use Rattle.spec_rules.specs.World.{IsAnswered, MayActor, MayClient, Setting, World, client_state, client_step, next_line, step, with_answer}
+use Rattle.spec_rules.specs.World.{IsAnswered, MayActor, MayClient, Setting, World, client_state, client_step, lines_of, next_line, start, step}
+use Rattle.spec_rules.specs.World.{with_answer}
 use Rattle.spec_rules.specs.declared.step.Step.{Step}
 use Rattle.spec_rules.specs.declared.step.Step.TheVariants.{Call}
 use Rattle.spec_rules.proofs.ListLemmas.{put_apart, put_same}
@@ -78,6 +81,20 @@ module _ (heard : ℕ → Body → Type 0) (servers : ℕ) (lines : List Line) (
   call_opens client _ _ e (happens.Shown asked rev sight answer h was seen) named is = true_false e refl
   call_opens client _ _ e (happens.Judges after asked answer was gone seq why) named is = true_false e refl
 
+  -- a line is called by then that was, or it is called now
+  called_then : (client : Client) (in_call : Bool) (reacted : Reaction) → Turned heard servers lines c client in_call reacted → (place : ℕ)
+      → place < reacted.client.seq → (place < client.seq) ⊎ ((in_call ≡ true) × (place ≡ client.seq))
+  called_then client _ _ (happens.Goes_on reacted seq stays only) place lt = inl (omega arith)
+  called_then client _ _ (happens.Is_told reacted asked h is reads seq stays only) place lt = inl (omega arith)
+  called_then client _ _ (happens.Begins reacted line asked next free seq there called only) place lt = elim (cases_lt place client.seq) [
+    | inl before ↦ inl before
+    | inr past ↦ inr (refl, omega arith)
+  ]
+  called_then client _ _ (happens.Reads asked bytes h is reads) place lt = inl lt
+  called_then client _ _ (happens.Ends asked how h is writes) place lt = inl lt
+  called_then client _ _ (happens.Shown asked rev sight answer h is seen) place lt = inl lt
+  called_then client _ _ (happens.Judges after asked answer is gone seq why) place lt = inl (omega arith)
+
 -- ### Worlds
 
 module _ (setting : Setting) where
@@ -117,6 +134,12 @@ module _ (setting : Setting) where
       (subst (HasOpen r.client) may.is
       (call_opens _ setting.servers setting.lines c w.answers (w.clients c) true r refl (client_turns setting w c (Call number) may).turned may.line may.next)))
 
+  answered_step : (who : Actor) (what : Step) (w : World) (stamp number : ℕ) → IsAnswered w.answers number
+      → IsAnswered (step who what setting w stamp).world.answers number
+  unfolding step
+  answered_step (actor.Server n) what w stamp number told = told
+  answered_step (actor.Client c) what w stamp number told = stays_answered (reacted_in w c what).answer w.answers number told
+
   -- ### Histories
 
   kept_along : (w : World) (records : List Record) → AreStepsFrom setting w records → (c number : ℕ) → IsOpenOrAnswered w c number
@@ -144,3 +167,56 @@ module _ (setting : Setting) where
       (ap (λ (r : Record). r.step) (sym e) ∙ what))
   called_kept w (first ∷ later) steps own (inr there) c number who what =
       called_kept (stepped setting w first).world later steps.1 own there c number who what
+
+  -- ### By places
+
+  -- each line that the client has called is open or answered
+  abbrev AreKept : World → ℕ → Type 0
+  AreKept w c =
+      (place : ℕ) (line : Line) → slice_get (lines_of setting.lines c) place ≡ Some line → place < (w.clients c).seq → IsOpenOrAnswered w c line.number
+
+  own_places : (w : World) (c stamp : ℕ) (what : Step) → (c < 9) × MayClient what setting w c → AreKept w c → (place : ℕ) (line : Line)
+      → slice_get (lines_of setting.lines c) place ≡ Some line → place < (reacted_in w c what).client.seq
+      → IsOpenOrAnswered (step (actor.Client c) what setting w stamp).world c line.number
+  unfolding step
+  own_places w c stamp what may kept place line is lt =
+      let r = reacted_in w c what in
+      let turned = (client_turns setting w c what may.1).turned in
+      elim (called_then _ setting.servers setting.lines c w.answers (w.clients c) (is_call what) r turned place lt) [
+        | inl before ↦ step_keeps (actor.Client c) what w stamp may c line.number (kept place line is before)
+        | inr now ↦
+            inl (subst (λ x. HasOpen x line.number) (sym (put_same w.clients c r.client))
+            (call_opens _ setting.servers setting.lines c w.answers (w.clients c) (is_call what) r now.0 turned line
+            (subst (λ k. slice_get (lines_of setting.lines c) k ≡ Some line) now.1 is)))
+      ]
+
+  one_kept : (who : Actor) (what : Step) (w : World) (stamp : ℕ) → MayActor who what setting w → (c : ℕ) → AreKept w c
+      → AreKept (step who what setting w stamp).world c
+  unfolding step
+  one_kept (actor.Server n) what w stamp may c kept place line is lt = kept place line is lt
+  one_kept (actor.Client d) what w stamp may c kept place line is lt = elim (same_or_apart c d) [
+    | inl same ↦
+        let here : place < (put_at w.clients d (reacted_in w d what).client d).seq =
+        subst (λ k. place < (put_at w.clients d (reacted_in w d what).client k).seq) same lt in
+        subst (λ k. IsOpenOrAnswered (step (actor.Client d) what setting w stamp).world k line.number) (sym same)
+        (own_places w d stamp what may (subst (AreKept w) same kept) place line
+        (subst (λ k. slice_get (lines_of setting.lines k) place ≡ Some line) same is)
+        (subst (λ (x : Client). place < x.seq) (put_same w.clients d (reacted_in w d what).client) here))
+    | inr ne ↦
+        step_keeps (actor.Client d) what w stamp may c line.number
+        (kept place line is (subst (λ (x : Client). place < x.seq) (put_apart w.clients d (reacted_in w d what).client c ne) lt))
+  ]
+
+  places_kept : (w : World) (records : List Record) → AreStepsFrom setting w records → (c : ℕ) → AreKept w c → AreKept (world_after setting w records) c
+  places_kept w [] steps c kept = kept
+  places_kept w (own ∷ later) steps c kept =
+      places_kept (stepped setting w own).world later steps.1 c (one_kept own.actor own.step w own.stamp steps.0.may.may c kept)
+
+  pub place_kept : (records : List Record) → AreStepsFrom setting (start setting) records → (c : ℕ) → AreKept (world_after setting (start setting) records) c
+  place_kept records steps c = places_kept (start setting) records steps c (λ place line is lt. absurd (omega arith))
+
+  -- what was answered stays so
+  pub answered_along : (w : World) (records : List Record) (number : ℕ) → IsAnswered w.answers number → IsAnswered (world_after setting w records).answers number
+  answered_along w [] number told = told
+  answered_along w (own ∷ later) number told =
+      answered_along (stepped setting w own).world later number (answered_step own.actor own.step w own.stamp number told)

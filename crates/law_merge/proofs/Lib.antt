@@ -1,7 +1,9 @@
 pub mod CalledLines
 pub mod OwnHands
 pub mod OwnPlans
+pub mod OwnRecordsMake
 pub mod OwnStepsFollow
+pub mod PhasesEnd
 pub mod RecordedLetters
 pub mod RecordsGrow
 pub mod WhoseRecords

@@ -74,6 +74,11 @@ IsAlone setting n server clock [] = Unit {0}
 IsAlone setting n server clock (own ∷ later) =
     IsNextOf setting n server clock own × IsAlone setting n (acted_by setting n server own.step).server own.stamp later
 
+-- the server after its own records
+abbrev pub server_along : Setting → ℕ → Server → List Record → Server
+server_along setting n server [] = server
+server_along setting n server (own ∷ later) = server_along setting n (acted_by setting n server own.step).server later
+
 -- ### A client
 
 -- what a step makes of a client, whose state is that of the entries that it has applied
@@ -121,3 +126,8 @@ abbrev pub IsAloneClient : Setting → ℕ → Client → ℕ → List Record �
 IsAloneClient setting c client clock [] = Unit {0}
 IsAloneClient setting c client clock (own ∷ later) =
     IsNextOfClient setting c client clock own × IsAloneClient setting c (reacted_by setting c client own.step).client own.stamp later
+
+-- the client after its own records
+abbrev pub client_along : Setting → ℕ → Client → List Record → Client
+client_along setting c client [] = client
+client_along setting c client (own ∷ later) = client_along setting c (reacted_by setting c client own.step).client later

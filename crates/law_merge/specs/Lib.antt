@@ -2,3 +2,4 @@ pub mod Alone
 pub mod Called
 pub mod Hands
 pub mod Joined
+pub mod Phases

@@ -5,21 +5,23 @@
 //! alone, and knows nothing of code.
 #![tactic(auto)]
 
-ghost use Rattle.std.specs.Prelude.{◌≡◌, ◌++◌, ◌∷◌, [], ℕ, List, None};
+ghost use Rattle.std.specs.Prelude.{◌≡◌, ◌<◌, ◌++◌, ◌∷◌, [], ℕ, List, None, Some, slice_get};
 ghost use Rattle.petal_msg.specs.declared.letter.Actor.TheVariants.{Client};
 ghost use Rattle.petal_msg.specs.declared.letter.Letter.{Letter};
+ghost use Rattle.script_lines.specs.declared.request.Line.{Line};
 ghost use Rattle.script_lines.specs.declared.script.Script.{Script};
 ghost use Rattle.spec_rules.specs.Lists.{In};
-ghost use Rattle.spec_rules.specs.World.{IsFree, setting_of, start};
+ghost use Rattle.spec_rules.specs.World.{IsAnswered, IsFree, lines_of, setting_of, start};
 ghost use Rattle.spec_rules.specs.declared.step.Step.TheVariants.{Call};
 ghost use Rattle.spec_history.specs.Controls.{errand_along, no_errand};
 ghost use Rattle.spec_history.specs.Legal.{IsLegal};
 ghost use Rattle.spec_history.specs.Steps.{AreSteps, world_after};
 ghost use Rattle.spec_history.specs.declared.record.Record.{Record};
-ghost use Rattle.law_merge.specs.Alone.{of_server};
+ghost use Rattle.law_merge.specs.Alone.{client_along, of_client, of_server, server_along};
 ghost use Rattle.law_merge.specs.Called.{IsOpenOrAnswered};
 ghost use Rattle.law_merge.specs.Hands.{hand_along};
 ghost use Rattle.law_merge.specs.Joined.{AreJoinedIn, IsJoined, MakeOneRun};
+ghost use Rattle.law_merge.specs.Phases.{HaveDone};
 
 /// Where the actors' own records make one run, they are a legal history.
 pub fn one_run_is_legal()
@@ -46,9 +48,28 @@ pub fn joined_records_grow()
         → AreJoinedIn script (front ++ own ∷ []) }
 {}
 
-/// A line that was called is open, or it was answered.
+/// What an actor is in the world is what its own records make of it.
+pub fn an_actor_is_what_its_own_records_make()
+    ensures server { (script : Script) (records : List Record) (n : ℕ) → (world_after (setting_of script) (start (setting_of script)) records).servers n
+        ≡ server_along (setting_of script) n ((start (setting_of script)).servers n) (of_server n records) }
+    ensures client { (script : Script) (records : List Record) (c : ℕ) → (world_after (setting_of script) (start (setting_of script)) records).clients c
+        ≡ client_along (setting_of script) c ((start (setting_of script)).clients c) (of_client c records) }
+{}
+
+/// A line that was called is open, or it was answered: by the record of its call, and by how many lines its client has called.
 pub fn a_called_line_is_open_or_answered()
-    ensures { (script : Script) (records : List Record) (own : Record) (caller number : ℕ) → AreSteps script records → In own records
+    ensures recorded { (script : Script) (records : List Record) (own : Record) (caller number : ℕ) → AreSteps script records → In own records
         → own.actor ≡ Client caller → own.step ≡ Call number
         → IsOpenOrAnswered (world_after (setting_of script) (start (setting_of script)) records) caller number }
+    ensures counted { (script : Script) (records : List Record) (caller place : ℕ) (line : Line) → AreSteps script records
+        → slice_get (lines_of script.lines caller) place ≡ Some line
+        → place < ((world_after (setting_of script) (start (setting_of script)) records).clients caller).seq
+        → IsOpenOrAnswered (world_after (setting_of script) (start (setting_of script)) records) caller line.number }
+{}
+
+/// Where each client, by its own records of a front, has done the phases before one, each line of theirs was answered from then on.
+pub fn ended_phases_are_answered()
+    ensures { (script : Script) (front back : List Record) (phase : ℕ) (line : Line) → AreSteps script (front ++ back)
+        → HaveDone script phase front → In line script.lines → line.phase < phase
+        → IsAnswered (world_after (setting_of script) (start (setting_of script)) (front ++ back)).answers line.number }
 {}
