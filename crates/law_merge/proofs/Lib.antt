@@ -3,6 +3,7 @@ pub mod OwnHands
 pub mod OwnPlans
 pub mod OwnRecordsMake
 pub mod OwnStepsFollow
+pub mod OwnTurnsObey
 pub mod PhasesEnd
 pub mod RecordedLetters
 pub mod RecordsGrow

@@ -14,13 +14,14 @@ ghost use Rattle.spec_rules.specs.Lists.{In};
 ghost use Rattle.spec_rules.specs.World.{IsAnswered, IsFree, lines_of, setting_of, start};
 ghost use Rattle.spec_rules.specs.declared.step.Step.TheVariants.{Call};
 ghost use Rattle.spec_history.specs.Controls.{errand_along, no_errand};
-ghost use Rattle.spec_history.specs.Legal.{IsLegal};
+ghost use Rattle.spec_history.specs.Legal.{IsLegal, ObeyScript};
 ghost use Rattle.spec_history.specs.Steps.{AreSteps, world_after};
 ghost use Rattle.spec_history.specs.declared.record.Record.{Record};
 ghost use Rattle.law_merge.specs.Alone.{client_along, of_client, of_server, server_along};
 ghost use Rattle.law_merge.specs.Called.{IsOpenOrAnswered};
 ghost use Rattle.law_merge.specs.Hands.{hand_along};
 ghost use Rattle.law_merge.specs.Joined.{AreJoinedIn, IsJoined, MakeOneRun};
+ghost use Rattle.law_merge.specs.OwnLines.{KeepsToScript, TakeTurnsIn};
 ghost use Rattle.law_merge.specs.Phases.{HaveDone};
 
 /// Where the actors' own records make one run, they are a legal history.
@@ -72,4 +73,11 @@ pub fn ended_phases_are_answered()
     ensures { (script : Script) (front back : List Record) (phase : ℕ) (line : Line) → AreSteps script (front ++ back)
         → HaveDone script phase front → In line script.lines → line.phase < phase
         → IsAnswered (world_after (setting_of script) (start (setting_of script)) (front ++ back)).answers line.number }
+{}
+
+/// Where each server's own records keep to the lines that name it, and what a line gives comes while it is the operator's last one, the
+/// records obey the script.
+pub fn own_turns_obey_the_script()
+    ensures { (script : Script) (records : List Record) → ((n : ℕ) → KeepsToScript script n (of_server n records)) → TakeTurnsIn script records
+        → ObeyScript script records }
 {}
