@@ -1,4 +1,5 @@
 pub mod CalledLines
+pub mod HandsAgree
 pub mod OwnHands
 pub mod OwnPlans
 pub mod OwnRecordsMake

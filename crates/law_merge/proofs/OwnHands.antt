@@ -15,7 +15,7 @@ use Rattle.law_merge.specs.Alone.{of_server}
 use Rattle.law_merge.specs.Hands.{hand_along, hand_by}
 use Rattle.law_merge.proofs.WhoseRecords.{server_first, server_none, server_passed}
 
-abbrev at_hand : ℕ → Deed → Option (ℕ × Deed)
+abbrev pub at_hand : ℕ → Deed → Option (ℕ × Deed)
 at_hand n deed = Some (n, deed)
 
 -- the server that is at the operator's hand has this at its own
@@ -50,10 +50,10 @@ one_hand what m control at kept = keep_hand control at m kept
 
 module _ (setting : Setting) where
   -- what each server has at its own hand after these records
-  abbrev hands : (ℕ → Option Deed) → List Record → ℕ → Option Deed
+  abbrev pub hands : (ℕ → Option Deed) → List Record → ℕ → Option Deed
   hands at records n = hand_along (at n) (of_server n records)
 
-  along_first : (m : ℕ) (own : Record) (later : List Record) (at : ℕ → Option Deed) → own.actor ≡ actor.Server m → (n : ℕ)
+  pub along_first : (m : ℕ) (own : Record) (later : List Record) (at : ℕ → Option Deed) → own.actor ≡ actor.Server m → (n : ℕ)
       → hands (put_at at m (hand_by own.step (at m))) later n ≡ hands at (own ∷ later) n
   along_first m own later at is n =
       let new = hand_by own.step (at m) in

@@ -74,7 +74,7 @@ module _ (errand : Errand) (duties : ℕ → Duty) (tied : AreTied errand duties
   ]
 
   -- at another server than the errand's nothing has begun
-  elsewhere : (m n : ℕ) → errand.server ≡ Some m → n ≢ m → (duties n).errand.begun ≡ false
+  pub elsewhere : (m n : ℕ) → errand.server ≡ Some m → n ≢ m → (duties n).errand.begun ≡ false
   elsewhere m n is ne = (tied n).rests (λ other. ne (same_some (sym other ∙ is)))
 
   given_tied : (running : Bool) (m : ℕ) → errand.server ≡ Some m
@@ -119,7 +119,7 @@ module _ (errand : Errand) (duties : ℕ → Duty) (tied : AreTied errand duties
   client_tied setting w c (Call number) begins = called_tied setting w c (c == operator) refl begins
   client_tied setting w c what begins = tied
 
-  one_tied : (setting : Setting) (w : World) (who : Actor) (what : Step) → TakesTurn who what setting w errand duties
+  pub one_tied : (setting : Setting) (w : World) (who : Actor) (what : Step) → TakesTurn who what setting w errand duties
       → AreTied (errand_after who what setting w errand) (duties_after who what w duties)
   one_tied setting w (actor.Server n) what turn = server_tied what (w.servers n).life.running n turn
   one_tied setting w (actor.Client c) what turn = client_tied setting w c what turn

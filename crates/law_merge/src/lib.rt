@@ -11,7 +11,7 @@ ghost use Rattle.petal_msg.specs.declared.letter.Letter.{Letter};
 ghost use Rattle.script_lines.specs.declared.request.Line.{Line};
 ghost use Rattle.script_lines.specs.declared.script.Script.{Script};
 ghost use Rattle.spec_rules.specs.Lists.{In};
-ghost use Rattle.spec_rules.specs.World.{IsAnswered, IsFree, lines_of, setting_of, start};
+ghost use Rattle.spec_rules.specs.World.{Deed, IsAnswered, IsFree, lines_of, setting_of, start};
 ghost use Rattle.spec_rules.specs.declared.step.Step.TheVariants.{Call};
 ghost use Rattle.spec_history.specs.Controls.{errand_along, no_errand};
 ghost use Rattle.spec_history.specs.Legal.{IsLegal, ObeyScript};
@@ -39,6 +39,13 @@ pub fn a_recorded_letter_was_sent()
 pub fn a_server_is_free_by_its_own_records()
     ensures { (script : Script) (records : List Record) (n : ℕ) → hand_along None (of_server n records) ≡ None
         → IsFree (world_after (setting_of script) (start (setting_of script)) records) n }
+{}
+
+/// What a server has at its own hand by its own records is at the operator's, where each step comes in its line's turn.
+pub fn a_servers_own_hand_is_the_operators()
+    ensures { (script : Script) (records : List Record) (n : ℕ) (deed : Deed) → TakeTurnsIn script records
+        → hand_along None (of_server n records) ≡ Some deed → (world_after (setting_of script) (start (setting_of script)) records).control.hand
+        ≡ Some (n, deed) }
 {}
 
 /// Joined records with one more that is joined to them are joined.
