@@ -216,7 +216,8 @@ module _ (setting : Setting) where
   place_kept records steps c = places_kept (start setting) records steps c (λ place line is lt. absurd (omega arith))
 
   -- what was answered stays so
-  pub answered_along : (w : World) (records : List Record) (number : ℕ) → IsAnswered w.answers number → IsAnswered (world_after setting w records).answers number
+  pub answered_along : (w : World) (records : List Record) (number : ℕ) → IsAnswered w.answers number
+      → IsAnswered (world_after setting w records).answers number
   answered_along w [] number told = told
   answered_along w (own ∷ later) number told =
       answered_along (stepped setting w own).world later number (answered_step own.actor own.step w own.stamp number told)

@@ -91,7 +91,8 @@ module _ (setting : Setting) where
         answer = alone.answer ∙ ap (λ a. (step a own.step setting w own.stamp).answer) (sym is);
       }
 
-  client_follows : {errand : Errand} (c : ℕ) (w : World) (own : Record) → own.actor ≡ actor.Client c → IsNextOfClient setting c (w.clients c) (w.client_clocks c) own
+  client_follows : {errand : Errand} (c : ℕ) (w : World) (own : Record) → own.actor ≡ actor.Client c
+      → IsNextOfClient setting c (w.clients c) (w.client_clocks c) own
       → IsJoined setting w errand own → Follows setting w own
   unfolding step
   client_follows c w own is alone joined =

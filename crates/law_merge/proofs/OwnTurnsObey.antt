@@ -15,8 +15,8 @@ use Rattle.spec_history.specs.Controls.{Errand, IsLeftAlone, Obeys, ObeyFrom, Ob
 use Rattle.spec_history.specs.Steps.{stepped}
 use Rattle.spec_history.specs.declared.record.Record.{Record}
 use Rattle.law_merge.specs.Alone.{acted_by, of_server}
-use Rattle.law_merge.specs.OwnLines.{BeginsNext, Duty, GlancesInTurn, IsCalledInTurn, IsInErrand, KeepsToLines, TakeTurns, TakesTurn, duties_after, duty_after, duty_of}
-use Rattle.law_merge.specs.OwnLines.{first_errand, glanced_duty}
+use Rattle.law_merge.specs.OwnLines.{BeginsNext, Duty, GlancesInTurn, IsCalledInTurn, IsInErrand, KeepsToLines, TakeTurns, TakesTurn, duties_after}
+use Rattle.law_merge.specs.OwnLines.{duty_after, duty_of, first_errand, glanced_duty}
 use Rattle.law_merge.proofs.WhoseRecords.{server_first, server_none, server_passed}
 
 -- the errand is that of the server which it names, and no line has begun at another one
