@@ -1,0 +1,11 @@
+pub mod CalledLines
+pub mod HandsAgree
+pub mod OwnHands
+pub mod OwnPlans
+pub mod OwnRecordsMake
+pub mod OwnStepsFollow
+pub mod OwnTurnsObey
+pub mod PhasesEnd
+pub mod RecordedLetters
+pub mod RecordsGrow
+pub mod WhoseRecords

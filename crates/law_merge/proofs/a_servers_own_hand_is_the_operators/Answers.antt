@@ -1,0 +1,11 @@
+use Rattle.std.proofs.Common.{None}
+use Rattle.spec_rules.specs.World.{setting_of, start}
+use Rattle.spec_history.specs.Controls.{no_errand}
+use Rattle.law_merge.specs.OwnLines.{duty_of, lines_at}
+use Rattle.law_merge.proofs.HandsAgree.{held_along, in_hand_first}
+use Rattle.law_merge.proofs.a_servers_own_hand_is_the_operators.Goals as goal
+
+pub returns : goal.returns
+returns c script records n deed turns e =
+    held_along (setting_of script) (start (setting_of script)) no_errand (λ k. duty_of (lines_at k script.lines)) records (λ k. None)
+    (in_hand_first None (λ k. lines_at k script.lines)) turns n deed e

@@ -1,0 +1,7 @@
+use Rattle.spec_rules.specs.World.{setting_of, start}
+use Rattle.spec_history.specs.Controls.{no_errand}
+use Rattle.law_merge.proofs.RecordsGrow.{joined_more}
+use Rattle.law_merge.proofs.joined_records_grow.Goals as goal
+
+pub returns : goal.returns
+returns c script front own joined next = joined_more (setting_of script) (start (setting_of script)) no_errand front own joined next

@@ -1,0 +1,7 @@
+//! Tests of the postroom. The crate itself has no code.
+#![tactic(auto)]
+
+#[cfg(test)]
+mod letters;
+#[cfg(test)]
+mod threads;
