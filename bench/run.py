@@ -1,7 +1,7 @@
 #!/usr/bin/env python3
 """Times petal and the plain C program on one script, in one run: wall time, requests a second, peak memory, ratio. Then times how long
-petal moves a disk of 1,000 blocks from five servers to three, against the time of writing them; ends with 1 where it takes more than
-10 times as long.
+petal moves a disk of 1,000 blocks from five servers to three, against the time of writing them. Ends with 1 where the ratio is above 4,
+or the move takes more than 10 times as long as the writing.
 
 usage: bench/run.py [REQUESTS [BLOCKS [SEED [CLIENTS [DISKS]]]]]   (petal must be built: ./petal prove)
 PETAL=COMMAND times another program.
@@ -11,7 +11,7 @@ import os, resource, shlex, subprocess, sys, tempfile, time
 TOP = os.path.dirname(os.path.dirname(os.path.abspath(__file__)))
 PETAL = shlex.split(os.environ.get("PETAL", f"{TOP}/petal")) + ["run"]
 TURNS = 5
-BLOCKS, MOST_TIMES = 1000, 10
+BLOCKS, MOST_TIMES, MOST_RATIO = 1000, 10, 4
 
 def measure(command, text):
     """The least wall time of some turns in seconds, peak memory in MiB, and what was written."""
@@ -71,7 +71,10 @@ def main():
                   f"{requests / work:,.0f} requests a second beyond start-up; peak {peak:.0f} MiB")
     if results["petal"][1] != results["plain C"][1]:
         sys.exit("the two programs answered differently")
-    print(f"ratio beyond start-up: {results['petal'][0] / results['plain C'][0]:.1f}")
+    ratio = results["petal"][0] / results["plain C"][0]
+    print(f"ratio beyond start-up: {ratio:.1f}")
     time_move()
+    if ratio > MOST_RATIO:
+        sys.exit(f"the ratio is more than {MOST_RATIO}")
 
 main()

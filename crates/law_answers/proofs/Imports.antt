@@ -1,17 +1,18 @@
 -- The names that this crate takes from others, in one place.
-pub use Rattle.law_state.specs.Imports.{if◌then◌else◌, Both, Caught, Cell, Command, DiskRow, DiskView, Drained, Fence, IsPrefix, Join, Leave, LinkRow}
-pub use Rattle.law_state.specs.Imports.{MakeDisk, Moved, PairState, Record, Region, Server, Setting, Snap, Snapshot, StartMove, State, Whole, Witness, World}
-pub use Rattle.law_state.specs.Imports.{cell_asked, cell_link, chosen_log, chosen_state, disk_at, find, is_in, is_up_as, leads_link, leaving, may_join, named}
-pub use Rattle.law_state.specs.Imports.{nat_le, option_map_or, servers_of, serves, slice_get, snapshot_named, state_after}
+pub use Rattle.law_state.specs.Imports.{Both, Caught, Cell, Command, DiskRow, DiskView, Drained, Fence, IsPrefix, Join, Leave, LinkRow, MakeDisk, Moved}
+pub use Rattle.law_state.specs.Imports.{PairState, Record, Region, Server, Setting, Snap, Snapshot, StartMove, State, Whole, Witness, World, cell_asked}
+pub use Rattle.law_state.specs.Imports.{cell_link, chosen_log, chosen_state, disk_at, find, is_in, is_up_as, leads_link, leaving, may_join, named, servers_of}
+pub use Rattle.law_state.specs.Imports.{serves, snapshot_named, state_after}
 unfoldable pub use Rattle.law_state.specs.Imports.{In, at}
-pub use Rattle.law_state.proofs.Imports.{[], ◌&&◌, ◌++◌, ◌+◌, ◌<◌, ◌==◌, ◌||◌, ◌∙◌, ◌∷◌, ◌≡◌, ◌≢◌, ◌≤◌, ◌⊎◌, Bool, FenceKind, Latest, List, None, Option}
-pub use Rattle.law_state.proofs.Imports.{Some, Verdict, act, ap, append-nil, append_assoc, arith, both_true, by_bool, by_test, completes, cond, confirmed}
-pub use Rattle.law_state.proofs.Imports.{effect, false, filter, first, fold-append, following, frozen, in-append, in_both, in_former, in_later, inl, inr}
-pub use Rattle.law_state.proofs.Imports.{is_new, is_some, is_taken, is_the_one, latest, lead, length, length-append, length-set, links_of, map, move_fenced}
-pub use Rattle.law_state.proofs.Imports.{move_of, moved_by, nat_lists_same, nat_lt, nat_tests, none_some, not, not_true, note, number_itself, option_map}
-pub use Rattle.law_state.proofs.Imports.{passed, range_with_len, readable, refl, replicate, row_fenced, row_frozen, row_moving, same_numbers, same_or_apart}
-pub use Rattle.law_state.proofs.Imports.{same_some, second, servers_in, settled, slice_get_past, slice_get_within, some_or_none, subst, suc, sym, told, true}
-pub use Rattle.law_state.proofs.Imports.{true_false, unwrap_or, view-effect, with_disk, with_fence, with_move, zero, ℕ}
+pub use Rattle.law_state.proofs.Imports.{[], if◌then◌else◌, ◌&&◌, ◌++◌, ◌+◌, ◌<◌, ◌==◌, ◌||◌, ◌∙◌, ◌∷◌, ◌≡◌, ◌≢◌, ◌≤◌, ◌⊎◌, Bool, FenceKind, Latest, List}
+pub use Rattle.law_state.proofs.Imports.{None, Option, Some, Verdict, act, ap, append-nil, append_assoc, arith, both_true, by_bool, by_test, completes, cond}
+pub use Rattle.law_state.proofs.Imports.{confirmed, effect, false, filter, first, fold-append, following, frozen, in-append, in_both, in_former, in_later}
+pub use Rattle.law_state.proofs.Imports.{inl, inr, is_new, is_some, is_taken, is_the_one, latest, lead, length, length-append, length-set, links_of, map}
+pub use Rattle.law_state.proofs.Imports.{move_fenced, move_of, moved_by, nat_le, nat_lists_same, nat_lt, nat_tests, none_some, not, not_true, note}
+pub use Rattle.law_state.proofs.Imports.{number_itself, option_map, option_map_or, passed, range_with_len, readable, refl, replicate, row_fenced, row_frozen}
+pub use Rattle.law_state.proofs.Imports.{row_moving, same_numbers, same_or_apart, same_some, second, servers_in, settled, slice_get, slice_get_past}
+pub use Rattle.law_state.proofs.Imports.{slice_get_within, some_or_none, subst, suc, sym, told, true, true_false, unwrap_or, view-effect, with_disk}
+pub use Rattle.law_state.proofs.Imports.{with_fence, with_move, zero, ℕ}
 pub use Rattle.law_log.proofs.Imports.{Acted, Actor, After, Answer, AreSteps, AreStepsFrom, Arm, Asked, Before, Blank, Body, Boot, Call, Client, CommitEnd}
 pub use Rattle.law_log.proofs.Imports.{Copies, Deliver, Ending, Firm, Glance, IsPlain, IsPlainLog, IsPlainState, IsSound, Job, JobContext, JobResult, Key}
 pub use Rattle.law_log.proofs.Imports.{Learning, Letter, Line, Log, LogDone, MayActor, MayClient, MayServer, Moving, Pending, Post, Reaction, Request, Script}
@@ -29,15 +30,16 @@ pub use Rattle.law_log.proofs.Imports.{witnessed, worked, works, world_after, wr
 unfoldable pub use Rattle.law_log.proofs.Imports.{applies, does, goes_on, handles, heard, hears_log, learns, log_does, next_dead, nobody, number, on_ask}
 unfoldable pub use Rattle.law_log.proofs.Imports.{on_news, on_pair_full, on_pax, on_propose, on_read, on_replicate, on_replicated, on_reserve, on_reserved}
 unfoldable pub use Rattle.law_log.proofs.Imports.{on_write, put_at, refusal, repairs, starts, step, sweeps, ticked}
-pub use Rattle.law_steps.specs.Imports.{◌-◌, Finished, Glanced, Less, Paired, Refused, Sender, Subject, Table, bytes_of, cell_cmp, crossed, entry_at}
-pub use Rattle.law_steps.specs.Imports.{letters_of, live, settled_by}
-pub use Rattle.law_steps.proofs.Imports.{ByBoth, ByNone, ByOne, Follows, Greater, HasDied, IsSteady, Logged, Pairs, at-empty, between, by_settled, clock_of}
-pub use Rattle.law_steps.proofs.Imports.{found_at, front_plain, get_within, has_stage, history_grows, in_once, in_up, insert_entry, is_asked, is_at}
+pub use Rattle.law_steps.specs.Imports.{Finished, Glanced, Paired, Refused, Sender, Subject, Table, bytes_of, cell_cmp, crossed, entry_at, letters_of, live}
+pub use Rattle.law_steps.specs.Imports.{settled_by}
+pub use Rattle.law_steps.proofs.Imports.{ByBoth, ByNone, ByOne, Follows, Greater, HasDied, IsSteady, Less, Logged, Pairs, at-empty, between, by_settled}
+pub use Rattle.law_steps.proofs.Imports.{clock_of, found_at, front_plain, get_within, has_stage, history_grows, in_once, in_up, insert_entry, is_asked, is_at}
 pub use Rattle.law_steps.proofs.Imports.{is_clients, is_none, log_below, log_rev, log_roles, log_steady, lookup, match_ordering, settling}
 unfoldable pub use Rattle.law_steps.proofs.Imports.{put, without}
 pub use Rattle.law_jobs.specs.Imports.{FoundNoSlot, IsBusy, IsHeldBack, IsNewFill, IsReadable, IsRefusal}
-pub use Rattle.law_jobs.proofs.Imports.{A_slot, An_entry_to_move, Asks, By_read, Did, Handled, Happens, IsMoment, Not_here, Rests, Shows, Was, always_firm}
-pub use Rattle.law_jobs.proofs.Imports.{at_apart, at_same, dead_second, front_legal, last_moment, moment_more, own_place, was_same, with_answer, world_more}
+pub use Rattle.law_jobs.proofs.Imports.{◌-◌, A_slot, An_entry_to_move, Asks, By_read, Did, Handled, Happens, IsMoment, Not_here, Rests, Shows, Was}
+pub use Rattle.law_jobs.proofs.Imports.{always_firm, at_apart, at_same, dead_second, front_legal, last_moment, moment_more, own_place, was_same, with_answer}
+pub use Rattle.law_jobs.proofs.Imports.{world_more}
 pub use Rattle.law_copies.specs.Imports.{IsRising, no_pairs}
 pub use Rattle.law_copies.proofs.Imports.{Answered, Asks_slot, At, Blanks, By_ballot, By_entry, By_job, Effect, Ends_fill, Fails, Goes, IsLinked, IsSeated}
 pub use Rattle.law_copies.proofs.Imports.{May, Moves, Moves_on, OneMore, Read_asked, Run, Serves, Serving, Stays, Turns, Wakes, Worked, Write_asked, applied}

@@ -1,5 +1,6 @@
 -- That the commands of a log that carry requests out were asked for.
-use Rattle.law_answers.specs.Imports.{◌+◌, ◌≡◌, Command, In, Line, List, MakeDisk, None, Option, Snap, Some, StartMove, command_of, lines_of, slice_get, ℕ}
+use Rattle.law_answers.specs.Imports.{Command, In, Line, MakeDisk, Snap, StartMove, command_of, lines_of}
+use Rattle.std.specs.Prelude.{◌+◌, ◌≡◌, List, None, Option, Some, slice_get, ℕ}
 
 -- the client of the request that the command carries out, and the request's number
 abbrev pub asker : Command → Option (ℕ × ℕ)

@@ -1,6 +1,6 @@
 -- The looks of a run that is computed.
-use Rattle.law_answers.specs.Imports.{[], ◌++◌, ◌+◌, ◌∷◌, Event, List, Record, Setting, World, make_moves, map, read_moves, records_of, sevens, start}
-use Rattle.law_answers.specs.Imports.{stepped, write_moves, ℕ}
+use Rattle.law_answers.specs.Imports.{Event, Record, Setting, World, make_moves, read_moves, records_of, sevens, start, stepped, write_moves}
+use Rattle.std.specs.Prelude.{[], ◌++◌, ◌+◌, ◌∷◌, List, map, ℕ}
 use Rattle.law_answers.specs.Looks.{record_looks}
 
 -- a look that is told: how many records stand before the one that tells it, and the look beside the number of its line

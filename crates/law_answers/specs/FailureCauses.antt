@@ -1,6 +1,6 @@
 -- Why a start or a blank fails: the boot that it gives its server.
-use Rattle.law_answers.specs.Imports.{◌≡◌, Asked, Boot, CommitEnd, IsMoment, Line, List, Record, Setting, Step, World, is_overfull, raised, true, world_after}
-use Rattle.law_answers.specs.Imports.{ℕ}
+use Rattle.law_answers.specs.Imports.{Asked, Boot, CommitEnd, IsMoment, Line, Record, Setting, Step, World, is_overfull, raised, world_after}
+use Rattle.std.specs.Prelude.{◌≡◌, List, true, ℕ}
 use Rattle.law_answers.specs.Lines.{AsksToBoot, IsLineOf}
 use Rattle.petal_msg.specs.declared.letter.Actor.TheVariants as actor
 use Rattle.spec_rules.specs.declared.step.WorkEnd.TheVariants as work_end

@@ -1,9 +1,9 @@
 -- Why a server remembers that a slot was wanting: the other server of a link that it holds alone had none for the next entry of a copy, or the
 -- lead of a disk's new map, or its second server, had none for an entry that this one was to move.
-use Rattle.law_answers.specs.Imports.{◌<◌, ◌≡◌, Actor, Body, Cell, Copying, Entry, FoundNoSlot, Handled, In, IsMoment, IsNewFill, IsNextKey, IsOfCopy}
-use Rattle.law_answers.specs.Imports.{JobContext, Key, LastCopy, Letter, LinkRow, List, Moving, PairState, Pending, Record, Setting, Some, Step, Work, World}
-use Rattle.law_answers.specs.Imports.{at, cell_cmp, cell_of, chain_in, copying_on, first, free_of, length, own_place, second, server_state, start, true}
-use Rattle.law_answers.specs.Imports.{world_after, ℕ}
+use Rattle.law_answers.specs.Imports.{Actor, Body, Cell, Copying, Entry, FoundNoSlot, Handled, In, IsMoment, IsNewFill, IsNextKey, IsOfCopy, JobContext, Key}
+use Rattle.law_answers.specs.Imports.{LastCopy, Letter, LinkRow, Moving, PairState, Pending, Record, Setting, Step, Work, World, at, cell_cmp, cell_of}
+use Rattle.law_answers.specs.Imports.{chain_in, copying_on, first, free_of, own_place, second, server_state, start, world_after}
+use Rattle.std.specs.Prelude.{◌<◌, ◌≡◌, List, Some, length, true, ℕ}
 use Rattle.law_answers.specs.Settles.{HasFoundFull}
 use Rattle.petal_msg.specs.declared.body.Body.TheVariants as body
 use Rattle.petal_msg.specs.declared.letter.Actor.TheVariants as actor

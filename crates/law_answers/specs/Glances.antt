@@ -1,6 +1,6 @@
 -- What the answer of a line that names a server comes by: its glance.
-use Rattle.law_answers.specs.Imports.{if◌then◌else◌, ◌++◌, ◌≡◌, ◌≢◌, Answer, Asked, Bool, Glance, In, IsMoment, Line, List, Record, Request, Setting, World}
-use Rattle.law_answers.specs.Imports.{false, world_after, ℕ}
+use Rattle.law_answers.specs.Imports.{Answer, Asked, Glance, In, IsMoment, Line, Record, Request, Setting, World, world_after}
+use Rattle.std.specs.Prelude.{if◌then◌else◌, ◌++◌, ◌≡◌, ◌≢◌, Bool, List, false, ℕ}
 use Rattle.law_answers.specs.Lines.{IsLineOf}
 use Rattle.petal_msg.specs.declared.letter.Actor.TheVariants as actor
 use Rattle.script_lines.specs.declared.answer.Answer.TheVariants as answer

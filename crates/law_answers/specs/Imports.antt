@@ -1,15 +1,13 @@
 -- The names that this crate takes from others, in one place.
-pub use Rattle.law_state.specs.Imports.{[], if◌then◌else◌, ◌++◌, ◌+◌, ◌<◌, ◌==◌, ◌∷◌, ◌≡◌, ◌≢◌, ◌≤◌, ◌⊎◌, Bool, Cell, Command, IsPrefix, LinkRow, List, Lost}
-pub use Rattle.law_state.specs.Imports.{MakeDisk, None, Option, PairState, Record, Server, Setting, Snap, Some, StartMove, State, World, cell_link}
-pub use Rattle.law_state.specs.Imports.{chosen_log, chosen_state, false, is_in, is_lead, length, serves, slice_get, state_after, true, ℕ}
+pub use Rattle.law_state.specs.Imports.{Cell, Command, IsPrefix, LinkRow, Lost, MakeDisk, PairState, Record, Server, Setting, Snap, StartMove, State, World}
+pub use Rattle.law_state.specs.Imports.{cell_link, chosen_log, chosen_state, is_in, is_lead, serves, state_after}
 unfoldable pub use Rattle.law_state.specs.Imports.{In, at}
 pub use Rattle.law_steps.specs.Imports.{Actor, Answer, Asked, Body, Boot, Copying, Entry, Finished, Job, JobContext, Key, LastCopy, Letter, Line, Moving}
-pub use Rattle.law_steps.specs.Imports.{Pending, Step, Work, bytes_of, cell_cmp, cell_of, chain_in, coming, command_of, copying_on, entry_at, filter, first}
-pub use Rattle.law_steps.specs.Imports.{free_of, is_settled, lines_of, map, nat_cmp, pending_on, raised, rev_of, second, server_state, stage_at, stepped}
+pub use Rattle.law_steps.specs.Imports.{Pending, Step, Work, bytes_of, cell_cmp, cell_of, chain_in, coming, command_of, copying_on, entry_at, first, free_of}
+pub use Rattle.law_steps.specs.Imports.{is_settled, lines_of, pending_on, raised, rev_of, second, server_state, stage_at, stepped}
 pub use Rattle.law_jobs.specs.Imports.{FoundNoSlot, IsBusy, IsHeldBack, IsNewFill, IsNextKey, IsOfCopy, IsReadable}
 pub use Rattle.law_copies.specs.Imports.{is_clients, world_after}
 pub use Rattle.law_requests.specs.Imports.{done_to, line_by}
-pub use Rattle.std.specs.List.{flat_map}
 pub use Rattle.law_state.specs.Moments.{IsMoment}
 pub use Rattle.law_steps.specs.DidStep.{Handled, own_place}
 pub use Rattle.petal_msg.specs.Kinds.{asked_by}

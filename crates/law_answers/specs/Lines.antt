@@ -1,5 +1,6 @@
 -- The operator's open line, and what it asks of a server.
-use Rattle.law_answers.specs.Imports.{◌≡◌, ◌⊎◌, Asked, In, IsOpenLine, Line, List, Request, World, operator, ℕ}
+use Rattle.law_answers.specs.Imports.{Asked, In, IsOpenLine, Line, Request, World, operator}
+use Rattle.std.specs.Prelude.{◌≡◌, ◌⊎◌, List, ℕ}
 use Rattle.script_lines.specs.declared.request.Request.TheVariants as request
 
 -- the operator has this request open, which was not glanced at, and it is that of this line

@@ -1,7 +1,8 @@
 -- The looks of a history, each beside the number of the line that it answers; and that a line has exactly one.
-use Rattle.law_answers.specs.Imports.{[], if◌then◌else◌, ◌++◌, ◌==◌, ◌∷◌, ◌≡◌, ◌≢◌, Actor, Body, Call, Data, Event, In, IsMoment, Letter, Line, List, Look}
-use Rattle.law_answers.specs.Imports.{None, Option, Read, Record, Setting, Some, World, accepted, false, filter, flat_map, length, look_for, map, old_data}
-use Rattle.law_answers.specs.Imports.{reads_old, start, stepped, world_after, ℕ}
+use Rattle.law_answers.specs.Imports.{Actor, Body, Call, Data, Event, In, IsMoment, Letter, Line, Look, Read, Record, Setting, World, accepted, look_for}
+use Rattle.law_answers.specs.Imports.{old_data, reads_old, start, stepped, world_after}
+use Rattle.std.specs.Prelude.{[], if◌then◌else◌, ◌++◌, ◌==◌, ◌∷◌, ◌≡◌, ◌≢◌, List, None, Option, Some, false, filter, length, map, ℕ}
+use Rattle.std.specs.List.{flat_map}
 use Rattle.petal_msg.specs.declared.body.Body.TheVariants as body
 use Rattle.petal_msg.specs.declared.letter.Actor.TheVariants as actor
 

@@ -1,7 +1,7 @@
 -- From which server's link a read is answered.
-use Rattle.law_answers.specs.Imports.{◌++◌, ◌∷◌, ◌≡◌, ◌≢◌, Cell, Deliver, Handled, In, IsMoment, Letter, Line, LinkRow, List, Lost, None, Record, Setting}
-use Rattle.law_answers.specs.Imports.{Some, State, bytes_of, cell_link, chain_in, chosen_state, entry_at, line_by, serves, stage_at, start, true, world_after}
-use Rattle.law_answers.specs.Imports.{ℕ}
+use Rattle.law_answers.specs.Imports.{Cell, Deliver, Handled, In, IsMoment, Letter, Line, LinkRow, Lost, Record, Setting, State, bytes_of, cell_link}
+use Rattle.law_answers.specs.Imports.{chain_in, chosen_state, entry_at, line_by, serves, stage_at, start, world_after}
+use Rattle.std.specs.Prelude.{◌++◌, ◌∷◌, ◌≡◌, ◌≢◌, List, None, Some, true, ℕ}
 use Rattle.petal_msg.specs.declared.body.Body.TheVariants.{Data, Read}
 use Rattle.law_answers.specs.Looks.{IsCalledIn}
 use Rattle.petal_msg.specs.declared.letter.Actor.TheVariants as actor

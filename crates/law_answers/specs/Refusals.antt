@@ -1,8 +1,10 @@
 -- Why a request was refused.
-use Rattle.law_answers.specs.Imports.{◌<◌, ◌≡◌, ◌≤◌, ◌⊎◌, Actor, Asked, Body, Cell, Command, Finished, FoundNoSlot, Handled, In, IsBusy, IsHeldBack, IsMoment}
-use Rattle.law_answers.specs.Imports.{IsPrefix, IsReadable, JobContext, Letter, List, None, PairState, Pending, Record, Setting, Settle, Some, Step, Work}
-use Rattle.law_answers.specs.Imports.{World, at, cell_cmp, chain_in, chosen_log, coming, done_to, entry_at, first, free_of, is_clients, is_in, is_lead}
-use Rattle.law_answers.specs.Imports.{length, nat_cmp, own_place, pending_on, second, server_state, start, state_after, true, world_after, ℕ}
+use Rattle.law_answers.specs.Imports.{Actor, Asked, Body, Cell, Command, Finished, FoundNoSlot, Handled, In, IsBusy, IsHeldBack, IsMoment, IsPrefix}
+use Rattle.law_answers.specs.Imports.{IsReadable, JobContext, Letter, PairState, Pending, Record, Setting, Settle, Step, Work, World, at, cell_cmp, chain_in}
+use Rattle.law_answers.specs.Imports.{chosen_log, coming, done_to, entry_at, first, free_of, is_clients, is_in, is_lead, own_place, pending_on, second}
+use Rattle.law_answers.specs.Imports.{server_state, start, state_after, world_after}
+use Rattle.std.specs.Prelude.{◌<◌, ◌≡◌, ◌≤◌, ◌⊎◌, List, None, Some, length, true, ℕ}
+use Rattle.std.specs.Ordering.{nat_cmp}
 use Rattle.law_answers.specs.FullCauses.{HasFullServer}
 use Rattle.petal_msg.specs.declared.body.Body.TheVariants as body
 use Rattle.petal_msg.specs.declared.letter.Actor.TheVariants as actor

@@ -1,6 +1,6 @@
 -- Why a client is told that its letter has another revision.
-use Rattle.law_answers.specs.Imports.{◌∷◌, ◌≡◌, ◌≢◌, In, IsMoment, Job, Letter, List, Record, Setting, Some, Work, World, asked_by, is_in, rev_of}
-use Rattle.law_answers.specs.Imports.{server_state, true, world_after, ℕ}
+use Rattle.law_answers.specs.Imports.{In, IsMoment, Job, Letter, Record, Setting, Work, World, asked_by, is_in, rev_of, server_state, world_after}
+use Rattle.std.specs.Prelude.{◌∷◌, ◌≡◌, ◌≢◌, List, Some, true, ℕ}
 use Rattle.petal_msg.specs.declared.letter.Actor.TheVariants as actor
 use Rattle.spec_rules.specs.declared.job.Job.TheVariants as job
 use Rattle.spec_rules.specs.declared.step.WorkEnd.TheVariants as work_end

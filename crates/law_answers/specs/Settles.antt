@@ -1,6 +1,6 @@
 -- What a settle is answered by: its glances, round by round.
-use Rattle.law_answers.specs.Imports.{if◌then◌else◌, ◌<◌, ◌≡◌, ◌≤◌, Answer, Glance, IsMoment, List, None, Option, Record, Server, Setting, Some, World}
-use Rattle.law_answers.specs.Imports.{client_state, is_settled, length, operator, server_state, slice_get, true, world_after, ℕ}
+use Rattle.law_answers.specs.Imports.{Answer, Glance, IsMoment, Record, Server, Setting, World, client_state, is_settled, operator, server_state, world_after}
+use Rattle.std.specs.Prelude.{if◌then◌else◌, ◌<◌, ◌≡◌, ◌≤◌, List, None, Option, Some, length, slice_get, true, ℕ}
 use Rattle.petal_msg.specs.declared.letter.Actor.TheVariants as actor
 use Rattle.script_lines.specs.declared.answer.Answer.TheVariants as answer
 

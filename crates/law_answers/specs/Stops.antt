@@ -1,6 +1,7 @@
 -- Why a server stops.
-use Rattle.law_answers.specs.Imports.{[], ◌++◌, ◌∷◌, ◌≡◌, Asked, Bool, CommitEnd, In, IsMoment, Job, Line, List, Record, Request, Setting, Step, Stop, StopIn}
-use Rattle.law_answers.specs.Imports.{Work, World, false, is_overfull, job_done, own_place, stepped, true, world_after, ℕ}
+use Rattle.law_answers.specs.Imports.{Asked, CommitEnd, In, IsMoment, Job, Line, Record, Request, Setting, Step, Stop, StopIn, Work, World, is_overfull}
+use Rattle.law_answers.specs.Imports.{job_done, own_place, stepped, world_after}
+use Rattle.std.specs.Prelude.{[], ◌++◌, ◌∷◌, ◌≡◌, Bool, List, false, true, ℕ}
 use Rattle.law_answers.specs.Lines.{AsksToStop, IsLineOf}
 use Rattle.petal_msg.specs.declared.letter.Actor.TheVariants as actor
 use Rattle.script_lines.specs.declared.request.Request.TheVariants as request

@@ -2,15 +2,15 @@
 pub use Rattle.law_state.specs.Imports.{Both, Caught, Cell, Command, Drained, IsPrefix, Join, Leave, LinkId, LinkRow, LinkState, Lost, MakeDisk, Moved, Only}
 pub use Rattle.law_state.specs.Imports.{PairState, Progress, Record, Server, Setting, Snap, StartMove, State, Witness, World, after, blank_joins_from}
 pub use Rattle.law_state.specs.Imports.{cell_link, chosen_log, chosen_state, has_server, inc_of, is_in, is_lead, is_up, leads_link, link_at, link_cmp}
-pub use Rattle.law_state.specs.Imports.{may_join, option_and_then, option_map_or, other_of, owner, places_from, row_blanked, row_left, serves, slice_get}
-pub use Rattle.law_state.specs.Imports.{state_after, tuple_of}
+pub use Rattle.law_state.specs.Imports.{may_join, other_of, owner, places_from, row_blanked, row_left, serves, state_after, tuple_of}
 unfoldable pub use Rattle.law_state.specs.Imports.{In, at}
 pub use Rattle.law_state.proofs.Imports.{[], ◌&&◌, ◌++◌, ◌+◌, ◌<◌, ◌==◌, ◌∙◌, ◌∷◌, ◌≡◌, ◌≢◌, ◌≤◌, ◌⊎◌, Bool, List, None, Option, Some, ap, append-nil}
 pub use Rattle.law_state.proofs.Imports.{append_assoc, arith, blanked_state, both, both_true, by_bool, by_test, cond, drop, false, filter, first, fold-append}
 pub use Rattle.law_state.proofs.Imports.{in-append, in_both, in_former, in_later, inl, inr, is_alone, is_alone_on, is_link, is_some, is_the, is_the_one}
 pub use Rattle.law_state.proofs.Imports.{joins_blank, left_state, length, length-append, link_of, list_any, nat_eq, nat_lt, nat_tests, none_some, not}
-pub use Rattle.law_state.proofs.Imports.{not_true, number_itself, option_map, refl, row_lead, same_numbers, same_or_apart, same_some, second, secondary}
-pub use Rattle.law_state.proofs.Imports.{slice_get-map, slice_get_within, some_or_none, state_lead, subst, sym, touches, true, true_false, unwrap_or, ℕ}
+pub use Rattle.law_state.proofs.Imports.{not_true, number_itself, option_and_then, option_map, option_map_or, refl, row_lead, same_numbers, same_or_apart}
+pub use Rattle.law_state.proofs.Imports.{same_some, second, secondary, slice_get, slice_get-map, slice_get_within, some_or_none, state_lead, subst, sym}
+pub use Rattle.law_state.proofs.Imports.{touches, true, true_false, unwrap_or, ℕ}
 pub use Rattle.law_log.proofs.Imports.{if◌then◌else◌, ◌||◌, Acted, Action, Actor, AreSteps, Ask, Blank, Block, Body, Copies, Copying, Dead, Ending, Entry}
 pub use Rattle.law_log.proofs.Imports.{Equal, Far, Firm, IsPlain, IsPlainLog, IsPlainState, IsSound, JobContext, JobResult, Key, LastCopy, LastOp, Letter}
 pub use Rattle.law_log.proofs.Imports.{Life, Log, NextCopy, OpKind, Pending, Post, Reaction, Script, Step, Stored, Wait, about, above, all_put_apart, awake}
@@ -22,17 +22,18 @@ pub use Rattle.law_log.proofs.Imports.{puts_entry, raised, ranked, reacts, same_
 pub use Rattle.law_log.proofs.Imports.{start, state_in, stays, subject_of, tells, tied_itself, wakes, with_copied, with_copying, with_full, with_last_copy}
 pub use Rattle.law_log.proofs.Imports.{with_opened, with_page, with_progress, without_copying, without_pending, world_after}
 unfoldable pub use Rattle.law_log.proofs.Imports.{next_copy, put_at}
-pub use Rattle.law_steps.specs.Imports.{Busy, Copied, IsBelow, Less, MarkKind, Nothing, Ordering, Paired, Refused, Sender, Stage, Stale, StaysSo, Subject}
-pub use Rattle.law_steps.specs.Imports.{Table, acts, before_blanks, cell_cmp, crossed, epochs_beyond, epochs_of, follows, holder_of, least, letters_of, live}
+pub use Rattle.law_steps.specs.Imports.{Busy, Copied, IsBelow, MarkKind, Nothing, Paired, Refused, Sender, Stage, Stale, StaysSo, Subject, Table, acts}
+pub use Rattle.law_steps.specs.Imports.{before_blanks, cell_cmp, crossed, epochs_beyond, epochs_of, follows, holder_of, least, letters_of, live}
 pub use Rattle.law_steps.specs.Imports.{marked_blocks, marks, next_stage, old_lead, operation, puts, settled_by, stage_at, unmarks, with_last, with_paired}
 pub use Rattle.law_steps.specs.Imports.{with_pending, with_reserved, without_dead, without_entry, without_mark_on}
-pub use Rattle.law_steps.proofs.Imports.{ByBoth, ByNone, ByOne, Chain, Filling, Greater, HasDied, HasStarted, IsCaughtStill, IsSteady, Logged, Mark, Pairs}
-pub use Rattle.law_steps.proofs.Imports.{Store, alone_row, at-empty, at-where, blocks_left, cell_apart, cell_cmp_same, cell_cmp_total, cell_gone}
-pub use Rattle.law_steps.proofs.Imports.{cell_gone_apart, cell_same, dies, either_false, ends_cell, ends_link, found_at, front_plain, history_grows}
-pub use Rattle.law_steps.proofs.Imports.{history_is_firm, in_once, is_asked, is_at, is_clients, is_kept_on, is_link_under_way, is_none, is_on, is_whole}
-pub use Rattle.law_steps.proofs.Imports.{lesser, log_alone, log_below, log_steady, lookup, max, next_block, no_copies, out_has_stopped, progress_beside}
-pub use Rattle.law_steps.proofs.Imports.{progress_here, row_in_both, same_caught, same_id, same_place, settling, so_both, stage_most, stored_blocks}
-pub use Rattle.law_steps.proofs.Imports.{touches_cell, up_some, version_of, who_is_in_has_begun, with_entry, with_mark_at, with_mark_on, with_ticket}
+pub use Rattle.law_steps.proofs.Imports.{ByBoth, ByNone, ByOne, Chain, Filling, Greater, HasDied, HasStarted, IsCaughtStill, IsSteady, Less, Logged, Mark}
+pub use Rattle.law_steps.proofs.Imports.{Ordering, Pairs, Store, alone_row, at-empty, at-where, blocks_left, cell_apart, cell_cmp_same, cell_cmp_total}
+pub use Rattle.law_steps.proofs.Imports.{cell_gone, cell_gone_apart, cell_same, dies, either_false, ends_cell, ends_link, found_at, front_plain}
+pub use Rattle.law_steps.proofs.Imports.{history_grows, history_is_firm, in_once, is_asked, is_at, is_clients, is_kept_on, is_link_under_way, is_none, is_on}
+pub use Rattle.law_steps.proofs.Imports.{is_whole, lesser, log_alone, log_below, log_steady, lookup, max, next_block, no_copies, out_has_stopped}
+pub use Rattle.law_steps.proofs.Imports.{progress_beside, progress_here, row_in_both, same_caught, same_id, same_place, settling, so_both, stage_most}
+pub use Rattle.law_steps.proofs.Imports.{stored_blocks, touches_cell, up_some, version_of, who_is_in_has_begun, with_entry, with_mark_at, with_mark_on}
+pub use Rattle.law_steps.proofs.Imports.{with_ticket}
 unfoldable pub use Rattle.law_steps.proofs.Imports.{put, without}
 pub use Rattle.law_jobs.specs.Imports.{IsHeldWith, IsOfCopy, Taken, TakenCopy, copying, first_copy, first_last, progress, waiting}
 pub use Rattle.law_jobs.proofs.Imports.{A_copied_entry, A_copy, A_slot, A_trim, An_entry_to_move, Asks, Asks_for, Asks_page, Asks_to_trim, Begins_copy}

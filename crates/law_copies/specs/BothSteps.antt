@@ -1,6 +1,7 @@
 -- What a step of one server of a link in Both leaves of a cell, whatever the other server has in memory of it.
-use Rattle.law_copies.specs.Imports.{◌+◌, ◌≡◌, ◌≤◌, Cell, In, IsRising, List, None, PairState, Pending, Post, Some, about, at, cell_cmp, chain_in, false}
-use Rattle.law_copies.specs.Imports.{is_clients, nat_cmp}
+use Rattle.law_copies.specs.Imports.{Cell, In, IsRising, PairState, Pending, Post, about, at, cell_cmp, chain_in, is_clients}
+use Rattle.std.specs.Prelude.{◌+◌, ◌≡◌, ◌≤◌, List, None, Some, false}
+use Rattle.std.specs.Ordering.{nat_cmp}
 use Rattle.law_copies.specs.Pair.{IsRecalled, Keeps, Known, Pair, far, pair_of}
 
 -- of each letter about the cell, which a server sends, something is known where the two copies stand so

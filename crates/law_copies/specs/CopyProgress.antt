@@ -1,9 +1,11 @@
 -- One cell of a link that one server holds alone, as the holder and the other server had it at one place of the link: how far a copy of
 -- it is, at both, and what the letters between them tell.
-use Rattle.law_copies.specs.Imports.{[], ◌+◌, ◌<◌, ◌≡◌, ◌≤◌, ◌⊎◌, Body, Cell, Copying, IsMarked, IsRising, IsToBeCopied, LastCopy, LinkRow, List, None}
-use Rattle.law_copies.specs.Imports.{Option, PairState, Some, State, Store, Stored, above, at, cell_at, cell_link, cell_of, chain_in, copying_on}
-use Rattle.law_copies.specs.Imports.{epochs_beyond, epochs_of, false, id_of, is_flagged, is_some, last_copy, length, link_of, live, nat_cmp, option_map_or}
-use Rattle.law_copies.specs.Imports.{pending_on, progress_on, slice_get, true, tuple_of, ℕ}
+use Rattle.law_copies.specs.Imports.{Body, Cell, Copying, IsMarked, IsRising, IsToBeCopied, LastCopy, LinkRow, PairState, State, Store, Stored, above, at}
+use Rattle.law_copies.specs.Imports.{cell_at, cell_link, cell_of, chain_in, copying_on, epochs_beyond, epochs_of, id_of, is_flagged, last_copy, link_of, live}
+use Rattle.law_copies.specs.Imports.{pending_on, progress_on, tuple_of}
+use Rattle.std.specs.Prelude.{[], ◌+◌, ◌<◌, ◌≡◌, ◌≤◌, ◌⊎◌, List, None, Option, Some, false, is_some, length, slice_get, true, ℕ}
+use Rattle.std.specs.Ordering.{nat_cmp}
+use Rattle.std.specs.Option.{option_map_or}
 use Rattle.petal_msg.specs.declared.body.Body.TheVariants as body
 
 -- ### What is left to copy

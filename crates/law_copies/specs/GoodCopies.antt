@@ -1,9 +1,10 @@
 -- What is kept of the two copies of each cell: at each place of its link, and at the stores as they are now.
-use Rattle.law_copies.specs.Imports.{[], ◌+◌, ◌<◌, ◌≡◌, ◌≤◌, ◌⊎◌, Body, Bool, Both, Cell, Command, In, IsMarked, IsPrefix, IsRising, IsToBeCopied, LastCopy}
-use Rattle.law_copies.specs.Imports.{Letter, LinkRow, List, None, Only, Option, PairState, Pending, Record, Setting, Some, State, Store, WasStarted, World}
-use Rattle.law_copies.specs.Imports.{about, at, blank_joins_in, cell_cmp, cell_link, chain_in, false, id_of, is_between, is_clients, is_flagged, is_in}
-use Rattle.law_copies.specs.Imports.{is_some, is_whole, last_copy, length, live, nat_cmp, no_progress, other_of, progress_on, server_state, stage_at}
-use Rattle.law_copies.specs.Imports.{state_after, subject_of, true, ℕ}
+use Rattle.law_copies.specs.Imports.{Body, Both, Cell, Command, In, IsMarked, IsPrefix, IsRising, IsToBeCopied, LastCopy, Letter, LinkRow, Only, PairState}
+use Rattle.law_copies.specs.Imports.{Pending, Record, Setting, State, Store, WasStarted, World, about, at, blank_joins_in, cell_cmp, cell_link, chain_in}
+use Rattle.law_copies.specs.Imports.{id_of, is_between, is_clients, is_flagged, is_in, is_whole, last_copy, live, no_progress, other_of, progress_on}
+use Rattle.law_copies.specs.Imports.{server_state, stage_at, state_after, subject_of}
+use Rattle.std.specs.Prelude.{[], ◌+◌, ◌<◌, ◌≡◌, ◌≤◌, ◌⊎◌, Bool, List, None, Option, Some, false, is_some, length, true, ℕ}
+use Rattle.std.specs.Ordering.{nat_cmp}
 use Rattle.law_copies.specs.CopyProgress.{AreAlike, AreCopying, IsOfLink, IsPage, IsTold, NotCopied, links_of}
 use Rattle.law_copies.specs.Pair.{HaveMarks, IsRecalled, Known, Pair, PairOk, far, pair_of}
 use Rattle.law_copies.specs.LoneSteps.{AreFilled, IsBare}

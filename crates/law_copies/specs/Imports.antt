@@ -1,13 +1,11 @@
 -- The names that this crate takes from others, in one place.
-pub use Rattle.law_state.specs.Imports.{[], if◌then◌else◌, ◌++◌, ◌+◌, ◌<◌, ◌==◌, ◌≡◌, ◌≢◌, ◌≤◌, ◌⊎◌, Bool, Both, Cell, Command, IsPrefix, LinkRow, List, None}
-pub use Rattle.law_state.specs.Imports.{Only, Option, PairState, Record, Server, Setting, Some, State, World, cell_link, chosen_log, false, has_server, is_in}
-pub use Rattle.law_state.specs.Imports.{is_some, length, option_map_or, other_of, places_from, serves, slice_get, start, state_after, true, tuple_of, ℕ}
+pub use Rattle.law_state.specs.Imports.{Both, Cell, Command, IsPrefix, LinkRow, Only, PairState, Record, Server, Setting, State, World, cell_link, chosen_log}
+pub use Rattle.law_state.specs.Imports.{has_server, is_in, other_of, places_from, serves, start, state_after, tuple_of}
 unfoldable pub use Rattle.law_state.specs.Imports.{In, at}
 pub use Rattle.law_steps.specs.Imports.{Body, Busy, Copying, JobContext, JobResult, Key, LastCopy, LastOp, Letter, MarkKind, Pending, Post, Stale, Stored}
 pub use Rattle.law_steps.specs.Imports.{Table, above, cell_at, cell_cmp, cell_of, chain_in, copying_on, epochs_beyond, epochs_of, has_proposed, holder_of}
-pub use Rattle.law_steps.specs.Imports.{id_of, last_copy, last_on, live, nat_cmp, pending_on, progress_on, server_state, stage_at, subject_of}
+pub use Rattle.law_steps.specs.Imports.{id_of, last_copy, last_on, live, pending_on, progress_on, server_state, stage_at, subject_of}
 pub use Rattle.law_jobs.specs.Imports.{progress}
-pub use Rattle.std.specs.Prelude.{◌&&◌, nat_eq, nat_lt, option_map}
 pub use Rattle.global_tables.specs.Region.{link_of}
 pub use Rattle.law_log.specs.ProposedCommands.{WasStarted}
 pub use Rattle.law_state.specs.StartedBallots.{is_flagged}

@@ -1,9 +1,11 @@
 -- What a job of a server leaves of a cell whose link one server holds alone: at the holder, at the other server of the link, and at a
 -- server that the link is not of.
-use Rattle.law_copies.specs.Imports.{[], ◌<◌, ◌≡◌, ◌≢◌, ◌⊎◌, AreResting, Body, Bool, Cell, Chain, In, IsMarked, IsReady, IsRising, IsSteady, JobContext}
-use Rattle.law_copies.specs.Imports.{JobResult, LastCopy, LinkRow, MarkKind, None, Only, Option, PairState, Post, Some, Store, Table, about, at, cell_cmp}
-use Rattle.law_copies.specs.Imports.{cell_link, chain_in, copying_on, false, has_proposed, has_server, holder_of, id_of, is_between, is_flagged, is_marked}
-use Rattle.law_copies.specs.Imports.{is_some, last_copy, last_on, live, nat_cmp, pending_on, stage_at, subject_of, true, ℕ}
+use Rattle.law_copies.specs.Imports.{AreResting, Body, Cell, Chain, In, IsMarked, IsReady, IsRising, IsSteady, JobContext, JobResult, LastCopy, LinkRow}
+use Rattle.law_copies.specs.Imports.{MarkKind, Only, PairState, Post, Store, Table, about, at, cell_cmp, cell_link, chain_in, copying_on, has_proposed}
+use Rattle.law_copies.specs.Imports.{has_server, holder_of, id_of, is_between, is_flagged, is_marked, last_copy, last_on, live, pending_on, stage_at}
+use Rattle.law_copies.specs.Imports.{subject_of}
+use Rattle.std.specs.Prelude.{[], ◌<◌, ◌≡◌, ◌≢◌, ◌⊎◌, Bool, None, Option, Some, false, is_some, true, ℕ}
+use Rattle.std.specs.Ordering.{nat_cmp}
 use Rattle.law_copies.specs.CopyProgress.{AreAlike, AreCopying, IsLeft, IsOfLink, IsPage, IsTold, links_of}
 use Rattle.law_copies.specs.Pair.{HaveMarks}
 use Rattle.petal_msg.specs.declared.body.Body.TheVariants as body

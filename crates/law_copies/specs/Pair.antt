@@ -1,7 +1,8 @@
 -- One cell as its two servers have it, and what is kept of it.
-use Rattle.law_copies.specs.Imports.{◌+◌, ◌<◌, ◌≡◌, ◌≤◌, ◌⊎◌, AtRest, Body, Bool, Busy, Cell, Chain, Key, LastOp, List, None, Option, PairState, Pending}
-use Rattle.law_copies.specs.Imports.{Some, Stale, State, Store, Table, World, at, cell_cmp, chain_in, false, is_clients, is_marked, live, nat_cmp}
-use Rattle.law_copies.specs.Imports.{one_put_ahead, primary, progress, secondary, true, ℕ}
+use Rattle.law_copies.specs.Imports.{AtRest, Body, Busy, Cell, Chain, Key, LastOp, PairState, Pending, Stale, State, Store, Table, World, at, cell_cmp}
+use Rattle.law_copies.specs.Imports.{chain_in, is_clients, is_marked, live, one_put_ahead, primary, progress, secondary}
+use Rattle.std.specs.Prelude.{◌+◌, ◌<◌, ◌≡◌, ◌≤◌, ◌⊎◌, Bool, List, None, Option, Some, false, true, ℕ}
+use Rattle.std.specs.Ordering.{nat_cmp}
 use Rattle.petal_msg.specs.declared.body.Body.TheVariants as body
 
 -- the two copies, the operation that is pending at the first server and the number of its next one, and the last operation that

@@ -1,9 +1,11 @@
 -- What servers were at the places of a link. What two servers of a link tell each other belongs to one place of it; so a server's
 -- own part is kept here as it last was at each place, and is there while the other server is still at that place.
-use Rattle.law_copies.specs.Imports.{[], if◌then◌else◌, ◌&&◌, ◌++◌, ◌<◌, ◌==◌, ◌≡◌, ◌≤◌, ◌⊎◌, Bool, Cell, Command, IsPrefix, LinkRow, List, None, Option}
-use Rattle.law_copies.specs.Imports.{PairState, Pairs, Record, Server, Setting, Some, State, Store, World, blank_joins_in, cell_link, false, is_in, nat_eq}
-use Rattle.law_copies.specs.Imports.{nat_lt, no_copies, no_pairs, option_map, option_map_or, places_from, serves, stage_at, start, start_world, state_after}
-use Rattle.law_copies.specs.Imports.{state_in, true, with_store, world_after, ℕ}
+use Rattle.law_copies.specs.Imports.{Cell, Command, IsPrefix, LinkRow, PairState, Pairs, Record, Server, Setting, State, Store, World, blank_joins_in}
+use Rattle.law_copies.specs.Imports.{cell_link, is_in, no_copies, no_pairs, places_from, serves, stage_at, start, start_world, state_after, state_in}
+use Rattle.law_copies.specs.Imports.{with_store, world_after}
+use Rattle.std.specs.Prelude.{[], if◌then◌else◌, ◌&&◌, ◌++◌, ◌<◌, ◌==◌, ◌≡◌, ◌≤◌, ◌⊎◌, Bool, List, None, Option, Some, false, nat_eq, nat_lt, option_map}
+use Rattle.std.specs.Prelude.{true, ℕ}
+use Rattle.std.specs.Option.{option_map_or}
 
 -- the cell is not dead by this state
 abbrev pub AliveIn : State → Cell → Type 0

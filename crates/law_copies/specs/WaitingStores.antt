@@ -1,5 +1,6 @@
 -- Stores that wait to be filled by others, and whose own store counts.
-use Rattle.law_copies.specs.Imports.{[], ◌≡◌, Setting, Store, World, blank_joins_in, chosen_log, kept_store, true, ℕ}
+use Rattle.law_copies.specs.Imports.{Setting, Store, World, blank_joins_in, chosen_log, kept_store}
+use Rattle.std.specs.Prelude.{[], ◌≡◌, true, ℕ}
 
 -- the store has neither entries nor marks
 pub record IsEmpty (store : Store) : Type 0 where

@@ -1,12 +1,13 @@
 -- The names that this crate takes from others, in one place.
 pub use Rattle.law_state.specs.Imports.{Both, Cell, Command, Drained, IsPrefix, Leave, LinkRow, Moved, PairState, Record, Server, Setting, State, World}
 pub use Rattle.law_state.specs.Imports.{after, cell_link, chosen_log, chosen_state, has_server, held, is_in, is_up_as, is_writes_held, leads_link, link_at}
-pub use Rattle.law_state.specs.Imports.{nat_le, option_and_then, option_map_or, places_from, region_of, slice_get, state_after, tuple_of}
+pub use Rattle.law_state.specs.Imports.{places_from, region_of, state_after, tuple_of}
 unfoldable pub use Rattle.law_state.specs.Imports.{In, at}
 pub use Rattle.law_state.proofs.Imports.{[], ◌++◌, ◌+◌, ◌<◌, ◌==◌, ◌∙◌, ◌∷◌, ◌≡◌, ◌≢◌, ◌≤◌, ◌⊎◌, Bool, List, None, Option, Some, ap, append-nil, append_assoc}
 pub use Rattle.law_state.proofs.Imports.{arith, by_bool, by_test, cond, false, filter, fold, fold-append, in-append, inl, inr, is_the_one, length}
-pub use Rattle.law_state.proofs.Imports.{length-append, link_of, links_of, nat_tests, none_some, range_with_len, refl, row_lead, same_or_apart, same_some}
-pub use Rattle.law_state.proofs.Imports.{some_or_none, subst, suc, sym, touches, true, true_false, unwrap_or, zero, ℕ}
+pub use Rattle.law_state.proofs.Imports.{length-append, link_of, links_of, nat_le, nat_tests, none_some, option_and_then, option_map_or, range_with_len, refl}
+pub use Rattle.law_state.proofs.Imports.{row_lead, same_or_apart, same_some, slice_get, some_or_none, subst, suc, sym, touches, true, true_false, unwrap_or}
+pub use Rattle.law_state.proofs.Imports.{zero, ℕ}
 pub use Rattle.law_log.proofs.Imports.{if◌then◌else◌, ◌||◌, Acted, AreSteps, Body, Ending, Firm, IsPlainLog, IsSound, JobContext, JobResult, Key, Letter, Log}
 pub use Rattle.law_log.proofs.Imports.{Pending, Post, Script, Step, Stored, all_put, blanked, cell_of, chain_in, client_sender, down_posts, ended}
 pub use Rattle.law_log.proofs.Imports.{has_held_write, is_eq, is_logged, log_plain, moved_as, nat_cmp, nat_cmp_total, sender, server_state, setting_of}

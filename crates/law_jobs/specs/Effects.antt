@@ -1,10 +1,12 @@
 -- Of what a job is made: effects, each on one place of a server's own part, with what was so when it was had.
-use Rattle.law_jobs.specs.Imports.{◌+◌, ◌<◌, ◌≡◌, ◌≤◌, ◌⊎◌, Body, Bool, Cell, Copying, Ending, Entry, Finished, Full, IsNew, IsNewFill, IsNextKey, JobContext}
-use Rattle.law_jobs.specs.Imports.{Key, LastCopy, LastOp, LinkId, LinkRow, List, MarkKind, Moving, None, PairState, Pending, Progress, Some, Stage, Stored}
-use Rattle.law_jobs.specs.Imports.{Table, Taken, Wanted, Write, Written, answering, at, cell_cmp, cell_of, chain_in, copying_on, false, far_of}
-use Rattle.law_jobs.specs.Imports.{fill_operation, first_last, free_of, in_both, is_alone_on, is_some, last_copy, last_on, length, link_named, live, nat_cmp}
-use Rattle.law_jobs.specs.Imports.{operation, pending_on, progress, put, true, with_copying, with_entry, with_filled, with_full, with_last_copy, with_mark_on}
-use Rattle.law_jobs.specs.Imports.{with_pending, with_progress, without_copying, without_entry, without_mark_on, without_pending, ℕ}
+use Rattle.law_jobs.specs.Imports.{Body, Cell, Copying, Ending, Entry, Finished, Full, IsNew, IsNewFill, IsNextKey, JobContext, Key, LastCopy, LastOp, LinkId}
+use Rattle.law_jobs.specs.Imports.{LinkRow, MarkKind, Moving, PairState, Pending, Progress, Stage, Stored, Table, Taken, Wanted, Write, Written, answering}
+use Rattle.law_jobs.specs.Imports.{at, cell_cmp, cell_of, chain_in, copying_on, far_of, fill_operation, first_last, free_of, in_both, is_alone_on, last_copy}
+use Rattle.law_jobs.specs.Imports.{last_on, link_named, live, operation, pending_on, progress, put, with_copying, with_entry, with_filled, with_full}
+use Rattle.law_jobs.specs.Imports.{with_last_copy, with_mark_on, with_pending, with_progress, without_copying, without_entry, without_mark_on}
+use Rattle.law_jobs.specs.Imports.{without_pending}
+use Rattle.std.specs.Prelude.{◌+◌, ◌<◌, ◌≡◌, ◌≤◌, ◌⊎◌, Bool, List, None, Some, false, is_some, length, true, ℕ}
+use Rattle.std.specs.Ordering.{nat_cmp}
 use Rattle.petal_msg.specs.declared.body.Body.TheVariants as body
 
 pub data Effect : Type 0 where

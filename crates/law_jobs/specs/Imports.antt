@@ -1,13 +1,12 @@
 -- The names that this crate takes from others, in one place.
-pub use Rattle.law_state.specs.Imports.{[], ◌++◌, ◌+◌, ◌<◌, ◌∷◌, ◌≡◌, ◌≤◌, ◌⊎◌, Bool, Cell, LinkId, LinkRow, List, None, Option, PairState, Progress, Setting}
-pub use Rattle.law_state.specs.Imports.{Some, World, false, is_lead, is_some, length, slice_get, true, ℕ}
+pub use Rattle.law_state.specs.Imports.{Cell, LinkId, LinkRow, PairState, Progress, Setting, World, is_lead}
 unfoldable pub use Rattle.law_state.specs.Imports.{at}
 pub use Rattle.law_steps.specs.Imports.{Actor, Block, Body, Copying, Ending, Entry, Finished, JobContext, Key, LastCopy, LastOp, MarkKind, Moving, Pending}
 pub use Rattle.law_steps.specs.Imports.{Post, Stage, Stored, Table, Wanted, above, begins_copy, bytes_of, cell_cmp, cell_holder, cell_of, chain_in, coming}
-pub use Rattle.law_steps.specs.Imports.{copying_on, ended, entry_at, epochs_beyond, epochs_of, fill_operation, filter, first, free_of, holder_of, in_both}
-pub use Rattle.law_steps.specs.Imports.{is_alone_on, is_logged, is_second, key_at, last_copy, last_on, least, link_named, live, marked_blocks, nat_cmp}
-pub use Rattle.law_steps.specs.Imports.{old_lead, operation, other_in, page_wanted, pending_on, progress_on, second, subject_of, with_copying, with_filled}
-pub use Rattle.law_steps.specs.Imports.{with_full, with_last_copy, with_pending, without_copying, without_entry, without_mark_on, without_pending}
+pub use Rattle.law_steps.specs.Imports.{copying_on, ended, entry_at, epochs_beyond, epochs_of, fill_operation, first, free_of, holder_of, in_both}
+pub use Rattle.law_steps.specs.Imports.{is_alone_on, is_logged, is_second, key_at, last_copy, last_on, least, link_named, live, marked_blocks, old_lead}
+pub use Rattle.law_steps.specs.Imports.{operation, other_in, page_wanted, pending_on, progress_on, second, subject_of, with_copying, with_filled, with_full}
+pub use Rattle.law_steps.specs.Imports.{with_last_copy, with_pending, without_copying, without_entry, without_mark_on, without_pending}
 unfoldable pub use Rattle.law_steps.specs.Imports.{next_copy}
 pub use Rattle.law_state.specs.Histories.{AreSteps, IsSound, Record, Script, setting_of, start, world_after}
 pub use Rattle.law_steps.specs.Did.{IsBusy, IsHeldBack, IsRefusal}

@@ -9,16 +9,17 @@ pub use Rattle.law_agreement.proofs.Imports.{set, slice_get, started, subst, suc
 unfoldable pub use Rattle.law_agreement.proofs.Imports.{In, nobody, number, put}
 pub use Rattle.law_state.specs.Imports.{Both, Caught, Cell, DiskView, Drained, Fence, IsPrefix, Join, Leave, LinkId, LinkRow, LinkState, Lost, MakeDisk}
 pub use Rattle.law_state.specs.Imports.{Moved, Only, PairState, Progress, Record, Server, Setting, Snap, StartMove, State, Witness, after, awaits, cell_asked}
-pub use Rattle.law_state.specs.Imports.{cell_link, chosen_log, chosen_state, head, is_in, is_lead, is_some, is_tuple, is_up, link_at, link_cmp, may_join}
-pub use Rattle.law_state.specs.Imports.{nat_le, option_map_or, other_of, servers_of, state_after, target}
+pub use Rattle.law_state.specs.Imports.{cell_link, chosen_log, chosen_state, head, is_in, is_lead, is_tuple, is_up, link_at, link_cmp, may_join, other_of}
+pub use Rattle.law_state.specs.Imports.{servers_of, state_after, target}
 unfoldable pub use Rattle.law_state.specs.Imports.{at}
 pub use Rattle.law_state.proofs.Imports.{append_assoc, both_true, by_bool, by_test, filter, fold, in-append, in_later, is_alone, latest, lead, length-append}
-pub use Rattle.law_state.proofs.Imports.{may_catch, nat_lt, none_some, not, not_true, number_itself, readable, same_or_apart, same_some, touches, true_false}
+pub use Rattle.law_state.proofs.Imports.{may_catch, nat_le, nat_lt, none_some, not, not_true, number_itself, option_map_or, readable, same_or_apart}
+pub use Rattle.law_state.proofs.Imports.{same_some, touches, true_false}
 pub use Rattle.std.proofs.Common.{◌-◌, drop, true≢false}
 pub use Rattle.std.proofs.lemmas.Cmp.{on_total, then_total}
 pub use Rattle.std.specs.Cmp.{Equal-is, IsTotalOrder, nat_cmp_total, ranked, tied_itself, tied_then}
 pub use Rattle.std.specs.Ordering.{eq_by_cmp, is_eq, nat_cmp}
-pub use Rattle.std.specs.Prelude.{◌↔◌}
+pub use Rattle.std.specs.Prelude.{◌↔◌, is_some}
 pub use Rattle.std.specs.declared.cmp.Ordering.TheVariants.{Equal}
 pub use Rattle.busy_marks.specs.Marks.{above}
 pub use Rattle.law_agreement.proofs.ChosenLogGrows.{front_of_log, log_ends, log_has, log_tells}

@@ -1,15 +1,15 @@
 -- The names that this crate takes from others, in one place.
-pub use Rattle.law_state.specs.Imports.{if◌then◌else◌, Both, Caught, Cell, Command, DiskRow, IsPrefix, Join, Leave, LinkId, LinkRow, LinkState, Lost, MapRow}
-pub use Rattle.law_state.specs.Imports.{Moved, Only, PairState, Progress, Record, Server, Setting, State, World, cell_link, chosen_log, chosen_state}
-pub use Rattle.law_state.specs.Imports.{has_server, inc_of, is_in, leads_link, link_at, link_cmp, move_region, option_and_then, option_map_or, other_of}
-pub use Rattle.law_state.specs.Imports.{owner, region_of, row_blanked, serves, source, state_after, target, tuple_of}
+pub use Rattle.law_state.specs.Imports.{Both, Caught, Cell, Command, DiskRow, IsPrefix, Join, Leave, LinkId, LinkRow, LinkState, Lost, MapRow, Moved, Only}
+pub use Rattle.law_state.specs.Imports.{PairState, Progress, Record, Server, Setting, State, World, cell_link, chosen_log, chosen_state, has_server, inc_of}
+pub use Rattle.law_state.specs.Imports.{is_in, leads_link, link_at, link_cmp, move_region, other_of, owner, region_of, row_blanked, serves, source}
+pub use Rattle.law_state.specs.Imports.{state_after, target, tuple_of}
 unfoldable pub use Rattle.law_state.specs.Imports.{In, at}
-pub use Rattle.law_state.proofs.Imports.{[], ◌&&◌, ◌++◌, ◌+◌, ◌<◌, ◌==◌, ◌∙◌, ◌∷◌, ◌≡◌, ◌≢◌, ◌≤◌, ◌⊎◌, Bool, List, None, Option, Some, ap, append-nil}
-pub use Rattle.law_state.proofs.Imports.{append_assoc, arith, authority, blanked_state, both_true, by_bool, by_test, cond, false, filter, first, fold}
-pub use Rattle.law_state.proofs.Imports.{in-append, in_both, in_former, in_later, inl, inr, is_alone, is_alone_on, is_link, is_some, is_the_one, length}
-pub use Rattle.law_state.proofs.Imports.{length-append, link_of, links_of, map, nat_lt, nat_tests, none_some, not, number_itself, option_map, range_with_len}
-pub use Rattle.law_state.proofs.Imports.{refl, row_authority, row_lead, same_numbers, same_or_apart, same_some, second, some_or_none, subst, sym, touches}
-pub use Rattle.law_state.proofs.Imports.{true, true_false, unwrap_or, ℕ}
+pub use Rattle.law_state.proofs.Imports.{[], if◌then◌else◌, ◌&&◌, ◌++◌, ◌+◌, ◌<◌, ◌==◌, ◌∙◌, ◌∷◌, ◌≡◌, ◌≢◌, ◌≤◌, ◌⊎◌, Bool, List, None, Option, Some, ap}
+pub use Rattle.law_state.proofs.Imports.{append-nil, append_assoc, arith, authority, blanked_state, both_true, by_bool, by_test, cond, false, filter, first}
+pub use Rattle.law_state.proofs.Imports.{fold, in-append, in_both, in_former, in_later, inl, inr, is_alone, is_alone_on, is_link, is_some, is_the_one, length}
+pub use Rattle.law_state.proofs.Imports.{length-append, link_of, links_of, map, nat_lt, nat_tests, none_some, not, number_itself, option_and_then, option_map}
+pub use Rattle.law_state.proofs.Imports.{option_map_or, range_with_len, refl, row_authority, row_lead, same_numbers, same_or_apart, same_some, second}
+pub use Rattle.law_state.proofs.Imports.{some_or_none, subst, sym, touches, true, true_false, unwrap_or, ℕ}
 pub use Rattle.law_log.proofs.Imports.{◌||◌, Acted, AreSteps, Body, Copies, Copying, Dead, Ending, Entry, Equal, Firm, IsPlainLog, IsSound, JobContext}
 pub use Rattle.law_log.proofs.Imports.{JobResult, Key, LastCopy, Letter, Log, Moving, Pending, Post, Script, Step, Stored, about, all_put, awake, blanked}
 pub use Rattle.law_log.proofs.Imports.{cell_holder, cell_of, chain_in, client_sender, copying_on, devices, down_posts, ended, eq_by_cmp, fill_of, flat_map}
@@ -17,15 +17,15 @@ pub use Rattle.law_log.proofs.Imports.{gives_back, has_proposed, holds_link, id_
 pub use Rattle.law_log.proofs.Imports.{link_named, log_plain, nat_cmp, pending_on, proposed, put_apart, put_same, raised, ranked, region_to_move, sender}
 pub use Rattle.law_log.proofs.Imports.{server_state, setting_of, stamped, start, subject_of, touches_cell, who_is_in, with_last_copy, without_pending}
 unfoldable pub use Rattle.law_log.proofs.Imports.{put_at}
-pub use Rattle.law_steps.specs.Imports.{IsBelow, Less, Ordering, Paired, Sender, Stage, StaysSo, Subject, Table, cell_cmp, coming, crossed, epochs_beyond}
-pub use Rattle.law_steps.specs.Imports.{letters_of, live, settled_by, stage_at, without_dead, without_entry}
+pub use Rattle.law_steps.specs.Imports.{IsBelow, Paired, Sender, Stage, StaysSo, Subject, Table, cell_cmp, coming, crossed, epochs_beyond, letters_of, live}
+pub use Rattle.law_steps.specs.Imports.{settled_by, stage_at, without_dead, without_entry}
 unfoldable pub use Rattle.law_steps.specs.Imports.{next_fill}
-pub use Rattle.law_steps.proofs.Imports.{ByBoth, ByNone, ByOne, Chain, Filling, Full, Greater, HasStage, IsCaughtIn, IsCaughtStill, IsHeldBy, IsSteady}
-pub use Rattle.law_steps.proofs.Imports.{Logged, Pairs, Store, Written, alone_not_both, alone_row, at-empty, at-where, by_settled, cell_apart, cell_cmp_same}
-pub use Rattle.law_steps.proofs.Imports.{cell_same, comes_before, comes_next, dies, earlier, ends_cell, epoch_at, fill_left, first_key, found_at, front_plain}
-pub use Rattle.law_steps.proofs.Imports.{history_grows, history_is_firm, holder_is_one, is_clients, is_on, is_the, keys_in, keys_of, log_alone, log_below}
-pub use Rattle.law_steps.proofs.Imports.{log_rev, log_roles, log_steady, lookup, max, new_stage, no_copies, not_noted, noted, old_stage, region_leaving}
-pub use Rattle.law_steps.proofs.Imports.{said_to_all, same_id, settling, so_both, stage_by, stage_most, up_some, version_of}
+pub use Rattle.law_steps.proofs.Imports.{ByBoth, ByNone, ByOne, Chain, Filling, Full, Greater, HasStage, IsCaughtIn, IsCaughtStill, IsHeldBy, IsSteady, Less}
+pub use Rattle.law_steps.proofs.Imports.{Logged, Ordering, Pairs, Store, Written, alone_not_both, alone_row, at-empty, at-where, by_settled, cell_apart}
+pub use Rattle.law_steps.proofs.Imports.{cell_cmp_same, cell_same, comes_before, comes_next, dies, earlier, ends_cell, epoch_at, fill_left, first_key}
+pub use Rattle.law_steps.proofs.Imports.{found_at, front_plain, history_grows, history_is_firm, holder_is_one, is_clients, is_on, is_the, keys_in, keys_of}
+pub use Rattle.law_steps.proofs.Imports.{log_alone, log_below, log_rev, log_roles, log_steady, lookup, max, new_stage, no_copies, not_noted, noted, old_stage}
+pub use Rattle.law_steps.proofs.Imports.{region_leaving, said_to_all, same_id, settling, so_both, stage_by, stage_most, up_some, version_of}
 unfoldable pub use Rattle.law_steps.proofs.Imports.{put}
 pub use Rattle.law_jobs.specs.Imports.{IsFilled, IsNextFill, IsNextKey, Taken, TakenCopy, answering, copying, first_last, progress}
 pub use Rattle.law_jobs.proofs.Imports.{Begins_copy, By_filler, By_holder, By_lead, By_other, By_read, By_second, By_sweep, Closes, Closes_alone, Closes_copy}

@@ -1,10 +1,11 @@
 -- What the new map has of a region that is on its way, and what still comes. All of it is told by the letters that say that an entry is there:
 -- what such a letter tells of stays there; a fill is under way only of an entry of which none was sent; and a link is noted after letters of
 -- all its entries.
-use Rattle.law_moves.specs.Imports.{[], ◌++◌, ◌<◌, ◌∷◌, ◌≡◌, ◌≤◌, Cell, Chain, Command, HasNewer, In, IsFilledFrom, IsPrefix, IsServing, Key, Letter, LinkRow}
-use Rattle.law_moves.specs.Imports.{List, Moved, None, Pending, Setting, Some, World, at, cell_cmp, cell_link, cell_of, chain_in, chosen_log, chosen_state}
-use Rattle.law_moves.specs.Imports.{comes_before, false, id_of, is_clients, is_in, is_some, kept, key_at, length, link_cmp, nat_cmp, region_of, source}
-use Rattle.law_moves.specs.Imports.{stage_at, state_after, target, true, ℕ}
+use Rattle.law_moves.specs.Imports.{Cell, Chain, Command, HasNewer, In, IsFilledFrom, IsPrefix, IsServing, Key, Letter, LinkRow, Moved, Pending, Setting}
+use Rattle.law_moves.specs.Imports.{World, at, cell_cmp, cell_link, cell_of, chain_in, chosen_log, chosen_state, comes_before, id_of, is_clients, is_in, kept}
+use Rattle.law_moves.specs.Imports.{key_at, link_cmp, region_of, source, stage_at, state_after, target}
+use Rattle.std.specs.Prelude.{[], ◌++◌, ◌<◌, ◌∷◌, ◌≡◌, ◌≤◌, List, None, Some, false, is_some, length, true, ℕ}
+use Rattle.std.specs.Ordering.{nat_cmp}
 use Rattle.petal_msg.specs.declared.body.Body.TheVariants as body
 
 -- the chain has an entry of this epoch

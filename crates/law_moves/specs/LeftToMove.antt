@@ -1,6 +1,8 @@
 -- What of a link that moves is known to be at the new map, by what the old lead remembers.
-use Rattle.law_moves.specs.Imports.{◌≡◌, Cell, In, Key, LinkRow, Option, PairState, Some, State, at, chain_in, comes_before, comes_next, false, id_of, is_on}
-use Rattle.law_moves.specs.Imports.{is_some, key_at, keys_in, link_cmp, nat_cmp, region_of, true, ℕ}
+use Rattle.law_moves.specs.Imports.{Cell, In, Key, LinkRow, PairState, State, at, chain_in, comes_before, comes_next, id_of, is_on, key_at, keys_in, link_cmp}
+use Rattle.law_moves.specs.Imports.{region_of}
+use Rattle.std.specs.Prelude.{◌≡◌, Option, Some, false, is_some, true, ℕ}
+use Rattle.std.specs.Ordering.{nat_cmp}
 
 -- the store has an entry of this epoch
 abbrev pub IsKept : PairState → Cell → ℕ → Type 0

@@ -1,27 +1,27 @@
 -- The names that this crate takes from others, in one place.
-pub use Rattle.law_state.specs.Imports.{if◌then◌else◌, Both, Caught, Cell, Command, DiskView, Drained, IsPrefix, Join, LinkRow, Lost, Only, PairState}
-pub use Rattle.law_state.specs.Imports.{Progress, Record, Server, Setting, State, World, cell_asked, cell_link, chosen_log, chosen_state, find, has_server}
-pub use Rattle.law_state.specs.Imports.{held, inc_of, is_in, is_lead, is_some, is_up, is_writes_held, link_cmp, nat_le, option_and_then, option_map_or}
-pub use Rattle.law_state.specs.Imports.{other_of, places_from, servers_of, serves, slice_get, start, state_after}
+pub use Rattle.law_state.specs.Imports.{Both, Caught, Cell, Command, DiskView, Drained, IsPrefix, Join, LinkRow, Lost, Only, PairState, Progress, Record}
+pub use Rattle.law_state.specs.Imports.{Server, Setting, State, World, cell_asked, cell_link, chosen_log, chosen_state, find, has_server, held, inc_of, is_in}
+pub use Rattle.law_state.specs.Imports.{is_lead, is_up, is_writes_held, link_cmp, other_of, places_from, servers_of, serves, start, state_after}
 unfoldable pub use Rattle.law_state.specs.Imports.{In, at}
-pub use Rattle.law_state.proofs.Imports.{[], ◌&&◌, ◌++◌, ◌+◌, ◌<◌, ◌==◌, ◌∙◌, ◌∷◌, ◌≡◌, ◌≢◌, ◌≤◌, ◌⊎◌, All, Bool, List, No, None, Option, Some, Writes, ap}
-pub use Rattle.law_state.proofs.Imports.{append-nil, append_assoc, arith, both_true, by_bool, cond, false, filter, in-append, in_both, in_former, in_later}
-pub use Rattle.law_state.proofs.Imports.{inl, inr, is_alone_on, is_the_one, is_the_so, lead, length, length-append, list_any, nat_tests, none_some}
-pub use Rattle.law_state.proofs.Imports.{number_itself, option_map, primary, range_with_len, refl, row_lead, same_numbers, same_or_apart, same_some}
-pub use Rattle.law_state.proofs.Imports.{secondary, some_or_none, subst, sym, true, true_false, unwrap_or, ℕ}
+pub use Rattle.law_state.proofs.Imports.{[], if◌then◌else◌, ◌&&◌, ◌++◌, ◌+◌, ◌<◌, ◌==◌, ◌∙◌, ◌∷◌, ◌≡◌, ◌≢◌, ◌≤◌, ◌⊎◌, All, Bool, List, No, None, Option, Some}
+pub use Rattle.law_state.proofs.Imports.{Writes, ap, append-nil, append_assoc, arith, both_true, by_bool, cond, false, filter, in-append, in_both, in_former}
+pub use Rattle.law_state.proofs.Imports.{in_later, inl, inr, is_alone_on, is_the_one, is_the_so, lead, length, length-append, list_any, nat_le, nat_tests}
+pub use Rattle.law_state.proofs.Imports.{none_some, number_itself, option_and_then, option_map, option_map_or, primary, range_with_len, refl, row_lead}
+pub use Rattle.law_state.proofs.Imports.{same_numbers, same_or_apart, same_some, secondary, slice_get, some_or_none, subst, sym, true, true_false, unwrap_or}
+pub use Rattle.law_state.proofs.Imports.{ℕ}
 pub use Rattle.law_log.proofs.Imports.{◌-◌, ◌||◌, Acted, Actor, Answer, AreSteps, Asked, Blank, Body, Client, Copies, Ending, Equal, Firm, IsPlainLog}
 pub use Rattle.law_log.proofs.Imports.{IsSound, JobContext, JobResult, Letter, Line, Log, Pending, Post, Reaction, Request, Script, Sight, Step, Wanted, acts}
 pub use Rattle.law_log.proofs.Imports.{all_put, all_put_apart, awake, blanked, client_sender, command_of, down_posts, ended, has_held_write, has_proposed}
-pub use Rattle.law_log.proofs.Imports.{here_of, id_of, is_eq, is_flagged, is_logged, is_read, is_write, lines_of, log_plain, nat_cmp, no_progress}
+pub use Rattle.law_log.proofs.Imports.{here_of, id_of, is_eq, is_flagged, is_logged, is_read, is_some, is_write, lines_of, log_plain, nat_cmp, no_progress}
 pub use Rattle.law_log.proofs.Imports.{progress_on, put_apart, put_same, raised, reacts, rev_of, sender, server_state, setting_of, stamped, state_in, stays}
 pub use Rattle.law_log.proofs.Imports.{subject_of, wakes, who_is_in, world_after}
 unfoldable pub use Rattle.law_log.proofs.Imports.{put_at, refusal}
-pub use Rattle.law_steps.specs.Imports.{Finished, IsBelow, Less, Ordering, Pattern, Refused, Sender, StaysSo, Subject, Table, cell_cmp, coming, crossed}
-pub use Rattle.law_steps.specs.Imports.{letters_of, live, pattern_block, settled_by, stage_at}
-pub use Rattle.law_steps.proofs.Imports.{ByBoth, ByNone, ByOne, Greater, HasDied, HasLater, HasStage, IsSteady, Logged, Pairs, alone_row, at-empty, between}
-pub use Rattle.law_steps.proofs.Imports.{cell_cmp_same, epoch_at, era_at, front_plain, has_stage, history_is_firm, in_once, in_up, is_at, is_clients}
-pub use Rattle.law_steps.proofs.Imports.{log_alone, log_below, log_rev, log_roles, log_steady, lookup, not, report_among, said_to_all, same_caught}
-pub use Rattle.law_steps.proofs.Imports.{same_place, settling, so_alone, so_both, up_some}
+pub use Rattle.law_steps.specs.Imports.{Finished, IsBelow, Pattern, Refused, Sender, StaysSo, Subject, Table, cell_cmp, coming, crossed, letters_of, live}
+pub use Rattle.law_steps.specs.Imports.{pattern_block, settled_by, stage_at}
+pub use Rattle.law_steps.proofs.Imports.{ByBoth, ByNone, ByOne, Greater, HasDied, HasLater, HasStage, IsSteady, Less, Logged, Ordering, Pairs, alone_row}
+pub use Rattle.law_steps.proofs.Imports.{at-empty, between, cell_cmp_same, epoch_at, era_at, front_plain, has_stage, history_is_firm, in_once, in_up, is_at}
+pub use Rattle.law_steps.proofs.Imports.{is_clients, log_alone, log_below, log_rev, log_roles, log_steady, lookup, not, report_among, said_to_all}
+pub use Rattle.law_steps.proofs.Imports.{same_caught, same_place, settling, so_alone, so_both, up_some}
 unfoldable pub use Rattle.law_steps.proofs.Imports.{put}
 pub use Rattle.law_jobs.specs.Imports.{IsNew}
 pub use Rattle.law_jobs.proofs.Imports.{By_filler, By_holder, By_lead, By_other, By_read, By_second, By_sweep, Did, Handled, Happens, Ignores, Ready, Refuses}

@@ -1,6 +1,6 @@
 -- What a client's request of a number is, by the script and by the state at which it is sent.
-use Rattle.law_requests.specs.Imports.{◌<◌, ◌≡◌, ◌≤◌, Asked, Bool, Cell, Client, DiskView, In, Letter, Line, List, Option, Pattern, Some, State, cell_asked}
-use Rattle.law_requests.specs.Imports.{epoch_for, false, find, length, line_by, pattern_block, true, ℕ}
+use Rattle.law_requests.specs.Imports.{Asked, Cell, Client, DiskView, In, Letter, Line, Pattern, State, cell_asked, epoch_for, find, line_by, pattern_block}
+use Rattle.std.specs.Prelude.{◌<◌, ◌≡◌, ◌≤◌, Bool, List, Option, Some, false, length, true, ℕ}
 use Rattle.script_lines.specs.declared.request.Request.TheVariants as request
 use Rattle.petal_msg.specs.declared.body.Body.TheVariants as body
 use Rattle.petal_msg.specs.declared.letter.Actor.TheVariants as actor

@@ -1,8 +1,9 @@
 -- What is kept of requests: of those that are open, pending or finished, and of the letters that speak of them.
-use Rattle.law_requests.specs.Imports.{[], if◌then◌else◌, ◌++◌, ◌+◌, ◌<◌, ◌==◌, ◌∷◌, ◌≡◌, ◌≤◌, ◌⊎◌, Actor, Asked, Body, Bool, Cell, Client, Command, Drained}
-use Rattle.law_requests.specs.Imports.{In, IsPrefix, Letter, List, None, PairState, Pending, Setting, Some, State, Wanted, World, at, cell_cmp, chosen_log}
-use Rattle.law_requests.specs.Imports.{coming, done_to, epoch_at, false, held, is_clients, is_in, is_lead, is_writes_held, lead, length, nat_cmp}
-use Rattle.law_requests.specs.Imports.{server_state, state_after, true, ℕ}
+use Rattle.law_requests.specs.Imports.{Actor, Asked, Body, Cell, Client, Command, Drained, In, IsPrefix, Letter, PairState, Pending, Setting, State, Wanted}
+use Rattle.law_requests.specs.Imports.{World, at, cell_cmp, chosen_log, coming, done_to, epoch_at, held, is_clients, is_in, is_lead, is_writes_held, lead}
+use Rattle.law_requests.specs.Imports.{server_state, state_after}
+use Rattle.std.specs.Prelude.{[], if◌then◌else◌, ◌++◌, ◌+◌, ◌<◌, ◌==◌, ◌∷◌, ◌≡◌, ◌≤◌, ◌⊎◌, Bool, List, None, Some, false, length, true, ℕ}
+use Rattle.std.specs.Ordering.{nat_cmp}
 use Rattle.law_requests.specs.AskedRequests.{IsWrite, IsRead, IsAsked, IsOpenFrom, HasItsWay, WasToldAt}
 use Rattle.petal_msg.specs.declared.body.Body.TheVariants as body
 use Rattle.petal_msg.specs.declared.letter.Actor.TheVariants as actor

@@ -1,6 +1,6 @@
 -- Where the request of a pending operation is open still.
-use Rattle.law_requests.specs.Imports.{◌≡◌, ◌≢◌, Cell, Pending, Setting, Some, World, at, cell_cmp, chosen_state, false, is_alone_on, is_clients, is_in, lead}
-use Rattle.law_requests.specs.Imports.{server_state, true, ℕ}
+use Rattle.law_requests.specs.Imports.{Cell, Pending, Setting, World, at, cell_cmp, chosen_state, is_alone_on, is_clients, is_in, lead, server_state}
+use Rattle.std.specs.Prelude.{◌≡◌, ◌≢◌, Some, false, true, ℕ}
 use Rattle.law_requests.specs.AskedRequests.{IsOpen}
 use Rattle.spec_rules.specs.State as state
 

@@ -1,6 +1,6 @@
 -- What a server that has reported to a fence doesn't have pending.
-use Rattle.law_requests.specs.Imports.{[], ◌++◌, ◌∷◌, ◌≡◌, Cell, Command, Drained, IsPrefix, List, Pending, Setting, Some, World, at, cell_cmp, chosen_log}
-use Rattle.law_requests.specs.Imports.{is_clients, true, ℕ}
+use Rattle.law_requests.specs.Imports.{Cell, Command, Drained, IsPrefix, Pending, Setting, World, at, cell_cmp, chosen_log, is_clients}
+use Rattle.std.specs.Prelude.{[], ◌++◌, ◌∷◌, ◌≡◌, List, Some, true, ℕ}
 pub use Rattle.spec_history.specs.Claims.{AreHeldAlong}
 
 -- where a running server's report to a fence is chosen, nothing of a client is pending there on a cell whose writes were held from the state at

@@ -6,17 +6,18 @@ pub use Rattle.law_script.proofs.Imports.{refl, subst, suc, sym, text_lines, tru
 unfoldable pub use Rattle.law_script.proofs.Imports.{a_tuple, boot_of, client_request, fault_of, filled_of, first_line, four_words, halves_of, in_limits}
 unfoldable pub use Rattle.law_script.proofs.Imports.{lines_after, move_of, net_line, one_word, operator_request, read_of, script_of, servers_line, snap_of}
 unfoldable pub use Rattle.law_script.proofs.Imports.{spread_of, stop_at, stop_of, three_words, two_words, write_of}
-pub use Rattle.law_state.specs.Imports.{if◌then◌else◌, Both, Caught, Cell, Command, DiskRow, DiskView, Drained, Fenced, IsPrefix, Join, Leave, LinkRow}
-pub use Rattle.law_state.specs.Imports.{LinkState, Lost, MapRow, Move, New, Old, Only, PairState, Record, RegionState, Server, Setting, Snapshot, State}
-pub use Rattle.law_state.specs.Imports.{World, blank_joins_from, cell_asked, cell_link, chosen_log, chosen_state, disk_at, find, has_map, has_server, held}
-pub use Rattle.law_state.specs.Imports.{inc_of, is_in, is_lead, leads_link, leaves, move_region, named, nat_le, option_and_then, option_map_or, other_of}
-pub use Rattle.law_state.specs.Imports.{owner, region_of, row_blanked, servers_of, serves, slice_get, snapshot, snapshot_named, source, state_after, tuple_of}
+pub use Rattle.law_state.specs.Imports.{Both, Caught, Cell, Command, DiskRow, DiskView, Drained, Fenced, IsPrefix, Join, Leave, LinkRow, LinkState, Lost}
+pub use Rattle.law_state.specs.Imports.{MapRow, Move, New, Old, Only, PairState, Record, RegionState, Server, Setting, Snapshot, State, World}
+pub use Rattle.law_state.specs.Imports.{blank_joins_from, cell_asked, cell_link, chosen_log, chosen_state, disk_at, find, has_map, has_server, held, inc_of}
+pub use Rattle.law_state.specs.Imports.{is_in, is_lead, leads_link, leaves, move_region, named, other_of, owner, region_of, row_blanked, servers_of, serves}
+pub use Rattle.law_state.specs.Imports.{snapshot, snapshot_named, source, state_after, tuple_of}
 unfoldable pub use Rattle.law_state.specs.Imports.{In, at}
-pub use Rattle.law_state.proofs.Imports.{◌≤◌, append-nil, append_assoc, authority, blanked_state, both_true, by_bool, by_test, drop, filter, fold}
-pub use Rattle.law_state.proofs.Imports.{fold-append, in-append, in_both, in_former, in_later, is_all_held, is_alone, is_alone_on, is_disk, is_fenced}
-pub use Rattle.law_state.proofs.Imports.{is_some, is_the_one, is_the_so, map, map_asked, nat_lists_same, nat_tests, none_some, number_itself, option_map}
-pub use Rattle.law_state.proofs.Imports.{range_with_len, readable, region_at, same_name, same_numbers, same_or_apart, same_some, second, slice_get_within}
-pub use Rattle.law_state.proofs.Imports.{some_or_none, source_in, touches, true_false, unwrap_or, view_of}
+pub use Rattle.law_state.proofs.Imports.{if◌then◌else◌, ◌≤◌, append-nil, append_assoc, authority, blanked_state, both_true, by_bool, by_test, drop, filter}
+pub use Rattle.law_state.proofs.Imports.{fold, fold-append, in-append, in_both, in_former, in_later, is_all_held, is_alone, is_alone_on, is_disk, is_fenced}
+pub use Rattle.law_state.proofs.Imports.{is_some, is_the_one, is_the_so, map, map_asked, nat_le, nat_lists_same, nat_tests, none_some, number_itself}
+pub use Rattle.law_state.proofs.Imports.{option_and_then, option_map, option_map_or, range_with_len, readable, region_at, same_name, same_numbers}
+pub use Rattle.law_state.proofs.Imports.{same_or_apart, same_some, second, slice_get, slice_get_within, some_or_none, source_in, touches, true_false}
+pub use Rattle.law_state.proofs.Imports.{unwrap_or, view_of}
 pub use Rattle.law_log.proofs.Imports.{Acted, Actor, After, Answer, AreSteps, AreStepsFrom, Asked, Before, Blank, Body, Boot, Call, Client, Deliver, Ending}
 pub use Rattle.law_log.proofs.Imports.{Equal, Firm, IsPlainLog, IsPlainState, IsSound, Job, JobContext, JobResult, Key, LastCopy, Letter, Log, LogDone}
 pub use Rattle.law_log.proofs.Imports.{MayActor, OpKind, Pending, Post, Reaction, Sight, Step, StopIn, Stored, Work, WorkEnd, about, acts, all_put}
@@ -28,11 +29,11 @@ pub use Rattle.law_log.proofs.Imports.{nat_cmp_total, next_line, next_place, pos
 pub use Rattle.law_log.proofs.Imports.{server_state, server_step, setting_of, stamped, start, state_in, stays, stepped, stopped, stops, subject_of, voter_of}
 pub use Rattle.law_log.proofs.Imports.{wakes, wanted_by, without_pending, worked, works, world_after}
 unfoldable pub use Rattle.law_log.proofs.Imports.{applies, does, heard, log_does, refusal, starts, step}
-pub use Rattle.law_steps.specs.Imports.{Busy, Finished, Glanced, IsBelow, Less, Ordering, Refused, Sender, Stage, Stale, StaysSo, Subject, Table}
-pub use Rattle.law_steps.specs.Imports.{before_blanks, bytes_of, cell_cmp, coming, crossed, entry_at, epochs_beyond, letters_of, live, old_lead, operation}
-pub use Rattle.law_steps.specs.Imports.{pattern_block, puts, settled_by, stage_at, with_paired, with_reserved}
-pub use Rattle.law_steps.proofs.Imports.{ByBoth, ByNone, ByOne, Chain, Follows, Greater, HasDied, HasLater, HasStage, IsCaughtStill, IsHeldBy, IsSteady}
-pub use Rattle.law_steps.proofs.Imports.{Pairs, Store, alone_not_both, at-empty, cell_apart, cell_cmp_same, cell_same, clock_of, epoch_at, found_at}
+pub use Rattle.law_steps.specs.Imports.{Busy, Finished, Glanced, IsBelow, Refused, Sender, Stage, Stale, StaysSo, Subject, Table, before_blanks, bytes_of}
+pub use Rattle.law_steps.specs.Imports.{cell_cmp, coming, crossed, entry_at, epochs_beyond, letters_of, live, old_lead, operation, pattern_block, puts}
+pub use Rattle.law_steps.specs.Imports.{settled_by, stage_at, with_paired, with_reserved}
+pub use Rattle.law_steps.proofs.Imports.{ByBoth, ByNone, ByOne, Chain, Follows, Greater, HasDied, HasLater, HasStage, IsCaughtStill, IsHeldBy, IsSteady, Less}
+pub use Rattle.law_steps.proofs.Imports.{Ordering, Pairs, Store, alone_not_both, at-empty, cell_apart, cell_cmp_same, cell_same, clock_of, epoch_at, found_at}
 pub use Rattle.law_steps.proofs.Imports.{front_plain, get_within, history_agrees, history_grows, history_is_firm, in_once, insert_entry, is_at, is_clients}
 pub use Rattle.law_steps.proofs.Imports.{log_alone, log_below, log_rev, log_roles, log_steady, lookup, match_ordering, max, new_stage, old_stage}
 pub use Rattle.law_steps.proofs.Imports.{out_has_stopped, same_place, settling, so_alone, so_both, stage_by, version_of, with_mark_at}

@@ -1,11 +1,10 @@
 -- The names that this crate takes from others, in one place.
-pub use Rattle.law_state.specs.Imports.{if◌then◌else◌, ◌%◌, Both, Caught, Cell, Command, DiskRow, DiskView, Drained, Fence, Fenced, Hold, IsPrefix, Join}
-pub use Rattle.law_state.specs.Imports.{Leave, LinkRow, LinkState, Lost, MakeDisk, MapRow, Member, Move, Moved, New, Old, Only, Record, Region, RegionState}
-pub use Rattle.law_state.specs.Imports.{Snap, Snapshot, StartMove, State, Whole, Witness, after, awaits, blank_joins_from, cell_asked, cell_link, coming}
-pub use Rattle.law_state.specs.Imports.{disk_at, disk_of, has_map, has_server, head, held, inc_of, is_lead, is_tuple, is_up, is_up_as, is_writes_held}
-pub use Rattle.law_state.specs.Imports.{last_inc, leads_link, leaves, leaving, link_at, live, may_join, move_region, named, nat_le, option_and_then}
-pub use Rattle.law_state.specs.Imports.{option_map_or, other_of, owner, places_from, region_of, row_left, serves, slice_get, slice_index, snapshot}
-pub use Rattle.law_state.specs.Imports.{snapshot_named, source, start, state_after, target, tuple_of}
+pub use Rattle.law_state.specs.Imports.{Both, Caught, Cell, Command, DiskRow, DiskView, Drained, Fence, Fenced, Hold, IsPrefix, Join, Leave, LinkRow}
+pub use Rattle.law_state.specs.Imports.{LinkState, Lost, MakeDisk, MapRow, Member, Move, Moved, New, Old, Only, Record, Region, RegionState, Snap, Snapshot}
+pub use Rattle.law_state.specs.Imports.{StartMove, State, Whole, Witness, after, awaits, blank_joins_from, cell_asked, cell_link, coming, disk_at, disk_of}
+pub use Rattle.law_state.specs.Imports.{has_map, has_server, head, held, inc_of, is_lead, is_tuple, is_up, is_up_as, is_writes_held, last_inc, leads_link}
+pub use Rattle.law_state.specs.Imports.{leaves, leaving, link_at, live, may_join, move_region, named, other_of, owner, places_from, region_of, row_left}
+pub use Rattle.law_state.specs.Imports.{serves, snapshot, snapshot_named, source, start, state_after, target, tuple_of}
 unfoldable pub use Rattle.law_state.specs.Imports.{In}
 pub use Rattle.std.proofs.Common.{[], ◌&&◌, ◌*◌, ◌++◌, ◌+◌, ◌<◌, ◌==◌, ◌∙◌, ◌∷◌, ◌≡◌, ◌≢◌, ◌≤◌, ◌⊎◌, Bool, Err, List, None, Ok, Option, Result, Some, ap}
 pub use Rattle.std.proofs.Common.{append_assoc, arith, cond, false, inl, inr, is_some, length, length-append, not, refl, subst, suc, sym, true, zero, ℕ}
@@ -17,7 +16,9 @@ pub use Rattle.std.proofs.lemmas.Map.Views.{any-filter_same}
 pub use Rattle.std.proofs.lemmas.Option.{slice_get-map, slice_get_past, slice_get_within}
 pub use Rattle.std.specs.Cmp.Lexicographic.{pointwise}
 pub use Rattle.std.specs.List.{list_all, list_any, range_with_len}
-pub use Rattle.std.specs.Prelude.{◌||◌, drop, filter, find, fold, map, nat_eq, nat_lt, option_map, replicate, slice_set, unwrap_or}
+pub use Rattle.std.specs.Option.{option_map_or}
+pub use Rattle.std.specs.Prelude.{if◌then◌else◌, ◌%◌, ◌||◌, drop, filter, find, fold, map, nat_eq, nat_le, nat_lt, option_and_then, option_map, replicate}
+pub use Rattle.std.specs.Prelude.{slice_get, slice_index, slice_set, unwrap_or}
 pub use Rattle.global_tables.specs.Disk.{all_noted, change, completes, fenced, frozen, has_link, is_disk, move_done, move_fenced, noted, option_moved}
 pub use Rattle.global_tables.specs.Disk.{row_fenced, row_frozen, row_moving, row_noted, same_name, with_link}
 pub use Rattle.global_tables.specs.Link.{blanked_state, dropped, is_link, left_state, new_row, new_rows, new_state, row_between, row_caught}

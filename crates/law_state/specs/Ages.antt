@@ -1,5 +1,6 @@
 -- How old a server's place among the servers is: it only rises. Each incarnation is In before it is Out, and before the next one.
-use Rattle.law_state.specs.Imports.{◌+◌, Member, None, Option, Some, State, slice_get, ℕ}
+use Rattle.law_state.specs.Imports.{Member, State}
+use Rattle.std.specs.Prelude.{◌+◌, None, Option, Some, slice_get, ℕ}
 use Rattle.global_tables.specs.declared.fence.Member.TheVariants as member
 
 abbrev pub age : Option Member → ℕ

@@ -1,6 +1,7 @@
 -- How disks and cells belong together in a state that plain entries made, and who is In.
-use Rattle.law_state.specs.Imports.{◌<◌, ◌≡◌, ◌≤◌, ◌⊎◌, Bool, Cell, Command, DiskRow, In, Join, List, None, Snapshot, Some, State, cell_link, disk_at, false}
-use Rattle.law_state.specs.Imports.{has_map, is_in, is_up, named, owner, servers_of, snapshot_named, true, ℕ}
+use Rattle.law_state.specs.Imports.{Cell, Command, DiskRow, In, Join, Snapshot, State, cell_link, disk_at, has_map, is_in, is_up, named, owner, servers_of}
+use Rattle.law_state.specs.Imports.{snapshot_named}
+use Rattle.std.specs.Prelude.{◌<◌, ◌≡◌, ◌≤◌, ◌⊎◌, Bool, List, None, Some, false, true, ℕ}
 use Rattle.law_state.specs.Steady.{HasLink}
 
 -- each disk is found by its number and by its name, and owns its map and the one that it leaves; two disks have no map in common; each snapshot

@@ -1,5 +1,6 @@
 -- What is chosen before a cell's era rises.
-use Rattle.law_state.specs.Imports.{[], ◌++◌, ◌∷◌, ◌≡◌, Bool, Cell, Command, Drained, Hold, IsPrefix, List, held, is_in, is_writes_held, state_after, true, ℕ}
+use Rattle.law_state.specs.Imports.{Cell, Command, Drained, Hold, IsPrefix, held, is_in, is_writes_held, state_after}
+use Rattle.std.specs.Prelude.{[], ◌++◌, ◌∷◌, ◌≡◌, Bool, List, true, ℕ}
 pub use Rattle.law_state.specs.Homes.{epoch_at, era_at}
 
 -- after this front of the log stands the server's report to the active fence, by which such a hold of the cell is so there; and the server

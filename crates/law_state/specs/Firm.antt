@@ -1,6 +1,6 @@
 -- What the laws of pairs, requests and the run know of the agreed log.
-use Rattle.law_state.specs.Imports.{[], ◌++◌, ◌∷◌, ◌≡◌, ◌⊎◌, Caught, Command, In, IsPrefix, List, Setting, World, chosen_log, chosen_state, false, is_in}
-use Rattle.law_state.specs.Imports.{length, state_after, true, ℕ}
+use Rattle.law_state.specs.Imports.{Caught, Command, In, IsPrefix, Setting, World, chosen_log, chosen_state, is_in, state_after}
+use Rattle.std.specs.Prelude.{[], ◌++◌, ◌∷◌, ◌≡◌, ◌⊎◌, List, false, length, true, ℕ}
 use Rattle.law_state.specs.Plain.{IsPlainLog}
 use Rattle.law_state.specs.StartedBallots.{HasStarted, is_caught}
 

@@ -1,7 +1,8 @@
 -- How far a cell is: its map is not its disk's yet, or it holds the disk's contents, or these have left it. A cell only goes forward.
-use Rattle.law_state.specs.Imports.{if◌then◌else◌, ◌+◌, ◌==◌, ◌≡◌, ◌≤◌, Cell, DiskRow, Fenced, New, None, Old, Option, RegionState, Some, State, cell_link}
-use Rattle.law_state.specs.Imports.{coming, disk_at, disk_of, has_map, is_lead, is_some, leads_link, leaving, live, move_region, nat_le, option_and_then}
-use Rattle.law_state.specs.Imports.{option_map_or, owner, region_of, source, target, true, tuple_of, ℕ}
+use Rattle.law_state.specs.Imports.{Cell, DiskRow, Fenced, New, Old, RegionState, State, cell_link, coming, disk_at, disk_of, has_map, is_lead, leads_link}
+use Rattle.law_state.specs.Imports.{leaving, live, move_region, owner, region_of, source, target, tuple_of}
+use Rattle.std.specs.Prelude.{if◌then◌else◌, ◌+◌, ◌==◌, ◌≡◌, ◌≤◌, None, Option, Some, is_some, nat_le, option_and_then, true, ℕ}
+use Rattle.std.specs.Option.{option_map_or}
 
 -- a cell of the disk's map: its region is still at the old one, on its way, or there
 abbrev pub new_stage : RegionState → ℕ

@@ -1,7 +1,4 @@
 -- The names that this crate takes from others, in one place.
-pub use Rattle.std.specs.Option.{option_map_or}
-pub use Rattle.std.specs.Prelude.{[], if◌then◌else◌, ◌%◌, ◌++◌, ◌+◌, ◌<◌, ◌==◌, ◌∷◌, ◌≡◌, ◌≢◌, ◌≤◌, ◌⊎◌, Bool, List, None, Option, Some, false, is_some}
-pub use Rattle.std.specs.Prelude.{length, nat_le, option_and_then, slice_get, slice_index, true, ℕ, ⊤}
 pub use Rattle.global_tables.specs.Disk.{disk_at, named, snapshot_named}
 pub use Rattle.global_tables.specs.Link.{has_server, link_at, other_of, row_blanked, row_left}
 pub use Rattle.global_tables.specs.Map.{disk_of, tuple_of}

@@ -1,6 +1,6 @@
 -- Joins between a front of a log and the whole of it.
-use Rattle.law_state.specs.Imports.{[], ◌++◌, ◌+◌, ◌∷◌, ◌≡◌, ◌⊎◌, Bool, Command, IsPrefix, Join, List, blank_joins_from, may_join, slice_get, start}
-use Rattle.law_state.specs.Imports.{state_after, true, ℕ}
+use Rattle.law_state.specs.Imports.{Command, IsPrefix, Join, blank_joins_from, may_join, start, state_after}
+use Rattle.std.specs.Prelude.{[], ◌++◌, ◌+◌, ◌∷◌, ◌≡◌, ◌⊎◌, Bool, List, slice_get, true, ℕ}
 
 -- after this front of the log the server, which was Out, joins as this incarnation
 pub record HasJoinedSince (servers : ℕ) (front whole : List Command) (n inc : ℕ) (blank : Bool) : Type 0 where

@@ -1,7 +1,7 @@
 -- When a state is one that more plain entries left: what the earlier one says of a name, the later one says too; and of a cell what
 -- its link's servers are that have stayed In.
-use Rattle.law_state.specs.Imports.{◌<◌, ◌≡◌, ◌≤◌, ◌⊎◌, Bool, Both, Cell, DiskView, LinkRow, List, Only, Some, State, cell_link, false, find, has_server}
-use Rattle.law_state.specs.Imports.{is_in, is_up, leads_link, serves, snapshot, true, ℕ}
+use Rattle.law_state.specs.Imports.{Both, Cell, DiskView, LinkRow, Only, State, cell_link, find, has_server, is_in, is_up, leads_link, serves, snapshot}
+use Rattle.std.specs.Prelude.{◌<◌, ◌≡◌, ◌≤◌, ◌⊎◌, Bool, List, Some, false, true, ℕ}
 use Rattle.law_state.specs.Ages.{age_of}
 use Rattle.law_state.specs.Homes.{HasDied, epoch_at, era_at, stage_at}
 use Rattle.law_state.specs.LinkRows.{GoesOn}

@@ -1,7 +1,7 @@
 -- What an entry does to a link: it stays as it is, one of its servers leaves or joins, or it is in Both again.
-use Rattle.law_state.specs.Imports.{[], ◌++◌, ◌+◌, ◌∷◌, ◌≡◌, ◌≢◌, Bool, Both, Caught, Cell, Command, IsPrefix, Join, Leave, LinkRow, LinkState, List, None}
-use Rattle.law_state.specs.Imports.{Only, Option, Some, State, after, cell_link, false, has_server, inc_of, is_up_as, may_join, other_of, places_from}
-use Rattle.law_state.specs.Imports.{row_blanked, row_left, slice_get, start, state_after, true, ℕ}
+use Rattle.law_state.specs.Imports.{Both, Caught, Cell, Command, IsPrefix, Join, Leave, LinkRow, LinkState, Only, State, after, cell_link, has_server, inc_of}
+use Rattle.law_state.specs.Imports.{is_up_as, may_join, other_of, places_from, row_blanked, row_left, start, state_after}
+use Rattle.std.specs.Prelude.{[], ◌++◌, ◌+◌, ◌∷◌, ◌≡◌, ◌≢◌, Bool, List, None, Option, Some, false, slice_get, true, ℕ}
 
 -- the cell has the same row, and its two servers are In, with the same incarnations, or Out, as before
 pub record StaysSo (cell : Cell) (row : LinkRow) (earlier later : State) : Type 0 where

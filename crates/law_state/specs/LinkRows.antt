@@ -1,5 +1,6 @@
 -- Rows of links: between whom they are, who serves them, and what is left of a row later.
-use Rattle.law_state.specs.Imports.{◌≡◌, ◌⊎◌, Bool, Both, LinkRow, Lost, Only, false, has_server, is_up, is_up_as, serves, true, ℕ}
+use Rattle.law_state.specs.Imports.{Both, LinkRow, Lost, Only, has_server, is_up, is_up_as, serves}
+use Rattle.std.specs.Prelude.{◌≡◌, ◌⊎◌, Bool, false, true, ℕ}
 use Rattle.spec_state.specs.State.{State}
 use Rattle.law_state.specs.Ages.{age_of}
 

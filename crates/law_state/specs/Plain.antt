@@ -1,5 +1,6 @@
 -- Logs of entries whose tuples are proper: those of disks that are made, and of moves that begin.
-use Rattle.law_state.specs.Imports.{◌≡◌, Caught, Command, Drained, In, Join, Leave, List, MakeDisk, Moved, Snap, StartMove, Witness, is_tuple, true, ℕ, ⊤}
+use Rattle.law_state.specs.Imports.{Caught, Command, Drained, In, Join, Leave, MakeDisk, Moved, Snap, StartMove, Witness, is_tuple}
+use Rattle.std.specs.Prelude.{◌≡◌, List, true, ℕ, ⊤}
 
 -- a command that makes a disk, or begins a move, has a tuple of so many servers
 abbrev pub IsPlain : (servers : ℕ) → Command → Type 0

@@ -1,6 +1,7 @@
 -- Ballots that the holder of a link has started for its Caught, as it has them in mind.
-use Rattle.law_state.specs.Imports.{◌<◌, ◌≡◌, ◌≤◌, ◌⊎◌, Bool, Caught, Command, LinkId, PairState, Progress, Server, at, false, length, link_cmp}
-use Rattle.law_state.specs.Imports.{option_map_or, true, ℕ}
+use Rattle.law_state.specs.Imports.{Caught, Command, LinkId, PairState, Progress, Server, at, link_cmp}
+use Rattle.std.specs.Prelude.{◌<◌, ◌≡◌, ◌≤◌, ◌⊎◌, Bool, false, length, true, ℕ}
+use Rattle.std.specs.Option.{option_map_or}
 
 abbrev pub is_caught : Command → Bool
 is_caught (Caught of link holder inc other other_inc) = true

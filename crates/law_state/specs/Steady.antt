@@ -1,6 +1,6 @@
 -- What the laws need to know of a state that plain entries made.
-use Rattle.law_state.specs.Imports.{◌<◌, ◌≡◌, ◌≢◌, Bool, Cell, DiskView, LinkRow, List, None, Some, State, cell_asked, cell_link, false, find, servers_of}
-use Rattle.law_state.specs.Imports.{true, ℕ}
+use Rattle.law_state.specs.Imports.{Cell, DiskView, LinkRow, State, cell_asked, cell_link, find, servers_of}
+use Rattle.std.specs.Prelude.{◌<◌, ◌≡◌, ◌≢◌, Bool, List, None, Some, false, true, ℕ}
 use Rattle.spec_rules.specs.State.{live}
 use Rattle.law_state.specs.LinkRows.{IsServed}
 

@@ -1,7 +1,7 @@
 -- The tables that plain entries make.
-use Rattle.law_state.specs.Imports.{[], ◌%◌, ◌++◌, ◌+◌, ◌<◌, ◌≡◌, ◌≢◌, ◌≤◌, ◌⊎◌, Cell, DiskRow, Fence, Fenced, In, LinkRow, List, MapRow, Member, Move, New}
-use Rattle.law_state.specs.Imports.{None, Old, Region, RegionState, Snapshot, Some, State, Whole, awaits, disk_at, disk_of, head, is_tuple, is_up, last_inc}
-use Rattle.law_state.specs.Imports.{leaves, length, link_at, owner, slice_get, slice_index, snapshot_named, true, tuple_of, ℕ}
+use Rattle.law_state.specs.Imports.{Cell, DiskRow, Fence, Fenced, In, LinkRow, MapRow, Member, Move, New, Old, Region, RegionState, Snapshot, State, Whole}
+use Rattle.law_state.specs.Imports.{awaits, disk_at, disk_of, head, is_tuple, is_up, last_inc, leaves, link_at, owner, snapshot_named, tuple_of}
+use Rattle.std.specs.Prelude.{[], ◌%◌, ◌++◌, ◌+◌, ◌<◌, ◌≡◌, ◌≢◌, ◌≤◌, ◌⊎◌, List, None, Some, length, slice_get, slice_index, true, ℕ}
 use Rattle.law_state.specs.Ages.{age_of}
 use Rattle.law_state.specs.Homes.{stage_at, stage_of}
 use Rattle.law_state.specs.LinkRows.{GoesOn, IsServed}

@@ -1,16 +1,17 @@
 -- The names that this crate takes from others, in one place.
-pub use Rattle.law_state.specs.Imports.{if◌then◌else◌, Both, Caught, Cell, Command, DiskRow, DiskView, Fenced, IsPrefix, LinkId, LinkRow, LinkState, Lost}
-pub use Rattle.law_state.specs.Imports.{Move, New, Old, Only, PairState, Progress, Record, RegionState, Server, Setting, State, World, after, cell_asked}
-pub use Rattle.law_state.specs.Imports.{cell_link, chosen_log, chosen_state, find, has_server, held, inc_of, is_in, is_lead, is_some, is_up, is_writes_held}
-pub use Rattle.law_state.specs.Imports.{leads_link, leaving, link_at, link_cmp, move_region, nat_le, option_and_then, option_map_or, other_of, owner}
-pub use Rattle.law_state.specs.Imports.{places_from, region_of, servers_of, serves, slice_get, source, state_after, target, tuple_of}
+pub use Rattle.law_state.specs.Imports.{Both, Caught, Cell, Command, DiskRow, DiskView, Fenced, IsPrefix, LinkId, LinkRow, LinkState, Lost, Move, New, Old}
+pub use Rattle.law_state.specs.Imports.{Only, PairState, Progress, Record, RegionState, Server, Setting, State, World, after, cell_asked, cell_link}
+pub use Rattle.law_state.specs.Imports.{chosen_log, chosen_state, find, has_server, held, inc_of, is_in, is_lead, is_up, is_writes_held, leads_link, leaving}
+pub use Rattle.law_state.specs.Imports.{link_at, link_cmp, move_region, other_of, owner, places_from, region_of, servers_of, serves, source, state_after}
+pub use Rattle.law_state.specs.Imports.{target, tuple_of}
 unfoldable pub use Rattle.law_state.specs.Imports.{In, at}
-pub use Rattle.law_state.proofs.Imports.{[], ◌&&◌, ◌++◌, ◌+◌, ◌<◌, ◌==◌, ◌||◌, ◌∙◌, ◌∷◌, ◌≡◌, ◌≢◌, ◌≤◌, ◌⊎◌, Bool, List, None, Option, Some, ap, append-nil}
-pub use Rattle.law_state.proofs.Imports.{append_assoc, arith, both_true, by_bool, by_test, cond, drop, false, filter, fold-append, in-append, in_both}
-pub use Rattle.law_state.proofs.Imports.{in_former, in_later, inl, inr, is_all_held, is_alone, is_alone_on, is_fenced, is_link, latest, lead, length}
-pub use Rattle.law_state.proofs.Imports.{length-append, link_of, list_any, live_new, live_old, live_under, map, mover, nat_lt, nat_tests, none_some, not_true}
-pub use Rattle.law_state.proofs.Imports.{number_itself, option_map, range_with_len, readable, refl, row_lead, same_numbers, same_or_apart, same_some, second}
-pub use Rattle.law_state.proofs.Imports.{some_or_none, state_lead, subst, suc, sym, touches, true, true_false, unwrap_or, zero, ℕ}
+pub use Rattle.law_state.proofs.Imports.{[], if◌then◌else◌, ◌&&◌, ◌++◌, ◌+◌, ◌<◌, ◌==◌, ◌||◌, ◌∙◌, ◌∷◌, ◌≡◌, ◌≢◌, ◌≤◌, ◌⊎◌, Bool, List, None, Option, Some}
+pub use Rattle.law_state.proofs.Imports.{ap, append-nil, append_assoc, arith, both_true, by_bool, by_test, cond, drop, false, filter, fold-append, in-append}
+pub use Rattle.law_state.proofs.Imports.{in_both, in_former, in_later, inl, inr, is_all_held, is_alone, is_alone_on, is_fenced, is_link, latest, lead, length}
+pub use Rattle.law_state.proofs.Imports.{length-append, link_of, list_any, live_new, live_old, live_under, map, mover, nat_le, nat_lt, nat_tests, none_some}
+pub use Rattle.law_state.proofs.Imports.{not_true, number_itself, option_and_then, option_map, option_map_or, range_with_len, readable, refl, row_lead}
+pub use Rattle.law_state.proofs.Imports.{same_numbers, same_or_apart, same_some, second, slice_get, some_or_none, state_lead, subst, suc, sym, touches, true}
+pub use Rattle.law_state.proofs.Imports.{true_false, unwrap_or, zero, ℕ}
 pub use Rattle.law_log.proofs.Imports.{Accepted, Acted, Action, Actor, After, Again, Answer, AreSteps, AreStepsFrom, Arm, Ask, Asked, Before, Blank, Block}
 pub use Rattle.law_log.proofs.Imports.{Body, Boot, Call, Client, Collecting, Copies, CopyAction, Copying, Dead, Decided, Deliver, Ending, Entry, Equal, Far}
 pub use Rattle.law_log.proofs.Imports.{Firm, Glance, Grows, Heard, Idle, Inc, IsPlain, IsPlainLog, IsPlainState, IsSound, IsTotalOrder, Job, JobContext}
@@ -28,16 +29,16 @@ pub use Rattle.law_log.proofs.Imports.{hears_fill_full, hears_filled, hears_hell
 pub use Rattle.law_log.proofs.Imports.{hears_replicated, hears_reserve, hears_reserved, hears_sync, hears_sync_full, hears_synced, hears_trim, hears_trim_of}
 pub use Rattle.law_log.proofs.Imports.{hears_trimmed, holds_link, id_of, idle_mark, is_caught, is_due, is_eq, is_flagged, is_from_in, is_kept_back}
 pub use Rattle.law_log.proofs.Imports.{is_log_job, is_logged, is_next, is_nothing, is_open, is_overfull, is_pending_for, is_read, is_replicating}
-pub use Rattle.law_log.proofs.Imports.{is_reserving, is_second, is_settled, is_syncing, is_under_way, is_witness, is_write, job_done, judged, judged_by}
-pub use Rattle.law_log.proofs.Imports.{keeps, key_at, known, known_at, known_front, known_inc, known_run, last_copy, last_on, learns_first, link_before}
-pub use Rattle.law_log.proofs.Imports.{link_jobs, link_named, log_plain, mends_found, moved_as, moving, nat_cmp, next_entries, next_line, next_place}
-pub use Rattle.law_log.proofs.Imports.{no_progress, only, opened, opens, opens_fill, other_in, own_join, own_leave, own_wants, page_asked, page_for}
-pub use Rattle.law_log.proofs.Imports.{page_posts, page_wanted, pending_on, post_in_turn, post_of, post_to, posts_for, progress_on, proposed, proposes}
-pub use Rattle.law_log.proofs.Imports.{put_same, puts_entry, raised, reacts, read_posts, read_posts_at, region_to_move, repair_after, repairs_row, replies}
-pub use Rattle.law_log.proofs.Imports.{reserves, rests, returning, rev_of, rounds, said, same_block, says, sees, sees_for, sees_from, sender, sends_entry}
-pub use Rattle.law_log.proofs.Imports.{sends_key, sends_moving, sends_or_proposes, sent_again, server_state, server_step, setting_of, settles, silent}
-pub use Rattle.law_log.proofs.Imports.{stage_jobs, stamped, start, starts_for, state_in, stays, stays_open, stepped, stops, subject_of, sweeps_with, takes}
-pub use Rattle.law_log.proofs.Imports.{takes_all, takes_entries, takes_entry, takes_mark, takes_newer, tells, then_goes_out, tick_jobs, tick_posts}
+pub use Rattle.law_log.proofs.Imports.{is_reserving, is_second, is_settled, is_some, is_syncing, is_under_way, is_witness, is_write, job_done, judged}
+pub use Rattle.law_log.proofs.Imports.{judged_by, keeps, key_at, known, known_at, known_front, known_inc, known_run, last_copy, last_on, learns_first}
+pub use Rattle.law_log.proofs.Imports.{link_before, link_jobs, link_named, log_plain, mends_found, moved_as, moving, nat_cmp, next_entries, next_line}
+pub use Rattle.law_log.proofs.Imports.{next_place, no_progress, only, opened, opens, opens_fill, other_in, own_join, own_leave, own_wants, page_asked}
+pub use Rattle.law_log.proofs.Imports.{page_for, page_posts, page_wanted, pending_on, post_in_turn, post_of, post_to, posts_for, progress_on, proposed}
+pub use Rattle.law_log.proofs.Imports.{proposes, put_same, puts_entry, raised, reacts, read_posts, read_posts_at, region_to_move, repair_after, repairs_row}
+pub use Rattle.law_log.proofs.Imports.{replies, reserves, rests, returning, rev_of, rounds, said, same_block, says, sees, sees_for, sees_from, sender}
+pub use Rattle.law_log.proofs.Imports.{sends_entry, sends_key, sends_moving, sends_or_proposes, sent_again, server_state, server_step, setting_of, settles}
+pub use Rattle.law_log.proofs.Imports.{silent, stage_jobs, stamped, start, starts_for, state_in, stays, stays_open, stepped, stops, subject_of, sweeps_with}
+pub use Rattle.law_log.proofs.Imports.{takes, takes_all, takes_entries, takes_entry, takes_mark, takes_newer, tells, then_goes_out, tick_jobs, tick_posts}
 pub use Rattle.law_log.proofs.Imports.{tied_itself, to_propose, trims_again, trims_first, trims_for, trims_newly, unknown_from, verdict_for, voter_of, wakes}
 pub use Rattle.law_log.proofs.Imports.{wanted, wanted_by, way_now, with_copied, with_copying, with_full, with_last_copy, with_leave, with_opened, with_page}
 pub use Rattle.law_log.proofs.Imports.{with_progress, with_sight, without_copying, without_pending, witnessed, worked, works, world_after, write_posts}
@@ -46,17 +47,18 @@ unfoldable pub use Rattle.law_log.proofs.Imports.{applies, copies_on, does, goes
 unfoldable pub use Rattle.law_log.proofs.Imports.{on_ask, on_down, on_fill, on_fill_full, on_filled, on_hello, on_hello_ask, on_news, on_pair_full, on_pax}
 unfoldable pub use Rattle.law_log.proofs.Imports.{on_propose, on_read, on_replicate, on_replicated, on_reserve, on_reserved, on_sync, on_sync_full, on_synced}
 unfoldable pub use Rattle.law_log.proofs.Imports.{on_trim, on_trimmed, on_write, put_at, refusal, repairs, starts, step, sweeps, ticked, trims_on}
-pub use Rattle.law_steps.specs.Imports.{Busy, Copied, Finished, Glanced, IsBelow, Less, MarkKind, Nothing, Ordering, Paired, Pattern, Sender, Stage, Stale}
-pub use Rattle.law_steps.specs.Imports.{StaysSo, Subject, Table, acts, bytes_of, cell_cmp, coming, crossed, entry_at, epochs_beyond, epochs_of, holder_of}
-pub use Rattle.law_steps.specs.Imports.{least, letters_of, live, mark_left, marked_blocks, marks, next_stage, old_lead, operation, pattern_block, puts}
-pub use Rattle.law_steps.specs.Imports.{settled_by, stage_at, unmarks, with_paired, with_pending, with_reserved}
+pub use Rattle.law_steps.specs.Imports.{Busy, Copied, Finished, Glanced, IsBelow, MarkKind, Nothing, Paired, Pattern, Sender, Stage, Stale, StaysSo, Subject}
+pub use Rattle.law_steps.specs.Imports.{Table, acts, bytes_of, cell_cmp, coming, crossed, entry_at, epochs_beyond, epochs_of, holder_of, least, letters_of}
+pub use Rattle.law_steps.specs.Imports.{live, mark_left, marked_blocks, marks, next_stage, old_lead, operation, pattern_block, puts, settled_by, stage_at}
+pub use Rattle.law_steps.specs.Imports.{unmarks, with_paired, with_pending, with_reserved}
 unfoldable pub use Rattle.law_steps.specs.Imports.{next_fill}
 pub use Rattle.std.proofs.Common.{fold}
 pub use Rattle.std.specs.BTreeMap.{insert_entry, is_at}
 pub use Rattle.std.specs.Map.{lookup}
 pub use Rattle.std.specs.Ordering.{match_ordering, ordering_reverse}
 pub use Rattle.std.specs.Prelude.{is_none, max, not}
-pub use Rattle.std.specs.declared.cmp.Ordering.TheVariants.{Greater}
+pub use Rattle.std.specs.declared.cmp.Ordering.{Ordering}
+pub use Rattle.std.specs.declared.cmp.Ordering.TheVariants.{Greater, Less}
 pub use Rattle.busy_marks.specs.Marks.{lesser}
 pub use Rattle.busy_marks.specs.declared.marks.Mark.{Mark}
 pub use Rattle.law_log.proofs.BallotFlags.{caught_put, progress_beside, progress_here, same_caught, same_id}

@@ -1,6 +1,6 @@
 -- Entries that move are of cells whose region was on its way when they were sent, and when an operation was opened for them.
-use Rattle.law_steps.specs.Imports.{◌≡◌, Cell, Command, In, IsPrefix, Key, Letter, List, Pending, Setting, Some, World, at, cell_cmp, cell_of, chosen_log}
-use Rattle.law_steps.specs.Imports.{coming, length, state_after, true, ℕ}
+use Rattle.law_steps.specs.Imports.{Cell, Command, In, IsPrefix, Key, Letter, Pending, Setting, World, at, cell_cmp, cell_of, chosen_log, coming, state_after}
+use Rattle.std.specs.Prelude.{◌≡◌, List, Some, length, true, ℕ}
 use Rattle.petal_msg.specs.declared.body.Body.TheVariants as body
 use Rattle.petal_msg.specs.declared.operation.OpKind.TheVariants as kind
 

@@ -1,6 +1,7 @@
 -- What a server may have done: one constructor for each subject, whose rules stand in a file of their own.
-use Rattle.law_steps.specs.Imports.{◌≡◌, ◌⊎◌, Actor, Body, Bool, Cell, Copying, JobContext, JobResult, PairState, Pending, Refused, Some, Wanted, copying_on}
-use Rattle.law_steps.specs.Imports.{false, has_proposed, held, is_all_held, is_for, is_lead, is_writes_held, pending_on, says, silent, subject_of, true, ℕ}
+use Rattle.law_steps.specs.Imports.{Actor, Body, Cell, Copying, JobContext, JobResult, PairState, Pending, Refused, Wanted, copying_on, has_proposed, held}
+use Rattle.law_steps.specs.Imports.{is_all_held, is_for, is_lead, is_writes_held, pending_on, says, silent, subject_of}
+use Rattle.std.specs.Prelude.{◌≡◌, ◌⊎◌, Bool, Some, false, true, ℕ}
 use Rattle.law_steps.specs.DidRead.{DidRead}
 use Rattle.law_steps.specs.DidLead.{DidLead}
 use Rattle.law_steps.specs.DidSecond.{DidSecond}

@@ -1,8 +1,9 @@
 -- What a client may have done: a relation above its step, with what the laws need to know of it.
-use Rattle.law_steps.specs.Imports.{[], if◌then◌else◌, ◌++◌, ◌+◌, ◌-◌, ◌∷◌, ◌≡◌, Answer, Asked, Body, Bool, CallKind, Client, Command, DiskView, Ending, In}
-use Rattle.law_steps.specs.Imports.{IsPrefix, Line, List, None, Option, Pattern, Post, Reaction, Sight, Some, State, Which, answers, cell_asked, command_of}
-use Rattle.law_steps.specs.Imports.{ended, epoch_for, false, find, is_logged, is_read, is_settled, is_witness, is_write, latest, length, lines_of, map}
-use Rattle.law_steps.specs.Imports.{next_line, pattern_block, refusal, servers_of, slice_get, state_after, subject_of, true, verdict_for, with_sight, ℕ}
+use Rattle.law_steps.specs.Imports.{Answer, Asked, Body, CallKind, Client, Command, DiskView, Ending, In, IsPrefix, Line, Pattern, Post, Reaction, Sight}
+use Rattle.law_steps.specs.Imports.{State, Which, answers, cell_asked, command_of, ended, epoch_for, find, is_logged, is_read, is_settled, is_witness}
+use Rattle.law_steps.specs.Imports.{is_write, latest, lines_of, next_line, pattern_block, refusal, servers_of, state_after, subject_of, verdict_for}
+use Rattle.law_steps.specs.Imports.{with_sight}
+use Rattle.std.specs.Prelude.{[], if◌then◌else◌, ◌++◌, ◌+◌, ◌-◌, ◌∷◌, ◌≡◌, Bool, List, None, Option, Some, false, length, map, slice_get, true, ℕ}
 use Rattle.petal_msg.specs.declared.body.Body.TheVariants as body
 use Rattle.petal_msg.specs.declared.letter.Actor.TheVariants as actor
 use Rattle.petal_msg.specs.declared.operation.Ending.TheVariants as ending

@@ -1,7 +1,8 @@
 -- What the lead of a link of an old map may have done when it heard how its entries came to the new one, with what was so when it was done, by
 -- its own state.
-use Rattle.law_steps.specs.Imports.{[], ◌≡◌, Body, In, JobContext, JobResult, Key, LinkRow, List, PairState, Post, Some, false, is_in, link_before, next_fill}
-use Rattle.law_steps.specs.Imports.{region_to_move, silent, true, with_filled, with_full, ℕ}
+use Rattle.law_steps.specs.Imports.{Body, In, JobContext, JobResult, Key, LinkRow, PairState, Post, is_in, link_before, next_fill, region_to_move, silent}
+use Rattle.law_steps.specs.Imports.{with_filled, with_full}
+use Rattle.std.specs.Prelude.{[], ◌≡◌, List, Some, false, true, ℕ}
 use Rattle.law_steps.specs.DidLead.{IsNextFill}
 use Rattle.petal_msg.specs.declared.body.Body.TheVariants as body
 

@@ -1,9 +1,10 @@
 -- What the holder of a link, whose other server is In again, may have done so that the link is brought up to date; and what either
 -- server of a link in Both may have done with an old mark. With what was so when it was done, by its own state.
-use Rattle.law_steps.specs.Imports.{[], ◌+◌, ◌<◌, ◌∷◌, ◌≡◌, ◌≤◌, Block, Body, Both, Cell, Copying, JobContext, JobResult, LinkId, LinkRow, MarkKind, None}
-use Rattle.law_steps.specs.Imports.{Option, PairState, Some, Stored, begins_copy, cell_at, chain_in, closes, copying_on, epochs_of, false, id_of, idle_mark}
-use Rattle.law_steps.specs.Imports.{key_at, length, link_named, mark_left, next_copy, other_in, page_wanted, progress_on, same_block, says_to, silent}
-use Rattle.law_steps.specs.Imports.{slice_get, tells_other, true, turns_page, with_copying, with_full, without_copying, without_mark_on, ℕ}
+use Rattle.law_steps.specs.Imports.{Block, Body, Both, Cell, Copying, JobContext, JobResult, LinkId, LinkRow, MarkKind, PairState, Stored, begins_copy}
+use Rattle.law_steps.specs.Imports.{cell_at, chain_in, closes, copying_on, epochs_of, id_of, idle_mark, key_at, link_named, mark_left, next_copy, other_in}
+use Rattle.law_steps.specs.Imports.{page_wanted, progress_on, same_block, says_to, silent, tells_other, turns_page, with_copying, with_full, without_copying}
+use Rattle.law_steps.specs.Imports.{without_mark_on}
+use Rattle.std.specs.Prelude.{[], ◌+◌, ◌<◌, ◌∷◌, ◌≡◌, ◌≤◌, None, Option, Some, false, length, slice_get, true, ℕ}
 use Rattle.petal_msg.specs.declared.body.Body.TheVariants as body
 use Rattle.spec_rules.specs.declared.job.Job.TheVariants as job
 

@@ -1,12 +1,14 @@
 -- What the lead of a cell may have done for a write, or for an entry that moves, rule by rule, with what was so when it was done, by its own
 -- state: as the first of two servers, or as a holder that is alone. Of an operation on a cell that is no longer live nothing is said but that
 -- it goes on by its stage: that there is none is shown above.
-use Rattle.law_steps.specs.Imports.{[], ◌<◌, ◌≡◌, ◌≤◌, Body, Bool, Busy, Cell, Copying, Finished, In, JobContext, JobResult, Key, LinkRow, List, Moving, None}
-use Rattle.law_steps.specs.Imports.{Option, PairState, Pending, Post, Some, Stale, Stored, Wanted, acts, at, cell_link, cell_of, chain_in, copying_on, ended}
-use Rattle.law_steps.specs.Imports.{ends, epochs_of, false, fill_operation, finishes, free_of, gives_back, has_proposed, held, in_both, is_alone_on, is_in}
-use Rattle.law_steps.specs.Imports.{is_lead, is_logged, is_some, is_writes_held, key_at, lead, live, marks, nat_cmp, next_fill, next_stage, old_lead, opened}
-use Rattle.law_steps.specs.Imports.{operation, option_and_then, other_in, page_wanted, pending_on, progress_on, puts, region_to_move, says, says_to, second}
-use Rattle.law_steps.specs.Imports.{slice_get, subject_of, target, true, unmarks, with_opened, with_paired, with_pending, with_reserved, without_pending, ℕ}
+use Rattle.law_steps.specs.Imports.{Body, Busy, Cell, Copying, Finished, In, JobContext, JobResult, Key, LinkRow, Moving, PairState, Pending, Post, Stale}
+use Rattle.law_steps.specs.Imports.{Stored, Wanted, acts, at, cell_link, cell_of, chain_in, copying_on, ended, ends, epochs_of, fill_operation, finishes}
+use Rattle.law_steps.specs.Imports.{free_of, gives_back, has_proposed, held, in_both, is_alone_on, is_in, is_lead, is_logged, is_writes_held, key_at, lead}
+use Rattle.law_steps.specs.Imports.{live, marks, next_fill, next_stage, old_lead, opened, operation, other_in, page_wanted, pending_on, progress_on, puts}
+use Rattle.law_steps.specs.Imports.{region_to_move, says, says_to, second, subject_of, target, unmarks, with_opened, with_paired, with_pending, with_reserved}
+use Rattle.law_steps.specs.Imports.{without_pending}
+use Rattle.std.specs.Prelude.{[], ◌<◌, ◌≡◌, ◌≤◌, Bool, List, None, Option, Some, false, is_some, option_and_then, slice_get, true, ℕ}
+use Rattle.std.specs.Ordering.{nat_cmp}
 use Rattle.law_steps.specs.Operations.{waiting, putting, copying, answering, done_to}
 use Rattle.petal_msg.specs.declared.body.Body.TheVariants as body
 use Rattle.petal_msg.specs.declared.letter.Actor.TheVariants as actor

@@ -1,8 +1,9 @@
 -- What the other server of a link that one server holds alone may have done so that it is brought up to date, with what was so when it
 -- was done, by its own state.
-use Rattle.law_steps.specs.Imports.{[], ◌<◌, ◌∷◌, ◌≡◌, Body, Cell, Entry, JobContext, JobResult, LastCopy, LinkId, LinkRow, List, Option, PairState, Some}
-use Rattle.law_steps.specs.Imports.{above, cell_holder, cell_of, epochs_beyond, filter, free_of, holder_of, key_at, last_copy, least, link_named}
-use Rattle.law_steps.specs.Imports.{marked_blocks, puts_entry, says_to, true, with_last_copy, without_entry, ℕ}
+use Rattle.law_steps.specs.Imports.{Body, Cell, Entry, JobContext, JobResult, LastCopy, LinkId, LinkRow, PairState, above, cell_holder, cell_of}
+use Rattle.law_steps.specs.Imports.{epochs_beyond, free_of, holder_of, key_at, last_copy, least, link_named, marked_blocks, puts_entry, says_to}
+use Rattle.law_steps.specs.Imports.{with_last_copy, without_entry}
+use Rattle.std.specs.Prelude.{[], ◌<◌, ◌∷◌, ◌≡◌, List, Option, Some, filter, true, ℕ}
 use Rattle.petal_msg.specs.declared.body.Body.TheVariants as body
 use Rattle.spec_rules.specs.declared.job.Job.TheVariants as job
 

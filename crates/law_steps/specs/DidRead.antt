@@ -1,6 +1,7 @@
 -- What a server, which is In as itself, may have done with a read that it did not refuse.
-use Rattle.law_steps.specs.Imports.{◌≡◌, Body, Cell, JobContext, JobResult, None, PairState, bytes_of, chain_in, coming, entry_at, false, held, is_all_held}
-use Rattle.law_steps.specs.Imports.{is_in, is_lead, is_under_way, readable, says, true, ℕ}
+use Rattle.law_steps.specs.Imports.{Body, Cell, JobContext, JobResult, PairState, bytes_of, chain_in, coming, entry_at, held, is_all_held, is_in, is_lead}
+use Rattle.law_steps.specs.Imports.{is_under_way, readable, says}
+use Rattle.std.specs.Prelude.{◌≡◌, None, false, true, ℕ}
 use Rattle.petal_msg.specs.declared.body.Body.TheVariants as body
 use Rattle.petal_msg.specs.declared.letter.Actor.TheVariants as actor
 

@@ -1,6 +1,7 @@
 -- What the second server of a cell may have done for a write, rule by rule, with what was so when it was done.
-use Rattle.law_steps.specs.Imports.{◌+◌, ◌<◌, ◌≡◌, ◌≤◌, Body, Cell, Far, JobContext, JobResult, Key, LastOp, List, PairState, Some, cell_of, first, follows}
-use Rattle.law_steps.specs.Imports.{free_of, is_second, last_on, says_to, tells, true, with_last, ℕ}
+use Rattle.law_steps.specs.Imports.{Body, Cell, Far, JobContext, JobResult, Key, LastOp, PairState, cell_of, first, follows, free_of, is_second, last_on}
+use Rattle.law_steps.specs.Imports.{says_to, tells, with_last}
+use Rattle.std.specs.Prelude.{◌+◌, ◌<◌, ◌≡◌, ◌≤◌, List, Some, true, ℕ}
 use Rattle.law_steps.specs.Operations.{progress}
 use Rattle.petal_msg.specs.declared.body.Body.TheVariants as body
 use Rattle.petal_msg.specs.declared.operation.Far.TheVariants as far

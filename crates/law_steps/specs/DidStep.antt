@@ -1,9 +1,10 @@
 -- What a step of the world may have done: a relation above the step, with what the laws need to know of it.
-use Rattle.law_steps.specs.Imports.{[], ◌++◌, ◌<◌, ◌∷◌, ◌≡◌, ◌⊎◌, Acted, Actor, After, Blank, Body, Bool, Boot, Caught, Command, Copied, Glanced, In, IsBelow}
-use Rattle.law_steps.specs.Imports.{IsPlainLog, IsPrefix, Job, JobContext, JobResult, Letter, LinkId, LinkRow, List, Log, Nothing, Option, PairState, Paired}
-use Rattle.law_steps.specs.Imports.{Post, Reaction, Sender, Server, Setting, Some, State, Step, Subject, Work, World, awake, before_blanks, blanked}
-use Rattle.law_steps.specs.Imports.{chosen_log, crossed, down_posts, false, here_of, is_in, is_logged, letters_of, next_copy, proposed, raised, reacts}
-use Rattle.law_steps.specs.Imports.{rev_of, sender, server_state, servers_of, settled_by, silent, state_after, stays, stopped, subject_of, true, wakes, ℕ}
+use Rattle.law_steps.specs.Imports.{Acted, Actor, After, Blank, Body, Boot, Caught, Command, Copied, Glanced, In, IsBelow, IsPlainLog, IsPrefix, Job}
+use Rattle.law_steps.specs.Imports.{JobContext, JobResult, Letter, LinkId, LinkRow, Log, Nothing, PairState, Paired, Post, Reaction, Sender, Server, Setting}
+use Rattle.law_steps.specs.Imports.{State, Step, Subject, Work, World, awake, before_blanks, blanked, chosen_log, crossed, down_posts, here_of, is_in}
+use Rattle.law_steps.specs.Imports.{is_logged, letters_of, next_copy, proposed, raised, reacts, rev_of, sender, server_state, servers_of, settled_by, silent}
+use Rattle.law_steps.specs.Imports.{state_after, stays, stopped, subject_of, wakes}
+use Rattle.std.specs.Prelude.{[], ◌++◌, ◌<◌, ◌∷◌, ◌≡◌, ◌⊎◌, Bool, List, Option, Some, false, true, ℕ}
 use Rattle.spec_rules.specs.World.{acts}
 use Rattle.law_steps.specs.DidHolder.{IsHeldWith}
 use Rattle.law_steps.specs.DidLead.{Asks}

@@ -1,6 +1,6 @@
 -- What a server may have dropped that it kept of cells which are no longer live, with what was so when it was done, by its own state.
-use Rattle.law_steps.specs.Imports.{[], ◌∷◌, ◌≡◌, Cell, Dead, JobContext, JobResult, PairState, Some, cell_of, false, is_in, live, next_dead, true}
-use Rattle.law_steps.specs.Imports.{without_dead}
+use Rattle.law_steps.specs.Imports.{Cell, Dead, JobContext, JobResult, PairState, cell_of, is_in, live, next_dead, without_dead}
+use Rattle.std.specs.Prelude.{[], ◌∷◌, ◌≡◌, Some, false, true}
 use Rattle.petal_msg.specs.declared.dead.Dead.TheVariants as dead
 use Rattle.spec_rules.specs.declared.job.Job.TheVariants as job
 

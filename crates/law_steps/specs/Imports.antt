@@ -1,13 +1,8 @@
 -- The names that this crate takes from others, in one place.
-pub use Rattle.law_state.specs.Imports.{[], if◌then◌else◌, ◌++◌, ◌+◌, ◌<◌, ◌∷◌, ◌≡◌, ◌≤◌, ◌⊎◌, Bool, Both, Caught, Cell, Command, DiskView, IsPrefix, LinkId}
-pub use Rattle.law_state.specs.Imports.{LinkRow, List, None, Option, PairState, Record, Server, Setting, Some, State, World, cell_asked, cell_link}
-pub use Rattle.law_state.specs.Imports.{chosen_log, chosen_state, false, find, held, is_in, is_lead, is_some, is_writes_held, leads_link, length}
-pub use Rattle.law_state.specs.Imports.{option_and_then, servers_of, slice_get, state_after, target, true, ℕ}
+pub use Rattle.law_state.specs.Imports.{Both, Caught, Cell, Command, DiskView, IsPrefix, LinkId, LinkRow, PairState, Record, Server, Setting, State, World}
+pub use Rattle.law_state.specs.Imports.{cell_asked, cell_link, chosen_log, chosen_state, find, held, is_in, is_lead, is_writes_held, leads_link, servers_of}
+pub use Rattle.law_state.specs.Imports.{state_after, target}
 unfoldable pub use Rattle.law_state.specs.Imports.{In, at}
-pub use Rattle.std.specs.Ordering.{nat_cmp}
-pub use Rattle.std.specs.Prelude.{◌-◌, filter, map}
-pub use Rattle.std.specs.declared.cmp.Ordering.{Ordering}
-pub use Rattle.std.specs.declared.cmp.Ordering.TheVariants.{Less}
 pub use Rattle.busy_marks.specs.Marks.{above}
 pub use Rattle.busy_marks.specs.declared.marks.MarkKind.{MarkKind}
 pub use Rattle.busy_marks.specs.declared.marks.MarkKind.TheVariants.{Busy, Stale}

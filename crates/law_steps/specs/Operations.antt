@@ -1,6 +1,6 @@
 -- How far an operation is, at its lead and at its second server.
-use Rattle.law_steps.specs.Imports.{◌+◌, ◌≡◌, ◌≤◌, Bool, Cell, Far, Finished, LastOp, None, Option, Pending, Some, Stage, State, cell_of, false, first_stage}
-use Rattle.law_steps.specs.Imports.{in_both, leads_link, live, stage_at, true, ℕ}
+use Rattle.law_steps.specs.Imports.{Cell, Far, Finished, LastOp, Pending, Stage, State, cell_of, first_stage, in_both, leads_link, live, stage_at}
+use Rattle.std.specs.Prelude.{◌+◌, ◌≡◌, ◌≤◌, Bool, None, Option, Some, false, true, ℕ}
 use Rattle.petal_msg.specs.declared.operation.Far.TheVariants as far
 use Rattle.petal_msg.specs.declared.operation.OpKind.TheVariants as kind
 

@@ -1,6 +1,9 @@
 -- What holds of queues and pending operations in every world: the ground on which each step is one of the kinds named.
-use Rattle.law_steps.specs.Imports.{[], ◌∷◌, ◌≡◌, Bool, Cell, Firm, In, IsBelow, IsPrefix, Less, List, Ordering, Pending, Record, Setting, Some, State, Table}
-use Rattle.law_steps.specs.Imports.{World, at, cell_cmp, chosen_log, chosen_state, has_proposed, is_in, server_state, stepped, true, ℕ}
+use Rattle.law_steps.specs.Imports.{Cell, Firm, In, IsBelow, IsPrefix, Pending, Record, Setting, State, Table, World, at, cell_cmp, chosen_log, chosen_state}
+use Rattle.law_steps.specs.Imports.{has_proposed, is_in, server_state, stepped}
+use Rattle.std.specs.Prelude.{[], ◌∷◌, ◌≡◌, Bool, List, Some, true, ℕ}
+use Rattle.std.specs.declared.cmp.Ordering.TheVariants.{Less}
+use Rattle.std.specs.declared.cmp.Ordering.{Ordering}
 use Rattle.law_steps.specs.Operations.{IsStaged}
 use Rattle.law_steps.specs.RestingCopies.{AreResting}
 use Rattle.law_steps.specs.DidStep.{AreQueued}

@@ -1,6 +1,7 @@
 -- What a server remembers of copies, by the links as they are in its own state.
-use Rattle.law_steps.specs.Imports.{◌≡◌, ◌⊎◌, Cell, Copying, LastCopy, LinkRow, PairState, Some, State, cell_link, copying_on, false, holder_of, last_copy}
-use Rattle.law_steps.specs.Imports.{live, other_in, progress_on, stage_at, true, ℕ}
+use Rattle.law_steps.specs.Imports.{Cell, Copying, LastCopy, LinkRow, PairState, State, cell_link, copying_on, holder_of, last_copy, live, other_in}
+use Rattle.law_steps.specs.Imports.{progress_on, stage_at}
+use Rattle.std.specs.Prelude.{◌≡◌, ◌⊎◌, Some, false, true, ℕ}
 
 -- the cell is live, and of a link that the server holds alone, whose other server is In
 pub record MayCopy (state : State) (me : ℕ) (cell : Cell) : Type 0 where

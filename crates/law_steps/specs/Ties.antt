@@ -1,6 +1,6 @@
 -- What has become of a link from a server's own entries on, or later ones, while the server runs and is In as itself.
-use Rattle.law_steps.specs.Imports.{◌≡◌, ◌⊎◌, Both, Cell, Command, LinkRow, List, Setting, StaysSo, World, has_proposed, is_alone_on, server_state}
-use Rattle.law_steps.specs.Imports.{state_after, true, ℕ}
+use Rattle.law_steps.specs.Imports.{Both, Cell, Command, LinkRow, Setting, StaysSo, World, has_proposed, is_alone_on, server_state, state_after}
+use Rattle.std.specs.Prelude.{◌≡◌, ◌⊎◌, List, true, ℕ}
 
 -- of one that was in Both: nothing has touched it, or the server holds it alone
 abbrev pub StaysInBoth : Setting → (n : ℕ) → (front more : List Command) → Cell → LinkRow → Type 0

@@ -1,5 +1,6 @@
 -- What is so of a server that boots.
-use Rattle.law_steps.specs.Imports.{◌+◌, ◌≡◌, IsPrefix, Setting, World, chosen_log, false, is_in, known_front, raised, state_after, ℕ}
+use Rattle.law_steps.specs.Imports.{IsPrefix, Setting, World, chosen_log, is_in, known_front, raised, state_after}
+use Rattle.std.specs.Prelude.{◌+◌, ◌≡◌, false, ℕ}
 
 -- a server that boots in this world goes on from the entries that it had applied, by which it is not yet In as its next incarnation
 pub record MayWake (setting : Setting) (w : World) (n : ℕ) : Type 0 where

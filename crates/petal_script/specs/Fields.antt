@@ -4,7 +4,7 @@ use Rattle.std.specs.List.{position}
 use Rattle.petal_base.specs.Name.{name_of}
 use Rattle.petal_base.specs.Tuple.{tuple_of}
 use Rattle.petal_script.specs.Number.{number_of}
-use Rattle.petal_script.specs.Words.{Word, or_else, is_word}
+use Rattle.petal_script.specs.Words.{Word, ◌>>=◌, or_else, is_word}
 use Rattle.petal_script.specs.declared.cause.Cause.{Cause}
 use Rattle.petal_script.specs.declared.cause.Cause.TheVariants.{BadLine, BadName, BadNumber, BadTuple}
 use Rattle.device_faults.specs.declared.which.Which.{Which}

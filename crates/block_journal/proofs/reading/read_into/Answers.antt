@@ -10,7 +10,7 @@ loop-first-preserved g c =
     let d = g.D.Disk in
     let more : c.in_ok-read_piece.field-0 ≡ true = search rules in
     let laws = g.met.D.Disk g.world.𝓛 g.world.𝓜 g.world.𝓡 ((λ s x. x), (λ x. x), (λ x. x), λ x. x) in
-    let next = λ (told : d.told).
+    let next = λ (told : d.observable).
     piece_more _ _ _ _ _ _ _ _ _ c.requires.wide inv.device.same_seen (inv.all told) (inv.counts told) (c.in_ok-read_piece.ensures.took told) in
     record {
       within = search rules;

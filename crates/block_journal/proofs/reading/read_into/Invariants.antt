@@ -9,8 +9,8 @@ invariant-loop-first g l =
     record {
       within : l.first ≤ l.limit;
       count : vec_len l.all ≤ l.first;
-      counts : d.told → Counts g.row.R l.base l.first (d.seen l.fn.disk) (contents l.all.items);
-      all : d.told → length (contents l.all.items) ≡ l.first;
+      counts : d.observable → Counts g.row.R l.base l.first (d.seen l.fn.disk) (contents l.all.items);
+      all : d.observable → length (contents l.all.items) ≡ l.first;
       device : KeepsDevice d.size d.seen d.may_leave d.moment d.left_since l.fn.disk l.disk;
       later : d.faults l.fn.disk ≤ d.faults l.disk;
       run : d.came_to l.fn.disk l.disk;
