@@ -115,7 +115,7 @@ impl MemServer {
     /// and a state device of its own.
     ///
     /// # Errors
-    /// Out of memory.
+    /// Out of memory; `Unexpected` where a device fails.
     pub fn start(
         alloc: Global,
         me: ServerId,
