@@ -8,7 +8,7 @@ ghost use Rattle.pair_memory.specs.PairMemory.{own_of, HasTicketsAt};
 ghost use Rattle.pair_memory.specs.JobResult.{IsDone, IsSaid};
 
 use crate::page::page_wanted;
-use copy_transfer::{begin, cell_at, followed, idle_mark, next_copy, other_in};
+use copy_transfer::{begin_copy, cell_at, followed, idle_mark, next_copy, other_in};
 use global_state::{LinkRow, LinkState};
 use kept_chains::{mark_left, unmark};
 use pair_memory::{
@@ -36,7 +36,7 @@ fn go_for<D: Disk>(
 {
     match next {
         NextCopy::Ask => say_to(here, side, store, Some(other), page_wanted(side, row)),
-        NextCopy::Block(cell) => begin(here, side, store, cell),
+        NextCopy::Block(cell) => begin_copy(here, side, store, cell),
         NextCopy::Wait | NextCopy::Nothing => silent(here, side, store),
     }
 }

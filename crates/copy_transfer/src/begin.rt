@@ -21,7 +21,7 @@ fn next_number(op: Op) -> Result<Op, NoMemory>
 }
 
 /// A copy begins under the next number of this life: the other server is to drop its other entries.
-pub fn begin<D: Disk>(
+pub fn begin_copy<D: Disk>(
     here: &JobContext,
     side: &mut PairMemory,
     store: &Store<D>,

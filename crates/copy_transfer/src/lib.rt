@@ -11,7 +11,7 @@ mod follow;
 mod holder;
 mod sync;
 
-pub use begin::begin;
+pub use begin::begin_copy;
 pub use copy::{copy_stage, sync_body, trim_body};
 pub use follow::{on_trim, trim_on};
 pub use holder::{copy_on, on_sync_full, on_synced, on_trimmed};

@@ -1,4 +1,4 @@
-pub mod JobResult
+pub mod Done
 pub mod Part
 pub mod Said
 pub mod Entered

@@ -1,7 +1,7 @@
 use Rattle.std.proofs.Common.{not, rules}
 use Rattle.std.proofs.lemmas.Map.Made.{filter_same_pairs}
 use Rattle.pair_memory.specs.Ended.{cell_ends}
-use Rattle.pair_memory.proofs.end.drop_cells.Goals as goal
+use Rattle.pair_memory.proofs.ends.drop_cells.Goals as goal
 
 pub returns-clause-rows : goal.returns-clause-rows
 returns-clause-rows g c =

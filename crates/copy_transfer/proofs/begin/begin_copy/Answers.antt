@@ -1,7 +1,7 @@
 use Rattle.std.proofs.Common.{◌∙◌}
 use Rattle.spec_rules.specs.Server.{letters_of, post_to, sender}
 use Rattle.copy_transfer.proofs.Stages.{begun_is}
-use Rattle.copy_transfer.proofs.begin.begin.Goals as goal
+use Rattle.copy_transfer.proofs.begin.begin_copy.Goals as goal
 
 pub returns : goal.returns
 returns g c =
