@@ -121,7 +121,7 @@ fn repair_row<D: Disk>(
 ///
 /// # Errors
 /// As of [`copies_on`](crate::copies_on).
-#[tactic(auto, unfolding(spec_rules::specs::Copies::repair))]
+#[tactic(auto, unfolding(spec_rules::specs::Copies::repairs))]
 pub fn repair<D: Disk>(
     here: &JobContext,
     side: &mut PairMemory,

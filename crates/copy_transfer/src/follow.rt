@@ -99,7 +99,7 @@ fn trim<D: Disk>(
 /// # Errors
 /// `NoMemory`, and then nothing changed; `Failed` where the device failed, and `JournalFull` only where the store's journal had
 /// all its records: the entries are as they were, and the server is to be stopped.
-#[tactic(auto, unfolding(spec_rules::specs::Copies::trim_on))]
+#[tactic(auto, unfolding(spec_rules::specs::Copies::trims_on))]
 pub fn trim_on<D: Disk>(
     here: &JobContext,
     side: &PairMemory,

@@ -19,7 +19,7 @@ use server_store::Store;
 /// # Errors
 /// `NoMemory`, and then nothing changed; `Failed` where the device failed, and `JournalFull` only where the store's journal had
 /// all its records: the entries are as they were, and the server is to be stopped.
-#[tactic(auto, unfolding(spec_rules::specs::Copies::copy_on))]
+#[tactic(auto, unfolding(spec_rules::specs::Copies::copies_on))]
 pub fn copy_on<D: Disk>(
     here: &JobContext,
     side: &mut PairMemory,
@@ -40,7 +40,7 @@ pub fn copy_on<D: Disk>(
 ///
 /// # Errors
 /// As of [`copy_on`].
-#[tactic(auto, unfolding(spec_rules::specs::Copies::on_trimmed, spec_rules::specs::Copies::copy_on))]
+#[tactic(auto, unfolding(spec_rules::specs::Copies::on_trimmed, spec_rules::specs::Copies::copies_on))]
 pub fn on_trimmed<D: Disk>(
     here: &JobContext,
     side: &mut PairMemory,
@@ -91,7 +91,7 @@ fn synced(copy: Copying) -> Result<Copying, NoMemory>
 ///
 /// # Errors
 /// As of [`copy_on`].
-#[tactic(auto, unfolding(spec_rules::specs::Copies::on_synced, spec_rules::specs::Copies::copy_on))]
+#[tactic(auto, unfolding(spec_rules::specs::Copies::on_synced, spec_rules::specs::Copies::copies_on))]
 pub fn on_synced<D: Disk>(
     here: &JobContext,
     side: &mut PairMemory,

@@ -1,7 +1,7 @@
 -- Each answer has its cause: by induction on the history, in view of the log at its end.
 use Rattle.law_answers.proofs.Imports.{[], if◌then◌else◌, ◌++◌, ◌+◌, ◌<◌, ◌==◌, ◌∙◌, ◌∷◌, ◌≡◌, ◌≤◌, Answer, AreCaused, AreRising, Asked, Begins, Blanks}
 use Rattle.law_answers.proofs.Imports.{Blanks_it, Body, Bool, By_verdict, By_witness, CauseOf, Client, Command, Ending, Ends, Fails_it, Goes_on, Happens}
-use Rattle.law_answers.proofs.Imports.{HasVerdict, HasWitness, Has_no_space, Heard, In, IsJudged, IsPlainLog, IsPrefix, IsReason, IsSame, IsSeenAs}
+use Rattle.law_answers.proofs.Imports.{HasProperTuples, HasVerdict, HasWitness, Has_no_space, Heard, In, IsJudged, IsPrefix, IsReason, IsSame, IsSeenAs}
 use Rattle.law_answers.proofs.Imports.{Is_settled, Is_told, Judges, Latest, Letter, Line, List, None, Option, Reaction, Reads, Request, Run, Serves, Setting}
 use Rattle.law_answers.proofs.Imports.{Shown, Sight, Some, Starts_it, State, StaysOpen, Stops_at, Stops_it, Turned, Turns, WasTold, Witness, World, after}
 use Rattle.law_answers.proofs.Imports.{all_put, answer_of, ap, append_assoc, arith, below_itself, between, both_true, by_run, by_test, chosen_log}
@@ -62,7 +62,7 @@ pub record IsOpenFor (lines : List Line) (c : ℕ) (asked : Asked) : Type 0 wher
   pub seq_is : asked.seq ≡ before + 1
   pub request_is : asked.request ≡ line.request
 
-module _ (setting : Setting) (last : World) (plain : IsPlainLog setting.servers (chosen_log setting last))
+module _ (setting : Setting) (last : World) (plain : HasProperTuples setting.servers (chosen_log setting last))
     (commands : AreAsked setting.lines (chosen_log setting last)) where
   -- the answer of the line of this number has its cause
   pub record HasCause (number : ℕ) (given : Answer) : Type 0 where
@@ -375,7 +375,7 @@ module _ (setting : Setting) (last : World) (plain : IsPlainLog setting.servers 
 
 -- in view of a world at which what the run has chosen stands at the front, and what it sent is sent
 abbrev KeptFor : Run → Type 0
-KeptFor run = (last : World) (plain : IsPlainLog run.script.servers (chosen_log (setting_in run) last))
+KeptFor run = (last : World) (plain : HasProperTuples run.script.servers (chosen_log (setting_in run) last))
     (commands : AreAsked run.script.lines (chosen_log (setting_in run) last))
     → IsPrefix (chosen_log (setting_in run) (after run)) (chosen_log (setting_in run) last)
     → ((letter : Letter) → In letter (after run).sent → In letter last.sent) → Kept (setting_in run) last plain commands (after run)
@@ -413,7 +413,7 @@ module _ (run : Run) where
   abbrev last : World
   last = after run
 
-  plain_end : IsPlainLog script.servers (chosen_log setting last)
+  plain_end : HasProperTuples script.servers (chosen_log setting last)
   plain_end = (firm_in run).plain
 
   commands : AreAsked script.lines (chosen_log setting last)
@@ -475,7 +475,7 @@ module _ (run : Run) where
       cause_never c seq asked None h =
           let whole = chosen_log setting last in
           let front = take (h.place + 1) whole in
-          let proper : IsPlainLog script.servers front = plain_front script.servers whole (h.place + 1) plain_end in
+          let proper : HasProperTuples script.servers front = plain_front script.servers whole (h.place + 1) plain_end in
           let table = log_plain script.servers front proper in
           let many = table.many in
           let upto = log_below script.servers [] front proper (record { later = front; is = refl }) in

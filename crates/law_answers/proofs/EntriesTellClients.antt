@@ -1,10 +1,10 @@
 -- What one entry makes of what clients were told of their last commands: its command tells one client, where it is new, and each fence that
 -- passes tells the client that waits for it.
-use Rattle.law_answers.proofs.Imports.{if◌then◌else◌, ◌<◌, ◌==◌, ◌∙◌, ◌≡◌, ◌≢◌, ◌≤◌, ◌⊎◌, Answer, Bool, Caught, Command, Drained, Fence, FenceKind, IsPlain}
-use Rattle.law_answers.proofs.Imports.{Join, Latest, Leave, List, MakeDisk, Moved, None, Option, Region, Snap, Some, StartMove, Verdict, Whole, Witness, act}
-use Rattle.law_answers.proofs.Imports.{act_caught, act_drained, act_snap, act_start, ap, arith, by_test, cases_lt, completes, confirmed, effect, false}
-use Rattle.law_answers.proofs.Imports.{frozen, get_set_beside, get_set_here, inl, inr, is_new, is_some, is_up_as, latest, length, length-set, links_of}
-use Rattle.law_answers.proofs.Imports.{may_join, move_of, moved_by, mover_in, named, nat_lt, nat_tests, none_of, none_some, not, not_true, note}
+use Rattle.law_answers.proofs.Imports.{if◌then◌else◌, ◌<◌, ◌==◌, ◌∙◌, ◌≡◌, ◌≢◌, ◌≤◌, ◌⊎◌, Answer, Bool, Caught, Command, Drained, Fence, FenceKind}
+use Rattle.law_answers.proofs.Imports.{HasProperTuple, Join, Latest, Leave, List, MakeDisk, Moved, None, Option, Region, Snap, Some, StartMove, Verdict}
+use Rattle.law_answers.proofs.Imports.{Whole, Witness, act, act_caught, act_drained, act_snap, act_start, ap, arith, by_test, cases_lt, completes, confirmed}
+use Rattle.law_answers.proofs.Imports.{effect, false, frozen, get_set_beside, get_set_here, inl, inr, is_new, is_some, is_up_as, latest, length, length-set}
+use Rattle.law_answers.proofs.Imports.{links_of, may_join, move_of, moved_by, mover_in, named, nat_lt, nat_tests, none_of, none_some, not, not_true, note}
 use Rattle.law_answers.proofs.Imports.{number_itself, one_passed, passed, refl, same_numbers, same_or_apart, same_some, settled, settled_keeps, slice_get}
 use Rattle.law_answers.proofs.Imports.{slice_get_past, subst, suc, sym, told, true, true_false, unwrap_or, verdict_answer, verdict_for, with_disk, with_fence}
 use Rattle.law_answers.proofs.Imports.{with_move, ℕ}
@@ -191,7 +191,7 @@ moved_verdicts s of region link = by (mover_in s of region)
 -- what no telling changes of what clients were told, where it tells of no earlier command than the last
 module _ (P : List (Option Latest) → Type 0)
     (tells : (s : State) (d q : ℕ) (v : Verdict) → IsOnward s d q → P s.verdicts → P (told s d q v).verdicts) where
-  kept_act : (servers : ℕ) (e : Command) (s : State) → IsPlain servers e → P s.verdicts → P (act e s).verdicts
+  kept_act : (servers : ℕ) (e : Command) (s : State) → HasProperTuple servers e → P s.verdicts → P (act e s).verdicts
   kept_act servers (MakeDisk client seq name tuple) s plain h =
       act_make (λ (t : State). P t.verdicts) s client seq name tuple (λ old. h)
       (λ new there. tells s client seq verdict.Exists (onward_new seq (latest s client) new) h)
@@ -225,15 +225,15 @@ module _ (P : List (Option Latest) → Type 0)
   kept_settled : (s : State) → P s.verdicts → P (settled s).verdicts
   kept_settled s h = settled_keeps (λ (t : State). P t.verdicts) (λ t fence is now. kept_passed t fence.kind now) s h
 
-  pub kept_after : (servers : ℕ) (e : Command) (s : State) → IsPlain servers e → P s.verdicts → P (after s e).verdicts
+  pub kept_after : (servers : ℕ) (e : Command) (s : State) → HasProperTuple servers e → P s.verdicts → P (after s e).verdicts
   kept_after servers e s plain h = kept_settled (act e s) (kept_act servers e s plain h)
 
 -- as many clients are told
-pub many_after : (servers : ℕ) (e : Command) (s : State) → IsPlain servers e → length (after s e).verdicts ≡ length s.verdicts
+pub many_after : (servers : ℕ) (e : Command) (s : State) → HasProperTuple servers e → length (after s e).verdicts ≡ length s.verdicts
 many_after servers e s plain =
     kept_after (λ verdicts. length verdicts ≡ length s.verdicts) (λ t d q v onward h. many_told t d q v ∙ h) servers e s plain refl
 
-pub old_after : (servers : ℕ) (e : Command) (s : State) (c seq : ℕ) → IsPlain servers e → is_new seq (latest s c) ≡ false
+pub old_after : (servers : ℕ) (e : Command) (s : State) (c seq : ℕ) → HasProperTuple servers e → is_new seq (latest s c) ≡ false
     → is_new seq (latest (after s e) c) ≡ false
 old_after servers e s c seq plain old =
     kept_after (λ verdicts. is_new seq (unwrap_or (slice_get verdicts c) None) ≡ false) (λ t d q v onward h. told_old t d c q seq v onward h)

@@ -14,10 +14,10 @@ pub use Rattle.law_state.proofs.Imports.{row_moving, same_numbers, same_or_apart
 pub use Rattle.law_state.proofs.Imports.{slice_get_within, some_or_none, subst, suc, sym, told, true, true_false, unwrap_or, view-effect, with_disk}
 pub use Rattle.law_state.proofs.Imports.{with_fence, with_move, zero, ℕ}
 pub use Rattle.law_log.proofs.Imports.{Acted, Actor, After, Answer, AreSteps, AreStepsFrom, Arm, Asked, Before, Blank, Body, Boot, Call, Client, CommitEnd}
-pub use Rattle.law_log.proofs.Imports.{Copies, Deliver, Ending, Firm, Glance, IsPlain, IsPlainLog, IsPlainState, IsSound, Job, JobContext, JobResult, Key}
-pub use Rattle.law_log.proofs.Imports.{Learning, Letter, Line, Log, LogDone, MayActor, MayClient, MayServer, Moving, Pending, Post, Reaction, Request, Script}
-pub use Rattle.law_log.proofs.Imports.{Sight, Step, Stop, StopIn, Tick, Work, WorkEnd, about, acts, all_put, all_put_apart, answered_where, answers}
-pub use Rattle.law_log.proofs.Imports.{asks_and_sends, at_other_rev, awake, blanked, boots, calls, cell_of, chain_in, client_sender, client_state}
+pub use Rattle.law_log.proofs.Imports.{Copies, Deliver, Ending, Firm, Glance, HasProperTuple, HasProperTuples, IsSettledState, IsSound, Job, JobContext}
+pub use Rattle.law_log.proofs.Imports.{JobResult, Key, Learning, Letter, Line, Log, LogDone, MayActor, MayClient, MayServer, Moving, Pending, Post, Reaction}
+pub use Rattle.law_log.proofs.Imports.{Request, Script, Sight, Step, Stop, StopIn, Tick, Work, WorkEnd, about, acts, all_put, all_put_apart, answered_where}
+pub use Rattle.law_log.proofs.Imports.{answers, asks_and_sends, at_other_rev, awake, blanked, boots, calls, cell_of, chain_in, client_sender, client_state}
 pub use Rattle.law_log.proofs.Imports.{client_step, command_of, down_posts, ended, entered, epoch_for, faults, flat_map, free_of, glance_sender, glances}
 pub use Rattle.law_log.proofs.Imports.{goes_out, goes_out_where, goes_the_old_way, hears, hears_any, hears_of, here_of, holds_link, is_eq, is_from_in}
 pub use Rattle.law_log.proofs.Imports.{is_log_job, is_logged, is_overfull, is_read, is_second, is_settled, is_witness, is_write, job_done, judged, judged_by}
@@ -41,20 +41,20 @@ pub use Rattle.law_jobs.proofs.Imports.{◌-◌, A_slot, An_entry_to_move, Asks,
 pub use Rattle.law_jobs.proofs.Imports.{always_firm, at_apart, at_same, dead_second, front_legal, last_moment, moment_more, own_place, was_same, with_answer}
 pub use Rattle.law_jobs.proofs.Imports.{world_more}
 pub use Rattle.law_copies.specs.Imports.{IsRising, no_pairs}
-pub use Rattle.law_copies.proofs.Imports.{Answered, Asks_slot, At, Blanks, By_ballot, By_entry, By_job, Effect, Ends_fill, Fails, Goes, IsLinked, IsSeated}
-pub use Rattle.law_copies.proofs.Imports.{May, Moves, Moves_on, OneMore, Read_asked, Run, Serves, Serving, Stays, Turns, Wakes, Worked, Write_asked, applied}
+pub use Rattle.law_copies.proofs.Imports.{Asks_slot, At, Blanks, By_ballot, By_entry, By_job, Effect, Ends_fill, Fails, Goes, IsLinked, IsSeatedOrMute, May}
+pub use Rattle.law_copies.proofs.Imports.{Moves, Moves_on, OneMore, Read_asked, Run, Serves, Serving, Stays, Turns, Wakes, Worked, Write_asked, applied}
 pub use Rattle.law_copies.proofs.Imports.{at_row, before_part, below_itself, both_row, by_run, cases_lt, did_count, firm_in, first_state, front_itself}
-pub use Rattle.law_copies.proofs.Imports.{front_long, front_on, grown_in, happened_in, in_get, job_keeps, letters_of_job, longer, more_of, one_front}
-pub use Rattle.law_copies.proofs.Imports.{one_post, own_steady, primary_is_one, put_rises, run_of, said, served_so, setting_in, shown_so, since, stopped_so}
+pub use Rattle.law_copies.proofs.Imports.{front_long, front_on, grown_in, happened_in, in_get, in_map, job_keeps, letters_of_job, longer, more_of, none_of}
+pub use Rattle.law_copies.proofs.Imports.{one_front, own_steady, primary_is_one, put_rises, run_of, said, served_so, setting_in, shown_so, since, stopped_so}
 pub use Rattle.law_copies.proofs.Imports.{turned_asks, without_rev}
 pub use Rattle.law_requests.specs.Imports.{line_by}
-pub use Rattle.law_requests.proofs.Imports.{A_read, A_write, Anew, As_it_was, Begins, Blanks_it, By_operation, By_verdict, By_witness, Fails_it, For_a_fill}
-pub use Rattle.law_requests.proofs.Imports.{For_a_write, Goes_on, Had_no_slot, HasCome, HasEnded, Has_no_space, Heard, IsFinishedFor, IsJudged, IsReason}
-pub use Rattle.law_requests.proofs.Imports.{IsSame, IsSeenAs, Is_declined, Is_new, Is_settled, Is_told, Judges, Of_the_log, Reads, Repeats, Says, Shown}
-pub use Rattle.law_requests.proofs.Imports.{Starts_it, StaysOpen, Stood, Stops_at, Stops_it, Turned, WasSent, after, both_leads, did_come, did_finish}
+pub use Rattle.law_requests.proofs.Imports.{A_read, A_write, Anew, Answered, As_it_was, Begins, Blanks_it, By_operation, By_verdict, By_witness, Fails_it}
+pub use Rattle.law_requests.proofs.Imports.{For_a_fill, For_a_write, Goes_on, Had_no_slot, HasCome, HasEnded, Has_no_space, Heard, IsFinishedFor, IsJudged}
+pub use Rattle.law_requests.proofs.Imports.{IsReason, IsSame, IsSeenAs, Is_declined, Is_new, Is_settled, Is_told, Judges, Of_the_log, Reads, Repeats, Says}
+pub use Rattle.law_requests.proofs.Imports.{Shown, Starts_it, StaysOpen, Stood, Stops_at, Stops_it, Turned, WasSent, after, both_leads, did_come, did_finish}
 pub use Rattle.law_requests.proofs.Imports.{is_refused, lead_is, names, proposed_pairs, rests_in, runs_now, write_refusal}
 pub use Rattle.law_moves.specs.Imports.{IsServing}
-pub use Rattle.law_moves.proofs.Imports.{stage_facts, to_server}
+pub use Rattle.law_moves.proofs.Imports.{or_true, stage_facts, to_server}
 pub use Rattle.law_answers.specs.Imports.{Event, Look, Read, accepted, asked_by, look_for, old_data, operator, reads_old}
 pub use Rattle.std.proofs.Common.{take}
 pub use Rattle.std.proofs.Math.Seq.{take-append_seam}
@@ -62,6 +62,7 @@ pub use Rattle.std.proofs.lemmas.Grind.{flat_map-append}
 pub use Rattle.std.proofs.lemmas.List.{length-map}
 pub use Rattle.std.specs.List.{fold}
 pub use Rattle.global_tables.specs.View.{queued as with_queued}
+pub use Rattle.law_copies.proofs.ChainsRise.{all_left}
 pub use Rattle.law_copies.specs.Pair.{owns_of}
 pub use Rattle.law_jobs.proofs.LettersWereSent.{answers_in, sent_since, stays_sent, still_sent, was_sent}
 pub use Rattle.law_jobs.proofs.OperationsCome.{finished_of}
@@ -82,13 +83,14 @@ pub use Rattle.law_requests.proofs.ServerStepsKeepRequests.{SaysOk, Scene}
 pub use Rattle.law_requests.specs.AskedRequests.{IsAsked}
 pub use Rattle.law_requests.specs.KnownRequests.{Lives}
 pub use Rattle.law_run.proofs.ContentsAsked.{reader_serves, reads_old_is}
-pub use Rattle.law_run.proofs.DataLetters.{quiet_data}
+pub use Rattle.law_run.proofs.DataLetters.{mute_data}
 pub use Rattle.law_run.proofs.GroundGives.{never_dead}
 pub use Rattle.law_run.proofs.GroundInHistories.{footing_after}
-pub use Rattle.law_run.proofs.LetterNames.{one_actor}
-pub use Rattle.law_run.proofs.ListMembers.{none_pass, of_map}
-pub use Rattle.law_run.proofs.ReadsLookWhereSent.{is_looked}
+pub use Rattle.law_run.proofs.Machine.{or_former}
+pub use Rattle.law_run.proofs.OldReads.{same_data, same_seq}
+pub use Rattle.law_run.proofs.ReadsLookWhereSent.{is_looked, one_client, some_first}
 pub use Rattle.law_run.proofs.RunScenes.{Grounded}
+pub use Rattle.law_run.proofs.SearchesFindData.{HasData, in_data, some_data}
 pub use Rattle.law_run.specs.MachineTies.{Ground, Named}
 pub use Rattle.law_state.proofs.Caughts.{act_caught}
 pub use Rattle.law_state.proofs.CellsByLinkRows.{both_first, both_reader}
@@ -102,14 +104,14 @@ pub use Rattle.law_state.proofs.LoneHolders.{lead_first, second_both}
 pub use Rattle.law_state.proofs.Moments.{first_moment, moment_later}
 pub use Rattle.law_state.proofs.MovesOfDisks.{IsNoting, act_moved, act_note, act_start}
 pub use Rattle.law_state.proofs.NamedCells.{asked_takes}
-pub use Rattle.law_state.proofs.Owners.{disk_at_is}
-pub use Rattle.law_state.proofs.SnapsQueueFences.{act_drained, act_snap, none_of}
+pub use Rattle.law_state.proofs.Owners.{disk_at_is, either_of}
+pub use Rattle.law_state.proofs.SnapsQueueFences.{act_drained, act_snap}
 pub use Rattle.law_state.specs.LinkRows.{IsBetween}
 pub use Rattle.law_state.specs.Tables.{IsFence, IsForRegion, IsForSnapshot, IsGrown, IsLaterDisk, Of_disk, Of_region}
 pub use Rattle.law_steps.proofs.ClientLetters.{is_ask}
 pub use Rattle.law_steps.proofs.ClientStepKinds.{Turning, client_turns, is_call}
 pub use Rattle.law_steps.proofs.KindsInHistories.{firm_after}
-pub use Rattle.law_steps.proofs.Letters.{Said, said as said_in}
+pub use Rattle.law_steps.proofs.Letters.{Said, one_post, said as said_in}
 pub use Rattle.law_steps.proofs.LogJobs.{LogFrame, applied_entry, applied_none, ask_logged, ballot_logged, letter_frame_of, start_frame_of}
 pub use Rattle.law_steps.proofs.ServerStepKinds.{server_serves}
 pub use Rattle.law_steps.specs.DidClient.{Ends, answer_of}

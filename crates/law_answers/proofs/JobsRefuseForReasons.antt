@@ -1,15 +1,15 @@
 -- Each kind of job refuses for a reason.
 use Rattle.law_answers.proofs.Imports.{◌<◌, ◌∙◌, ◌≡◌, ◌≤◌, ◌⊎◌, A_slot, An_entry_to_move, Asks, Asks_slot, Body, By_operation, Cell, Did, Ending, Ends_fill}
 use Rattle.law_answers.proofs.Imports.{Finished, For_a_fill, For_a_write, FoundNoSlot, Had_no_slot, Handled, HasCome, Has_no_slot, In, IsFinishedFor}
-use Rattle.law_answers.proofs.Imports.{IsSeated, IsSteady, Is_declined, Is_new, JobContext, JobResult, List, Moves, Moves_on, None, PairState, Pending, Post}
-use Rattle.law_answers.proofs.Imports.{Refused, Repeats, Some, Stood, Table, Was, Work, World, ap, arith, at, both_first, both_leads, both_row, by_bool}
+use Rattle.law_answers.proofs.Imports.{IsSeatedOrMute, IsSteady, Is_declined, Is_new, JobContext, JobResult, List, Moves, Moves_on, None, PairState, Pending}
+use Rattle.law_answers.proofs.Imports.{Post, Refused, Repeats, Some, Stood, Table, Was, Work, World, ap, arith, at, both_first, both_leads, both_row, by_bool}
 use Rattle.law_answers.proofs.Imports.{cell_cmp, chosen_log, dead_second, did_come, did_count, did_finish, ended, false, finished_of, first, in_both, in_once}
 use Rattle.law_answers.proofs.Imports.{inl, inr, is_clients, is_in, is_logged, is_second, is_the_one, lead_first, leads_link, letters_of_job, live, moved_as}
-use Rattle.law_answers.proofs.Imports.{none_some, one_front, own_place, own_steady, pending_on, put, refl, same_some, second, second_both, state_after}
-use Rattle.law_answers.proofs.Imports.{subject_of, subst, sym, to_client, to_server, true, true_false, was_same, ℕ}
+use Rattle.law_answers.proofs.Imports.{none_some, one_client, one_front, own_place, own_steady, pending_on, put, refl, same_some, second, second_both}
+use Rattle.law_answers.proofs.Imports.{state_after, subject_of, subst, sym, to_client, to_server, true, true_false, was_same, ℕ}
 use Rattle.law_answers.specs.Refusals.{HadNoSlot, At_the_lead, At_the_second, Refusals}
-use Rattle.law_answers.proofs.SlotLetters.{is_slot, is_of_slots, not_full, logged_not_full, one_client, AsksFor, TellsNone, JobRefuses, Scene, still}
-use Rattle.law_answers.proofs.SlotLetters.{moved_not_full}
+use Rattle.law_answers.proofs.SlotLetters.{is_slot, is_of_slots, not_full, logged_not_full, AsksFor, TellsNone, JobRefuses, Scene, still, moved_not_full}
+use Rattle.law_answers.proofs.SlotLetters.{one_server}
 use Rattle.law_steps.specs.DidLead.{Of_the_log}
 use Rattle.law_jobs.specs.Sayings.{Says}
 use Rattle.petal_msg.specs.declared.body.Body.TheVariants as body
@@ -51,9 +51,6 @@ module _ (R S : ℕ → ℕ → Type 0) (scene : Scene R S) where
 
   abbrev hears : Body → Type 0
   hears = Handled w n
-
-  one_server : {i j : ℕ} → actor.Server i ≡ actor.Server j → i ≡ j
-  one_server e = cc
 
   -- an operation that the second server has no slot for: its letter has the server's revision, so it is of this incarnation
   declined_op : (op : Pending) → hears (body.PairFull op.op op.cell) → at cell_cmp own.pairs.pending op.cell ≡ Some op → is_clients op.kind ≡ true
@@ -123,7 +120,7 @@ module _ (R S : ℕ → ℕ → Type 0) (scene : Scene R S) where
   }
 
   -- an operation that is new is one of a server that is In as itself
-  new_seat : (done : JobResult) → IsSeated here own done → (cell : Cell) (op : Pending) → pending_on own cell ≡ None
+  new_seat : (done : JobResult) → IsSeatedOrMute here own done → (cell : Cell) (op : Pending) → pending_on own cell ≡ None
       → at cell_cmp done.own.pairs.pending cell ≡ Some op → is_in here.state n here.inc ≡ true
   new_seat done (inl seat) cell op none there = seat
   new_seat done (inr apart) cell op none there = none_some none (sym (ap (λ (o : PairState). at cell_cmp o.pairs.pending cell) apart.same) ∙ there)
@@ -213,7 +210,7 @@ module _ (R S : ℕ → ℕ → Type 0) (scene : Scene R S) where
     pending_refuses new cell op (Is_new _ (For_a_write want fresh) e same le) = let number = same.number in inr (omega arith, omega arith)
     pending_refuses new cell op (Is_new _ (For_a_fill moving fresh) e same le) = let number = same.number in inr (omega arith, omega arith)
 
-    pub job_refuses : (done : JobResult) → Did hears here own done → IsSeated here own done → J done.own done.posts
+    pub job_refuses : (done : JobResult) → Did hears here own done → IsSeatedOrMute here own done → J done.own done.posts
     job_refuses done d seat = record {
       finished = λ c last is how.
           elim (finished_of hears here own done.own.pairs.finished done.own.pairs.pending (did_finish hears here own done d) c last is) [

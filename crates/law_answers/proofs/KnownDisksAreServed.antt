@@ -1,11 +1,11 @@
 -- In a state in which every server is In as its first incarnation, each read and write of a known disk has a server: none is refused
 -- for want of one.
 use Rattle.law_answers.proofs.Imports.{if◌then◌else◌, ◌&&◌, ◌+◌, ◌<◌, ◌==◌, ◌||◌, ◌∙◌, ◌∷◌, ◌≡◌, ◌≢◌, ◌≤◌, Bool, Both, ByBoth, ByNone, ByOne, Cell, DiskView}
-use Rattle.law_answers.proofs.Imports.{IsBetween, IsLinked, IsPlainState, IsSteady, LinkRow, List, None, Option, Request, Some, State, ap, arith, asked_takes}
-use Rattle.law_answers.proofs.Imports.{both_leads, both_reader, by_bool, cell_asked, cell_link, epoch_for, false, filter, find, has_stage, in_up, inl, inr}
-use Rattle.law_answers.proofs.Imports.{is_some, is_unread, is_up_as, lead, lead_is, leaving, length, nat_tests, none_some, primary_is_one, range_with_len}
-use Rattle.law_answers.proofs.Imports.{read_refusal, read_refusal_at, readable, readers, refl, refusal, same_numbers, servers_of, subst, suc, sym, true}
-use Rattle.law_answers.proofs.Imports.{true_false, write_refusal, zero, ℕ}
+use Rattle.law_answers.proofs.Imports.{IsBetween, IsLinked, IsSettledState, IsSteady, LinkRow, List, None, Option, Request, Some, State, ap, arith}
+use Rattle.law_answers.proofs.Imports.{asked_takes, both_leads, both_reader, by_bool, cell_asked, cell_link, epoch_for, false, filter, find, has_stage, in_up}
+use Rattle.law_answers.proofs.Imports.{inl, inr, is_some, is_unread, is_up_as, lead, lead_is, leaving, length, nat_tests, none_some, primary_is_one}
+use Rattle.law_answers.proofs.Imports.{range_with_len, read_refusal, read_refusal_at, readable, readers, refl, refusal, same_numbers, servers_of, subst, suc}
+use Rattle.law_answers.proofs.Imports.{sym, true, true_false, write_refusal, zero, ℕ}
 use Rattle.spec_state.specs.CellState.{live}
 use Rattle.script_lines.specs.declared.answer.Answer.TheVariants as answer
 use Rattle.script_lines.specs.declared.request.Request.TheVariants as request
@@ -26,7 +26,7 @@ some_kept test a (suc n) k low high t = by (test a) (a == k) refl refl (λ above
 not_empty : (n : ℕ) → 0 < n → (n == 0) ≡ false
 not_empty n more = by_bool (n == 0) (λ e. absurd (grind (arith, nat_tests))) (λ no. no)
 
-module _ (servers : ℕ) (s : State) (p : IsPlainState servers s) (steady : IsSteady s) (ins : (n : ℕ) → n < servers_of s → is_up_as s n 1 ≡ true) where
+module _ (servers : ℕ) (s : State) (p : IsSettledState servers s) (steady : IsSteady s) (ins : (n : ℕ) → n < servers_of s → is_up_as s n 1 ≡ true) where
   -- each server of a link is In as its first incarnation
   first_out : {B : Type 0} (row : LinkRow) (cell : Cell) → IsLinked s cell row → (one other : ℕ) → IsBetween row one other → is_up_as s other 1 ≡ false → B
   first_out row cell linked one other (inl pair) out = true_false (ins row.secondary linked.secondary) (ap (λ k. is_up_as s k 1) pair.1 ∙ out)

@@ -1,7 +1,7 @@
 -- Which letter tells a look for a line, and what of a line's look is left.
 use Rattle.law_answers.proofs.Imports.{[], if◌then◌else◌, ◌++◌, ◌<◌, ◌==◌, ◌∙◌, ◌∷◌, ◌≡◌, Actor, AreRising, Body, Bool, Event, In, Letter, Line, List, Look}
-use Rattle.law_answers.proofs.Imports.{None, Option, Read, Record, Setting, Some, World, accepted, ap, arith, by_bool, false, flat_map, in-append, inl, inr}
-use Rattle.law_answers.proofs.Imports.{look_by, look_for, none_pass, number_itself, of_map, old_data, reads_old, refl, same_numbers, same_some, subst, sym}
+use Rattle.law_answers.proofs.Imports.{None, Option, Read, Record, Setting, Some, World, accepted, all_left, ap, arith, by_bool, false, flat_map, in-append}
+use Rattle.law_answers.proofs.Imports.{in_map, inl, inr, look_by, look_for, number_itself, old_data, reads_old, refl, same_numbers, same_some, subst, sym}
 use Rattle.law_answers.proofs.Imports.{true, ℕ}
 use Rattle.law_answers.specs.Looks.{beside, letter_looks, look_beside, look_beside_data, of_line, record_looks}
 use Rattle.petal_msg.specs.declared.body.Body.TheVariants as body
@@ -12,7 +12,7 @@ in_look : (lines : List Line) (o : Option ℕ) (bytes : List ℕ) (look : ℕ ×
 unfolding In
 in_look lines None bytes look i = absurd i
 in_look lines (Some number) bytes look i =
-    let m = of_map (λ (event : Event). (number, event)) (look_for lines (Some number) bytes) look i in
+    let m = in_map (λ (event : Event). (number, event)) (look_for lines (Some number) bytes) look i in
     ap Some (ap (λ (l : ℕ × Event). l.0) (sym m.2))
 
 in_look_data : (lines : List Line) (o : Option (ℕ × List ℕ)) (look : ℕ × Event) → In look (look_beside_data lines o)
@@ -71,7 +71,7 @@ told_by setting w next own later look i =
 
 -- none of these looks is of the line
 pub none_of_line : (number : ℕ) (looks : List (ℕ × Event)) → ((look : ℕ × Event) → In look looks → look.0 ≡ number → ⊥) → of_line number looks ≡ []
-none_of_line number looks apart = none_pass (λ (look : ℕ × Event). look.0 == number) looks
+none_of_line number looks apart = all_left (λ (look : ℕ × Event). look.0 == number) looks
     (λ look i. by_bool (look.0 == number) (λ t. absurd (apart look i (same_numbers look.0 number t))) (λ f. f))
 
 -- ### The look of a line

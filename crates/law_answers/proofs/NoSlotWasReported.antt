@@ -11,6 +11,7 @@ use Rattle.law_steps.specs.DidStep.{Ends}
 use Rattle.law_answers.specs.FullCauses.{By_copy, By_fill, HadNoRoom, HasFoundNone, HasJob, WasTold}
 use Rattle.law_answers.proofs.Reasons.{reason_found}
 use Rattle.law_answers.proofs.RefusalsHaveReasons.{was_declined}
+use Rattle.law_answers.proofs.SlotLetters.{one_server}
 use Rattle.petal_msg.specs.declared.body.Body.TheVariants as body
 use Rattle.petal_msg.specs.declared.letter.Actor.TheVariants as actor
 use Rattle.spec_rules.specs.declared.step.WorkEnd.TheVariants as work_end
@@ -94,9 +95,6 @@ module _ (setting : Setting) (w : World) where
   step_cause firm rests (actor.Client c) what stamp may later = still (actor.Client c) what
 
 -- ### Histories
-
-one_server : {i j : ℕ} → actor.Server i ≡ actor.Server j → i ≡ j
-one_server e = cc
 
 -- who told a holder that its copy finds no slot
 record TellsNow (setting : Setting) (w : World) (who : Actor) (what : Step) (letter : Letter) (number : ℕ) (cell : Cell) : Type 0 where

@@ -5,9 +5,9 @@ use Rattle.law_answers.proofs.Imports.{Is_told, Judges, Latest, Letter, List, Ma
 use Rattle.law_answers.proofs.Imports.{Setting, Shown, Sight, Some, Starts_it, State, Step, Stops_at, Stops_it, Turned, Verdict, World, after, ap, at-empty}
 use Rattle.law_answers.proofs.Imports.{at_moment, by_run, by_test, cell_asked, cell_cmp, client_state, client_step, client_turns, epoch_for, false, find}
 use Rattle.law_answers.proofs.Imports.{firm_in, firm_then, follows_in, grown_then, inl, inr, is_call, is_some, is_unread, last_moment, latest, lead, longer}
-use Rattle.law_answers.proofs.Imports.{moment_more, nat_cmp, next_line, none_some, read_refusal, read_refusal_at, refl, refusal, rests_in, same_some}
-use Rattle.law_answers.proofs.Imports.{setting_in, setting_of, start, state_after, stays, step, stepped_in, subst, sym, true, verdict_answer, verdict_for}
-use Rattle.law_answers.proofs.Imports.{world_after, write_refusal, ℕ}
+use Rattle.law_answers.proofs.Imports.{moment_more, nat_cmp, next_line, none_some, one_client, read_refusal, read_refusal_at, refl, refusal, rests_in}
+use Rattle.law_answers.proofs.Imports.{same_some, setting_in, setting_of, start, state_after, stays, step, stepped_in, subst, sym, true, verdict_answer}
+use Rattle.law_answers.proofs.Imports.{verdict_for, world_after, write_refusal, ℕ}
 use Rattle.law_answers.proofs.SettlesAreAnswered.{shown_full}
 use Rattle.law_answers.specs.Refusals.{HadNoSlot, WasRefused, HasReason, Refusals}
 use Rattle.law_answers.specs.FullCauses.{HasFullServer}
@@ -147,9 +147,6 @@ module _ (setting : Setting) where
       subst (λ i. HeardFull w i number) (one_client e)
       (heard_full w d (is_call what) (client_step what (client_state setting w d) d (w.clients d) (next_line setting.lines d (w.clients d)))
       (client_turns setting w d what may.1).turned number given)
-    where
-      one_client : {i j : ℕ} → actor.Client i ≡ actor.Client j → i ≡ j
-      one_client e = cc
 
 -- ### From the start
 

@@ -1,8 +1,8 @@
 -- Which record answers a line with data: one alone, and so one letter alone is accepted for the line.
 use Rattle.law_answers.proofs.Imports.{[], ◌++◌, ◌∙◌, ◌∷◌, ◌≡◌, Actor, Answer, AreRising, AreSteps, Deliver, In, IsAnswered, IsMoment, IsSound, Letter, Line}
 use Rattle.law_answers.proofs.Imports.{List, MayActor, MayClient, MayDeliver, Record, Run, Script, Setting, Some, Step, World, accepted, after, answers_in}
-use Rattle.law_answers.proofs.Imports.{ap, append_assoc, at_moment, before_part, inl, line_by, longer, none_some, refl, run_of, same_name, same_some}
-use Rattle.law_answers.proofs.Imports.{setting_of, since, start, step, stepped, subst, sym, true, with_answer, world_after, ℕ}
+use Rattle.law_answers.proofs.Imports.{ap, append_assoc, at_moment, before_part, inl, line_by, longer, none_some, one_client, refl, run_of, same_name}
+use Rattle.law_answers.proofs.Imports.{same_seq, same_some, setting_of, since, start, step, stepped, subst, sym, true, with_answer, world_after, ℕ}
 use Rattle.script_lines.specs.Requests.{is_read}
 use Rattle.law_answers.proofs.AnsweredOnce.{ahead_after, ahead_start, answered_more, stepped_is}
 use Rattle.law_answers.proofs.RecordsInOrder.{asked_at, follows_on, named_at, sent_after}
@@ -66,12 +66,6 @@ world_split setting w (x ∷ front) own later = world_split setting (stepped set
 
 pub deliver_is : (one other : Letter) → Deliver one ≡ Deliver other → one ≡ other
 deliver_is one other e = cc
-
-pub client_is : (c d : ℕ) → actor.Client c ≡ actor.Client d → c ≡ d
-client_is c d e = cc
-
-pub data_seq : (a b : ℕ) (xs ys : List ℕ) → body.Data a xs ≡ body.Data b ys → a ≡ b
-data_seq a b xs ys e = cc
 
 module _ (script : Script) (sound : IsSound script) where
   abbrev setting : Setting
@@ -186,9 +180,9 @@ module _ (script : Script) (sound : IsSound script) where
             → letter.body ≡ body.Data seq xs → letter.to ≡ actor.Client the_answer.client → seq ≡ the_answer.seq → k ≡ number
         same_line before other letter k a seq xs says to seq_is =
             let one_client : a.so.client ≡ the_answer.client =
-            client_is a.so.client the_answer.client (sym a.so.to ∙ ap (λ (l : Letter). l.to) (sym a.letter_is) ∙ to) in
+            one_client (sym a.so.to ∙ ap (λ (l : Letter). l.to) (sym a.letter_is) ∙ to) in
             let one_seq : a.so.seq ≡ the_answer.seq =
-            data_seq a.so.seq seq a.bytes xs (sym a.so.says ∙ ap (λ (l : Letter). l.body) (sym a.letter_is) ∙ says) ∙ seq_is in
+            same_seq (sym a.so.says ∙ ap (λ (l : Letter). l.body) (sym a.letter_is) ∙ says) ∙ seq_is in
             let line : a.so.line ≡ the_answer.line =
             same_some (sym a.so.is ∙ (λ i. line_by script.lines (one_client i) (one_seq i)) ∙ the_answer.is) in
             sym a.so.number_is ∙ ap (λ (l : Line). l.number) line ∙ the_answer.number_is

@@ -1,10 +1,10 @@
 -- What a server sends to whoever reads: the reply to the one read that it handles in the step.
 use Rattle.law_answers.proofs.Imports.{[], ◌∙◌, ◌∷◌, ◌≡◌, Acted, Actor, Body, Bool, By_ballot, By_entry, By_job, By_read, Cell, Did, Fails, Glanced, Goes}
-use Rattle.law_answers.proofs.Imports.{Grounded, Handled, In, IsReadable, IsSeated, IsSteady, JobResult, Letter, List, Lives, NeverDead, None, Not_here}
+use Rattle.law_answers.proofs.Imports.{Grounded, Handled, In, IsReadable, IsSeatedOrMute, IsSteady, JobResult, Letter, List, Lives, NeverDead, None, Not_here}
 use Rattle.law_answers.proofs.Imports.{Option, PairState, Post, SaysOk, Scene, Sender, Serving, Setting, Shows, Some, Stays, Step, Subject, Wakes, World, ap}
 use Rattle.law_answers.proofs.Imports.{awake, bytes_of, chain_in, down_posts, entry_at, false, inl, inr, is_logged, is_looked, job_tells, letters_of, map}
-use Rattle.law_answers.proofs.Imports.{never_dead, own_place, owns_of, post_of, quiet_data, raised, refl, rev_of, said, sender, server_state, servers_of}
-use Rattle.law_answers.proofs.Imports.{stamped, subject_of, sym, true, true_false, without_rev, ℕ}
+use Rattle.law_answers.proofs.Imports.{mute_data, never_dead, own_place, owns_of, post_of, raised, refl, rev_of, said, same_data, sender, server_state}
+use Rattle.law_answers.proofs.Imports.{servers_of, stamped, subject_of, sym, true, true_false, without_rev, ℕ}
 use Rattle.law_steps.specs.DidStep.{Ends}
 use Rattle.petal_msg.specs.declared.body.Body.TheVariants as body
 use Rattle.petal_msg.specs.declared.letter.Actor.TheVariants as actor
@@ -54,9 +54,6 @@ neither setting w lives n new to (body.Data seq bytes) e ok = e
 neither setting w lives n new to (body.NotHere seq) e ok = e
 neither setting w lives n new to (body.Read client seq cell epoch) e ok = absurd ok
 neither setting w lives n new to _ e ok = refl
-
-data_is : {a b : ℕ} {xs ys : List ℕ} → body.Data a xs ≡ body.Data b ys → xs ≡ ys
-data_is e = cc
 
 -- ### A server's step
 
@@ -139,15 +136,15 @@ module _ (g : Grounded) (steady : IsSteady g.state) (n stamp : ℕ) where
       → (letter : Letter) → In letter (sent_by mine done.posts) → S mine done.posts letter
   job_sends runs _ (By_read _ (Shows client seq cell epoch readable there)) ok letter h =
       one_sent client seq cell epoch (body.Data seq (bytes_of (entry_at (chain_in (owns_of w n).store.chains cell) epoch))) runs readable refl
-      (λ k bytes e. sym (data_is e)) letter h
+      (λ k bytes e. sym (same_data e)) letter h
   job_sends runs _ (By_read _ (Not_here client seq cell epoch readable comes none)) ok letter h =
       one_sent client seq cell epoch (body.NotHere seq) runs readable refl (λ k bytes e. absurd cc) letter h
   job_sends runs done d ok letter h =
       let never : NeverDead (own_place setting w n) (owns_of w n) = never_dead g steady n runs in
       all_apart mine done.posts (λ post i. neither setting w ground.lives n done.own post.to post.body
-      (quiet_data (Handled w n) (own_place setting w n) (owns_of w n) never done d tt post i) (ok post i)) letter h
+      (mute_data (Handled w n) (own_place setting w n) (owns_of w n) never done d tt post i) (ok post i)) letter h
 
-  seated_tells : (runs : (w.servers n).life.running ≡ true) (done : JobResult) → IsSeated (own_place setting w n) (owns_of w n) done
+  seated_tells : (runs : (w.servers n).life.running ≡ true) (done : JobResult) → IsSeatedOrMute (own_place setting w n) (owns_of w n) done
       → Did (Handled w n) (own_place setting w n) (owns_of w n) done
       → (post : Post) → In post done.posts → SaysOk setting w ground.lives n done.own post.to post.body
   unfolding scene

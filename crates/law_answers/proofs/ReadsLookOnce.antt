@@ -1,21 +1,22 @@
 -- Each read that is answered with data is looked at once.
-use Rattle.law_answers.proofs.Imports.{[], if◌then◌else◌, ◌++◌, ◌-◌, ◌∙◌, ◌∷◌, ◌≡◌, ◌⊎◌, AreRising, AreSteps, Body, Bool, Event, Grounded, In, IsMoment}
-use Rattle.law_answers.proofs.Imports.{IsSound, Letter, Line, List, Look, MayActor, MayClient, MayDeliver, NotThere, Option, Record, Request, Script, Setting}
-use Rattle.law_answers.proofs.Imports.{Some, World, accepted, ap, append-nil, append_assoc, before_part, by_bool, false, flat_map, inl, inr, is_ask, length}
-use Rattle.law_answers.proofs.Imports.{line_by, log_rev, look_for, none_some, old_data, reads_old, reads_old_is, refl, rev_of, run_of, same_some, setting_of}
-use Rattle.law_answers.proofs.Imports.{start, stepped, subst, sym, true, true_false, turns, was_sent, world_after, ℕ}
+use Rattle.law_answers.proofs.Imports.{[], if◌then◌else◌, ◌++◌, ◌-◌, ◌∙◌, ◌∷◌, ◌≡◌, ◌⊎◌, AreRising, AreSteps, Body, Bool, Event, Grounded, HasData, In}
+use Rattle.law_answers.proofs.Imports.{IsMoment, IsSound, Letter, Line, List, Look, MayActor, MayClient, MayDeliver, NotThere, Option, Record, Request}
+use Rattle.law_answers.proofs.Imports.{Script, Setting, Some, World, accepted, ap, append-nil, append_assoc, before_part, by_bool, false, flat_map, inl, inr}
+use Rattle.law_answers.proofs.Imports.{is_ask, length, line_by, log_rev, look_for, none_some, old_data, one_client, reads_old, reads_old_is, refl, rev_of}
+use Rattle.law_answers.proofs.Imports.{run_of, same_data, same_seq, same_some, setting_of, start, stepped, subst, sym, true, true_false, turns, was_sent}
+use Rattle.law_answers.proofs.Imports.{world_after, ℕ}
 use Rattle.script_lines.specs.Requests.{is_read}
 use Rattle.law_answers.proofs.LinesHavePlaces.{line_at}
 use Rattle.law_answers.specs.ReadLinks.{IsReadFrom}
 use Rattle.law_answers.specs.Looks.{HasItsLook, IsCalledIn, IsLookedAtOnce, beside, letter_looks, look_beside, look_beside_data, of_line, record_looks}
 use Rattle.law_answers.specs.Looks.{looks_at}
-use Rattle.law_answers.proofs.OneRecordAnswers.{Answers, accepted_by, client_is, data_seq, deliver_is, same_line, the_answer, the_one, world_split}
+use Rattle.law_answers.proofs.OneRecordAnswers.{Answers, accepted_by, deliver_is, same_line, the_answer, the_one, world_split}
 use Rattle.law_answers.proofs.LettersTellLooks.{By_data, By_turning, IsToldBy, TellsIt, beside_one, line_looks, none_of_line, told_by}
 use Rattle.law_jobs.proofs.LettersWereSent.{WasSent}
 use Rattle.law_answers.proofs.RecordsInOrder.{From_client, From_server, IsSentFrom, follows_on, sent_after, sent_by, sent_once}
 use Rattle.law_answers.proofs.ListPositions.{AreOrdered, AreSame, Are_one, Is_former, Is_latter, ordered}
 use Rattle.law_answers.proofs.OneReplyEachRead.{IsReply, answers_read, is_of_read}
-use Rattle.law_answers.proofs.SearchesFindLooks.{HasData, HasTurn, finds, found, is_accepted}
+use Rattle.law_answers.proofs.SearchesFindLooks.{HasTurn, finds, found, is_accepted}
 use Rattle.law_answers.proofs.ReadsWereCalled.{read_called, read_turned}
 use Rattle.law_answers.proofs.LawsBelow.{stands_after}
 use Rattle.law_answers.proofs.ClientHistorySteps.{own_says}
@@ -43,9 +44,6 @@ record IsReadOf (asked : Request) : Type 0 where
 as_read : (asked : Request) → is_read asked ≡ true → IsReadOf asked
 as_read (request.Read name snap block) e = record { name = name; snap = snap; block = block; is = refl }
 as_read _ e = true_false e refl
-
-data_bytes : (a b : ℕ) (xs ys : List ℕ) → body.Data a xs ≡ body.Data b ys → xs ≡ ys
-data_bytes a b xs ys e = cc
 
 -- what a record tells that sent one letter
 one_look : (setting : Setting) (w next : World) (own : Record) (later : List Record) (letter : Letter) (number : ℕ) (look : Event) (events : List Event)
@@ -113,7 +111,7 @@ module _ (script : Script) (sound : IsSound script) (rise : AreRising script.lin
       → IsReplied front own letter → (client seq : ℕ) → letter.to ≡ actor.Client client → answers_read letter.body ≡ Some seq → (line : Line)
       → line_by script.lines client seq ≡ Some line → line.client ≡ client → IsCalledIn front line
   reply_called front own following e letter r client seq to is line by_line mine =
-      let c = client_is r.reply.client client (sym r.reply.to ∙ to) in
+      let c = one_client (sym r.reply.to ∙ to) in
       let k = same_some (sym r.reply.is ∙ is) in
       let called = read_called script sound front (before_part script front (own ∷ following) (legal_so e)) r.server r.reply.client r.reply.seq
       r.reply.cell r.reply.epoch r.reply.readable.asked line ((λ j. line_by script.lines (c j) (k j)) ∙ by_line) in
@@ -222,7 +220,7 @@ module _ (script : Script) (sound : IsSound script) (rise : AreRising script.lin
         let letter_is = letter_of (front ++ own ∷ f.front) f.own f.following there f.letter f.sent acc in
         let world_is = world_split setting (start setting) front own f.front in
         by f.front f.turn (sym same.front_is) (f.has.to ∙ ap (λ (l : Letter). l.to) letter_is ∙ a.to) (f.has.rev ∙ ap (λ (l : Letter). l.rev) letter_is)
-        (data_seq seq a.seq given.1 bytes (sym f.has.says ∙ ap (λ (l : Letter). l.body) letter_is ∙ a.says))
+        (same_seq (sym f.has.says ∙ ap (λ (l : Letter). l.body) letter_is ∙ a.says))
         (sym (old_as (front ++ own ∷ f.front) f.own f.following same) ∙ ap (λ u. reads_old setting u f.own.actor) world_is ∙ f.old)
       where
         by : (rs : List Record) → (false ≡ true) ⊎ HasTurn setting (stepped setting (At front) own).world rs letter
@@ -292,7 +290,7 @@ module _ (script : Script) (sound : IsSound script) (rise : AreRising script.lin
         let leaves = sym (reads_old_is (grounded_at s.front fine) s_reply.server r.client r.seq r.cell r.epoch r.readable.asked)
         ∙ ap (reads_old setting (At s.front)) (sym s_reply.who) ∙ on in
         let t = read_turned script sound s.front fine s_reply.server r.client r.seq r.cell r.epoch r.readable.asked leaves in
-        let c = client_is r.client a.client (sym r.to ∙ a.to) in
+        let c = one_client (sym r.to ∙ a.to) in
         let k = same_some (sym r.is ∙ reply_is) in
         let rev = r.rev ∙ log_rev script.servers ((At s.front).servers s_reply.server).log.applied in
         subst (WasTurned setting s.front a.client a.seq) (sym rev)
@@ -380,7 +378,7 @@ module _ (script : Script) (sound : IsSound script) (rise : AreRising script.lin
           f.has.accepts in
           let letter_is = letter_of (o.front ++ o.own ∷ f.front) f.own f.following there f.letter f.sent (f.has.accepts ∙ ap Some number_is) in (
             number_is ∙ sym a.number_is,
-            data_bytes a.seq a.seq given.1 bytes (sym f.has.says ∙ ap (λ (l : Letter). l.body) letter_is ∙ a.says),
+            same_data (sym f.has.says ∙ ap (λ (l : Letter). l.body) letter_is ∙ a.says),
           )
 
       search_is : look_beside_data script.lines (old_data setting next after_o told false) ≡ beside n events
@@ -406,7 +404,7 @@ module _ (script : Script) (sound : IsSound script) (rise : AreRising script.lin
 
           turn_too : IsTurn setting (At turned_front) f.turning letter a.client a.seq a.letter.rev
           turn_too =
-              subst (λ d. IsTurn setting (At turned_front) f.turning letter d a.seq a.letter.rev) (client_is k.client a.client (sym k.to ∙ f.to))
+              subst (λ d. IsTurn setting (At turned_front) f.turning letter d a.seq a.letter.rev) (one_client (sym k.to ∙ f.to))
               (subst (λ q. IsTurn setting (At turned_front) f.turning letter k.client q a.letter.rev) f.seq_is
               (subst (λ r. IsTurn setting (At turned_front) f.turning letter k.client seq r) f.rev k.turn))
 
@@ -466,7 +464,7 @@ module _ (script : Script) (sound : IsSound script) (rise : AreRising script.lin
     pub its_link : IsReadFrom setting records m number bytes
     its_link =
         let r = s_reply.reply in
-        let c = client_is r.client a.client (sym r.to ∙ a.to) in
+        let c = one_client (sym r.to ∙ a.to) in
         let k = same_some (sym r.is ∙ reply_is) in
         record {
           moment = record { front = s.front; own = s.own; following = after_s; is = s_is };

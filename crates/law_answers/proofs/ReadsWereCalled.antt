@@ -1,5 +1,5 @@
 -- A read that a server handles was called before; and where it is of an old map, its client was turned to that map before.
-use Rattle.law_answers.proofs.Imports.{[], ◌++◌, ◌∙◌, ◌∷◌, ◌≡◌, AreSteps, Body, Bool, Call, Cell, Client, Command, DiskView, Handled, In, IsPlainLog}
+use Rattle.law_answers.proofs.Imports.{[], ◌++◌, ◌∙◌, ◌∷◌, ◌≡◌, AreSteps, Body, Bool, Call, Cell, Client, Command, DiskView, Handled, HasProperTuples, In}
 use Rattle.law_answers.proofs.Imports.{IsPrefix, IsSound, Letter, Line, List, MayClient, Record, Script, Setting, Some, Step, World, ap, append_assoc, arith}
 use Rattle.law_answers.proofs.Imports.{asked_takes, by_bool, cell_asked, chosen_log, false, find, front_on, front_plain, history_grows, in_former, length}
 use Rattle.law_answers.proofs.Imports.{line_by, log_plain, log_rev, none_some, one_front, put_same, reacts, refl, rev_of, run_of, same_some, setting_of}
@@ -115,7 +115,7 @@ module _ (script : Script) (sound : IsSound script) where
   -- ### It was turned
 
   -- a cell that requests name is not leaving
-  named_stays : (log : List Command) → IsPlainLog script.servers log → (name : List ℕ) (disk : DiskView) (block : ℕ)
+  named_stays : (log : List Command) → HasProperTuples script.servers log → (name : List ℕ) (disk : DiskView) (block : ℕ)
       → find (state_after script.servers log) name ≡ Some disk
       → leaving (state_after script.servers log) (cell_asked (state_after script.servers log) disk block false) ≡ false
   named_stays log plain name disk block found =
@@ -126,7 +126,7 @@ module _ (script : Script) (sound : IsSound script) where
       (λ t. let three = (stage_facts script.servers log plain (cell_asked s disk block false)).leaves t in absurd (omega arith)) (λ f. f)
 
   -- so one that is was asked for by the old way
-  old_way_of : (log : List Command) → IsPlainLog script.servers log → (cell : Cell) (name : List ℕ) (disk : DiskView) (block : ℕ) (way : Bool)
+  old_way_of : (log : List Command) → HasProperTuples script.servers log → (cell : Cell) (name : List ℕ) (disk : DiskView) (block : ℕ) (way : Bool)
       → find (state_after script.servers log) name ≡ Some disk → cell ≡ cell_asked (state_after script.servers log) disk block way
       → leaving (state_after script.servers log) cell ≡ true → way ≡ true
   old_way_of log plain cell name disk block true found is leaves = refl

@@ -1,8 +1,8 @@
 -- What requests with commands ask for, and what a state goes on to say of it: a disk, a snapshot, or that a disk is on the move.
-use Rattle.law_answers.proofs.Imports.{[], if◌then◌else◌, ◌++◌, ◌∙◌, ◌∷◌, ◌≡◌, Bool, Command, DiskRow, Fence, In, IsFence, IsGrown, IsLaterDisk, IsPlainLog}
-use Rattle.law_answers.proofs.Imports.{IsUnsettled, Latest, List, MakeDisk, None, Of_disk, Of_region, Option, Region, Request, Snap, Snapshot, Some}
-use Rattle.law_answers.proofs.Imports.{StartMove, Whole, ap, command_of, disk_at, disk_at_is, false, find_after, find_front, find_here, found_at, has_made}
-use Rattle.law_answers.proofs.Imports.{head_get, here_row, inl, inr, is_some, move_fenced, named, nat_lists_same, none_some, one_passed, option_map}
+use Rattle.law_answers.proofs.Imports.{[], if◌then◌else◌, ◌++◌, ◌∙◌, ◌∷◌, ◌≡◌, Bool, Command, DiskRow, Fence, HasProperTuples, In, IsFence, IsGrown}
+use Rattle.law_answers.proofs.Imports.{IsLaterDisk, IsUnsettled, Latest, List, MakeDisk, None, Of_disk, Of_region, Option, Region, Request, Snap, Snapshot}
+use Rattle.law_answers.proofs.Imports.{Some, StartMove, Whole, ap, command_of, disk_at, disk_at_is, false, find_after, find_front, find_here, found_at}
+use Rattle.law_answers.proofs.Imports.{has_made, head_get, here_row, inl, inr, is_some, move_fenced, named, nat_lists_same, none_some, one_passed, option_map}
 use Rattle.law_answers.proofs.Imports.{option_map_or, passed_beside, passed_here, passing, ready_by, refl, region_beside, region_here, replicate, row_fenced}
 use Rattle.law_answers.proofs.Imports.{row_frozen, same_or_apart, same_some, settled, settled_keeps, slice_get, snapshot_named, some_or_none, suc, sym, take}
 use Rattle.law_answers.proofs.Imports.{text_itself, true, true_false, unwrap_or, zero, ℕ}
@@ -21,7 +21,7 @@ in_take x (y ∷ xs) zero h = absurd h
 in_take x (y ∷ xs) (suc k) (inl is) = inl is
 in_take x (y ∷ xs) (suc k) (inr later) = inr (in_take x xs k later)
 
-pub plain_front : (servers : ℕ) (log : List Command) (k : ℕ) → IsPlainLog servers log → IsPlainLog servers (take k log)
+pub plain_front : (servers : ℕ) (log : List Command) (k : ℕ) → HasProperTuples servers log → HasProperTuples servers (take k log)
 plain_front servers log k plain command h = plain command (in_take command log k h)
 
 pub take_next : {X : Type 0} (xs : List X) (k : ℕ) (x : X) → slice_get xs k ≡ Some x → take (suc k) xs ≡ take k xs ++ x ∷ []

@@ -1,10 +1,9 @@
 -- What the searches find by which looks are told: the record that accepts a letter, and the data that a read gets by the old map.
-use Rattle.law_answers.proofs.Imports.{[], if◌then◌else◌, ◌&&◌, ◌++◌, ◌==◌, ◌||◌, ◌∙◌, ◌∷◌, ◌≡◌, ◌⊎◌, Actor, Answer, Body, Bool, Deliver, In, Letter, List}
+use Rattle.law_answers.proofs.Imports.{[], if◌then◌else◌, ◌&&◌, ◌++◌, ◌==◌, ◌||◌, ◌∙◌, ◌∷◌, ◌≡◌, ◌⊎◌, Actor, Answer, Bool, Deliver, HasData, In, Letter, List}
 use Rattle.law_answers.proofs.Imports.{None, NotThere, Option, Record, Setting, Some, Step, World, accepted, accepts, ap, both_true, by_bool, data_among}
-use Rattle.law_answers.proofs.Imports.{data_line, data_of, false, first_data, first_of, inl, inr, line_of_data, none_some, number_itself, old_data, one_actor}
-use Rattle.law_answers.proofs.Imports.{option_map, reads_old, refl, same_actor, same_name, same_numbers, same_some, stepped, subst, sym, true, turns}
-use Rattle.law_answers.proofs.Imports.{world_after, ℕ}
-use Rattle.petal_msg.specs.declared.body.Body.TheVariants as body
+use Rattle.law_answers.proofs.Imports.{data_line, data_of, either_of, false, first_data, first_of, in_data, inl, inr, line_of_data, none_some, number_itself}
+use Rattle.law_answers.proofs.Imports.{old_data, option_map, or_former, or_true, reads_old, refl, same_actor, same_name, same_some, some_data, some_first}
+use Rattle.law_answers.proofs.Imports.{stepped, subst, sym, true, turns, world_after, ℕ}
 use Rattle.petal_msg.specs.declared.letter.Actor.TheVariants as actor
 use Rattle.script_lines.specs.declared.answer.Answer.TheVariants as answer
 
@@ -43,10 +42,6 @@ pub record IsAccepted (records : List Record) (letter : Letter) (number : ℕ) :
   pub is : records ≡ front ++ own ∷ following
   pub so : IsAccepting letter own number
 
-some_first : (one two : Option ℕ) (number : ℕ) → first_of one two ≡ Some number → (one ≡ Some number) ⊎ (two ≡ Some number)
-some_first None two number e = inr e
-some_first (Some k) two number e = inl e
-
 pub accepted_in : (records : List Record) (letter : Letter) (number : ℕ) → accepted records letter ≡ Some number → IsAccepted records letter number
 accepted_in [] letter number e = none_some refl e
 accepted_in (own ∷ later) letter number e = elim (some_first (accepts letter own.step own.answer) (accepted later letter) number e) [
@@ -56,20 +51,20 @@ accepted_in (own ∷ later) letter number e = elim (some_first (accepts letter o
       record { front = own ∷ k.front; own = k.own; following = k.following; is = ap (λ rs. own ∷ rs) k.is; so = k.so }
 ]
 
+all_true : (a b c : Bool) → a ≡ true → b ≡ true → c ≡ true → (a && b && c) ≡ true
+all_true true true true e f g = refl
+all_true true true false e f g = g
+all_true true false c e f g = f
+all_true false b c e f g = e
+
+actor_itself : (a : Actor) → same_actor a a ≡ true
+actor_itself (actor.Server n) = number_itself n
+actor_itself (actor.Client c) = number_itself c
+
 -- the name of a letter is its own
 pub name_itself : (letter : Letter) → same_name letter letter ≡ true
 name_itself letter = all_true (same_actor letter.from letter.from) (letter.stamp == letter.stamp) (letter.nth == letter.nth)
     (actor_itself letter.from) (number_itself letter.stamp) (number_itself letter.nth)
-  where
-    actor_itself : (a : Actor) → same_actor a a ≡ true
-    actor_itself (actor.Server n) = number_itself n
-    actor_itself (actor.Client c) = number_itself c
-
-    all_true : (a b c : Bool) → a ≡ true → b ≡ true → c ≡ true → (a && b && c) ≡ true
-    all_true true true true e f g = refl
-    all_true true true false e f g = g
-    all_true true false c e f g = f
-    all_true false b c e f g = e
 
 first_some : (one two : Option ℕ) (k : ℕ) → two ≡ Some k → (number : ℕ) × (first_of one two ≡ Some number)
 first_some None two k e = (k, e)
@@ -88,58 +83,6 @@ is_accepted (x ∷ front) own following letter number bytes what answers =
     first_some (accepts letter x.step x.answer) (accepted (front ++ own ∷ following) letter) k.0 k.1
 
 -- ### The data that a read gets by the old map
-
--- the letter has data for the read that was told, at the same revision, and one of the records accepts it
-pub record HasData (told : NotThere) (later : List Record) (letter : Letter) (given : ℕ × List ℕ) : Type 0 where
-  pub says : letter.body ≡ body.Data told.seq given.1
-  pub to : told.letter.to ≡ letter.to
-  pub rev : told.letter.rev ≡ letter.rev
-  pub accepts : accepted later letter ≡ Some given.0
-
-mapped : (o : Option ℕ) (bytes : List ℕ) (given : ℕ × List ℕ) → option_map (λ (line : ℕ). (line, bytes)) o ≡ Some given
-    → (o ≡ Some given.0) × (bytes ≡ given.1)
-mapped None bytes given e = none_some refl e
-mapped (Some line) bytes given e = let same : (line, bytes) ≡ given = same_some e in
-    (ap (λ (g : ℕ × List ℕ). Some g.0) same, ap (λ (g : ℕ × List ℕ). g.1) same)
-
-abbrev matches : NotThere → Letter → ℕ → Bool
-matches told letter seq = same_actor told.letter.to letter.to && (told.letter.rev == letter.rev) && (told.seq == seq)
-
-one_data : (told : NotThere) (later : List Record) (letter : Letter) (what : Body) (given : ℕ × List ℕ) → letter.body ≡ what
-    → data_of told later letter what ≡ Some given → HasData told later letter given
-one_data told later letter (body.Data seq bytes) given is e = by_bool (matches told letter seq)
-    (λ t.
-    let outer = both_true (same_actor told.letter.to letter.to && (told.letter.rev == letter.rev)) (told.seq == seq) t in
-    let inner = both_true (same_actor told.letter.to letter.to) (told.letter.rev == letter.rev) outer.0 in
-    let m = mapped (accepted later letter) bytes given
-    (sym (ap (λ b. if b then option_map (λ (line : ℕ). (line, bytes)) (accepted later letter) else None) t) ∙ e) in
-    record {
-      says = is ∙ (λ i. body.Data (sym (same_numbers told.seq seq outer.1) i) (m.1 i));
-      to = one_actor told.letter.to letter.to inner.0;
-      rev = same_numbers told.letter.rev letter.rev inner.1;
-      accepts = m.0;
-    })
-    (λ f. none_some (ap (λ b. if b then option_map (λ (line : ℕ). (line, bytes)) (accepted later letter) else None) f) e)
-one_data told later letter _ given is e = none_some refl e
-
-some_data : (one two : Option (ℕ × List ℕ)) (given : ℕ × List ℕ) → first_data one two ≡ Some given → (one ≡ Some given) ⊎ (two ≡ Some given)
-some_data None two given e = inr e
-some_data (Some x) two given e = inl e
-
--- one of the letters has it
-record IsAmong (told : NotThere) (later : List Record) (letters : List Letter) (given : ℕ × List ℕ) : Type 0 where
-  letter : Letter
-  there : In letter letters
-  has : HasData told later letter given
-
-in_data : (told : NotThere) (later : List Record) (letters : List Letter) (given : ℕ × List ℕ) → data_among told later letters ≡ Some given
-    → IsAmong told later letters given
-unfolding In
-in_data told later [] given e = none_some refl e
-in_data told later (letter ∷ letters) given e = elim (some_data (data_of told later letter letter.body) (data_among told later letters) given e) [
-  | inl now ↦ record { letter = letter; there = inl refl; has = one_data told later letter letter.body given refl now }
-  | inr on ↦ let k = in_data told later letters given on in record { letter = k.letter; there = inr k.there; has = k.has }
-]
 
 module _ (setting : Setting) where
   -- with one of these records the client turns to the old map
@@ -166,10 +109,6 @@ module _ (setting : Setting) where
     pub old : reads_old setting (world_after setting w front) own.actor ≡ true
     pub has : HasData told following letter given
     pub turn : (turned ≡ true) ⊎ HasTurn w front told.letter
-
-  either : (a b : Bool) → (a || b) ≡ true → (a ≡ true) ⊎ (b ≡ true)
-  either true b e = inl refl
-  either false b e = inr e
 
   pub found : (w : World) (records : List Record) (turned : Bool) (told : NotThere) (given : ℕ × List ℕ)
       → old_data setting w records told turned ≡ Some given → IsFound w records turned told given
@@ -208,7 +147,7 @@ module _ (setting : Setting) where
               has = k.has;
               turn = elim k.turn [
                 | inr t ↦ inr (turn_later w own k.front told.letter t)
-                | inl t ↦ elim (either turned (turns told.letter w own next) t) [
+                | inl t ↦ elim (either_of turned (turns told.letter w own next) t) [
                   | inl before ↦ inl before
                   | inr now ↦ inr (record { front = []; own = own; following = k.front; is = refl; so = now })
                 ]
@@ -229,17 +168,7 @@ module _ (setting : Setting) where
   second_has (Some x) two h = (x, refl)
 
   actors_same : (a b : Actor) → a ≡ b → same_actor a b ≡ true
-  actors_same a b e = ap (λ x. same_actor a x) (sym e) ∙ itself a
-    where
-      itself : (x : Actor) → same_actor x x ≡ true
-      itself (actor.Server n) = number_itself n
-      itself (actor.Client c) = number_itself c
-
-  and_true : (a b c : Bool) → a ≡ true → b ≡ true → c ≡ true → (a && b && c) ≡ true
-  and_true true true true e f g = refl
-  and_true true true false e f g = g
-  and_true true false c e f g = f
-  and_true false b c e f g = e
+  actors_same a b e = ap (λ x. same_actor a x) (sym e) ∙ actor_itself a
 
   among_has : (told : NotThere) (later : List Record) (letters : List Letter) (letter : Letter) (given : ℕ × List ℕ) → In letter letters
       → HasData told later letter given → HasSome (data_among told later letters)
@@ -251,19 +180,11 @@ module _ (setting : Setting) where
       let is : data_of told later letter letter.body ≡ Some given =
       ap (data_of told later letter) d.says
       ∙ ap (λ b. if b then option_map (λ (line : ℕ). (line, given.1)) (accepted later letter) else None)
-      (and_true (same_actor told.letter.to letter.to) (told.letter.rev == letter.rev) (told.seq == told.seq)
+      (all_true (same_actor told.letter.to letter.to) (told.letter.rev == letter.rev) (told.seq == told.seq)
       (actors_same told.letter.to letter.to d.to) (ap (λ k. k == letter.rev) d.rev ∙ number_itself letter.rev) (number_itself told.seq))
       ∙ ap (option_map (λ (line : ℕ). (line, given.1))) d.accepts in
       first_has (data_of told later first first.body) (data_among told later letters)
       (subst (λ (l : Letter). HasSome (data_of told later l l.body)) e (given, is))
-
-  or_first : (a b : Bool) → a ≡ true → (a || b) ≡ true
-  or_first true b e = refl
-  or_first false b e = let f : false ≡ true = e in absurd cc
-
-  or_second : (a b : Bool) → b ≡ true → (a || b) ≡ true
-  or_second true b e = refl
-  or_second false b e = e
 
   -- where a step sent the data that had read the old map, after the client had turned
   pub finds : (w : World) (front : List Record) (own : Record) (following : List Record) (turned : Bool) (told : NotThere) (letter : Letter)
@@ -290,7 +211,7 @@ module _ (setting : Setting) where
     where
       on : (turned ≡ true) ⊎ HasTurn w (x ∷ front) told.letter
           → ((turned || turns told.letter w x (stepped setting w x).world) ≡ true) ⊎ HasTurn (stepped setting w x).world front told.letter
-      on (inl t) = inl (or_first turned _ t)
+      on (inl t) = inl (or_former turned _ t)
       on (inr t) = by t.front t.is t.so
         where
           by : (rs : List Record) → x ∷ front ≡ rs ++ t.own ∷ t.following
@@ -298,7 +219,7 @@ module _ (setting : Setting) where
               → ((turned || turns told.letter w x (stepped setting w x).world) ≡ true) ⊎ HasTurn (stepped setting w x).world front told.letter
           by [] e so =
               let same : x ≡ t.own = cc in
-              inl (or_second turned _ (subst (λ (r : Record). turns told.letter w r (stepped setting w r).world ≡ true) (sym same) so))
+              inl (or_true turned _ (subst (λ (r : Record). turns told.letter w r (stepped setting w r).world ≡ true) (sym same) so))
           by (r ∷ rs) e so =
               let same : x ≡ r = cc in
               let rest : front ≡ rs ++ t.own ∷ t.following = cc in

@@ -3,6 +3,7 @@ use Rattle.law_answers.proofs.Imports.{◌∙◌, ◌≡◌, Actor, At, Cell, Ha
 use Rattle.law_answers.proofs.Imports.{setting_in, subst, sym, was_sent, ℕ}
 use Rattle.law_answers.specs.FullCauses.{SecondHadNone, WasToldBySecond}
 use Rattle.law_answers.proofs.Reasons.{reason_found}
+use Rattle.law_answers.proofs.SlotLetters.{one_server}
 use Rattle.petal_msg.specs.declared.body.Body.TheVariants as body
 use Rattle.petal_msg.specs.declared.letter.Actor.TheVariants as actor
 
@@ -44,6 +45,3 @@ told_lead run n number cell heard =
       reason = subst (λ k. SecondHadNone (setting_in run) (At run.script was.front) was.own.actor was.own.step k number cell)
           (one_server (sym t.to ∙ heard.own)) t.reason;
     }
-  where
-    one_server : {i j : ℕ} → actor.Server i ≡ actor.Server j → i ≡ j
-    one_server e = cc

@@ -48,8 +48,8 @@ logged_not_full (body.PairFull number cell) e = true_false e refl
 logged_not_full (body.Reserve number cell) e = true_false e refl
 logged_not_full _ e = refl
 
-pub one_client : {c d : ℕ} → actor.Client c ≡ actor.Client d → c ≡ d
-one_client e = cc
+pub one_server : {i j : ℕ} → actor.Server i ≡ actor.Server j → i ≡ j
+one_server e = cc
 
 -- a slot is asked for, for an operation of this number on a cell that the server leads in Both
 pub record AsksFor (setting : Setting) (w : World) (n : ℕ) (new : PairState) (number : ℕ) (cell : Cell) : Type 0 where

@@ -1,7 +1,7 @@
 -- Where a plain log gives a client its verdict: by the client's own command, of which the state before its place says what the verdict says;
 -- and a snapshot that waits there is taken once its fence passes.
-use Rattle.law_answers.proofs.Imports.{◌+◌, ◌<◌, ◌∙◌, ◌≡◌, ◌≢◌, ◌≤◌, ◌⊎◌, Answer, Caught, Command, DiskRow, Drained, Fence, IsForRegion, IsForSnapshot}
-use Rattle.law_answers.proofs.Imports.{IsNoting, IsPlainLog, IsRequeued, IsUnsettled, Join, Leave, List, MakeDisk, Moved, None, Of_disk, Of_region, Option}
+use Rattle.law_answers.proofs.Imports.{◌+◌, ◌<◌, ◌∙◌, ◌≡◌, ◌≢◌, ◌≤◌, ◌⊎◌, Answer, Caught, Command, DiskRow, Drained, Fence, HasProperTuples, IsForRegion}
+use Rattle.law_answers.proofs.Imports.{IsForSnapshot, IsNoting, IsRequeued, IsUnsettled, Join, Leave, List, MakeDisk, Moved, None, Of_disk, Of_region, Option}
 use Rattle.law_answers.proofs.Imports.{Region, Request, Snap, Snapshot, Some, StartMove, Verdict, Whole, Witness, act, act_caught, act_drained, act_moved}
 use Rattle.law_answers.proofs.Imports.{act_note, act_snap, act_start, acting, ap, arith, by_test, cases_lt, command_of, effect, false, following, get_after}
 use Rattle.law_answers.proofs.Imports.{get_last, get_within, has_made, head_get, here_now, inl, inr, is_moving, is_name_taken, is_new, is_none, is_snap}
@@ -27,7 +27,7 @@ use Rattle.script_lines.specs.declared.request.Request.TheVariants as request
 
 -- ### Along a log
 
-module _ (servers : ℕ) (log : List Command) (plain : IsPlainLog servers log) where
+module _ (servers : ℕ) (log : List Command) (plain : HasProperTuples servers log) where
   -- the state before a place
   abbrev at : ℕ → State
   at k = state_after servers (take k log)

@@ -1,7 +1,7 @@
 -- One entry more of the chosen log, and what is so of the world and of the log before it.
-use Rattle.law_copies.proofs.Imports.{[], if◌then◌else◌, ◌++◌, ◌==◌, ◌∷◌, ◌≡◌, ◌⊎◌, Caught, Cell, Command, IsPlainLog, IsPrefix, List, None, Record, Setting}
-use Rattle.law_copies.proofs.Imports.{State, Store, WasStarted, World, blank_joins_in, false, front_on, is_in, joins_blank, server_state, start, state_after}
-use Rattle.law_copies.proofs.Imports.{true, world_after, ℕ}
+use Rattle.law_copies.proofs.Imports.{[], if◌then◌else◌, ◌++◌, ◌==◌, ◌∷◌, ◌≡◌, ◌⊎◌, Caught, Cell, Command, HasProperTuples, IsPrefix, List, None, Record}
+use Rattle.law_copies.proofs.Imports.{Setting, State, Store, WasStarted, World, blank_joins_in, false, front_on, is_in, joins_blank, server_state, start}
+use Rattle.law_copies.proofs.Imports.{state_after, true, world_after, ℕ}
 use Rattle.law_copies.specs.GoodCopies.{Good}
 use Rattle.law_copies.specs.Pair.{HaveMarks}
 use Rattle.law_copies.specs.Visits.{Visits, with_stores}
@@ -50,7 +50,7 @@ pub record AtNext : Type 0 where
   pub new : ℕ → Store
   pub good : Good setting records top (with_stores u old)
   pub following : IsAfter setting records top u
-  pub all : IsPlainLog setting.servers (top ++ entry ∷ [])
+  pub all : HasProperTuples setting.servers (top ++ entry ∷ [])
   pub started : (of link holder inc other other_inc : ℕ) → entry ≡ Caught of link holder inc other other_inc
       → WasStarted setting records holder inc top (record { map = of; link = link })
   pub recounts : AreRecounted setting u (state_after setting.servers top) entry old new

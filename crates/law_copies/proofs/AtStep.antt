@@ -1,12 +1,12 @@
 -- A step of a server, over what was good before it.
-use Rattle.law_copies.proofs.Imports.{◌≡◌, ◌≢◌, Command, IsPlainLog, IsPrefix, List, None, Record, Server, Setting, World, ℕ}
+use Rattle.law_copies.proofs.Imports.{◌≡◌, ◌≢◌, Command, HasProperTuples, IsPrefix, List, None, Record, Server, Setting, World, ℕ}
 use Rattle.law_copies.specs.GoodCopies.{Good}
 
 -- the world after a step of this server, which leaves each other server as it is, and does not take the server beyond the log so far
 pub record IsStep (setting : Setting) (top : List Command) (w v : World) (k : ℕ) (server : Server) : Type 0 where
   pub here : v.servers k ≡ server
   pub others : (n : ℕ) → n ≢ k → v.servers n ≡ w.servers n
-  pub plain : IsPlainLog setting.servers top
+  pub plain : HasProperTuples setting.servers top
   pub before : (n : ℕ) → IsPrefix (w.servers n).log.applied top
   pub onward : IsPrefix (w.servers k).log.applied server.log.applied
   pub within : IsPrefix server.log.applied top

@@ -1,9 +1,9 @@
 -- A Join of a server with an empty store makes a new place of each of the server's links: so at one place of a link each of its two
 -- servers has one store.
-use Rattle.law_copies.proofs.Imports.{[], if◌then◌else◌, ◌&&◌, ◌+◌, ◌<◌, ◌==◌, ◌∙◌, ◌∷◌, ◌≡◌, ◌≤◌, Cell, Command, IsPlainLog, IsPrefix, Join, LinkRow, List}
-use Rattle.law_copies.proofs.Imports.{Setting, State, Store, after, ap, arith, blank_joins_from, blank_joins_in, both_true, by_bool, has_server, inl, inr}
-use Rattle.law_copies.proofs.Imports.{joins_blank, joins_grow, joins_on, may_join, places_from, places_of_both, refl, same_numbers, slice_get, state_after}
-use Rattle.law_copies.proofs.Imports.{sym, touches, true, true_false, ℕ}
+use Rattle.law_copies.proofs.Imports.{[], if◌then◌else◌, ◌&&◌, ◌+◌, ◌<◌, ◌==◌, ◌∙◌, ◌∷◌, ◌≡◌, ◌≤◌, Cell, Command, HasProperTuples, IsPrefix, Join, LinkRow}
+use Rattle.law_copies.proofs.Imports.{List, Setting, State, Store, after, ap, arith, blank_joins_from, blank_joins_in, both_true, by_bool, has_server, inl}
+use Rattle.law_copies.proofs.Imports.{inr, joins_blank, joins_grow, joins_on, may_join, places_from, places_of_both, refl, same_numbers, slice_get}
+use Rattle.law_copies.proofs.Imports.{state_after, sym, touches, true, true_false, ℕ}
 use Rattle.spec_state.specs.State.{start}
 use Rattle.law_copies.specs.Visits.{IsLinked, place_by, store_by}
 use Rattle.law_copies.proofs.PlacesByFronts.{fronts_meet, place_of_later}
@@ -55,7 +55,7 @@ module _ (setting : Setting) where
       let le = joins_places s prefix.later n row has in
       omega arith
 
-  module _ (whole : List Command) (plain : IsPlainLog setting.servers whole) where
+  module _ (whole : List Command) (plain : HasProperTuples setting.servers whole) where
     joins_at_up : (front more : List Command) (cell : Cell) (row now : LinkRow) (n : ℕ) → IsPrefix front more → IsPrefix more whole
         → IsLinked setting front cell row → IsLinked setting more cell now → has_server n row ≡ true
         → place_by setting front row ≡ place_by setting more now

@@ -1,5 +1,5 @@
 -- What a job leaves of a cell without a link.
-use Rattle.law_copies.proofs.Imports.{◌∙◌, ◌≡◌, Body, Cell, Did, Effect, IsPlainState, JobContext, JobResult, LinkId, LinkRow, May, None, PairState, Some}
+use Rattle.law_copies.proofs.Imports.{◌∙◌, ◌≡◌, Body, Cell, Did, Effect, IsSettledState, JobContext, JobResult, LinkId, LinkRow, May, None, PairState, Some}
 use Rattle.law_copies.proofs.Imports.{State, ap, applied, by_bool, cell_link, eq_by_cmp, false, id_of, inl, inr, job_keeps, link_at, link_cmp, link_named}
 use Rattle.law_copies.proofs.Imports.{linked, none_some, owner, progress_beside, progress_on, refl, same_id, some_or_none, sym, ℕ}
 use Rattle.law_jobs.specs.Effects.{Moves_on}
@@ -8,7 +8,7 @@ use Rattle.law_copies.proofs.RolesOfWorkers.{named_id}
 -- ### Links
 
 -- where a cell has no link its map has none
-map_unlinked : (servers : ℕ) (state : State) → IsPlainState servers state → (cell : Cell) → cell_link state cell ≡ None → (link : ℕ)
+map_unlinked : (servers : ℕ) (state : State) → IsSettledState servers state → (cell : Cell) → cell_link state cell ≡ None → (link : ℕ)
     → link_at state.links cell.map link ≡ None
 map_unlinked servers state plain cell none link = elim (some_or_none (owner state cell.map)) [
   | inl owned ↦ none_some none (linked servers state plain cell (λ gone. none_some gone owned.1)).1
@@ -16,7 +16,7 @@ map_unlinked servers state plain cell none link = elim (some_or_none (owner stat
 ]
 
 -- a link of its map is none that is found by its name
-pub unlinked_apart : (servers : ℕ) (state : State) → IsPlainState servers state → (cell : Cell) → cell_link state cell ≡ None → (row : LinkRow)
+pub unlinked_apart : (servers : ℕ) (state : State) → IsSettledState servers state → (cell : Cell) → cell_link state cell ≡ None → (row : LinkRow)
     → row.map ≡ cell.map → (id : LinkId) (of : LinkRow) → link_named state id ≡ Some of → eq_by_cmp link_cmp (id_of row) (id_of of) ≡ false
 unlinked_apart servers state plain cell none row map_is id of named = by_bool (eq_by_cmp link_cmp (id_of row) (id_of of))
     (λ t.

@@ -1,12 +1,11 @@
 -- Each step that is allowed keeps what is kept of two copies, by the stores that count, and so does every legal history.
 use Rattle.law_copies.proofs.Imports.{[], if◌then◌else◌, ◌++◌, ◌∙◌, ◌∷◌, ◌≡◌, ◌≤◌, AreSteps, BeforeBlank, Blank, Blanks, Cell, Happens, In, IsPrefix, IsSound}
-use Rattle.law_copies.proofs.Imports.{List, Option, Post, Reaction, Record, Script, Serves, Setting, Some, State, Store, Turns, World, always_firm, ap, arith}
-use Rattle.law_copies.proofs.Imports.{before_part, below_itself, blank_joins_in, blanked, by_bool, by_run, chosen_log, chosen_state, client_sender, counted}
-use Rattle.law_copies.proofs.Imports.{counted_by, false, front_itself, front_on, history_grows, history_is_firm, in-append, inl, inr, is_between, kept}
-use Rattle.law_copies.proofs.Imports.{kept_store, last_happens, letters_of, none_some, number_itself, put_apart, put_at, put_same, reacts, refl, run_of}
+use Rattle.law_copies.proofs.Imports.{List, Option, Post, Reaction, Record, Script, Serves, Setting, Some, State, Store, Turns, World, acts, always_firm, ap}
+use Rattle.law_copies.proofs.Imports.{arith, before_part, below_itself, blank_joins_in, blanked, by_bool, by_run, chosen_log, chosen_state, client_sender}
+use Rattle.law_copies.proofs.Imports.{counted, counted_by, false, front_itself, front_on, history_grows, history_is_firm, in-append, inl, inr, is_between}
+use Rattle.law_copies.proofs.Imports.{kept, kept_store, last_happens, letters_of, none_some, number_itself, put_apart, put_at, put_same, reacts, refl, run_of}
 use Rattle.law_copies.proofs.Imports.{same_or_apart, setting_of, split_last, stamped, start, stays, subject_of, subst, sym, true_false, turned_asks}
 use Rattle.law_copies.proofs.Imports.{with_store, world_after, ℕ}
-use Rattle.spec_rules.specs.World.{acts}
 use Rattle.law_copies.proofs.StoreHistories.{join_empty, join_own}
 use Rattle.law_copies.specs.GoodCopies.{Good}
 use Rattle.law_copies.specs.Visits.{is_at}

@@ -1,8 +1,9 @@
 -- Joins with an empty store between a front of the log and the whole of it.
-use Rattle.law_copies.proofs.Imports.{[], ◌++◌, ◌<◌, ◌∙◌, ◌∷◌, ◌≡◌, ◌≢◌, ◌≤◌, ◌⊎◌, Bool, Command, HasJoinedSince, In, IsPrefix, Join, List, ap, append-nil}
+use Rattle.law_copies.proofs.Imports.{[], ◌++◌, ◌∙◌, ◌∷◌, ◌≡◌, ◌≢◌, ◌⊎◌, Bool, Command, HasJoinedSince, In, IsPrefix, Join, List, ap, append-nil}
 use Rattle.law_copies.proofs.Imports.{append_assoc, arith, blank_joins_from, counts_joins, drop, front_itself, front_long, front_more, front_on, front_within}
 use Rattle.law_copies.proofs.Imports.{in_later, inl, inr, length, length-append, one_front, refl, same_some, slice_get, subst, sym, true, ℕ}
 use Rattle.spec_state.specs.State.{start}
+use Rattle.law_copies.proofs.PlacesByFronts.{at_most_or_above}
 
 -- where more are counted one has acted
 joined_by : (servers : ℕ) (n : ℕ) (front later : List Command) → blank_joins_from (start servers) (front ++ later) n ≢ blank_joins_from (start servers) front n
@@ -50,13 +51,10 @@ stands_in front whole entry prefix =
 -- one that does not stand in a front stands after it
 pub after_front : (front log whole : List Command) (entry : Command) → IsPrefix front whole → IsPrefix (log ++ entry ∷ []) whole
     → In entry front ⊎ IsPrefix front log
-after_front front log whole entry one two = elim (either (length front) (length log)) [
+after_front front log whole entry one two = elim (at_most_or_above (length front) (length log)) [
   | inl within ↦ inr (front_within front log whole one (front_on log (log ++ entry ∷ []) whole (front_more log entry) two) within)
   | inr past ↦ inl (stands_in log front entry (front_within (log ++ entry ∷ []) front whole two one (omega (arith, past, length-append log (entry ∷ [])))))
 ]
-  where
-    either : (a b : ℕ) → (a ≤ b) ⊎ (b < a)
-    either a b = grind arith
 
 -- what joins between a log and the log with one entry more is that entry
 pub joins_by_entry : (servers : ℕ) (log : List Command) (entry : Command) (n inc : ℕ) (blank : Bool)

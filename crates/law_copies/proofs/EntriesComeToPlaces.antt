@@ -1,12 +1,12 @@
 -- An entry that a server applies: of each cell the server comes to a new place with nothing in memory of it, or it stays where it was.
-use Rattle.law_copies.proofs.Imports.{[], ◌++◌, ◌+◌, ◌∙◌, ◌∷◌, ◌≡◌, ◌≤◌, ◌⊎◌, Both, By_caught, By_join, By_leave, Caught, Cell, Command, HasStarted, In}
-use Rattle.law_copies.proofs.Imports.{IsCaughtBy, IsPlain, IsPlainLog, IsPrefix, IsSteady, LastCopy, LinkRow, List, None, PairState, Pairs, Pending, Some}
-use Rattle.law_copies.proofs.Imports.{State, StaysSo, after, alone_not_both, ap, arith, at, both_before, by_bool, cell_cmp, cell_link, chosen_log, copying_on}
-use Rattle.law_copies.proofs.Imports.{crossed, false, front_itself, front_more, front_plain, held_as_flag, id_of, in_later, in_once, inl, inr, is_in}
-use Rattle.law_copies.proofs.Imports.{is_the_one, last_copy, left_not_both, left_row, length, link_cmp, link_led_by, live, live_stage, log_entry_stays}
-use Rattle.law_copies.proofs.Imports.{log_steady, log_touched, no_progress, none_some, option_and_then, other_of, pending_on, refl, row_lead, row_named}
-use Rattle.law_copies.proofs.Imports.{same_or_apart, same_some, server_state, some_or_none, stage_at, stage_live, state_after, subst, sym, touches, true}
-use Rattle.law_copies.proofs.Imports.{true_false, unwrap_or, ℕ}
+use Rattle.law_copies.proofs.Imports.{[], ◌++◌, ◌+◌, ◌∙◌, ◌∷◌, ◌≡◌, ◌≤◌, ◌⊎◌, Both, By_caught, By_join, By_leave, Caught, Cell, Command, HasProperTuple}
+use Rattle.law_copies.proofs.Imports.{HasProperTuples, HasStarted, In, IsCaughtBy, IsPrefix, IsSteady, LastCopy, LinkRow, List, None, PairState, Pairs}
+use Rattle.law_copies.proofs.Imports.{Pending, Some, State, StaysSo, after, alone_not_both, ap, arith, at, both_before, by_bool, cell_cmp, cell_link}
+use Rattle.law_copies.proofs.Imports.{chosen_log, copying_on, crossed, false, front_itself, front_more, front_plain, held_as_flag, id_of, in_later, in_once}
+use Rattle.law_copies.proofs.Imports.{inl, inr, is_in, is_the_one, last_copy, left_not_both, left_row, length, link_cmp, link_led_by, live, live_stage}
+use Rattle.law_copies.proofs.Imports.{log_entry_stays, log_steady, log_touched, no_progress, none_some, option_and_then, other_of, pending_on, refl, row_lead}
+use Rattle.law_copies.proofs.Imports.{row_named, same_or_apart, same_some, server_state, some_or_none, stage_at, stage_live, state_after, subst, sym, touches}
+use Rattle.law_copies.proofs.Imports.{true, true_false, unwrap_or, ℕ}
 use Rattle.law_copies.specs.GoodCopies.{IsUnheard}
 use Rattle.law_copies.specs.Pair.{HaveMarks}
 use Rattle.law_copies.specs.Visits.{AliveIn, IsLinked, place_by, with_stores}
@@ -44,13 +44,13 @@ module _ (it : AtEntry) where
   step_on : IsPrefix front next
   step_on = subst (IsPrefix front) (sym more) (front_more front entry)
 
-  plain_next : IsPlainLog setting.servers next
+  plain_next : HasProperTuples setting.servers next
   plain_next = front_plain setting.servers next (chosen_log setting w) firm.plain step.within
 
-  plain_front : IsPlainLog setting.servers front
+  plain_front : HasProperTuples setting.servers front
   plain_front = front_plain setting.servers front (chosen_log setting w) firm.plain (firm.servers k)
 
-  plain_entry : IsPlain setting.servers entry
+  plain_entry : HasProperTuple setting.servers entry
   unfolding In
   plain_entry = plain_next entry (subst (In entry) (sym more) (in_later entry front (entry ∷ []) (inl refl)))
 

@@ -1,17 +1,17 @@
 -- A job leaves a cell whose link the server is not of, or that has no link.
 use Rattle.law_copies.proofs.Imports.{◌<◌, ◌∙◌, ◌≡◌, ◌⊎◌, Asks_page, Begins_copy, Body, Both, ByBoth, ByNone, ByOne, By_filler, By_holder, By_lead, By_other}
-use Rattle.law_copies.proofs.Imports.{By_read, By_second, By_sweep, Cell, Did, DidHolder, DidLead, DidOther, DidSecond, Finds_it_full, Goes_on_copying}
-use Rattle.law_copies.proofs.Imports.{Ignores, IsBothRow, IsHeld, IsInBoth, IsLinked, IsSteady, JobContext, JobResult, LinkRow, Lost, None, Option, PairState}
-use Rattle.law_copies.proofs.Imports.{Refuses, Some, Tidies, Turns_page, ap, arith, by_bool, cell_holder, cell_link, dead_second, false, has_server}
-use Rattle.law_copies.proofs.Imports.{holder_of, inl, inr, is_alone, is_second, is_the_one, leads_link, link_led_by, live, live_stage, none_some, of_read}
-use Rattle.law_copies.proofs.Imports.{option_and_then, other_of, primary_is_one, refl, row_lead, same_some, second, second_by, secondary_is_one, stage_at}
-use Rattle.law_copies.proofs.Imports.{subst, sym, true, true_false, ℕ}
+use Rattle.law_copies.proofs.Imports.{By_read, By_second, By_sweep, Cell, Did, DidHolder, DidOther, Finds_it_full, Goes_on_copying, Ignores, IsBothRow}
+use Rattle.law_copies.proofs.Imports.{IsHeld, IsInBoth, IsLinked, IsSteady, JobContext, JobResult, LinkRow, Lost, None, Option, PairState, Refuses, Some}
+use Rattle.law_copies.proofs.Imports.{Tidies, Turns_page, ap, arith, by_bool, cell_holder, cell_link, dead_second, false, has_server, holder_of, inl, inr}
+use Rattle.law_copies.proofs.Imports.{is_alone, is_second, is_the_one, leads_link, link_led_by, live, live_stage, none_some, of_read, option_and_then}
+use Rattle.law_copies.proofs.Imports.{other_of, primary_is_one, refl, row_lead, same_some, second, second_by, secondary_is_one, stage_at, subst, sym, true}
+use Rattle.law_copies.proofs.Imports.{true_false, ℕ}
 use Rattle.law_copies.specs.LoneSteps.{IsBare, IsFit, IsNotOf, KeepsCell, KeepsRest}
 use Rattle.law_copies.proofs.OwnPartFrames.{keeps_itself}
 use Rattle.law_copies.proofs.RolesOfWorkers.{IsHeldHere, alone_both, begun_held, copying_held, holder_lives, holder_works, not_both, only_alone, other_alone}
 use Rattle.law_copies.proofs.RolesOfWorkers.{other_lives, other_row, page_held, taken_held}
 use Rattle.law_copies.proofs.WorkedCell.{Away, IsHeldBy, IsLedHere, IsSo, filler_beside, holder_beside, holder_cell, lead_beside, lead_cell, lead_leads}
-use Rattle.law_copies.proofs.WorkedCell.{led_alive, other_beside, other_cell, other_held, page_cell, second_beside, second_cell, second_follows, sweep_beside}
+use Rattle.law_copies.proofs.WorkedCell.{led_alive, other_beside, other_cell, other_held, page_cell, second_beside, second_follows, sweep_beside}
 
 pub away : (P : Cell → Type 0) (q : Cell) → (P q → ⊥) → (o : Option Cell) → IsSo P o → Away q o
 away P q not_so None so = tt
@@ -29,26 +29,44 @@ pub record IsIdleAt (here : JobContext) (q : Cell) : Type 0 where
   pub no_holder : IsHeldHere here q → ⊥
   pub no_other : (holder : ℕ) → cell_holder here q ≡ Some holder → ⊥
 
+-- what a job is to a cell that the server neither leads nor is the second of: it leaves the cell, or is one of copies
+pub data IsBeside (heard : Body → Type 0) (here : JobContext) (own : PairState) (q : Cell) (done : JobResult) : Type 0 where
+  Is_kept : KeepsCell q own done.own → IsBeside heard here own q done
+  Of_holder : DidHolder heard here own done → IsBeside heard here own q done
+  Of_other : DidOther heard here own done → IsBeside heard here own q done
+
+pub beside : (heard : Body → Type 0) (here : JobContext) (own : PairState) → IsFit heard here own → (q : Cell) → (IsLedHere heard here own q → ⊥)
+    → (is_second here.state here.me q ≡ true → ⊥) → stage_at here.state q < 4 → (done : JobResult) → Did heard here own done
+    → IsBeside heard here own q done
+beside heard here own fit q no_lead no_second alive = by
+  where
+    by : (done : JobResult) → Did heard here own done → IsBeside heard here own q done
+    by _ Ignores = Is_kept (keeps_itself q own)
+    by _ (Refuses to said is why because) = Is_kept (keeps_itself q own)
+    by _ (By_read done d) = Is_kept (subst (KeepsCell q own) (sym (of_read heard here own done d).same) (keeps_itself q own))
+    by _ (By_lead done d) = Is_kept (lead_beside heard here own fit.ready done d q
+        (away (IsLedHere heard here own) q no_lead (lead_cell heard here own done d) (lead_leads heard here own fit.ready done d)))
+    by _ (By_second done d) = Is_kept (second_beside heard here own done d q
+        (λ e. no_second (subst (λ (c : Cell). is_second here.state here.me c ≡ true) (sym e) (second_follows heard here own done d))))
+    by _ (By_holder done d) = Of_holder d
+    by _ (By_other done d) = Of_other d
+    by _ (By_filler done d) = Is_kept (filler_beside heard here own done d q)
+    by _ (By_sweep done d) = Is_kept (sweep_beside heard here own done d q alive (fit.bare q))
+
 -- a cell that is not live yet keeps what a server has of it: what is worked on was live
 module _ (heard : Body → Type 0) (here : JobContext) (own : PairState) (fit : IsFit heard here own) (q : Cell) (unborn : stage_at here.state q ≡ 0) where
   not_live : live here.state q ≡ true → ⊥
   not_live on = let up = (live_stage here.state q on).0 in absurd (omega arith)
 
   pub unborn_keeps : (done : JobResult) → Did heard here own done → KeepsCell q own done.own
-  unborn_keeps _ Ignores = keeps_itself q own
-  unborn_keeps _ (Refuses to said is why because) = keeps_itself q own
-  unborn_keeps _ (By_read done d) = subst (KeepsCell q own) (sym (of_read heard here own done d).same) (keeps_itself q own)
-  unborn_keeps _ (By_lead done d) = lead_beside heard here own fit.ready done d q
-      (away (IsLedHere heard here own) q (λ led. let up = led.born in absurd (omega arith)) (lead_cell heard here own done d)
-      (lead_leads heard here own fit.ready done d))
-  unborn_keeps _ (By_second done d) = second_beside heard here own done d q
-      (λ e. not_live (ap (live here.state) e ∙ second_live here (second_cell heard here own done d) (second_follows heard here own done d)))
-  unborn_keeps _ (By_holder done d) = holder_beside heard here own done d q
-      (away (λ c. live here.state c ≡ true) q not_live (holder_cell heard here own done d) (holder_lives heard here own fit done d))
-  unborn_keeps _ (By_other done d) = other_beside heard here own done d q
-      (away (λ c. live here.state c ≡ true) q not_live (other_cell heard here own done d) (other_lives heard here own fit done d))
-  unborn_keeps _ (By_filler done d) = filler_beside heard here own done d q
-  unborn_keeps _ (By_sweep done d) = sweep_beside heard here own done d q (omega arith) (fit.bare q)
+  unborn_keeps done did = elim (beside heard here own fit q (λ led. let up = led.born in absurd (omega arith)) (λ e. not_live (second_live here q e))
+      (omega arith) done did) [
+        | Is_kept kept ↦ kept
+        | Of_holder d ↦ holder_beside heard here own done d q
+            (away (λ c. live here.state c ≡ true) q not_live (holder_cell heard here own done d) (holder_lives heard here own fit done d))
+        | Of_other d ↦ other_beside heard here own done d q
+            (away (λ c. live here.state c ≡ true) q not_live (other_cell heard here own done d) (other_lives heard here own fit done d))
+      ]
 
   -- what it has then is what it had
   pub unborn_bare : (done : JobResult) → Did heard here own done → IsBare done.own q
@@ -59,22 +77,13 @@ module _ (heard : Body → Type 0) (here : JobContext) (own : PairState) (fit : 
 
 module _ (heard : Body → Type 0) (here : JobContext) (own : PairState) (fit : IsFit heard here own) (q : Cell) (idle : IsIdleAt here q)
     (alive : stage_at here.state q < 4) where
-  read_keeps : (done : JobResult) → done.own ≡ own → KeepsCell q own done.own
-  read_keeps done same = subst (KeepsCell q own) (sym same) (keeps_itself q own)
-
   other_keeps : (done : JobResult) (d : DidOther heard here own done) → KeepsCell q own done.own
   other_keeps done d = other_beside heard here own done d q
       (away (IsHeldBy heard here own) q (λ h. idle.no_other h.holder h.held) (other_cell heard here own done d)
       (other_held heard here own done d))
 
-  lead_keeps : (done : JobResult) (d : DidLead heard here own done) → KeepsCell q own done.own
-  lead_keeps done d = lead_beside heard here own fit.ready done d q
-      (away (IsLedHere heard here own) q (λ led. idle.no_lead (led_alive heard here own q alive led)) (lead_cell heard here own done d)
-      (lead_leads heard here own fit.ready done d))
-
-  second_keeps : (done : JobResult) (d : DidSecond heard here own done) → KeepsCell q own done.own
-  second_keeps done d = second_beside heard here own done d q
-      (λ e. idle.no_second (subst (λ (c : Cell). is_second here.state here.me c ≡ true) (sym e) (second_follows heard here own done d)))
+  aside : (done : JobResult) → Did heard here own done → IsBeside heard here own q done
+  aside = beside heard here own fit q (λ led. idle.no_lead (led_alive heard here own q alive led)) idle.no_second alive
 
   -- where the cell's link isn't in Both
   module _ (no_both : IsBothRow here.state q → ⊥) where
@@ -85,15 +94,7 @@ module _ (heard : Body → Type 0) (here : JobContext) (own : PairState) (fit : 
         (holder_cell heard here own done d) (holder_works heard here own fit done d))
 
     pub did_keeps : (done : JobResult) → Did heard here own done → KeepsCell q own done.own
-    did_keeps _ Ignores = keeps_itself q own
-    did_keeps _ (Refuses to said is why because) = keeps_itself q own
-    did_keeps _ (By_read done d) = read_keeps done (of_read heard here own done d).same
-    did_keeps _ (By_lead done d) = lead_keeps done d
-    did_keeps _ (By_second done d) = second_keeps done d
-    did_keeps _ (By_holder done d) = holder_keeps done d
-    did_keeps _ (By_other done d) = other_keeps done d
-    did_keeps _ (By_filler done d) = filler_beside heard here own done d q
-    did_keeps _ (By_sweep done d) = sweep_beside heard here own done d q alive (fit.bare q)
+    did_keeps done did = elim (aside done did) [ Is_kept kept ↦ kept | Of_holder d ↦ holder_keeps done d | Of_other d ↦ other_keeps done d ]
 
   -- and where it is, an old mark may go
   held_away : (o : Option Cell) → IsSo (IsHeldHere here) o → Away q o
@@ -117,15 +118,7 @@ module _ (heard : Body → Type 0) (here : JobContext) (own : PairState) (fit : 
       record { chain = refl; pending = refl; copying = refl; last = refl; followed = refl }
 
   pub did_rest : (done : JobResult) → Did heard here own done → KeepsRest q own done.own
-  did_rest _ Ignores = (keeps_itself q own).rest
-  did_rest _ (Refuses to said is why because) = (keeps_itself q own).rest
-  did_rest _ (By_read done d) = (read_keeps done (of_read heard here own done d).same).rest
-  did_rest _ (By_lead done d) = (lead_keeps done d).rest
-  did_rest _ (By_second done d) = (second_keeps done d).rest
-  did_rest _ (By_holder done d) = holder_rest done d
-  did_rest _ (By_other done d) = (other_keeps done d).rest
-  did_rest _ (By_filler done d) = (filler_beside heard here own done d q).rest
-  did_rest _ (By_sweep done d) = (sweep_beside heard here own done d q alive (fit.bare q)).rest
+  did_rest done did = elim (aside done did) [ Is_kept kept ↦ kept.rest | Of_holder d ↦ holder_rest done d | Of_other d ↦ (other_keeps done d).rest ]
 
 -- ### Who is idle at a cell
 

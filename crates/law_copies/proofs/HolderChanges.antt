@@ -164,7 +164,7 @@ pub record IsUntouched (cell : Cell) (own to : PairState) : Type 0 where
   pub unmarked : IsMarked to.store cell → IsMarked own.store cell
 
 -- the cell's copy is as it was; and the cell is untouched while one is under way, or once a ballot was started
-pub record IsCalm (links : ℕ) (row : LinkRow) (cell : Cell) (own to : PairState) : Type 0 where
+pub record LeavesCopy (links : ℕ) (row : LinkRow) (cell : Cell) (own to : PairState) : Type 0 where
   pub copying : copying_on to cell ≡ copying_on own cell
   pub next : own.pairs.next ≤ to.pairs.next
   pub flag : is_flagged to (id_of row) ≡ is_flagged own (id_of row)
@@ -193,7 +193,7 @@ module _ (heard : Body → Type 0) {links : ℕ} {row : LinkRow} {cell : Cell} {
       let l = old.lasts o last met is in
       elim l.trimmed [ inl none ↦ inl none | inr t ↦ inr (subst (λ (x : PairState). IsTrimming x cell last.op) (sym (same_some l.met)) t) ]
 
-  module _ (to : PairState) (calm : IsCalm links row cell own to) where
+  module _ (to : PairState) (calm : LeavesCopy links row cell own to) where
     calm_number : number_above (copying_on own cell) own.pairs.next ≤ number_above (copying_on to cell) to.pairs.next
     calm_number = by (copying_on own cell) (copying_on to cell) calm.copying
       where

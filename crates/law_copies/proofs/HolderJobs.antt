@@ -1,15 +1,15 @@
 -- Each job of the holder of a link keeps a cell of it.
-use Rattle.law_copies.proofs.Imports.{◌+◌, ◌<◌, ◌∙◌, ◌≡◌, ◌≢◌, ◌≤◌, Asks_page, Asks_to_trim, Begins_copy, Body, Both, By_filler, By_holder, By_lead, By_other}
-use Rattle.law_copies.proofs.Imports.{By_read, By_second, By_sweep, Cell, Closes_copy, Copies, CopyStep, Copy_as_is, Copy_synced, Copy_trimmed, Copying, Did}
-use Rattle.law_copies.proofs.Imports.{DidHolder, DidOther, DidSecond, Drops_entry, Finds_it_full, Goes_on_copying, Goes_on_trimming, Ignores, In, IsHeldWith}
-use Rattle.law_copies.proofs.Imports.{Is_copied_to, Is_trimmed, JobContext, JobResult, LastCopy, LinkId, LinkRow, None, Option, PairState, Pairs, Post}
-use Rattle.law_copies.proofs.Imports.{Progress, Refuses, Sends, Some, Stale, TakenCopy, Tidies, TrimStep, Turns_page, Unmarks_copied, about, above, ap, arith}
-use Rattle.law_copies.proofs.Imports.{at, begins_copy, by_bool, cell_at, cell_cmp, cell_gone, cell_gone_apart, cell_link, cell_same, chain_in, closed_pairs}
-use Rattle.law_copies.proofs.Imports.{closed_store, closes, copying_on, epochs_of, eq_by_cmp, false, first_copy, first_last, id_of, idle_mark, inl, inr}
-use Rattle.law_copies.proofs.Imports.{is_second, key_at, length, link_cmp, link_named, link_of, none_in, of_filler, of_holder, of_other, of_read, of_second}
-use Rattle.law_copies.proofs.Imports.{of_sweep, one_post, posted, progress_beside, progress_on, refl, same_block, same_cell_or_apart, same_id, same_some}
-use Rattle.law_copies.proofs.Imports.{silent, some_or_none, subject_of, subst, sym, true, true_false, turned, with_copied, with_copying, with_full}
-use Rattle.law_copies.proofs.Imports.{with_last_copy, with_mark_on, with_page, without_copying, ℕ}
+use Rattle.law_copies.proofs.Imports.{◌+◌, ◌<◌, ◌∙◌, ◌≡◌, ◌≢◌, ◌≤◌, Asks_page, Asks_to_trim, Begins, Begins_copy, Body, Both, By_filler, By_holder, By_lead}
+use Rattle.law_copies.proofs.Imports.{By_other, By_read, By_second, By_sweep, Cell, Closes_copy, Copies, CopyStep, Copy_as_is, Copy_synced, Copy_trimmed}
+use Rattle.law_copies.proofs.Imports.{Copying, Did, DidHolder, DidOther, DidSecond, Drops_entry, Finds_it_full, Goes_on, Goes_on_copying, Goes_on_trimming}
+use Rattle.law_copies.proofs.Imports.{Ignores, IsCopying, IsHeldWith, Is_copied_to, Is_trimmed, JobContext, JobResult, LastCopy, LinkId, LinkRow, None}
+use Rattle.law_copies.proofs.Imports.{Option, PairState, Pairs, Post, Progress, Refuses, Says, Sends, Some, Stale, TakenCopy, Tidies, TrimStep, Turns_page}
+use Rattle.law_copies.proofs.Imports.{Unmarks_copied, about, above, ap, arith, at, begins_copy, by_bool, cell_at, cell_cmp, cell_gone, cell_gone_apart}
+use Rattle.law_copies.proofs.Imports.{cell_holder, cell_link, cell_same, chain_in, closed_pairs, closed_store, closes, copying_on, eq_by_cmp, false}
+use Rattle.law_copies.proofs.Imports.{first_copy, first_last, id_of, idle_mark, inl, inr, is_second, length, letters_of_job, link_cmp, link_named, link_of}
+use Rattle.law_copies.proofs.Imports.{of_filler, of_holder, of_other, of_read, of_second, of_sweep, progress_beside, progress_on, refl, same_block}
+use Rattle.law_copies.proofs.Imports.{same_cell_or_apart, same_id, same_some, silent, some_or_none, subst, sym, true, true_false, turned, with_copied}
+use Rattle.law_copies.proofs.Imports.{with_copying, with_full, with_last_copy, with_mark_on, with_page, without_copying, ℕ}
 use Rattle.law_copies.specs.CopyProgress.{AreCopying, IsLeft, IsTold}
 use Rattle.law_copies.specs.LoneSteps.{HolderKeeps, IsHolding, KeepsCell}
 use Rattle.law_copies.proofs.ForeignCellsStay.{away}
@@ -20,7 +20,7 @@ use Rattle.law_copies.proofs.HolderChanges.{HolderStep, step_on}
 use Rattle.law_copies.proofs.LeftToCopy.{IsNext, next_is}
 use Rattle.law_copies.proofs.CopiesGoOn.{IsOnward, begun_onward, closed_onward, copied_itself, ended_onward, going_onward, onward_by, onward_tables}
 use Rattle.law_copies.proofs.HolderPace.{IsPaced, link_itself, paced_beside, paced_copied}
-use Rattle.law_copies.proofs.CopyLetters.{at_away, filling_not, holder_says, other_says, paired_not, read_not, refused_not, untold}
+use Rattle.law_copies.proofs.CopyLetters.{telling}
 use Rattle.law_copies.proofs.RolesOfWorkers.{alone_not_row, alone_not_second, cell_map, holder_not_other, idle_on, kept_lives, named_id, one_named, page_on}
 use Rattle.law_copies.proofs.WorkedCell.{Away, IsHeldBy, copy_step_beside, filler_beside, holder_beside, holder_cell, other_beside, other_cell, other_held}
 use Rattle.law_copies.proofs.WorkedCell.{page_cell, second_beside, second_follows, sweep_beside}
@@ -33,9 +33,6 @@ module _ (heard : Body → Type 0) (here : JobContext) (links : ℕ) (row : Link
   -- ### A copy of the cell
 
   module _ (cell : Cell) where
-    abbrev Says : JobResult → Type 0
-    Says done = (post : Post) → In post done.posts → (about post.body).cell ≡ Some cell → IsTold row (Some done.own) vo post.body
-
     itself : (now : PairState) → AreCopying links row cell (Some now) vo → HolderStep heard links row cell vo now now
     itself now old = steps.kept_step heard old now (keeps_itself cell now) (omega arith)
         (record { paged = refl; after = refl; flag = refl })
@@ -49,32 +46,19 @@ module _ (heard : Body → Type 0) (here : JobContext) (links : ℕ) (row : Link
 
     copy_step : (on : cell_link here.state cell ≡ Some row) (now : PairState) (old : AreCopying links row cell (Some now) vo) (copy : Copying)
         → copying_on now cell ≡ Some copy → (done : JobResult)
-        → CopyStep here now cell copy done → HolderStep heard links row cell vo now done.own × Says done
-    copy_step on now old copy is _ (Asks_to_trim fresh) = (
-      itself now old,
-      (λ post i e. subst (IsTold row (Some now) vo)
-          (sym (posted _ (body.Trim copy.op cell (epochs_of (chain_in now.store.chains cell))) post i))
-          (moves.trim_told heard old copy is fresh)),
-    )
-    copy_step on now old copy is _ (Sends r trimmed there) = (
-      itself now old,
-      (λ post i e. subst (IsTold row (Some now) vo)
-          (sym (posted _ (body.Sync copy.op (key_at cell r.0) r.1.version copy.index r.1.bytes) post i))
-          (moves.entry_told heard old copy is r trimmed there)),
-    )
+        → CopyStep here now cell copy done → HolderStep heard links row cell vo now done.own
     copy_step on now old copy is _ (Unmarks_copied kind synced left) =
-        (moves.unmarked_step heard old copy is synced.trimmed synced.past kind, (λ post i e. none_in post i))
+        moves.unmarked_step heard old copy is synced.trimmed synced.past kind
     copy_step on now old copy is _ (Closes_copy synced left) =
         let gone = without_copying now cell in
         let paced = paced_copied (cell_link here.state cell) gone cell.block row in
-        let same = copied_alike (cell_link here.state cell) gone cell.block in (
-          moves.closed_step heard old copy is synced.trimmed (closes here now cell).own
-              (ap (λ t. at cell_cmp t cell) same.copying ∙ cell_gone now.copies.pending cell)
-              (λ q ne. ap (λ t. at cell_cmp t q) same.copying ∙ cell_gone_apart now.copies.pending cell q ne) (closed_store here now cell)
-              (closed_pairs here now cell)
-              paced.paged paced.after paced.flag (closed_block on gone) synced.past,
-          (λ post i e. none_in post i),
-        )
+        let same = copied_alike (cell_link here.state cell) gone cell.block in
+        moves.closed_step heard old copy is synced.trimmed (closes here now cell).own
+        (ap (λ t. at cell_cmp t cell) same.copying ∙ cell_gone now.copies.pending cell)
+        (λ q ne. ap (λ t. at cell_cmp t q) same.copying ∙ cell_gone_apart now.copies.pending cell q ne) (closed_store here now cell)
+        (closed_pairs here now cell)
+        paced.paged paced.after paced.flag (closed_block on gone) synced.past
+    copy_step on now old copy is _ _ = itself now old
 
     taken_copy_step : (f : IsHolding heard here links row cell own vo) (now : PairState) (copy : Copying) → TakenCopy heard own cell now copy
         → HolderStep heard links row cell vo own now × (copying_on now cell ≡ Some copy)
@@ -89,14 +73,13 @@ module _ (heard : Body → Type 0) (here : JobContext) (links : ℕ) (row : Link
         )
 
     goes_on_at : (f : IsHolding heard here links row cell own vo) (now : PairState) (copy : Copying) (done : JobResult) → TakenCopy heard own cell now copy
-        → CopyStep here now cell copy done → HolderStep heard links row cell vo own done.own × Says done
+        → CopyStep here now cell copy done → HolderStep heard links row cell vo own done.own
     goes_on_at f now copy done taken step =
         let one = taken_copy_step f now copy taken in
-        let two = copy_step f.is now one.0.copying copy one.1 done step in
-        (step_on heard links row cell vo own now done.own one.0 two.0, two.1)
+        step_on heard links row cell vo own now done.own one.0 (copy_step f.is now one.0.copying copy one.1 done step)
 
     begins_at : (f : IsHolding heard here links row cell own vo) (n : IsNext here.state row own cell) (done : JobResult)
-        → CopyStep here (begins_copy own cell) cell (first_copy own.pairs.next) done → HolderStep heard links row cell vo own done.own × Says done
+        → CopyStep here (begins_copy own cell) cell (first_copy own.pairs.next) done → HolderStep heard links row cell vo own done.own
     begins_at f n done step =
         let left : IsLeft own row cell =
         elim n.left [
@@ -104,9 +87,9 @@ module _ (heard : Body → Type 0) (here : JobContext) (links : ℕ) (row : Link
           | inr all ↦ inr (record { whole = all.whole; stored = has_entry own.store.chains f.fit.filled cell all.stored }, all.past)
         ] in
         let one = moves.begun_step heard f.old n.paged n.free n.idle left in
-        let two = copy_step f.is (begins_copy own cell) one.copying (first_copy own.pairs.next)
-        (moves.begun_is heard f.old n.paged n.free n.idle left) done step in
-        (step_on heard links row cell vo own (begins_copy own cell) done.own one two.0, two.1)
+        step_on heard links row cell vo own (begins_copy own cell) done.own one
+        (copy_step f.is (begins_copy own cell) one.copying (first_copy own.pairs.next)
+        (moves.begun_is heard f.old n.paged n.free n.idle left) done step)
 
     full_at : (f : IsHolding heard here links row cell own vo) (copy : Copying) → copying_on own cell ≡ Some copy → copy.trimmed ≡ true
         → copy.index < length (chain_in own.store.chains cell) → HolderStep heard links row cell vo own (with_full (without_copying own cell) true)
@@ -134,11 +117,8 @@ module _ (heard : Body → Type 0) (here : JobContext) (links : ℕ) (row : Link
 
     holder_apart : (done : JobResult) (d : DidHolder heard here own done) → Away cell (holder_cell heard here own done d)
         → IsPaced row own done.own → IsOnward links row cell own done.own
-        → Step done × Says cell done
-    holder_apart done d apart paced onward = (
-      kept done (holder_beside heard here own done d cell apart) (of_holder heard here own done d).next paced onward,
-      (λ post i e. at_away cell (holder_cell heard here own done d) (holder_says heard here own done d post i cell e) apart),
-    )
+        → Step done
+    holder_apart done d apart paced onward = kept done (holder_beside heard here own done d cell apart) (of_holder heard here own done d).next paced onward
 
     -- a cell's row is the link's, where it is this cell
     page_apart : (id : LinkId) (r : LinkRow) (after block : Option ℕ) → heard (body.Hello id.map id.link after block)
@@ -184,7 +164,7 @@ module _ (heard : Body → Type 0) (here : JobContext) (links : ℕ) (row : Link
     turns_page : (id : LinkId) (r : LinkRow) (other : ℕ) (after block : Option ℕ) (h : heard (body.Hello id.map id.link after block))
         (held : IsHeldWith here id r other) (fresh : (progress_on own r).paged ≡ false)
         (at : same_block after (progress_on own r).after ≡ true)
-        → Step (turned own r (progress_on own r) block) × Says cell (turned own r (progress_on own r) block)
+        → Step (turned own r (progress_on own r) block)
     turns_page id r other after block h held fresh at = by_bool (eq_by_cmp link_cmp (id_of row) (id_of r))
         (λ t.
         let named : id_of r ≡ id = named_id here.state id r held.is in
@@ -197,18 +177,16 @@ module _ (heard : Body → Type 0) (here : JobContext) (links : ℕ) (row : Link
         (λ (x : LinkRow). same_block after (progress_on own x).after) same ∙ at in
         let one = steps.page_step heard f.old after (cell_map here.state cell row f.is) fresh_here waited
         (unpaged_idle fresh_here cell f.is)
-        (f.met after block said) (λ later on. unpaged_idle fresh_here (cell_at row later) (later_on later on)) block said in (
-          subst (λ (x : LinkRow). HolderStep heard links row cell vo own (with_page own x (progress_on own x) block)) same one,
-          (λ post i e. none_in post i),
-        ))
+        (f.met after block said) (λ later on. unpaged_idle fresh_here (cell_at row later) (later_on later on)) block said in
+        subst (λ (x : LinkRow). HolderStep heard links row cell vo own (with_page own x (progress_on own x) block)) same one)
         (λ no. holder_apart _ (Turns_page id r other after block h held fresh at) (page_apart id r after block h held.is no)
         (page_paced r block no) (page_onward r block no))
 
     -- a copy is at the cell, or apart from it
-    copy_either : (c : Cell) (done : JobResult) → (IsHolding heard here links row c own vo → HolderStep heard links row c vo own done.own × Says c done)
-        → (cell ≢ c → Step done × Says cell done) → Step done × Says cell done
+    copy_either : (c : Cell) (done : JobResult) → (IsHolding heard here links row c own vo → HolderStep heard links row c vo own done.own)
+        → (cell ≢ c → Step done) → Step done
     copy_either c done here_it apart = elim (same_cell_or_apart cell c) [
-      | inl e ↦ subst (λ (q : Cell). HolderStep heard links row q vo own done.own × Says q done) (sym e) (here_it (at_cell c e))
+      | inl e ↦ subst (λ (q : Cell). HolderStep heard links row q vo own done.own) (sym e) (here_it (at_cell c e))
       | inr ne ↦ apart ne
     ]
 
@@ -280,7 +258,7 @@ module _ (heard : Body → Type 0) (here : JobContext) (links : ℕ) (row : Link
           both = both;
         })
 
-    holder_step : (done : JobResult) → DidHolder heard here own done → Step done × Says cell done
+    holder_step : (done : JobResult) → DidHolder heard here own done → Step done
     holder_step _ (Asks_page id r other held fresh) = let same = same_paced own refl refl in
         holder_apart _ (Asks_page id r other held fresh) tt same.0 same.1
     holder_step _ (Turns_page id r other after block h held fresh at) = turns_page id r other after block h held fresh at
@@ -296,12 +274,9 @@ module _ (heard : Body → Type 0) (here : JobContext) (links : ℕ) (row : Link
         (subst (IsOnward links row cell own) begun
         (begun_onward here.state links row cell f.is f.links_are c ne own r n (kept_lives heard here own f.fit cell f.alive))))
     holder_step done (Goes_on_copying c now copy _ taken step) = copy_either c done (λ g. goes_on_at c g now copy done taken step)
-        (λ ne. (
-          goes_apart c ne now copy done taken step,
-          (λ post i e. at_away cell (Some c) (holder_says heard here own done (Goes_on_copying c now copy _ taken step) post i cell e) ne),
-        ))
+        (λ ne. goes_apart c ne now copy done taken step)
     holder_step _ (Finds_it_full c copy h is trimmed lt) = copy_either c (silent (with_full (without_copying own c) true))
-        (λ g. (full_at c g copy is trimmed lt, (λ post i e. none_in post i)))
+        (λ g. full_at c g copy is trimmed lt)
         (λ ne. let onward = ended_onward here.state links row cell f.is f.links_are c ne own in
         holder_apart _ (Finds_it_full c copy h is trimmed lt) ne (record { paged = refl; after = refl; flag = refl })
         (record { late = onward.late; yet = onward.yet; others = onward.others; page = onward.page }))
@@ -326,16 +301,14 @@ module _ (heard : Body → Type 0) (here : JobContext) (links : ℕ) (row : Link
     other_copies done (Goes_on_trimming c holder last _ held is step) = trim_copies own c last holder done step
     other_copies _ _ = (refl, refl)
 
-    other_step : (done : JobResult) → DidOther heard here own done → Step done × Says cell done
+    other_step : (done : JobResult) → DidOther heard here own done → Step done
     other_step done d =
         let apart = away (IsHeldBy heard here own) cell
         (λ h. holder_not_other here f.fit.steady cell row f.is (writes.mine heard here links row vo own cell f) h.holder h.held)
         (other_cell heard here own done d) (other_held heard here own done d) in
         let copies = other_copies done d in
-        let paced = same_paced done.own copies.0 copies.1 in (
-          kept done (other_beside heard here own done d cell apart) (of_other heard here own done d).next paced.0 paced.1,
-          (λ post i e. at_away cell (other_cell heard here own done d) (other_says heard here own done d post i cell e) apart),
-        )
+        let paced = same_paced done.own copies.0 copies.1 in
+        kept done (other_beside heard here own done d cell apart) (of_other heard here own done d).next paced.0 paced.1
 
     second_step : (done : JobResult) → DidSecond heard here own done → Step done
     second_step done d =
@@ -347,48 +320,52 @@ module _ (heard : Body → Type 0) (here : JobContext) (links : ℕ) (row : Link
         (subst (λ (c : Cell). is_second here.state here.me c ≡ true) (sym e) (second_follows heard here own done d))))
         (let e = frame.next in omega arith) paced.0 paced.1
 
-    did_step : (done : JobResult) → Did heard here own done → Step done × Says cell done
-    did_step _ Ignores = (itself cell own f.old, (λ post i. none_in post i))
-    did_step _ (Refuses to said is why because) = (
-      itself cell own f.old,
-      (λ post i e. untold row (Some own) vo post.body (refused_not post.body (ap subject_of (one_post to said post i).1 ∙ is.refused))),
-    )
+    did_step : (done : JobResult) → Did heard here own done → Step done
+    did_step _ Ignores = itself cell own f.old
+    did_step _ (Refuses to said is why because) = itself cell own f.old
     did_step done (By_read _ d) =
-        let r = of_read heard here own done d in (
-          subst (λ (x : PairState). HolderStep heard links row cell vo own x) (sym r.same) (itself cell own f.old),
-          (λ post i e. untold row (Some done.own) vo post.body (read_not post (r.says post i))),
-        )
-    did_step done (By_lead _ d) = (writes.lead_step heard here links row vo own cell f done d, writes.lead_says heard here links row vo own cell f done d)
-    did_step done (By_second _ d) = (
-      second_step done d,
-      (λ post i e. untold row (Some done.own) vo post.body (paired_not post.body ((of_second heard here own done d).says post i))),
-    )
+        subst (λ (x : PairState). HolderStep heard links row cell vo own x) (sym (of_read heard here own done d).same) (itself cell own f.old)
+    did_step done (By_lead _ d) = writes.lead_step heard here links row vo own cell f done d
+    did_step done (By_second _ d) = second_step done d
     did_step done (By_holder _ d) = holder_step done d
     did_step done (By_other _ d) = other_step done d
     did_step done (By_filler _ d) =
         let frame = of_filler heard here own done d in
-        let paced = same_paced done.own frame.progress frame.pending in (
-          kept done (filler_beside heard here own done d cell) (let e = ap (λ (p : Pairs). p.next) frame.pairs in omega arith) paced.0 paced.1,
-          (λ post i e. untold row (Some done.own) vo post.body (filling_not post.body (frame.says post i))),
-        )
+        let paced = same_paced done.own frame.progress frame.pending in
+        kept done (filler_beside heard here own done d cell) (let e = ap (λ (p : Pairs). p.next) frame.pairs in omega arith) paced.0 paced.1
     did_step done (By_sweep _ d) =
         let frame = of_sweep heard here own done d in
-        let paced = same_paced done.own (ap (λ (c : Copies). c.progress) frame.copies) (ap (λ (c : Copies). c.pending) frame.copies) in (
-          kept done (sweep_beside heard here own done d cell f.alive (f.fit.bare cell))
-              (let e = ap (λ (p : Pairs). p.next) frame.pairs in omega arith) paced.0 paced.1,
-          (λ post i e. absurd (frame.silent post i)),
-        )
+        let paced = same_paced done.own (ap (λ (c : Copies). c.progress) frame.copies) (ap (λ (c : Copies). c.pending) frame.copies) in
+        kept done (sweep_beside heard here own done d cell f.alive (f.fit.bare cell)) (let e = ap (λ (p : Pairs). p.next) frame.pairs in omega arith)
+        paced.0 paced.1
+
+    -- the copy of which a letter tells is under way after the job
+    under_way : (now : PairState) (copy : Copying) → IsCopying heard here own cell now copy → copying_on now cell ≡ Some copy
+    under_way _ _ (Begins id r other held next) = cell_same own.copies.pending cell (first_copy own.pairs.next)
+    under_way _ _ (Goes_on _ _ (Copy_as_is copy is)) = is
+    under_way _ _ (Goes_on _ _ (Copy_trimmed copy h is fresh)) = cell_same own.copies.pending cell (record copy { trimmed = true })
+    under_way _ _ (Goes_on _ _ (Copy_synced copy h is trimmed lt)) = cell_same own.copies.pending cell (record copy { index = copy.index + 1 })
+
+    not_held : {A : Type 0} (holder : ℕ) → cell_holder here cell ≡ Some holder → A
+    not_held holder held = holder_not_other here f.fit.steady cell row f.is (writes.mine heard here links row vo own cell f) holder held
+
+    says_told : (new : PairState) → AreCopying links row cell (Some new) vo → (post : Post) → Says heard here own new post
+        → (about post.body).cell ≡ Some cell → IsTold row (Some new) vo post.body
+    says_told new old = telling heard here own row (Some new) vo cell new
+        (λ copy copies fresh. moves.trim_told heard old copy (under_way new copy copies) fresh) (λ last holder held is none. not_held holder held)
+        (λ copy entry copies trimmed there. moves.entry_told heard old copy (under_way new copy copies) entry trimmed there)
+        (λ number index holder last held is same lt. not_held holder held)
 
     -- what is kept
     pub holds : (done : JobResult) → Did heard here own done → HolderKeeps heard links row cell own vo done
     holds done d =
         let s = did_step done d in
         record {
-          copying = s.0.copying;
-          told = s.0.told;
-          says = s.1;
-          marks = s.0.marks;
-          stored = s.0.stored;
-          alike = s.0.alike;
-          caught = s.0.caught;
+          copying = s.copying;
+          told = s.told;
+          says = λ post i e. says_told done.own s.copying post (letters_of_job heard here own done d post i) e;
+          marks = s.marks;
+          stored = s.stored;
+          alike = s.alike;
+          caught = s.caught;
         }

@@ -1,27 +1,21 @@
 -- Each write of the holder of a link keeps a cell of it.
-use Rattle.law_copies.proofs.Imports.{[], ◌+◌, ◌∙◌, ◌≡◌, ◌≢◌, ◌≤◌, ◌⊎◌, A_copied_entry, A_trim, An_entry_to_move, Asks, Asks_for, Body, Busy, By_lead, Cell}
-use Rattle.law_copies.proofs.Imports.{Closes, Closes_alone, Copies, DidLead, Gives_up, Goes_on_dead, Has_fill, Has_no_room, In, IsMarked, IsRising, IsTaken}
-use Rattle.law_copies.proofs.Imports.{Is_full, JobContext, JobResult, LinkRow, Marks, Marks_alone, None, Of_the_log, Opens, Opens_alone, Opens_fill}
-use Rattle.law_copies.proofs.Imports.{Opens_fill_alone, Option, PairState, Pending, Post, Puts, Puts_alone, Repeats, Some, Stale, Store, Taken, Unmarks}
-use Rattle.law_copies.proofs.Imports.{Unmarks_alone, about, ap, arith, at, cell_of, chain_in, chain_put, copying_on, did_count, ends, epochs_of, false}
-use Rattle.law_copies.proofs.Imports.{fill_operation, gives_back, has_proposed, held_as_flag, id_of, in_both, inl, inr, is_alone, is_flagged, is_marked}
-use Rattle.law_copies.proofs.Imports.{key_at, live, mark_kept, marks, nat_cmp, of_ending, of_lead, operation, pending_on, puts, refl, same_cell_or_apart}
-use Rattle.law_copies.proofs.Imports.{same_some, slice_get, stage_live, stale_kept, subject_of, subst, sym, taking, true, true_false, unmarks, version_of}
-use Rattle.law_copies.proofs.Imports.{with_opened, with_ticket, without_pending, ℕ}
-use Rattle.law_copies.specs.CopyProgress.{IsTold}
+use Rattle.law_copies.proofs.Imports.{[], ◌+◌, ◌∙◌, ◌≡◌, ◌≢◌, ◌≤◌, ◌⊎◌, Asks_for, Body, Busy, By_lead, Cell, Closes, Closes_alone, Copies, DidLead, Gives_up}
+use Rattle.law_copies.proofs.Imports.{Goes_on_dead, Has_fill, Has_no_room, IsMarked, IsRising, IsTaken, Is_full, JobContext, JobResult, LinkRow, Marks}
+use Rattle.law_copies.proofs.Imports.{Marks_alone, None, Opens, Opens_alone, Opens_fill, Opens_fill_alone, Option, PairState, Pending, Puts, Puts_alone}
+use Rattle.law_copies.proofs.Imports.{Repeats, Some, Stale, Store, Taken, Unmarks, Unmarks_alone, ap, arith, cell_of, chain_in, chain_put, copying_on}
+use Rattle.law_copies.proofs.Imports.{did_count, ends, false, fill_operation, gives_back, has_proposed, held_as_flag, id_of, in_both, inl, inr, is_alone}
+use Rattle.law_copies.proofs.Imports.{is_flagged, is_marked, live, mark_kept, marks, nat_cmp, of_ending, of_lead, operation, pending_on, puts, refl}
+use Rattle.law_copies.proofs.Imports.{same_cell_or_apart, stage_live, stale_kept, subst, sym, taking, true, true_false, unmarks, version_of, with_opened}
+use Rattle.law_copies.proofs.Imports.{with_ticket, without_pending, ℕ}
 use Rattle.law_copies.specs.LoneSteps.{IsHolding, KeepsCell}
 use Rattle.law_copies.proofs.EmptyCellsHaveNoChain.{no_entries}
 use Rattle.law_copies.proofs.HolderChanges.{HolderStep}
 use Rattle.law_copies.proofs.CopiesGoOn.{IsOnward, onward_tables}
 use Rattle.law_copies.proofs.HolderPace.{IsPaced, paced_table}
 use Rattle.law_copies.proofs.EpochsRise.{did_rising}
-use Rattle.law_copies.proofs.CopyLetters.{filling_not, lead_sends, logged_not, untold}
 use Rattle.law_copies.proofs.RolesOfWorkers.{alone_not_in_both, only_alone}
 use Rattle.law_copies.proofs.WorkedCell.{Away, lead_beside, lead_cell}
-use Rattle.petal_msg.specs.declared.body.Body.TheVariants as body
-use Rattle.petal_msg.specs.declared.operation.Action.TheVariants as action
 use Rattle.petal_msg.specs.declared.operation.Ending.TheVariants as ending
-use Rattle.law_copies.proofs.CopyMoves as moves
 use Rattle.law_copies.proofs.HolderSteps as steps
 
 module _ (heard : Body → Type 0) (here : JobContext) (links : ℕ) (row : LinkRow) (vo : Option PairState) (own : PairState) where
@@ -30,9 +24,6 @@ module _ (heard : Body → Type 0) (here : JobContext) (links : ℕ) (row : Link
   module _ (now : PairState) (op : Pending) (taken : Taken own now op) (f : IsHolding heard here links row op.cell own vo) where
     abbrev k : IsTaken own now op
     k = taking own now op taken
-
-    abbrev idle : copying_on own op.cell ≡ None
-    idle = steps.pending_idle heard f.old k.old k.was
 
     abbrev unflagged : is_flagged own (id_of row) ≡ false
     unflagged = steps.pending_unflagged heard f.old k.old k.was
@@ -62,7 +53,7 @@ module _ (heard : Body → Type 0) (here : JobContext) (links : ℕ) (row : Link
         → (chain_in now.store.chains op.cell ≢ [] → chain_in to.store.chains op.cell ≢ [])
         → IsRising nat_cmp (chain_in to.store.chains op.cell) → HolderStep heard links row op.cell vo own to
     taken_step to copies next marks chain stored rises =
-        steps.write_step heard f.old idle unflagged to (copies ∙ k.copies)
+        steps.write_step heard f.old (steps.pending_idle heard f.old k.old k.was) unflagged to (copies ∙ k.copies)
         (let e = next in let e' = k.next in omega arith)
         (λ m. marks (taken_marks m)) (elim chain [ inl same ↦ inl (same ∙ taken_chain) | inr m ↦ inr m ])
         (λ some. stored (λ none. some (sym taken_chain ∙ none))) rises
@@ -119,10 +110,6 @@ module _ (heard : Body → Type 0) (here : JobContext) (links : ℕ) (row : Link
         | inl busy ↦ inl (mark_kept (with_ticket own.store) Stale Busy op.cell op.cell busy)
         | inr stale ↦ inr (mark_kept (with_ticket own.store) Stale Stale op.cell op.cell stale)
       ]) (inl refl) (λ some. some) (f.fit.rising op.cell)
-
-  module _ (cell : Cell) where
-    abbrev Says : JobResult → Type 0
-    Says done = (post : Post) → In post done.posts → (about post.body).cell ≡ Some cell → IsTold row (Some done.own) vo post.body
 
   module _ (cell : Cell) (f : IsHolding heard here links row cell own vo) where
     abbrev Step : JobResult → Type 0
@@ -204,23 +191,3 @@ module _ (heard : Body → Type 0) (here : JobContext) (links : ℕ) (row : Link
     lead_step _ (Has_no_room moving new no_room) = lead_apart _ (Has_no_room moving new no_room) tt
     lead_step _ (Goes_on_dead now op taken off) = either op.cell _ (λ g. true_false (lives now op taken g) off)
         (λ ne. lead_apart _ (Goes_on_dead now op taken off) ne)
-
-    -- what is asked again of a copy of the cell
-    asks_told : (post : Post) → Asks here own post → (about post.body).cell ≡ Some cell → IsTold row (Some own) vo post.body
-    asks_told _ (A_trim c copy at is fresh so) e =
-        subst (λ (q : Cell). IsTold row (Some own) vo (body.Trim copy.op q (epochs_of (chain_in own.store.chains q)))) (sym (same_some e))
-        (moves.trim_told heard f.old copy (subst (λ (q : Cell). copying_on own q ≡ Some copy) (same_some e) is) fresh)
-    asks_told _ (A_copied_entry c copy r at is trimmed there so) e =
-        subst (λ (q : Cell). IsTold row (Some own) vo (body.Sync copy.op (key_at q r.0) r.1.version copy.index r.1.bytes)) (sym (same_some e))
-        (moves.entry_told heard f.old copy (subst (λ (q : Cell). copying_on own q ≡ Some copy) (same_some e) is) r trimmed
-        (subst (λ (q : Cell). slice_get (chain_in own.store.chains q) copy.index ≡ Some r) (same_some e) there))
-    asks_told post (An_entry_to_move _ next) e =
-        untold row (Some own) vo post.body (filling_not post.body (ap (λ (p : Post). subject_of p.body) next.is))
-    asks_told post (Of_the_log _ logged) e = untold row (Some own) vo post.body (logged_not (subject_of post.body) logged)
-    asks_told _ _ e = tt
-
-    pub lead_says : (done : JobResult) → DidLead heard here own done → Says cell done
-    lead_says done d post i e = elim (lead_sends heard here own done d post i) [
-      | inl asks ↦ subst (λ (x : PairState). IsTold row (Some x) vo post.body) (sym asks.1) (asks_told post asks.0 e)
-      | inr ne ↦ untold row (Some done.own) vo post.body ne
-    ]

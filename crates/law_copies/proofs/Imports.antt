@@ -11,40 +11,39 @@ pub use Rattle.law_state.proofs.Imports.{joins_blank, left_state, length, length
 pub use Rattle.law_state.proofs.Imports.{not_true, number_itself, option_and_then, option_map, option_map_or, refl, row_lead, same_numbers, same_or_apart}
 pub use Rattle.law_state.proofs.Imports.{same_some, second, secondary, slice_get, slice_get-map, slice_get_within, some_or_none, state_lead, subst, sym}
 pub use Rattle.law_state.proofs.Imports.{touches, true, true_false, unwrap_or, ℕ}
-pub use Rattle.law_log.proofs.Imports.{if◌then◌else◌, ◌||◌, Acted, Action, Actor, AreSteps, Ask, Blank, Block, Body, Copies, Copying, Dead, Ending, Entry}
-pub use Rattle.law_log.proofs.Imports.{Equal, Far, Firm, IsPlain, IsPlainLog, IsPlainState, IsSound, JobContext, JobResult, Key, LastCopy, LastOp, Letter}
-pub use Rattle.law_log.proofs.Imports.{Life, Log, NextCopy, OpKind, Pending, Post, Reaction, Script, Step, Stored, Wait, about, above, all_put_apart, awake}
-pub use Rattle.law_log.proofs.Imports.{begins_copy, blanked, cell_at, cell_holder, cell_of, chain_in, client_sender, closes, copying_on, ended, ends}
+pub use Rattle.law_log.proofs.Imports.{if◌then◌else◌, ◌||◌, Acted, Action, AreSteps, Ask, Blank, Block, Body, Copies, Copying, Dead, Ending, Entry, Equal}
+pub use Rattle.law_log.proofs.Imports.{Far, Firm, HasProperTuple, HasProperTuples, IsSettledState, IsSound, JobContext, JobResult, Key, LastCopy, LastOp}
+pub use Rattle.law_log.proofs.Imports.{Letter, Life, Log, NextCopy, Pending, Post, Reaction, Script, Step, Stored, Wait, about, above, acts, all_put_apart}
+pub use Rattle.law_log.proofs.Imports.{awake, begins_copy, blanked, cell_at, cell_holder, cell_of, chain_in, client_sender, closes, copying_on, ended, ends}
 pub use Rattle.law_log.proofs.Imports.{eq_by_cmp, fill_operation, finishes, gives_back, has_proposed, holds_link, id_of, idle_mark, is_eq, is_flagged}
 pub use Rattle.law_log.proofs.Imports.{is_logged, is_second, is_under_way, key_at, last_copy, link_named, log_plain, map, moved_as, nat_cmp, nat_cmp_total}
-pub use Rattle.law_log.proofs.Imports.{no_progress, opened, other_in, page_wanted, pending_on, post_of, post_to, progress_on, proposed, put_apart, put_same}
-pub use Rattle.law_log.proofs.Imports.{puts_entry, raised, ranked, reacts, same_block, says, says_to, sender, server_state, setting_of, silent, stamped}
-pub use Rattle.law_log.proofs.Imports.{start, state_in, stays, subject_of, tells, tied_itself, wakes, with_copied, with_copying, with_full, with_last_copy}
-pub use Rattle.law_log.proofs.Imports.{with_opened, with_page, with_progress, without_copying, without_pending, world_after}
+pub use Rattle.law_log.proofs.Imports.{no_progress, opened, other_in, pending_on, post_of, progress_on, proposed, put_apart, put_same, puts_entry, raised}
+pub use Rattle.law_log.proofs.Imports.{ranked, reacts, same_block, sender, server_state, setting_of, silent, stamped, start, state_in, stays, subject_of}
+pub use Rattle.law_log.proofs.Imports.{tells, tied_itself, wakes, with_copied, with_copying, with_full, with_last_copy, with_opened, with_page, with_progress}
+pub use Rattle.law_log.proofs.Imports.{without_copying, without_pending, world_after}
 unfoldable pub use Rattle.law_log.proofs.Imports.{next_copy, put_at}
-pub use Rattle.law_steps.specs.Imports.{Busy, Copied, IsBelow, MarkKind, Nothing, Paired, Refused, Sender, Stage, Stale, StaysSo, Subject, Table, acts}
-pub use Rattle.law_steps.specs.Imports.{before_blanks, cell_cmp, crossed, epochs_beyond, epochs_of, follows, holder_of, least, letters_of, live}
-pub use Rattle.law_steps.specs.Imports.{marked_blocks, marks, next_stage, old_lead, operation, puts, settled_by, stage_at, unmarks, with_last, with_paired}
-pub use Rattle.law_steps.specs.Imports.{with_pending, with_reserved, without_dead, without_entry, without_mark_on}
-pub use Rattle.law_steps.proofs.Imports.{ByBoth, ByNone, ByOne, Chain, Filling, Greater, HasDied, HasStarted, IsCaughtStill, IsSteady, Less, Logged, Mark}
-pub use Rattle.law_steps.proofs.Imports.{Ordering, Pairs, Store, alone_row, at-empty, at-where, blocks_left, cell_apart, cell_cmp_same, cell_cmp_total}
-pub use Rattle.law_steps.proofs.Imports.{cell_gone, cell_gone_apart, cell_same, dies, either_false, ends_cell, ends_link, found_at, front_plain}
-pub use Rattle.law_steps.proofs.Imports.{history_grows, history_is_firm, in_once, is_asked, is_at, is_clients, is_kept_on, is_link_under_way, is_none, is_on}
-pub use Rattle.law_steps.proofs.Imports.{is_whole, lesser, log_alone, log_below, log_steady, lookup, max, next_block, no_copies, out_has_stopped}
-pub use Rattle.law_steps.proofs.Imports.{progress_beside, progress_here, row_in_both, same_caught, same_id, same_place, settling, so_both, stage_most}
-pub use Rattle.law_steps.proofs.Imports.{stored_blocks, touches_cell, up_some, version_of, who_is_in_has_begun, with_entry, with_mark_at, with_mark_on}
-pub use Rattle.law_steps.proofs.Imports.{with_ticket}
+pub use Rattle.law_steps.specs.Imports.{Busy, IsBelow, MarkKind, Nothing, Paired, Sender, Stage, Stale, StaysSo, Subject, Table, before_blanks, cell_cmp}
+pub use Rattle.law_steps.specs.Imports.{crossed, epochs_beyond, epochs_of, follows, holder_of, least, letters_of, live, marked_blocks, marks, next_stage}
+pub use Rattle.law_steps.specs.Imports.{operation, puts, settled_by, stage_at, unmarks, with_last, with_paired, with_pending, with_reserved, without_dead}
+pub use Rattle.law_steps.specs.Imports.{without_entry, without_mark_on}
+pub use Rattle.law_steps.proofs.Imports.{ByBoth, ByNone, ByOne, Chain, Greater, HasDied, HasStarted, IsCaughtStill, IsSteady, Less, Logged, Mark, Ordering}
+pub use Rattle.law_steps.proofs.Imports.{Pairs, Store, alone_row, at-empty, at-where, blocks_left, cell_apart, cell_cmp_same, cell_cmp_total, cell_gone}
+pub use Rattle.law_steps.proofs.Imports.{cell_gone_apart, cell_same, dies, either_false, ends_cell, ends_link, found_at, front_plain, history_grows}
+pub use Rattle.law_steps.proofs.Imports.{history_is_firm, in_once, is_asked, is_at, is_clients, is_kept_on, is_link_under_way, is_none, is_on, is_whole}
+pub use Rattle.law_steps.proofs.Imports.{lesser, log_alone, log_below, log_steady, lookup, max, next_block, no_copies, out_has_stopped, progress_beside}
+pub use Rattle.law_steps.proofs.Imports.{progress_here, row_in_both, same_caught, same_id, same_place, settling, so_both, stage_most, stored_blocks}
+pub use Rattle.law_steps.proofs.Imports.{touches_cell, up_some, version_of, who_is_in_has_begun, with_entry, with_mark_at, with_mark_on, with_ticket}
 unfoldable pub use Rattle.law_steps.proofs.Imports.{put, without}
 pub use Rattle.law_jobs.specs.Imports.{IsHeldWith, IsOfCopy, Taken, TakenCopy, copying, first_copy, first_last, progress, waiting}
-pub use Rattle.law_jobs.proofs.Imports.{A_copied_entry, A_copy, A_slot, A_trim, An_entry_to_move, Asks, Asks_for, Asks_page, Asks_to_trim, Begins_copy}
-pub use Rattle.law_jobs.proofs.Imports.{By_filler, By_holder, By_lead, By_other, By_read, By_second, By_sweep, Closes, Closes_alone, Closes_copy, CopyStep}
-pub use Rattle.law_jobs.proofs.Imports.{Copy_as_is, Copy_synced, Copy_trimmed, Declines, Did, DidFiller, DidHolder, DidLead, DidOther, DidRead, DidSecond}
-pub use Rattle.law_jobs.proofs.Imports.{DidSweep, Drops_entry, Finds_it_full, Follows, Gives_up, Goes_on_copying, Goes_on_dead, Goes_on_trimming, Handled}
-pub use Rattle.law_jobs.proofs.Imports.{Happens, Has_entry, Has_fill, Has_no_room, Has_no_slot, Ignores, Is_copied_to, Is_full, Is_trimmed, Marks}
-pub use Rattle.law_jobs.proofs.Imports.{Marks_alone, Of_the_log, Opens, Opens_alone, Opens_fill, Opens_fill_alone, OtherReply, Promises, Puts, Puts_alone}
-pub use Rattle.law_jobs.proofs.Imports.{Puts_entry, Refuses, Repeats, Replies, Rests, Sends, Sets_apart, Sweeps, Tidies, TrimStep, Turns_page, Unmarks}
-pub use Rattle.law_jobs.proofs.Imports.{Unmarks_alone, Unmarks_copied, always_firm, at_apart, at_same, chains_at, is_mark, is_marked, last_happens, mark_on}
-pub use Rattle.law_jobs.proofs.Imports.{of_read, of_sweep, own_place, rests_after, row_named, same_cell_or_apart, same_mark, start_rests, taking, world_more}
+pub use Rattle.law_jobs.proofs.Imports.{Asks_for, Asks_page, Asks_to_trim, Begins_copy, By_filler, By_holder, By_lead, By_other, By_read, By_second, By_sweep}
+pub use Rattle.law_jobs.proofs.Imports.{Closes, Closes_alone, Closes_copy, CopyStep, Copy_as_is, Copy_synced, Copy_trimmed, Declines, Did, DidFiller}
+pub use Rattle.law_jobs.proofs.Imports.{DidHolder, DidLead, DidOther, DidSecond, DidSweep, Drops_entry, Finds_it_full, Follows, Gives_up, Goes_on_copying}
+pub use Rattle.law_jobs.proofs.Imports.{Goes_on_dead, Goes_on_trimming, Handled, Happens, Has_entry, Has_fill, Has_no_room, Has_no_slot, Ignores}
+pub use Rattle.law_jobs.proofs.Imports.{Is_copied_to, Is_full, Is_trimmed, Marks, Marks_alone, Opens, Opens_alone, Opens_fill, Opens_fill_alone, OtherReply}
+pub use Rattle.law_jobs.proofs.Imports.{Promises, Puts, Puts_alone, Puts_entry, Refuses, Repeats, Replies, Rests, Sends, Sets_apart, Sweeps, Tidies, TrimStep}
+pub use Rattle.law_jobs.proofs.Imports.{Turns_page, Unmarks, Unmarks_alone, Unmarks_copied, always_firm, at_apart, at_same, chains_at, is_mark, is_marked}
+pub use Rattle.law_jobs.proofs.Imports.{last_happens, mark_on, of_read, of_sweep, own_place, rests_after, row_named, same_cell_or_apart, same_mark}
+pub use Rattle.law_jobs.proofs.Imports.{start_rests, taking, world_more}
 pub use Rattle.law_copies.specs.Imports.{AtRest, IsMarked, IsReady, IsRising, IsToBeCopied, WasStarted, blank_joins_in, is_between, kept_store, no_pairs}
 pub use Rattle.law_copies.specs.Imports.{one_put_ahead, with_store}
 pub use Rattle.std.proofs.lemmas.Bool.{cases_lt}
@@ -56,7 +55,7 @@ pub use Rattle.law_jobs.proofs.ChainsApart.{page_chains}
 pub use Rattle.law_jobs.proofs.CountsGrow.{did_count}
 pub use Rattle.law_jobs.proofs.JobsAreEffects.{job_keeps}
 pub use Rattle.law_jobs.proofs.JobsKeepChains.{chains_keep}
-pub use Rattle.law_jobs.proofs.JobsSay.{letters_of_job, none_in}
+pub use Rattle.law_jobs.proofs.JobsSay.{letters_of_job}
 pub use Rattle.law_jobs.proofs.MarksApart.{mark_beside, mark_kept, mark_there, stale_kept, unmark_apart, unmark_beside, unmark_none}
 pub use Rattle.law_jobs.proofs.Runs.{At, OneMore, Run, before_part, by_run, firm_in, grown_in, happened_in, longer, more_of, run_of, setting_in, since}
 pub use Rattle.law_jobs.specs.Effects.{Counts, Effect, IsCopiedFor, Is_begun, Is_copied, Is_further, May, applied}
@@ -79,6 +78,7 @@ pub use Rattle.law_state.proofs.ListLookups.{get_in, in_get}
 pub use Rattle.law_state.proofs.LoneHolders.{IsBothRow, both_not_alone, both_row, second_secondary}
 pub use Rattle.law_state.proofs.NewMapLinks.{in_map}
 pub use Rattle.law_state.proofs.Roles.{primary_is_one, secondary_is_one}
+pub use Rattle.law_state.proofs.SnapsQueueFences.{none_of}
 pub use Rattle.law_state.proofs.Steady.{linked, log_grown, tuple_on}
 pub use Rattle.law_state.specs.Joins.{HasJoinedSince}
 pub use Rattle.law_state.specs.LinkChanges.{By_caught, By_join, By_leave, IsCaughtBy, IsHeldStill, row_joined}
@@ -86,33 +86,34 @@ pub use Rattle.law_state.specs.LinkRows.{IsLater}
 pub use Rattle.law_state.specs.Steady.{IsLinked}
 pub use Rattle.law_steps.proofs.ClientLetters.{turned_asks}
 pub use Rattle.law_steps.proofs.CopiesRest.{among_least, cell_left, in_none, on_row, same_cell}
-pub use Rattle.law_steps.proofs.CopyFrames.{CopyFrame, of_holder, of_other}
+pub use Rattle.law_steps.proofs.CopyFrames.{of_holder, of_other}
 pub use Rattle.law_steps.proofs.FillsByJobs.{Fills, Stood, Writes, did_come}
 pub use Rattle.law_steps.proofs.Fronts.{below_itself, front_itself, front_long, front_more, front_on, front_within, one_front}
 pub use Rattle.law_steps.proofs.HeldBackForCaughts.{held_as_flag}
+pub use Rattle.law_steps.proofs.IdleServers.{logged_apart}
 pub use Rattle.law_steps.proofs.InvertHolder.{untrue}
 pub use Rattle.law_steps.proofs.InvertLead.{is_copying}
 pub use Rattle.law_steps.proofs.KindsInHistories.{own_steady}
-pub use Rattle.law_steps.proofs.Letters.{one_post, posted, said}
+pub use Rattle.law_steps.proofs.Letters.{said}
 pub use Rattle.law_steps.proofs.ListPlaces.{parted}
 pub use Rattle.law_steps.proofs.LogHistories.{chosen_join_acts, join_has_begun, join_was_wanted}
 pub use Rattle.law_steps.proofs.OneWorld.{proposed_as}
 pub use Rattle.law_steps.proofs.OperationsRest.{did_ready, put_put}
 pub use Rattle.law_steps.proofs.Records.{none_before_none, split_last}
-pub use Rattle.law_steps.proofs.Subjects.{HasData, HasNothing, of_ending, of_filler, of_lead, of_second, told_own}
+pub use Rattle.law_steps.proofs.Subjects.{of_ending, of_filler, of_lead, of_second, told_own}
 pub use Rattle.law_steps.proofs.TablesOfPuts.{at_row, put_rises, without_rises}
 pub use Rattle.law_steps.proofs.TakenUpAlone.{IsTaken}
 pub use Rattle.law_steps.proofs.Ties.{running_fronts, stays_alone, stays_both}
 pub use Rattle.law_steps.proofs.WakingGoesOn.{may_wake}
 pub use Rattle.law_steps.proofs.WhoLeads.{lead_links, led_by_link, live_stage, stage_live}
 pub use Rattle.law_steps.specs.DidSecond.{with_tickets}
-pub use Rattle.law_steps.specs.DidStep.{Blanks, By_ballot, By_entry, By_job, Ends, Fails, Goes, IsBallotFor, IsSeated, Serves, Serving, Starts, Stays, Turns}
-pub use Rattle.law_steps.specs.DidStep.{Wakes, Worked, served_so, shown_so, stopped_so, without_rev}
+pub use Rattle.law_steps.specs.DidStep.{Blanks, By_ballot, By_entry, By_job, Ends, Fails, Goes, IsBallotFor, IsSeatedOrMute, Serves, Serving, Starts, Stays}
+pub use Rattle.law_steps.specs.DidStep.{Turns, Wakes, Worked, served_so, shown_so, stopped_so, without_rev}
 pub use Rattle.law_steps.specs.DidSweep.{cell_swept}
 pub use Rattle.law_steps.specs.Operations.{putting}
 pub use Rattle.law_steps.specs.ProposedCommands.{WasReturning}
 pub use Rattle.law_steps.specs.WakingServers.{AllMayWake}
-pub use Rattle.petal_msg.specs.Kinds.{Answered, Read_asked, Write_asked, is_paired}
+pub use Rattle.petal_msg.specs.Kinds.{Read_asked, Write_asked, is_paired}
 pub use Rattle.petal_msg.specs.declared.operation.Far.TheVariants.{Replicated, Reserved}
 pub use Rattle.spec_history.specs.Claims.{AreCovered, Covered, MarksFirst, TwoCopies, is_at_work}
 pub use Rattle.spec_rules.proofs.Applied.{rev_after}

@@ -1,9 +1,10 @@
 -- What a job, and a ballot that is started, keeps by itself.
-use Rattle.law_copies.proofs.Imports.{[], ◌+◌, ◌∙◌, ◌≡◌, ◌≢◌, ◌≤◌, Both, Caught, Cell, Command, Did, Handled, In, IsMarked, IsPlainState, IsRising}
+use Rattle.law_copies.proofs.Imports.{[], ◌+◌, ◌∙◌, ◌≡◌, ◌≢◌, ◌≤◌, Both, Caught, Cell, Command, Did, Handled, In, IsMarked, IsRising, IsSettledState}
 use Rattle.law_copies.proofs.Imports.{JobContext, JobResult, LinkId, LinkRow, List, None, Option, PairState, Pairs, Post, Some, Starts, Store, ap, arith, at}
 use Rattle.law_copies.proofs.Imports.{both, cell_cmp, cell_link, chain_in, chosen_log, did_count, eq_by_cmp, false, front_plain, holder_of, holds_link, id_of}
-use Rattle.law_copies.proofs.Imports.{inl, is_between, is_logged, is_marked, link_cmp, link_named, log_plain, nat_cmp, own_place, progress, progress_beside}
-use Rattle.law_copies.proofs.Imports.{progress_on, proposed, refl, server_state, so_both, stage_live, subject_of, subst, sym, true, true_false, ℕ}
+use Rattle.law_copies.proofs.Imports.{inl, is_between, is_logged, is_marked, link_cmp, link_named, log_plain, logged_apart, nat_cmp, own_place, progress}
+use Rattle.law_copies.proofs.Imports.{progress_beside, progress_on, proposed, refl, server_state, so_both, stage_live, subject_of, subst, sym, true}
+use Rattle.law_copies.proofs.Imports.{true_false, ℕ}
 use Rattle.law_copies.specs.Visits.{AliveIn}
 use Rattle.law_copies.specs.CopyProgress.{links_of}
 use Rattle.law_copies.specs.Pair.{HaveMarks, IsRecalled, Keeps, PairOk, pair_of}
@@ -16,7 +17,7 @@ use Rattle.law_copies.proofs.EmptyCellsHaveNoChain.{did_filled}
 use Rattle.law_copies.proofs.OtherServerChanges.{kept_copying, kept_told}
 use Rattle.law_copies.proofs.OwnPartFrames.{keeps_alike}
 use Rattle.law_copies.proofs.LeadsFindMarks.{job_marked}
-use Rattle.law_copies.proofs.MuteLettersTellNothing.{known_mute, logged_mute, no_page, told_mute}
+use Rattle.law_copies.proofs.MuteLettersTellNothing.{known_mute, no_page, told_mute}
 use Rattle.law_copies.proofs.EpochsRise.{did_rising}
 use Rattle.law_copies.proofs.CopyLetters.{page_link, page_map, page_sent, pages_sent}
 use Rattle.law_copies.proofs.LettersOfServedCells.{did_copied, did_lives, idle_silent}
@@ -38,7 +39,7 @@ module _ (it : AtSeat) where
   abbrev own : PairState
   own = (w.servers k).own
 
-  plain_here : IsPlainState setting.servers (server_state setting w k)
+  plain_here : IsSettledState setting.servers (server_state setting w k)
   plain_here = log_plain setting.servers (w.servers k).log.applied
       (front_plain setting.servers (w.servers k).log.applied (chosen_log setting w) firm.plain (firm.servers k))
 
@@ -116,7 +117,7 @@ module _ (it : AtSeat) where
     alike = ballot_alike (server_state setting w k) own started
 
     mute : (post : Post) → In post posts → is_between (subject_of post.body) ≡ false
-    mute post i = logged_mute (subject_of post.body) (logged post i)
+    mute post i = logged_apart (subject_of post.body) (logged post i)
 
     store_same : to.store ≡ own.store
     store_same = alike.2

@@ -1,10 +1,10 @@
 -- A job of a server, seen from each front of the log: at another place than the server's own it changes nothing that counts, and at its own
 -- place a cell is kept as by its own entries.
 use Rattle.law_copies.proofs.Imports.{[], ◌<◌, ◌∙◌, ◌≡◌, ◌≢◌, ◌≤◌, ◌⊎◌, Body, Bool, Both, ByBoth, ByNone, ByOne, Cell, Command, IsLater, IsMarked, IsPrefix}
-use Rattle.law_copies.proofs.Imports.{IsSteady, IsToBeCopied, LinkRow, List, Lost, None, Only, Option, PairState, Some, Store, about, alone_not_both, ap}
-use Rattle.law_copies.proofs.Imports.{arith, blank_joins_in, by_bool, cell_link, chain_in, chosen_log, false, front_on, has_server, inl, inr, is_some}
-use Rattle.law_copies.proofs.Imports.{is_whole, joins_grow, lost_not_both, none_some, one_before, other_of, primary_is_one, refl, said, same_or_apart}
-use Rattle.law_copies.proofs.Imports.{same_some, secondary_is_one, server_state, some_or_none, stage_at, state_after, subst, sym, true, true_false, ℕ}
+use Rattle.law_copies.proofs.Imports.{IsToBeCopied, LinkRow, List, Lost, None, Only, Option, PairState, Some, Store, about, alone_not_both, ap, arith}
+use Rattle.law_copies.proofs.Imports.{blank_joins_in, by_bool, cell_link, chain_in, chosen_log, false, front_on, has_server, inl, inr, is_some, is_whole}
+use Rattle.law_copies.proofs.Imports.{joins_grow, lost_not_both, none_some, one_before, other_of, primary_is_one, refl, said, same_or_apart, same_some}
+use Rattle.law_copies.proofs.Imports.{secondary_is_one, server_state, some_or_none, stage_at, state_after, subst, sym, true, true_false, ℕ}
 use Rattle.law_copies.specs.CopyProgress.{AreCopying, IsCovered, IsPage, IsTold, Is_marked_here, Is_to_be_copied, NotCopied, links_of}
 use Rattle.law_copies.specs.GoodCopies.{AloneOk, AreBeside, AreTwins, BothOk, StaysLeft}
 use Rattle.law_copies.specs.Visits.{AliveIn, HasBeen, HasFilled, IsLinked, place_by}
@@ -37,30 +37,15 @@ module _ (it : AtJob) where
   abbrev IsNow : List Command → Type 0
   IsNow f = blank_joins_in setting f k ≡ blank_joins_in setting top k
 
-  store_was : (f : List Command) → IsNow f → olds f k ≡ (w.servers k).own.store
-  store_was = leaving.store_was it
-
-  store_now : (f : List Command) → IsNow f → news f k ≡ done.own.store
-  store_now = leaving.store_now it
-
-  store_apart : (f : List Command) (n : ℕ) → n ≢ k → news f n ≡ olds f n
-  store_apart = leaving.store_apart it
-
-  visit_apart : (n place : ℕ) (cell : Cell) → n ≢ k → visits n place cell ≡ good.visits n place cell
-  visit_apart = worked.visit_apart it
-
   leaves_apart : (f : List Command) (n place : ℕ) (cell : Cell) → n ≢ k
       → LeavesAt (step_at it) f n place cell
   leaves_apart f n place cell ne = record {
-    visit = visit_apart n place cell ne;
-    store = λ lives. store_same (olds f n) (news f n) cell (store_apart f n ne);
+    visit = worked.visit_apart it n place cell ne;
+    store = λ lives. store_same (olds f n) (news f n) cell (leaving.store_apart it f n ne);
   }
 
   abbrev Leaves : List Command → ℕ → Cell → LinkRow → Type 0
   Leaves f place cell row = LeavesBoth (step_at it) f place cell row
-
-  steady_at : (f : List Command) → IsPrefix f top → IsSteady (state_after setting.servers f)
-  steady_at = leaving.steady_at it
 
   -- of a link that the server is not of nothing is to show
   pub stranger_leaves : (f : List Command) (place : ℕ) (cell : Cell) (row : LinkRow) → has_server k row ≡ false → Leaves f place cell row
@@ -80,17 +65,8 @@ module _ (it : AtJob) where
   pub visits_else : (n place : ℕ) (cell : Cell) → IsElsewhere place cell → visits n place cell ≡ good.visits n place cell
   visits_else n place cell away = elim (same_or_apart n k) [
     | inl e ↦ subst (λ m. visits m place cell ≡ good.visits m place cell) (sym e) (visit_else place cell away)
-    | inr ne ↦ visit_apart n place cell ne
+    | inr ne ↦ worked.visit_apart it n place cell ne
   ]
-
-  abbrev IsLeftAt : List Command → (place : ℕ) → Cell → LinkRow → Type 0
-  IsLeftAt = leaving.IsLeftAt it
-
-  abbrev IsStillLeft : List Command → (place : ℕ) → Cell → LinkRow → (h : ℕ) → Type 0
-  IsStillLeft = leaving.IsStillLeft it
-
-  left_so : (f : List Command) (cell : Cell) → IsNow f → LeavesStore (w.servers k).own.store done.own.store cell → LeavesStore (olds f k) (news f k) cell
-  left_so = leaving.left_so it
 
   alive_own : (cell : Cell) → AliveIn (state_after setting.servers top) cell → AliveIn (server_state setting w k) cell
   alive_own cell lives = leaving.alive_at it front cell (firm.servers k) lives
@@ -98,13 +74,13 @@ module _ (it : AtJob) where
   -- of a cell that has no link by its own entries the step leaves all, and by entries that tell of fewer Joins of the server, too
   pub left_else : (f : List Command) (cell : Cell) (row : LinkRow) → IsPrefix f top → IsLinked setting f cell row → has_server k row ≡ true
       → AliveIn (state_after setting.servers top) cell → IsElsewhere (place_by setting f row) cell → good.reached cell ≤ place_by setting f row
-      → IsLeftAt f (place_by setting f row) cell row
+      → leaving.IsLeftAt it f (place_by setting f row) cell row
   left_else f cell row prefix end has lives away last = elim (same_or_apart (blank_joins_in setting f k) (blank_joins_in setting top k)) [
     | inl now ↦ elim (some_or_none (cell_link (server_state setting w k) cell)) [
       | inl h ↦ leaving.linked_left it cell lives h.0 h.1 (has_mine h.0 h.1) f row prefix end
           (away h.0 h.1 (alive_own cell lives)) last now
       | inr none ↦ (let keeps = job.keeping.unlinked cell none (alive_own cell lives) in Same_store
-          (left_so f cell now (record { chain = keeps.rest.chain; marks = keeps.marks })))
+          (leaving.left_so it f cell now (record { chain = keeps.rest.chain; marks = keeps.marks })))
     ]
     | inr ne ↦ Same_store (store_same (olds f k) (news f k) cell
         (stored_frozen (step_at it) k (blank_joins_in setting f k) ne))
@@ -154,12 +130,12 @@ module _ (it : AtJob) where
 
   pub holds : (f : List Command) (cell : Cell) (row : LinkRow) (holder : ℕ) (whole : Bool) → IsPrefix f top → IsLinked setting f cell row
       → row.state ≡ Only holder whole → has_server holder row ≡ true
-  holds f cell row holder whole prefix is alone = holder_is_one (state_after setting.servers f) (steady_at f prefix) holder cell row is alone
+  holds f cell row holder whole prefix is alone = holder_is_one (state_after setting.servers f) (leaving.steady_at it f prefix) holder cell row is alone
 
   -- ### In Both
 
   twins_else : (f : List Command) (cell : Cell) (row : LinkRow) → row.state ≡ Both → BothOk setting top good.stores good.visits good.reached f cell row
-      → AliveIn (state_after setting.servers top) cell → IsElsewhere (place_by setting f row) cell → IsLeftAt f (place_by setting f row) cell row
+      → AliveIn (state_after setting.servers top) cell → IsElsewhere (place_by setting f row) cell → leaving.IsLeftAt it f (place_by setting f row) cell row
       → reached cell ≤ place_by setting f row → AreTwins (news f) visits (place_by setting f row) cell row.primary row.secondary
   twins_else f cell row both ok lives away (Same_store same) last =
       (both_framed (step_at it) f cell row
@@ -219,13 +195,13 @@ module _ (it : AtJob) where
     ok = good.alone f cell row holder whole prefix is alone
 
     two : other_one ≢ holder
-    two = other_apart row holder ((steady_at f prefix).linked cell row is).apart
+    two = other_apart row holder ((leaving.steady_at it f prefix).linked cell row is).apart
 
     has_holder : has_server holder row ≡ true
     has_holder = holds f cell row holder whole prefix is alone
 
     -- elsewhere the copies are covered, and the other server is as it was
-    beside_else : has_server k row ≡ true → AliveIn (state_after setting.servers top) cell → IsElsewhere there cell → IsLeftAt f there cell row
+    beside_else : has_server k row ≡ true → AliveIn (state_after setting.servers top) cell → IsElsewhere there cell → leaving.IsLeftAt it f there cell row
         → reached cell ≤ there
         → AreBeside (news f) visits there row cell holder other_one
     beside_else has lives away (Same_store same) last =
@@ -242,8 +218,8 @@ module _ (it : AtJob) where
                 (subst (λ n. IsCovered row cell (news f n) (news f (other_of n row)) None) (sym e) covered);
             caught = λ by x flagged. none_some unseen x;
           };
-          still = λ by x. (ok.beside lives (last_old cell there last)).still by (sym (visit_apart other_one there cell ne) ∙ x)
-              ∙ ap (λ (s : Store). chain_in s.chains cell) (sym (store_apart f other_one ne));
+          still = λ by x. (ok.beside lives (last_old cell there last)).still by (sym (worked.visit_apart it other_one there cell ne) ∙ x)
+              ∙ ap (λ (s : Store). chain_in s.chains cell) (sym (leaving.store_apart it f other_one ne));
         }
     beside_else has lives away (Left_by h kept by_h ne none left marks) last =
         let e : h ≡ holder = same_only (sym by_h ∙ alone) in
@@ -252,19 +228,20 @@ module _ (it : AtJob) where
         let unseen : visits other_one there cell ≡ None = ap (λ n. visits n there cell) other_k ∙ visit_else there cell away ∙ none in
         record {
           alike = record {
-            covered = left_cover ne' (subst (IsStillLeft f there cell row) e left);
+            covered = left_cover ne' (subst (leaving.IsStillLeft it f there cell row) e left);
             caught = λ by x flagged.
-                let was = sym (visit_apart holder there cell ne') ∙ x in
+                let was = sym (worked.visit_apart it holder there cell ne') ∙ x in
                 let caught = ok.copying.caught by was flagged in
                 true_false (ok.copying.met by was (inl caught.paged)) (ap is_some (ap (λ n. good.visits n there cell) other_k ∙ none));
           };
           still = λ by x. none_some unseen x;
         }
       where
-        left_cover : holder ≢ k → IsStillLeft f there cell row holder → IsCovered row cell (news f holder) (news f other_one) (visits holder there cell)
-        left_cover apart (inl marked) = Is_marked_here (subst (λ s. IsMarked s cell) (sym (store_apart f holder apart)) marked)
-        left_cover apart (inr all) = Is_to_be_copied (subst (λ s. IsToBeCopied row s cell) (sym (store_apart f holder apart)) all.0)
-            (subst (λ x. NotCopied x row cell.block) (sym (visit_apart holder there cell apart)) all.1)
+        left_cover : holder ≢ k → leaving.IsStillLeft it f there cell row holder
+            → IsCovered row cell (news f holder) (news f other_one) (visits holder there cell)
+        left_cover apart (inl marked) = Is_marked_here (subst (λ s. IsMarked s cell) (sym (leaving.store_apart it f holder apart)) marked)
+        left_cover apart (inr all) = Is_to_be_copied (subst (λ s. IsToBeCopied row s cell) (sym (leaving.store_apart it f holder apart)) all.0)
+            (subst (λ x. NotCopied x row cell.block) (sym (worked.visit_apart it holder there cell apart)) all.1)
 
     copying_else : IsElsewhere there cell → AreCopying links row cell (visits holder there cell) (visits other_one there cell)
     copying_else away =
@@ -309,7 +286,7 @@ module _ (it : AtJob) where
                 | inl so ↦ held now p so.0 so.1
                 | inr (inl lost) ↦ (
                     let keeps = job.keeping.lost cell mine.0 mine.1 alive lost in
-                    let same = left_so f cell now (record { chain = keeps.rest.chain; marks = keeps.marks }) in (
+                    let same = leaving.left_so it f cell now (record { chain = keeps.rest.chain; marks = keeps.marks }) in (
                       λ was marked. marked_on (olds f k) (news f k) cell same marked,
                       λ was copied all. to_copy_on row (olds f k) (news f k) cell same.chain all,
                     ))
@@ -328,16 +305,16 @@ module _ (it : AtJob) where
             held now p kept so =
                 let later = rows_later setting top firm.plain f front cell row mine.0 p (firm.servers k) is mine.1 in
                 let keeps = worked.keeps_holder it cell mine.0 mine.1 alive kept so in (
-                  λ was marked. elim (keeps.marks (subst (λ s. IsMarked s cell) (store_was f now) marked)) [
-                    | inl still ↦ subst (λ s. IsMarked s cell) (sym (store_now f now)) still
+                  λ was marked. elim (keeps.marks (subst (λ s. IsMarked s cell) (leaving.store_was it f now) marked)) [
+                    | inl still ↦ subst (λ s. IsMarked s cell) (sym (leaving.store_now it f now)) still
                     | inr met ↦ true_false met
                         (ap is_some (ap (λ n. good.visits n (place_by setting front mine.0) cell)
                         (other_later row mine.0 k later ∙ ap (λ n. other_of n row) (sym e)) ∙ beyond (place_by setting front mine.0) past))
                   ],
                   λ was copied all. record {
                     whole = all.whole;
-                    stored = λ none. keeps.stored (λ empty. all.stored (ap (λ (s : Store). chain_in s.chains cell) (store_was f now) ∙ empty))
-                        (ap (λ (s : Store). chain_in s.chains cell) (sym (store_now f now)) ∙ none);
+                    stored = λ none. keeps.stored (λ empty. all.stored (ap (λ (s : Store). chain_in s.chains cell) (leaving.store_was it f now) ∙ empty))
+                        (ap (λ (s : Store). chain_in s.chains cell) (sym (leaving.store_now it f now)) ∙ none);
                   },
                 )
 
@@ -356,33 +333,33 @@ module _ (it : AtJob) where
                     (mine.1 all copied (subst (λ n. IsToBeCopied row (olds f n) cell) e (now.1 all copied))),
               ))
           | inr ne ↦ (
-            λ marked. subst (λ s. IsMarked s cell) (sym (store_apart f holder ne)) (now.0 marked),
-            λ all copied. subst (λ s. IsToBeCopied row s cell) (sym (store_apart f holder ne)) (now.1 all copied),
+            λ marked. subst (λ s. IsMarked s cell) (sym (leaving.store_apart it f holder ne)) (now.0 marked),
+            λ all copied. subst (λ s. IsToBeCopied row s cell) (sym (leaving.store_apart it f holder ne)) (now.1 all copied),
           )
         ]
 
     -- marks of the other server are those that it had
-    marks_else : other_one ≡ k → IsLeftAt f there cell row → IsMarked (news f k) cell → IsMarked (olds f k) cell
+    marks_else : other_one ≡ k → leaving.IsLeftAt it f there cell row → IsMarked (news f k) cell → IsMarked (olds f k) cell
     marks_else e (Same_store same) = marks_back (olds f k) (news f k) cell same.marks
     marks_else e (Gone lost) = alone_not_lost row holder alone lost
     marks_else e (Covers kept mine none covered) = absurd (two (e ∙ sym (same_only (sym alone ∙ mine))))
     marks_else e (Left_by h kept by_h ne none left marks) = marks_back (olds f k) (news f k) cell marks
 
-    pub page_else : IsElsewhere there cell → (other_one ≡ k → IsLeftAt f there cell row) → (after block : Option ℕ)
+    pub page_else : IsElsewhere there cell → (other_one ≡ k → leaving.IsLeftAt it f there cell row) → (after block : Option ℕ)
         → IsPage cell (olds f other_one) (good.visits other_one there cell) after block
         → IsPage cell (news f other_one) (visits other_one there cell) after block
     page_else away left after block page = record {
       met = ap is_some (visits_else other_one there cell away) ∙ page.met;
       least = λ ahead upto marked. page.least ahead upto (elim (same_or_apart other_one k) [
         | inl e ↦ subst (λ n. IsMarked (olds f n) cell) (sym e) (marks_else e (left e) (subst (λ n. IsMarked (news f n) cell) e marked))
-        | inr ne ↦ subst (λ s. IsMarked s cell) (store_apart f other_one ne) marked
+        | inr ne ↦ subst (λ s. IsMarked s cell) (leaving.store_apart it f other_one ne) marked
       ]);
     }
 
     -- ### The server is of the link
 
     module _ (has : has_server k row ≡ true) where
-      left_here : AliveIn (state_after setting.servers top) cell → IsElsewhere there cell → good.reached cell ≤ there → IsLeftAt f there cell row
+      left_here : AliveIn (state_after setting.servers top) cell → IsElsewhere there cell → good.reached cell ≤ there → leaving.IsLeftAt it f there cell row
       left_here lives away last = left_else f cell row prefix is has lives away last
 
       -- a server of the link other than the holder
@@ -411,9 +388,6 @@ module _ (it : AtJob) where
         | inl h ↦ by_mine h.0 h.1
       ]
         where
-          alive_f : AliveIn (state_after setting.servers f) cell
-          alive_f = leaving.alive_at it f cell prefix lives
-
           now_at : (more : List Command) → blank_joins_in setting more k ≡ blank_joins_in setting top k
               → blank_joins_in setting more other_one ≡ blank_joins_in setting f other_one
           now_at more same = ap (blank_joins_in setting more) e ∙ same ∙ sym now ∙ ap (blank_joins_in setting f) (sym e)
@@ -440,12 +414,12 @@ module _ (it : AtJob) where
 
           by_mine : (mine : LinkRow) → IsLinked setting front cell mine → (chain_in done.own.store.chains cell ≡ chain_in (w.servers k).own.store.chains cell)
               ⊎ HasFilled setting top visits f cell holder other_one
-          by_mine mine linked = elim ((steady_at front (firm.servers k)).linked cell mine linked).served [
+          by_mine mine linked = elim ((leaving.steady_at it front (firm.servers k)).linked cell mine linked).served [
             | ByNone one o so pair out ↦ inl (job.keeping.lost cell mine linked (alive_own cell lives) so).rest.chain
             | ByBoth so one o ↦ elim (fronts_meet f front top prefix (firm.servers k)) [
               | inl p ↦ inr (by_since mine linked p (λ kept g. alone_not_both mine holder g so) (λ g. lost_not_both mine g so))
               | inr p ↦ elim (both_since setting records w stores firm good k job.works.runs job.works.seat cell mine linked so
-                  (has_mine mine linked) f row p prefix is alive_f) [
+                  (has_mine mine linked) f row p prefix is (leaving.alive_at it f cell prefix lives)) [
                     | inl same ↦ (
                         let one_is = one_row setting top firm.plain front f cell mine row (firm.servers k) prefix linked is (sym same) in
                         alone_not_both row holder alone (ap (λ (x : LinkRow). x.state) one_is ∙ so))
@@ -458,7 +432,7 @@ module _ (it : AtJob) where
                   elim (fronts_meet f front top prefix (firm.servers k)) [
                     | inl p ↦ inr (by_since mine linked p (λ b g. two (e ∙ sym (same_only (sym g ∙ its)))) (λ g. alone_not_lost mine k its g))
                     | inr p ↦ elim (holds_since setting records w stores firm good k job.works.runs job.works.seat cell mine linked started kept
-                        its f row p prefix is alive_f) [
+                        its f row p prefix is (leaving.alive_at it f cell prefix lives)) [
                           | inl held ↦ absurd (two (e ∙ sym (same_only (sym alone ∙ held.1))))
                           | inr flagged ↦ inl (leaving.flagged_leaves it cell lives mine linked
                               (has_mine mine linked) kept its flagged).chain
@@ -468,7 +442,7 @@ module _ (it : AtJob) where
                   (has_mine mine linked) h kept so ne).changes [
                     | inl chain ↦ inl chain
                     | inr m ↦ (
-                        let has_h = holder_is_one (server_state setting w k) (steady_at front (firm.servers k)) h cell mine linked so in
+                        let has_h = holder_is_one (server_state setting w k) (leaving.steady_at it front (firm.servers k)) h cell mine linked so in
                         let its = is_holder h kept mine e
                         (leaving.other it cell lives mine linked
                         (has_mine mine linked) h kept so ne) (later_or mine linked) has_h ne in
@@ -494,7 +468,7 @@ module _ (it : AtJob) where
           (chain_in (news f other_one).chains cell ≡ []) ⊎ HasFilled setting top visits f cell holder other_one
       unfilled_kept lives all = elim (same_or_apart other_one k) [
         | inr ne ↦ filled_framed (step_at it) f cell holder other_one
-            (ap (λ (s : Store). chain_in s.chains cell) (store_apart f other_one ne)) (ok.unfilled lives all)
+            (ap (λ (s : Store). chain_in s.chains cell) (leaving.store_apart it f other_one ne)) (ok.unfilled lives all)
         | inl e ↦ elim (same_or_apart (blank_joins_in setting f k) (blank_joins_in setting top k)) [
           | inr ne ↦ filled_framed (step_at it) f cell holder other_one
               (ap (λ (s : Store). chain_in s.chains cell) (ap (news f) e
@@ -502,8 +476,8 @@ module _ (it : AtJob) where
               (sym e))) (ok.unfilled lives all)
           | inl now ↦ elim (changed lives e now) [
             | inl chain ↦ filled_framed (step_at it) f cell holder other_one
-                (ap (λ n. chain_in (news f n).chains cell) e ∙ ap (λ (s : Store). chain_in s.chains cell) (store_now f now) ∙ chain
-                ∙ ap (λ (s : Store). chain_in s.chains cell) (sym (store_was f now)) ∙ ap (λ n. chain_in (olds f n).chains cell) (sym e))
+                (ap (λ n. chain_in (news f n).chains cell) e ∙ ap (λ (s : Store). chain_in s.chains cell) (leaving.store_now it f now) ∙ chain
+                ∙ ap (λ (s : Store). chain_in s.chains cell) (sym (leaving.store_was it f now)) ∙ ap (λ n. chain_in (olds f n).chains cell) (sym e))
                 (ok.unfilled lives all)
             | inr fill ↦ inr fill
           ]

@@ -40,9 +40,6 @@ module _ (it : AtJob) where
   abbrev IsElsewhere : (place : ℕ) → Cell → Type 0
   IsElsewhere place cell = (row : LinkRow) → IsLinked setting front cell row → AliveIn (server_state setting w k) cell → place ≢ place_by setting front row
 
-  abbrev IsLeftAt : List Command → (place : ℕ) → Cell → LinkRow → Type 0
-  IsLeftAt = leaving.IsLeftAt it
-
   -- ### Letters that were sent before
 
   said_else : (letter_said : Body) (f : List Command) (cell : Cell) (row : LinkRow) → IsPrefix f top → IsLinked setting f cell row → has_server k row ≡ true
@@ -65,7 +62,7 @@ module _ (it : AtJob) where
       }
     where
       by : AliveIn (state_after setting.servers top) cell → row.state ≡ Both → reached cell ≤ place_by setting f row →
-          (about letter_said).cell ≡ Some cell → IsLeftAt f (place_by setting f row) cell row
+          (about letter_said).cell ≡ Some cell → leaving.IsLeftAt it f (place_by setting f row) cell row
           → Known (pair_at (news f) visits (place_by setting f row) cell row.primary row.secondary) letter_said
       by lives both last of (Same_store same) =
           (said_framed (step_at it) f letter_said cell row

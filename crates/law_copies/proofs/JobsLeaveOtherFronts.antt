@@ -165,9 +165,6 @@ module _ (it : AtJob) where
         abbrev beside_k : ℕ
         beside_k = other_of k mine
 
-        apart_k : beside_k ≢ k
-        apart_k = other_apart mine k apart
-
         same_other : other_of k row ≡ beside_k
         same_other = other_later mine row k later_row
 
@@ -187,7 +184,8 @@ module _ (it : AtJob) where
         fresh_covers since whole so lt =
             elim (to_fill setting records w stores firm good started k cell mine is has since f row whole on prefix end lives so lt) [
               | inl u ↦ inl (Covers whole so unseen (filled_cover row cell (news f k) (news f (other_of k row)) u.whole
-                  (ap (λ (s : Store). chain_in s.chains cell) (store_apart f (other_of k row) (λ e. apart_k (sym same_other ∙ e))) ∙ u.empty)))
+                  (ap (λ (s : Store). chain_in s.chains cell) (store_apart f (other_of k row) (λ e. other_apart mine k apart (sym same_other ∙ e)))
+                  ∙ u.empty)))
               | inr other ↦ inr other
             ]
 

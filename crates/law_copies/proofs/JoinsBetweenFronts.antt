@@ -1,7 +1,7 @@
 -- Joins with an empty store between two fronts of the log, as they concern a link that one server holds alone.
 use Rattle.law_copies.proofs.Imports.{[], if◌then◌else◌, ◌&&◌, ◌++◌, ◌<◌, ◌||◌, ◌∙◌, ◌∷◌, ◌≡◌, ◌≢◌, ◌⊎◌, Bool, Both, By_caught, By_join, By_leave, Caught}
-use Rattle.law_copies.proofs.Imports.{Cell, Command, Firm, HasJoinedSince, In, IsPlain, IsPlainLog, IsPrefix, Join, Leave, LinkRow, List, Lost, None, Only}
-use Rattle.law_copies.proofs.Imports.{PairState, Record, Setting, Some, State, Store, World, ap, append-nil, append_assoc, arith, blank_joins_in}
+use Rattle.law_copies.proofs.Imports.{Cell, Command, Firm, HasJoinedSince, HasProperTuple, HasProperTuples, In, IsPrefix, Join, Leave, LinkRow, List, Lost}
+use Rattle.law_copies.proofs.Imports.{None, Only, PairState, Record, Setting, Some, State, Store, World, ap, append-nil, append_assoc, arith, blank_joins_in}
 use Rattle.law_copies.proofs.Imports.{blanked_state, by_bool, cell_link, chain_in, chosen_log, front_itself, front_more, front_on, front_plain, has_server}
 use Rattle.law_copies.proofs.Imports.{id_of, in_later, inl, inr, is_flagged, is_whole, joined_counts, joins_blank, joins_grow, log_lost, log_steady}
 use Rattle.law_copies.proofs.Imports.{log_touched, number_itself, one_before, other_of, refl, row_blanked, row_joined, state_after, subst, sym, true, ℕ}
@@ -58,7 +58,7 @@ pub record IsBlankedAt (setting : Setting) (until : List Command) (n inc : ℕ) 
   pub linked : IsLinked setting (until ++ Join n inc true ∷ []) cell (row_blanked n row)
   pub apart : row.state ≢ Both
 
-module _ (setting : Setting) (whole : List Command) (all : IsPlainLog setting.servers whole) where
+module _ (setting : Setting) (whole : List Command) (all : HasProperTuples setting.servers whole) where
   pub blanked_at : (front : List Command) (n inc : ℕ) (cell : Cell) (row : LinkRow) (joined : HasJoinedSince setting.servers front whole n inc true)
       → IsLinked setting joined.until cell row → has_server n row ≡ true → IsBlankedAt setting joined.until n inc cell row
   unfolding In
@@ -66,7 +66,7 @@ module _ (setting : Setting) (whole : List Command) (all : IsPlainLog setting.se
       let until = joined.until in
       let entry : Command = Join n inc true in
       let plain = front_plain setting.servers (until ++ entry ∷ []) whole all joined.stands in
-      let plain_entry : IsPlain setting.servers entry = plain entry (in_later entry until (entry ∷ []) (inl refl)) in
+      let plain_entry : HasProperTuple setting.servers entry = plain entry (in_later entry until (entry ∷ []) (inl refl)) in
       let plain_until = front_plain setting.servers until (until ++ entry ∷ []) plain (front_more until entry) in
       elim (log_touched setting.servers until entry cell row plain_until plain_entry is (ap (λ b. b && has_server n row) joined.may ∙ has)) [
         | By_leave left at seats ↦ let f : Join n inc true ≡ Leave left.server left.inc = left.is in absurd cc

@@ -1,44 +1,21 @@
 -- What a step of the first server of a cell in Both keeps of its two copies.
-use Rattle.law_copies.proofs.Imports.{[], ◌+◌, ◌∙◌, ◌∷◌, ◌≡◌, ◌≢◌, ◌≤◌, A_copy, A_slot, Action, An_entry_to_move, Asks, Asks_for, Body, Busy, Cell, Chain}
-use Rattle.law_copies.proofs.Imports.{Closes, Closes_alone, DidLead, Ending, Filling, Gives_up, Goes_on_dead, Has_fill, Has_no_room, In, IsReady, Is_full}
-use Rattle.law_copies.proofs.Imports.{JobContext, JobResult, List, Marks, Marks_alone, None, Of_the_log, OpKind, Opens, Opens_alone, Opens_fill}
-use Rattle.law_copies.proofs.Imports.{Opens_fill_alone, PairState, Pending, Post, Puts, Puts_alone, Repeats, Some, Stage, Stale, Store, Taken, Unmarks}
-use Rattle.law_copies.proofs.Imports.{Unmarks_alone, about, acts, ap, arith, at, both_not_alone, by_test, cell_apart, cell_cmp, cell_gone, cell_gone_apart}
-use Rattle.law_copies.proofs.Imports.{cell_of, cell_same, chain_apart, chain_in, chain_put, copying, ended, ends, false, fill_operation, finishes, gives_back}
-use Rattle.law_copies.proofs.Imports.{has_proposed, in_both, inl, inr, is_alone_on, is_paired, live, marks, moved_as, nat_cmp, next_stage, of_ending}
-use Rattle.law_copies.proofs.Imports.{old_lead, one_post, operation, post_to, posted, put, put_put, puts, putting, refl, same_cell_or_apart, same_some}
-use Rattle.law_copies.proofs.Imports.{second, so_both, stage_live, subject_of, subst, sym, taking, true, true_false, unmarks, version_of, waiting}
-use Rattle.law_copies.proofs.Imports.{with_mark_at, with_opened, with_paired, with_pending, with_reserved, without, without_pending, ℕ}
-use Rattle.law_copies.specs.BothSteps.{SaysKnown}
-use Rattle.law_copies.specs.Pair.{Pair, pair_of, PairOk, Keeps, Known, ceiling_of}
+use Rattle.law_copies.proofs.Imports.{◌+◌, ◌∙◌, ◌≡◌, ◌≢◌, ◌≤◌, Action, Body, Busy, Cell, Chain, Closes, Closes_alone, DidLead, Gives_up, Goes_on_dead}
+use Rattle.law_copies.proofs.Imports.{IsReady, Is_full, JobContext, JobResult, Marks, Marks_alone, None, Opens, Opens_alone, Opens_fill, Opens_fill_alone}
+use Rattle.law_copies.proofs.Imports.{PairState, Pending, Puts, Puts_alone, Some, Stage, Stale, Store, Taken, Unmarks, Unmarks_alone, about, ap, arith, at}
+use Rattle.law_copies.proofs.Imports.{both_not_alone, by_test, cell_apart, cell_cmp, cell_gone, cell_gone_apart, cell_of, cell_same, chain_apart, chain_in}
+use Rattle.law_copies.proofs.Imports.{chain_put, copying, ends, false, fill_operation, finishes, gives_back, has_proposed, inl, inr, is_alone_on, live, marks}
+use Rattle.law_copies.proofs.Imports.{nat_cmp, next_stage, of_ending, operation, put, put_put, puts, putting, refl, same_cell_or_apart, second, so_both}
+use Rattle.law_copies.proofs.Imports.{stage_live, subst, sym, taking, true, true_false, unmarks, version_of, waiting, with_mark_at, with_opened, with_paired}
+use Rattle.law_copies.proofs.Imports.{with_pending, with_reserved, without, without_pending, ℕ}
+use Rattle.spec_rules.specs.Writes.{acts}
+use Rattle.law_copies.specs.Pair.{pair_of, PairOk, Keeps, Known}
 use Rattle.law_copies.specs.Visits.{AliveIn}
 use Rattle.law_copies.proofs.CellInBoth.{CellInBoth}
-use Rattle.law_copies.proofs.MuteLettersTellNothing.{logged_known, unpaired_known}
 use Rattle.law_copies.proofs.WorkedCell.{lead_beside}
 use Rattle.petal_msg.specs.declared.body.Body.TheVariants as body
-use Rattle.petal_msg.specs.declared.letter.Actor.TheVariants as actor
 use Rattle.petal_msg.specs.declared.operation.Action.TheVariants as action
 use Rattle.petal_msg.specs.declared.operation.Ending.TheVariants as ending
-use Rattle.petal_msg.specs.declared.operation.OpKind.TheVariants as kind
 use Rattle.law_copies.proofs.CellChangesKeepCopies as moves
-
--- an ending tells nothing of a pair
-pub ended_known : (pair : Pair) (seq : ℕ) (how : Ending) → Known pair (ended seq how)
-ended_known pair seq ending.Written = tt
-ended_known pair seq ending.Full = tt
-
--- what ends an operation tells nothing of the pair
-pub ends_known : (here : JobContext) (own : PairState) (op : Pending) (of : OpKind) (how : Ending) (post : Post) → In post (ends here own op of how).posts
-    → (pair : Pair) → Known pair post.body
-unfolding In
-ends_known here own op kind.Write how post i pair = subst (Known pair) (sym (one_post _ _ post i).1) (ended_known pair op.seq how)
-ends_known here own op kind.Fill how post i pair =
-    unpaired_known pair post.body (ap is_paired (ap subject_of (posted (old_lead here.state op.cell) (moved_as op.key how) post i) ∙ moved_filling how))
-  where
-    moved_filling : (how : Ending) → subject_of (moved_as op.key how) ≡ Filling
-    moved_filling ending.Written = refl
-    moved_filling ending.Full = refl
-ends_known here own op kind.Copy how post i pair = absurd i
 
 -- no action changes the number of the next operation
 acts_next : (here : JobContext) (own : PairState) (op : Pending) (next : Action) → (acts here own op next).own.pairs.next ≡ own.pairs.next
@@ -51,21 +28,13 @@ acts_next here own op action.Answer = (of_ending here (without_pending own op.ce
 acts_next here own op action.Drop = by_test (λ (o : PairState). o.pairs.next ≡ own.pairs.next) op.stage.put (without_pending own op.cell)
     (gives_back (without_pending own op.cell)) (λ t. refl) (λ t. refl)
 
--- what a step leaves of the cell, and of what it tells
-pub record IsKept (own new : PairState) (posts : List Post) (second : PairState) (cell : Cell) : Type 0 where
-  pub keeps : Keeps (pair_of own second cell) (pair_of new second cell)
-  pub says : SaysKnown posts cell (pair_of new second cell)
-
 module _ (it : CellInBoth) (ready : IsReady it.here.state it.here.me (has_proposed it.here.state it.own) it.own.pairs.pending) (second_own : PairState)
     (ok : PairOk (pair_of it.own second_own it.cell))
     (known : (said : Body) → it.heard said → (about said).cell ≡ Some it.cell → Known (pair_of it.own second_own it.cell) said) where
   open it use {heard, here, own, cell, row, is_row, alive, both_row}
 
-  abbrev K : PairState → List Post → Type 0
-  K new posts = IsKept own new posts second_own cell
-
-  cell_both : in_both here.state cell ≡ true
-  cell_both = so_both here.state cell row is_row both_row
+  abbrev K : PairState → Type 0
+  K new = Keeps (pair_of own second_own cell) (pair_of new second_own cell)
 
   -- the same at the cell of an operation, where it is this one
   ok_at : (q : Cell) → q ≡ cell → PairOk (pair_of own second_own q)
@@ -100,59 +69,14 @@ module _ (it : CellInBoth) (ready : IsReady it.here.state it.here.me (has_propos
     | inr ne ↦ off new (chains cell ne) (pending cell ne) next
   ]
 
-  -- what is sent tells nothing of the pair
-  mute : (new : PairState) (posts : List Post) → ((post : Post) → In post posts → (pair : Pair) → Known pair post.body)
-      → SaysKnown posts cell (pair_of new second_own cell)
-  mute new posts h post i is = h post i (pair_of new second_own cell)
-
-  mute_one : (new : PairState) (posts : List Post) (said : Body) → ((post : Post) → In post posts → post.body ≡ said) → ((pair : Pair) → Known pair said)
-      → SaysKnown posts cell (pair_of new second_own cell)
-  mute_one new posts said all h post i is = subst (Known (pair_of new second_own cell)) (sym (all post i)) (h (pair_of new second_own cell))
-
-  none_said : (new : PairState) → SaysKnown [] cell (pair_of new second_own cell)
-  unfolding In
-  none_said new post i is = absurd i
-
-  -- what is sent tells of an operation's cell
-  says_at : (q : Cell) (new : PairState) (posts : List Post) (said : Body) → ((post : Post) → In post posts → post.body ≡ said) → (about said).cell ≡ Some q
-      → (q ≡ cell → Known (pair_of new second_own q) said) → SaysKnown posts cell (pair_of new second_own cell)
-  says_at q new posts said all of h post i is =
-      let e : q ≡ cell = same_some (sym of ∙ sym (ap (λ b. (about b).cell) (all post i)) ∙ is) in
-      subst (Known (pair_of new second_own cell)) (sym (all post i)) (subst (λ (c : Cell). Known (pair_of new second_own c) said) e (h e))
-
-  pub same_part : (new : PairState) (posts : List Post) → new.pairs ≡ own.pairs → new.store.chains ≡ own.store.chains
-      → SaysKnown posts cell (pair_of new second_own cell) → K new posts
-  same_part new posts pairs chains says = record {
-    keeps = off new (ap (λ c. chain_in c cell) chains) (ap (λ p. at cell_cmp p.pending cell) pairs) (let e = ap (λ p. p.next) pairs in omega arith);
-    says = says;
-  }
+  same_part : (new : PairState) → new.pairs ≡ own.pairs → new.store.chains ≡ own.store.chains → K new
+  same_part new pairs chains =
+      off new (ap (λ c. chain_in c cell) chains) (ap (λ p. at cell_cmp p.pending cell) pairs) (let e = ap (λ p. p.next) pairs in omega arith)
 
   -- a cell that one server holds alone is another one
   not_alone : (q : Cell) (n : ℕ) → is_alone_on here.state n q ≡ true → {B : Type 0} → q ≡ cell → B
-  not_alone q n on e = true_false (subst (λ (c : Cell). is_alone_on here.state n c ≡ true) e on) (both_not_alone here.state n cell cell_both)
-
-  -- ### What it asks for
-
-  asks_known : (post : Post) → Asks here own post → (about post.body).cell ≡ Some cell → Known (pair_of own second_own cell) post.body
-  asks_known _ (A_slot op to is stage e) of =
-      let same : op.cell ≡ cell = same_some of in
-      let there : at cell_cmp own.pairs.pending cell ≡ Some op = ap (at cell_cmp own.pairs.pending) (sym same) ∙ is in
-      let above : ceiling_of (at cell_cmp own.pairs.pending cell) own.pairs.next ≡ op.op + 1 = ap (λ o. ceiling_of o own.pairs.next) there in
-      omega arith
-  asks_known _ (A_copy op to is stage e) of =
-      let same : op.cell ≡ cell = sym ((ready.staged op.cell op is).keyed) ∙ same_some of in
-      inl (record {
-        op = op;
-        is = ap (at cell_cmp own.pairs.pending) (sym same) ∙ is;
-        number_is = refl;
-        put = ap (λ (s : Stage). s.put) stage;
-        key_is = refl;
-        bytes_is = refl;
-      })
-  asks_known _ (An_entry_to_move post next) of =
-      unpaired_known (pair_of own second_own cell) post.body (ap (λ (p : Post). is_paired (subject_of p.body)) next.is)
-  asks_known post (Of_the_log _ e) of = logged_known (pair_of own second_own cell) post.body e
-  asks_known _ _ of = tt
+  not_alone q n on e = true_false (subst (λ (c : Cell). is_alone_on here.state n c ≡ true) e on)
+      (both_not_alone here.state n cell (so_both here.state cell row is_row both_row))
 
   -- ### Its own operations
 
@@ -193,37 +117,24 @@ module _ (it : CellInBoth) (ready : IsReady it.here.state it.here.me (has_propos
 
   -- one opens
   opens_keeps : (op : Pending) → at cell_cmp own.pairs.pending op.cell ≡ None → op.op ≡ own.pairs.next → op.stage.reserved ≡ false → op.stage.put ≡ false
-      → K (with_opened own op) (post_to (second here.state op.cell) (body.Reserve own.pairs.next op.cell))
+      → K (with_opened own op)
   opens_keeps op none number unreserved unput =
       let q = op.cell in
       let new = with_opened own op in
-      let there : at cell_cmp new.pairs.pending q ≡ Some op = cell_same own.pairs.pending q op in
-      record {
-        keeps = at_cell q new (λ c ne. refl) (λ c ne. cell_apart own.pairs.pending q op c ne) (omega arith)
-            (λ e. subst (Keeps (pair_of own second_own q)) (λ i. record (pair_of new second_own q) { pending = sym there i })
-            (moves.opens (pair_of own second_own q) op (ok_at q e) none number unreserved unput));
-        says = says_at q new _ (body.Reserve own.pairs.next q) (λ post i. posted _ _ post i) refl
-            (λ e. subst (λ o. Known (record (pair_of new second_own q) { pending = o }) (body.Reserve own.pairs.next q)) (sym there)
-            (omega (arith, number)));
-      }
-
-  -- which it says to nobody
-  twice_keeps : (op one two : Pending) (new : PairState) → new.store.chains ≡ own.store.chains → new.pairs.next ≡ own.pairs.next
-      → new.pairs.pending ≡ put cell_cmp (put cell_cmp own.pairs.pending op.cell one) op.cell two
-      → (op.cell ≡ cell → Keeps (pair_of own second_own op.cell) (record (pair_of own second_own op.cell) { pending = Some two })) → K new []
-  twice_keeps op one two new chains next pending keeps =
-      record { keeps = moved_twice op one two new chains next pending keeps; says = none_said new }
+      at_cell q new (λ c ne. refl) (λ c ne. cell_apart own.pairs.pending q op c ne) (omega arith)
+      (λ e. subst (Keeps (pair_of own second_own q)) (λ i. record (pair_of new second_own q) { pending = sym (cell_same own.pairs.pending q op) i })
+      (moves.opens (pair_of own second_own q) op (ok_at q e) none number unreserved unput))
 
   marks_keeps : (op : Pending) → heard (body.Reserved op.op op.cell) → at cell_cmp own.pairs.pending op.cell ≡ Some op → op.stage ≡ waiting
-      → K (marks (with_pending own (with_reserved op)) (with_reserved op) Busy).own []
+      → K (marks (with_pending own (with_reserved op)) (with_reserved op) Busy).own
   marks_keeps op h is stage =
       let one = with_reserved op in
       let two = with_mark_at one Busy true in
       let at_put = ap (λ (s : Stage). s.put) stage in
-      twice_keeps op one two (marks (with_pending own one) one Busy).own refl refl refl
+      moved_twice op one two (marks (with_pending own one) one Busy).own refl refl refl
       (λ e. moves.marks (pair_of own second_own op.cell) op two (ok_at op.cell e) is at_put (known_at _ h op.cell refl e) refl at_put)
 
-  puts_keeps : (op : Pending) → at cell_cmp own.pairs.pending op.cell ≡ Some op → op.stage ≡ putting → K (puts own op).own []
+  puts_keeps : (op : Pending) → at cell_cmp own.pairs.pending op.cell ≡ Some op → op.stage ≡ putting → K (puts own op).own
   puts_keeps op is stage =
       let chains = own.store.chains in
       let keyed = (ready.staged op.cell op is).keyed in
@@ -235,63 +146,41 @@ module _ (it : CellInBoth) (ready : IsReady it.here.state it.here.me (has_propos
       let copied : put nat_cmp (chain_in chains op.cell) op.key.epoch (record { version = version; bytes = op.bytes }) ≡ chain_in new.store.chains op.cell =
       ap (λ (c : Cell). put nat_cmp (chain_in chains c) op.key.epoch (record { version = version; bytes = op.bytes })) (sym keyed)
       ∙ sym (chain_put chains (cell_of op.key) chain) ∙ ap (chain_in new.store.chains) keyed in
-      record {
-        keeps = at_cell op.cell new (λ q ne. chain_apart chains (cell_of op.key) chain q (λ e. ne (e ∙ keyed)))
-            (λ q ne. cell_apart own.pairs.pending op.cell two q ne) (omega arith)
-            (λ e. subst (Keeps (pair_of own second_own op.cell)) (λ i. record (pair_of new second_own op.cell) { first = copied i; pending = sym there i })
-            (moves.puts (pair_of own second_own op.cell) op two (ok_at op.cell e) is (ap (λ (s : Stage). s.reserved) stage)
-            (ap (λ (s : Stage). s.put) stage) refl refl refl refl (ap (λ (s : Stage). s.paired) stage)));
-        says = none_said new;
-      }
+      at_cell op.cell new (λ q ne. chain_apart chains (cell_of op.key) chain q (λ e. ne (e ∙ keyed)))
+      (λ q ne. cell_apart own.pairs.pending op.cell two q ne) (omega arith)
+      (λ e. subst (Keeps (pair_of own second_own op.cell)) (λ i. record (pair_of new second_own op.cell) { first = copied i; pending = sym there i })
+      (moves.puts (pair_of own second_own op.cell) op two (ok_at op.cell e) is (ap (λ (s : Stage). s.reserved) stage)
+      (ap (λ (s : Stage). s.put) stage) refl refl refl refl (ap (λ (s : Stage). s.paired) stage)))
 
   unmarks_keeps : (op : Pending) → heard (body.Replicated op.op op.cell) → at cell_cmp own.pairs.pending op.cell ≡ Some op → op.stage ≡ copying
-      → K (unmarks (with_pending own (with_paired op)) (with_paired op) Busy).own []
+      → K (unmarks (with_pending own (with_paired op)) (with_paired op) Busy).own
   unmarks_keeps op h is stage =
       let one = with_paired op in
       let two = with_mark_at one Busy false in
       let at_put = ap (λ (s : Stage). s.put) stage in
-      twice_keeps op one two (unmarks (with_pending own one) one Busy).own refl refl refl
+      moved_twice op one two (unmarks (with_pending own one) one Busy).own refl refl refl
       (λ e. moves.unmarks (pair_of own second_own op.cell) op two (ok_at op.cell e) is at_put (known_at _ h op.cell refl e) refl at_put)
 
   -- ### Another cell, which it holds alone
 
-  opens_alone : (op : Pending) → is_alone_on here.state here.me op.cell ≡ true → K (marks (with_opened own op) op Stale).own []
+  opens_alone : (op : Pending) → is_alone_on here.state here.me op.cell ≡ true → K (marks (with_opened own op) op Stale).own
   opens_alone op on =
-      let new = (marks (with_opened own op) op Stale).own in
-      record {
-        keeps = at_cell op.cell new (λ q ne. refl) (λ q ne. put_put own.pairs.pending op.cell op (with_mark_at op Stale true) q ne) (omega arith)
-            (λ e. not_alone op.cell here.me on e);
-        says = none_said new;
-      }
+      at_cell op.cell (marks (with_opened own op) op Stale).own (λ q ne. refl)
+      (λ q ne. put_put own.pairs.pending op.cell op (with_mark_at op Stale true) q ne) (omega arith) (λ e. not_alone op.cell here.me on e)
 
-  taken_keeps : (now : PairState) (op : Pending) → Taken own now op → is_alone_on here.state here.me op.cell ≡ true → (new : PairState) (posts : List Post)
+  taken_keeps : (now : PairState) (op : Pending) → Taken own now op → is_alone_on here.state here.me op.cell ≡ true → (new : PairState)
       → ((q : Cell) → q ≢ op.cell → chain_in new.store.chains q ≡ chain_in now.store.chains q)
       → ((q : Cell) → q ≢ op.cell → at cell_cmp new.pairs.pending q ≡ at cell_cmp now.pairs.pending q)
-      → new.pairs.next ≡ now.pairs.next → SaysKnown posts cell (pair_of new second_own cell) → K new posts
-  taken_keeps now op taken on new posts chains pending next says =
+      → new.pairs.next ≡ now.pairs.next → K new
+  taken_keeps now op taken on new chains pending next =
       let t = taking own now op taken in
       let same : new.pairs.next ≡ own.pairs.next = next ∙ t.next in
-      record {
-        keeps = at_cell op.cell new (λ q ne. chains q ne ∙ ap (λ (s : Store). chain_in s.chains q) t.store) (λ q ne. pending q ne ∙ t.others q ne) (omega arith)
-            (λ e. not_alone op.cell here.me on e);
-        says = says;
-      }
+      at_cell op.cell new (λ q ne. chains q ne ∙ ap (λ (s : Store). chain_in s.chains q) t.store) (λ q ne. pending q ne ∙ t.others q ne) (omega arith)
+      (λ e. not_alone op.cell here.me on e)
 
   taken_keyed : (now : PairState) (op : Pending) → Taken own now op → cell_of op.key ≡ op.cell
   taken_keyed now op taken =
       let t = taking own now op taken in ap (λ (o : Pending). cell_of o.key) t.is ∙ (ready.staged op.cell t.old t.was).keyed
-
-  -- a request ends
-  ended_says : (new : PairState) (client seq : ℕ) (how : Ending)
-      → SaysKnown (record { to = actor.Client client; body = ended seq how } ∷ []) cell (pair_of new second_own cell)
-  ended_says new client seq how =
-      mute_one new (record { to = actor.Client client; body = ended seq how } ∷ []) (ended seq how)
-      (λ post i. (one_post (actor.Client client) (ended seq how) post i).1) (λ pair. ended_known pair seq how)
-
-  -- an operation ends
-  ending_says : (new base : PairState) (op : Pending) (how : Ending)
-      → SaysKnown (ends here base op op.kind how).posts cell (pair_of new second_own cell)
-  ending_says new base op how = mute new _ (λ post i. ends_known here base op op.kind how post i)
 
   -- one on a cell that is dead is of another cell
   dead_apart : (now : PairState) (op : Pending) → Taken own now op → live here.state op.cell ≡ false → cell ≢ op.cell
@@ -300,81 +189,48 @@ module _ (it : CellInBoth) (ready : IsReady it.here.state it.here.me (has_propos
       let born = (ready.staged op.cell t.old t.was).born in
       true_false (stage_live here.state op.cell born (subst (λ (c : Cell). AliveIn here.state c) e alive)) off
 
-  dead_says : (now : PairState) (op : Pending) → cell_of op.key ≡ op.cell → cell ≢ op.cell → (new : PairState) (next : Action)
-      → SaysKnown (acts here now op next).posts cell (pair_of new second_own cell)
-  dead_says now op keyed ne new action.Reserve = says_at op.cell new _ (body.Reserve op.op op.cell) (λ post i. posted _ _ post i) refl
-      (λ e. absurd (ne (sym e)))
-  dead_says now op keyed ne new (action.Mark kind) = none_said new
-  dead_says now op keyed ne new action.Put = none_said new
-  dead_says now op keyed ne new action.Replicate =
-      says_at (cell_of op.key) new _ (body.Replicate op.op op.key op.version op.bytes) (λ post i. posted _ _ post i) refl (λ e. absurd (ne (sym e ∙ keyed)))
-  dead_says now op keyed ne new (action.Unmark kind) = none_said new
-  dead_says now op keyed ne new action.Answer = ending_says new (without_pending now op.cell) op ending.Written
-  dead_says now op keyed ne new action.Drop = none_said new
-
   goes_on_dead : (now : PairState) (op : Pending) → (taken : Taken own now op) → (dead : live here.state op.cell ≡ false)
-      → K (acts here now op (next_stage here.state here.me op)).own (acts here now op (next_stage here.state here.me op)).posts
+      → K (acts here now op (next_stage here.state here.me op)).own
   goes_on_dead now op taken dead =
       let next = next_stage here.state here.me op in
       let ne = dead_apart now op taken dead in
       let kept = (lead_beside heard here own ready (acts here now op next) (Goes_on_dead now op taken dead) cell ne).rest in
       let same : (acts here now op next).own.pairs.next ≡ own.pairs.next = acts_next here now op next ∙ (taking own now op taken).next in
-      record {
-        keeps = off (acts here now op next).own kept.chain kept.pending (omega arith);
-        says = dead_says now op (taken_keyed now op taken) ne (acts here now op next).own next;
-      }
+      off (acts here now op next).own kept.chain kept.pending (omega arith)
 
   -- ### Each kind of its jobs
 
-  pub lead_keeps : (done : JobResult) → DidLead heard here own done → K done.own done.posts
-  lead_keeps _ (Asks_for posts h) = same_part own posts refl refl (λ post i of. asks_known post (h post i) of)
-  lead_keeps _ (Repeats want last h lead is e) = same_part own _ refl refl (ended_says own want.client want.seq last.ending)
-  lead_keeps _ (Is_full want new no_room) =
-      let after = (finishes own want.client want.seq ending.Full).own in
-      record { keeps = off after refl refl (omega arith); says = ended_says after want.client want.seq ending.Full }
+  pub lead_keeps : (done : JobResult) → DidLead heard here own done → K done.own
+  lead_keeps _ (Is_full want new no_room) = off (finishes own want.client want.seq ending.Full).own refl refl (omega arith)
   lead_keeps _ (Gives_up op h is reserved put) =
       let base = gives_back (without_pending own op.cell) in
-      let after = (ends here base op op.kind ending.Full).own in
       let f = of_ending here base op op.kind ending.Full in
-      record {
-        keeps = done_with op after (ap (λ (t : Store). t.chains) f.store) f.next f.pending
-            (λ e. moves.refuses (pair_of own second_own op.cell) op (ok_at op.cell e) is put);
-        says = ending_says after base op ending.Full;
-      }
+      done_with op (ends here base op op.kind ending.Full).own (ap (λ (t : Store). t.chains) f.store) f.next f.pending
+      (λ e. moves.refuses (pair_of own second_own op.cell) op (ok_at op.cell e) is put)
   lead_keeps _ (Opens want new both) = opens_keeps (operation here own.pairs.next want) new.none refl refl refl
   lead_keeps _ (Marks op h is both stage) = marks_keeps op h is stage
   lead_keeps _ (Puts op is both stage) = puts_keeps op is stage
   lead_keeps _ (Unmarks op h is both stage) = unmarks_keeps op h is stage
   lead_keeps _ (Closes op is both stage) =
       let base = without_pending own op.cell in
-      let after = (ends here base op op.kind ending.Written).own in
       let f = of_ending here base op op.kind ending.Written in
-      record {
-        keeps = done_with op after (ap (λ (t : Store). t.chains) f.store) f.next f.pending
-            (λ e. moves.closes (pair_of own second_own op.cell) op (ok_at op.cell e) is (ap (λ (s : Stage). s.put) stage) (ap (λ (s : Stage). s.paired) stage));
-        says = ending_says after base op ending.Written;
-      }
+      done_with op (ends here base op op.kind ending.Written).own (ap (λ (t : Store). t.chains) f.store) f.next f.pending
+      (λ e. moves.closes (pair_of own second_own op.cell) op (ok_at op.cell e) is (ap (λ (s : Stage). s.put) stage) (ap (λ (s : Stage). s.paired) stage))
   lead_keeps _ (Opens_alone want new on) = opens_alone (operation here own.pairs.next want) on
   lead_keeps _ (Marks_alone now op taken on fresh) =
-      let after = (marks now op Stale).own in
-      taken_keeps now op taken on after [] (λ q ne. refl) (λ q ne. cell_apart now.pairs.pending op.cell _ q ne) refl (none_said after)
+      taken_keeps now op taken on (marks now op Stale).own (λ q ne. refl) (λ q ne. cell_apart now.pairs.pending op.cell _ q ne) refl
   lead_keeps _ (Puts_alone now op taken on stale put) =
-      let after = (puts now op).own in
-      taken_keeps now op taken on after [] (λ q ne. chain_apart now.store.chains (cell_of op.key) _ q (λ e. ne (e ∙ taken_keyed now op taken)))
-      (λ q ne. cell_apart now.pairs.pending op.cell _ q ne) refl (none_said after)
+      taken_keeps now op taken on (puts now op).own
+      (λ q ne. chain_apart now.store.chains (cell_of op.key) _ q (λ e. ne (e ∙ taken_keyed now op taken)))
+      (λ q ne. cell_apart now.pairs.pending op.cell _ q ne) refl
   lead_keeps _ (Unmarks_alone now op taken on stale put busy) =
-      let after = (unmarks now op Busy).own in
-      taken_keeps now op taken on after [] (λ q ne. refl) (λ q ne. cell_apart now.pairs.pending op.cell _ q ne) refl (none_said after)
+      taken_keeps now op taken on (unmarks now op Busy).own (λ q ne. refl) (λ q ne. cell_apart now.pairs.pending op.cell _ q ne) refl
   lead_keeps _ (Closes_alone now op taken on stale put free) =
       let base = without_pending now op.cell in
-      let after = (ends here base op op.kind ending.Written).own in
       let f = of_ending here base op op.kind ending.Written in
-      taken_keeps now op taken on after _ (λ q ne. ap (λ (t : Store). chain_in t.chains q) f.store)
+      taken_keeps now op taken on (ends here base op op.kind ending.Written).own (λ q ne. ap (λ (t : Store). chain_in t.chains q) f.store)
       (λ q ne. ap (λ t. at cell_cmp t q) f.pending ∙ cell_gone_apart now.pairs.pending op.cell q ne) f.next
-      (ending_says after base op ending.Written)
   lead_keeps _ (Opens_fill moving new room both) = opens_keeps (fill_operation here own.pairs.next moving) new.none refl refl refl
   lead_keeps _ (Opens_fill_alone moving new room on) = opens_alone (fill_operation here own.pairs.next moving) on
-  lead_keeps _ (Has_fill moving there) = same_part own _ refl refl (mute_one own _ (body.Filled moving.key) (λ post i. posted _ _ post i) (λ pair. tt))
-  lead_keeps _ (Has_no_room moving new no_room) =
-      same_part own _ refl refl (mute_one own _ (body.FillFull moving.key) (λ post i. posted _ _ post i) (λ pair. tt))
   lead_keeps _ (Goes_on_dead now op taken dead) = goes_on_dead now op taken dead
+  lead_keeps _ _ = same_part own refl refl

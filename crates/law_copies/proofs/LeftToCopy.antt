@@ -5,9 +5,9 @@ use Rattle.law_copies.proofs.Imports.{PairState, Pending, Some, Stale, State, St
 use Rattle.law_copies.proofs.Imports.{by_bool, by_test, cell_at, cell_cmp, cell_cmp_same, cell_cmp_total, cell_left, cell_link, chain_in, cond, copying_on}
 use Rattle.law_copies.proofs.Imports.{either_false, false, filter, in-append, in_former, in_later, in_map, in_none, inl, inr, is_at, is_eq, is_kept_on}
 use Rattle.law_copies.proofs.Imports.{is_link, is_link_under_way, is_mark, is_marked, is_on, is_some, is_under_way, is_whole, least, lesser, link_named}
-use Rattle.law_copies.proofs.Imports.{list_any, live, lookup, mark_on, marked_blocks, nat_lt, nat_tests, next_block, next_copy, none_some, number_itself}
-use Rattle.law_copies.proofs.Imports.{on_row, option_map_or, pending_on, progress_on, refl, same_cell, same_itself, same_mark, same_some, some_or_none}
-use Rattle.law_copies.proofs.Imports.{stored_blocks, subst, sym, tied_itself, true, true_false, unwrap_or, ℕ}
+use Rattle.law_copies.proofs.Imports.{list_any, live, lookup, mark_on, marked_blocks, nat_lt, nat_tests, next_block, next_copy, none_of, none_some}
+use Rattle.law_copies.proofs.Imports.{number_itself, on_row, option_map_or, pending_on, progress_on, refl, same_cell, same_itself, same_mark, same_some}
+use Rattle.law_copies.proofs.Imports.{some_or_none, stored_blocks, subst, sym, tied_itself, true, true_false, unwrap_or, ℕ}
 use Rattle.law_copies.proofs.ChainsRise.{any_in, in_any, in_kept, in_left, in_mapped}
 
 -- ### The least of some numbers
@@ -97,15 +97,11 @@ marked_on state id row own block named i =
 
 -- ### What is under way
 
-is_none : {A : Type 0} (o : Option A) → is_some o ≡ false → o ≡ None
-is_none None e = refl
-is_none (Some x) e = true_false refl e
-
 idle : (own : PairState) (cell : Cell) → is_under_way own cell ≡ false → (pending_on own cell ≡ None) × (copying_on own cell ≡ None)
 idle own cell e = let two = either_false (is_some (pending_on own cell)) (is_some (copying_on own cell)) e in
-    (is_none (pending_on own cell) two.0, is_none (copying_on own cell) two.1)
+    (none_of (pending_on own cell) two.0, none_of (copying_on own cell) two.1)
 
-tied : (r : Ordering) → is_eq r ≡ true → r ≡ Equal
+pub tied : (r : Ordering) → is_eq r ≡ true → r ≡ Equal
 tied Less e = true_false e refl
 tied Equal e = refl
 tied Greater e = true_false e refl

@@ -1,25 +1,19 @@
 -- A server speaks of pairs and copies only of live cells whose link it is of.
-use Rattle.law_copies.proofs.Imports.{◌∙◌, ◌≡◌, ◌⊎◌, Asks_copy, Asks_page, Asks_slot, Begins, Body, Cell, Copying, Did, Effect, Ending, Ends_fill, Entry}
-use Rattle.law_copies.proofs.Imports.{Goes_on, Has_copy, Has_slot, In, IsCopiedFor, IsCopying, IsOfCopy, Is_begun, Is_copied, Is_further, Is_sync_full}
-use Rattle.law_copies.proofs.Imports.{Is_synced, JobContext, JobResult, LastCopy, May, Moves, Moves_on, Of_the_log, Opens, PairState, Pending, Post, Refuses}
-use Rattle.law_copies.proofs.Imports.{Repeats, Says, Some, Syncs, Tells_page, Trims, about, ap, applied, by_bool, cell_apart, cell_of, dead_second, ended}
-use Rattle.law_copies.proofs.Imports.{false, follows, inl, inr, is_between, is_lead, is_second, job_keeps, last_copy, lead_links, leads_link, letters_of_job}
-use Rattle.law_copies.proofs.Imports.{live, none_some, pending_on, refl, same_cell_or_apart, same_some, second, subject_of, subst, sym, true, true_false, ℕ}
+use Rattle.law_copies.proofs.Imports.{◌∙◌, ◌≡◌, ◌⊎◌, Asks_copy, Asks_slot, Begins, Body, Cell, Copying, Did, Effect, Ends_fill, Entry, Goes_on, Has_copy}
+use Rattle.law_copies.proofs.Imports.{Has_slot, In, IsCopiedFor, IsCopying, IsOfCopy, Is_begun, Is_copied, Is_further, Is_sync_full, Is_synced, JobContext}
+use Rattle.law_copies.proofs.Imports.{JobResult, LastCopy, May, Moves, Moves_on, PairState, Pending, Post, Says, Some, Syncs, Tells_page, Trims, about, ap}
+use Rattle.law_copies.proofs.Imports.{applied, by_bool, cell_apart, cell_of, dead_second, ended, false, follows, inl, inr, is_between, is_lead, is_second}
+use Rattle.law_copies.proofs.Imports.{job_keeps, last_copy, lead_links, leads_link, letters_of_job, live, logged_apart, none_some, pending_on, refl}
+use Rattle.law_copies.proofs.Imports.{same_cell_or_apart, same_some, second, subject_of, subst, sym, true, true_false, ℕ}
 use Rattle.law_jobs.specs.Sayings.{Ends}
 use Rattle.law_copies.specs.LoneSteps.{IsFit}
 use Rattle.law_copies.proofs.ForeignCellsStay.{IsIdleAt, second_live}
 use Rattle.law_copies.proofs.LeftToCopy.{next_is}
-use Rattle.law_copies.proofs.MuteLettersTellNothing.{logged_mute}
-use Rattle.law_copies.proofs.CopyLetters.{moved_fills}
+use Rattle.law_copies.proofs.MuteLettersTellNothing.{ended_mute, moved_mute}
 use Rattle.law_copies.proofs.RolesOfWorkers.{IsHeldHere, begun_held, entry_lives, taken_held, taken_lives}
 use Rattle.law_copies.proofs.WorkedCell.{IsHeldBy}
 use Rattle.petal_msg.specs.declared.body.Body.TheVariants as body
-use Rattle.petal_msg.specs.declared.operation.Ending.TheVariants as ending
 use Rattle.law_jobs.specs.Sayings as says
-
-ended_mute : (seq : ℕ) (how : Ending) → is_between (subject_of (ended seq how)) ≡ false
-ended_mute seq ending.Written = refl
-ended_mute seq ending.Full = refl
 
 module _ (heard : Body → Type 0) (here : JobContext) (own : PairState) where
   -- the cell is live, and the server has to do with it
@@ -89,9 +83,9 @@ module _ (heard : Body → Type 0) (here : JobContext) (own : PairState) where
     may_speak new lives _ (Asks_slot op to same is stage so) e = inr (spoken op.cell (op_spoken op to is so) e)
     may_speak new lives _ (Asks_copy op to same is stage so) e =
         inr (spoken op.cell (op_spoken op to is so) (ap Some (sym (fit.ready.staged op.cell op is).keyed) ∙ e))
-    may_speak new lives _ (Has_slot number cell to follows so) e = inr (spoken cell (second_spoken cell follows) e)
+    may_speak new lives _ (Has_slot number cell to follows is so) e = inr (spoken cell (second_spoken cell follows) e)
     may_speak new lives _ (says.Has_no_slot number cell to same h follows found so) e = inr (spoken cell (second_spoken cell follows) e)
-    may_speak new lives _ (Has_copy number cell to follows so) e = inr (spoken cell (second_spoken cell follows) e)
+    may_speak new lives _ (Has_copy number cell to follows is so) e = inr (spoken cell (second_spoken cell follows) e)
     may_speak new lives _ (says.Asks_page row to same so fresh) e = none_some refl e
     may_speak new lives _ (Tells_page id row after to same h named held) e = none_some refl e
     may_speak new lives _ (Trims cell copy to copies fresh so) e = inr (spoken cell (copying_spoken cell new copy copies) e)
@@ -102,12 +96,12 @@ module _ (heard : Body → Type 0) (here : JobContext) (own : PairState) where
           role = inr (inr (inr (subst (IsHeldBy heard here own) same (record { holder = holder; held = held }))));
         })
     may_speak new lives _ (Syncs cell copy row to copies trimmed spot so) e = inr (spoken cell (copying_spoken cell new copy copies) e)
-    may_speak new lives _ (Is_synced entry holder last of) e = inr (spoken (cell_of entry.key) (entry_spoken entry holder last of) e)
+    may_speak new lives _ (Is_synced entry holder last later of is number lt) e = inr (spoken (cell_of entry.key) (entry_spoken entry holder last of) e)
     may_speak new lives _ (Is_sync_full entry holder last same of spot full) e = inr (spoken (cell_of entry.key) (entry_spoken entry holder last of) e)
-    may_speak new lives _ (Ends_fill op how to ended is none so) e = inl (ap is_between (moved_fills op.key how))
+    may_speak new lives _ (Ends_fill op how to ended is none so) e = inl (moved_mute op.key how)
     may_speak new lives post (Moves _ same next) e = inl (ap (λ (p : Post). is_between (subject_of p.body)) next.is)
     may_speak new lives post (Moves_on key row _ same h is next) e = inl (ap (λ (p : Post). is_between (subject_of p.body)) next.is)
-    may_speak new lives post (says.Of_the_log _ logged) e = inl (logged_mute (subject_of post.body) logged)
+    may_speak new lives post (says.Of_the_log _ logged) e = inl (logged_apart (subject_of post.body) logged)
     may_speak new lives _ _ e = inl refl
 
     did_say : (done : JobResult) → Did heard here own done → (post : Post) → In post done.posts → (about post.body).cell ≡ Some q → MaySpeak post.body

@@ -1,6 +1,6 @@
 -- In every legal history each put of a lead fell on a block that was marked on its device.
 use Rattle.law_copies.proofs.Imports.{[], ◌++◌, ◌∙◌, ◌∷◌, ◌≡◌, ◌≢◌, Acted, AreSteps, Blanks, By_ballot, By_entry, By_job, Cell, Did, Ends, Fails, Firm, Goes}
-use Rattle.law_copies.proofs.Imports.{Handled, Happens, IsMarked, IsSeated, IsSound, JobResult, List, MarksFirst, Record, Rests, Script, Server, Serves}
+use Rattle.law_copies.proofs.Imports.{Handled, Happens, IsMarked, IsSeatedOrMute, IsSound, JobResult, List, MarksFirst, Record, Rests, Script, Server, Serves}
 use Rattle.law_copies.proofs.Imports.{Serving, Setting, State, Stays, Step, Store, Turns, Wakes, World, always_firm, ap, append_assoc, before_part}
 use Rattle.law_copies.proofs.Imports.{below_itself, blanked, chain_in, chosen_log, chosen_state, counted, crossed, history_is_firm, inl, inr, is_in, kept}
 use Rattle.law_copies.proofs.Imports.{last_happens, leads_link, live, own_place, own_steady, put_apart, put_at, put_same, refl, rests_after, same_or_apart}
@@ -27,7 +27,7 @@ module _ (setting : Setting) (records : List Record) (w : World) (firm : Firm se
 
   -- in a job of a server that leads the cell
   job_first : (k : ℕ) (done : JobResult) → (w.servers k).life.running ≡ true → Did (Handled w k) (own_place setting w k) (w.servers k).own done
-      → IsSeated (own_place setting w k) (w.servers k).own done → (cell : Cell) → live (server_state setting w k) cell ≡ true
+      → IsSeatedOrMute (own_place setting w k) (w.servers k).own done → (cell : Cell) → live (server_state setting w k) cell ≡ true
       → leads_link (server_state setting w k) k cell ≡ true → chain_in done.own.store.chains cell ≢ chain_in (w.servers k).own.store.chains cell
       → IsMarked (w.servers k).own.store cell
   job_first k done runs did (inl seat) cell on lead changed =

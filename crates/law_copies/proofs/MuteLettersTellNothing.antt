@@ -1,11 +1,13 @@
 -- Letters that speak neither of pairs nor of copies tell nothing of two copies.
-use Rattle.law_copies.proofs.Imports.{◌||◌, ◌≡◌, Body, Cell, Command, LinkRow, List, Logged, Option, PairState, Paired, Read_asked, Setting, Store, Subject}
-use Rattle.law_copies.proofs.Imports.{Write_asked, ap, false, is_asked, is_between, is_logged, is_paired, other_of, refl, subject_of, true, true_false, ℕ}
+use Rattle.law_copies.proofs.Imports.{◌||◌, ◌≡◌, Body, Cell, Command, Ending, Key, LinkRow, List, Logged, Option, PairState, Paired, Read_asked, Setting}
+use Rattle.law_copies.proofs.Imports.{Store, Subject, Write_asked, ap, ended, false, is_asked, is_between, is_logged, is_paired, logged_apart, moved_as}
+use Rattle.law_copies.proofs.Imports.{other_of, refl, subject_of, true, true_false, ℕ}
 use Rattle.law_copies.specs.CopyProgress.{IsTold}
 use Rattle.law_copies.specs.GoodCopies.{SaidOk, pair_at}
 use Rattle.law_copies.specs.Pair.{Known, Pair}
 use Rattle.law_copies.specs.Visits.{Visits, place_by, store_by}
 use Rattle.petal_msg.specs.declared.body.Body.TheVariants as body
+use Rattle.petal_msg.specs.declared.operation.Ending.TheVariants as ending
 
 -- a letter that is of no pair tells nothing of it
 pub unpaired_known : (pair : Pair) (said : Body) → is_paired (subject_of said) ≡ false → Known pair said
@@ -53,10 +55,15 @@ asked_mute Read_asked e = refl
 asked_mute Write_asked e = refl
 asked_mute _ e = cc
 
-pub logged_mute : (subject : Subject) → is_logged subject ≡ true → is_between subject ≡ false
-logged_mute Logged e = refl
-logged_mute _ e = cc
-
 -- so is what speaks of the log
 pub logged_known : (pair : Pair) (said : Body) → is_logged (subject_of said) ≡ true → Known pair said
-logged_known pair said e = known_mute pair said (logged_mute (subject_of said) e)
+logged_known pair said e = known_mute pair said (logged_apart (subject_of said) e)
+
+-- what answers a request, or tells that an entry has moved
+pub ended_mute : (seq : ℕ) (how : Ending) → is_between (subject_of (ended seq how)) ≡ false
+ended_mute seq ending.Written = refl
+ended_mute seq ending.Full = refl
+
+pub moved_mute : (key : Key) (how : Ending) → is_between (subject_of (moved_as key how)) ≡ false
+moved_mute key ending.Written = refl
+moved_mute key ending.Full = refl

@@ -1,7 +1,7 @@
 -- The chosen log has one entry more: what is known of the log then, how far cells are in it, and the stores that count by it.
-use Rattle.law_copies.proofs.Imports.{[], if◌then◌else◌, ◌==◌, ◌∙◌, ◌∷◌, ◌≡◌, ◌≤◌, Bool, Caught, Cell, Command, In, IsLater, IsPlain, IsPlainLog, IsPrefix}
-use Rattle.law_copies.proofs.Imports.{IsSteady, Join, Leave, LinkRow, List, None, PairState, Some, State, Store, after, ap, arith, blank_joins_in, by_bool}
-use Rattle.law_copies.proofs.Imports.{cell_link, chain_in, false, front_itself, front_more, front_on, front_plain, in_later, inl, inr, joins_blank}
+use Rattle.law_copies.proofs.Imports.{[], if◌then◌else◌, ◌==◌, ◌∙◌, ◌∷◌, ◌≡◌, ◌≤◌, Bool, Caught, Cell, Command, HasProperTuple, HasProperTuples, In, IsLater}
+use Rattle.law_copies.proofs.Imports.{IsPrefix, IsSteady, Join, Leave, LinkRow, List, None, PairState, Some, State, Store, after, ap, arith, blank_joins_in}
+use Rattle.law_copies.proofs.Imports.{by_bool, cell_link, chain_in, false, front_itself, front_more, front_on, front_plain, in_later, inl, inr, joins_blank}
 use Rattle.law_copies.proofs.Imports.{joins_grow, log_entry_stays, log_steady, none_some, number_itself, refl, same_numbers, same_some, some_or_none}
 use Rattle.law_copies.proofs.Imports.{stage_at, subst, sym, touches, true, ℕ}
 use Rattle.law_copies.specs.Visits.{AliveIn, IsLinked, place_by, store_by}
@@ -14,10 +14,10 @@ module _ (it : AtNext) where
   open it use {setting, top, entry, old, new, good, following, all, recounts}
   open next_of it use {next, here, then_state, stores}
 
-  pub plain_top : IsPlainLog setting.servers top
+  pub plain_top : HasProperTuples setting.servers top
   plain_top = front_plain setting.servers top next all (front_more top entry)
 
-  pub plain_entry : IsPlain setting.servers entry
+  pub plain_entry : HasProperTuple setting.servers entry
   unfolding In
   plain_entry = all entry (in_later entry top (entry ∷ []) (inl refl))
 

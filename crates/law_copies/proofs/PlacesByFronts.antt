@@ -1,10 +1,10 @@
 -- Fronts of one log, and the places of a link by them.
-use Rattle.law_copies.proofs.Imports.{[], if◌then◌else◌, ◌++◌, ◌+◌, ◌<◌, ◌==◌, ◌∙◌, ◌∷◌, ◌≡◌, ◌≤◌, ◌⊎◌, Cell, Command, HasDied, IsBelow, IsLater, IsPlainLog}
-use Rattle.law_copies.proofs.Imports.{IsPrefix, LinkRow, List, None, PairState, Setting, Some, State, StaysSo, after, ap, arith, blank_joins_in, cell_link}
-use Rattle.law_copies.proofs.Imports.{false, fold-append, front_itself, front_long, front_more, front_on, front_plain, front_within, inl, inr, length}
-use Rattle.law_copies.proofs.Imports.{length-append, link_at, link_of, log_below, log_grown, log_plain, log_steady, none_some, one_front, option_and_then}
-use Rattle.law_copies.proofs.Imports.{option_map_or, other_of, places_grow, places_later, places_on, same_place, same_some, some_or_none, stage_at}
-use Rattle.law_copies.proofs.Imports.{stage_live, stage_most, state_after, subst, sym, touches, true, true_false, tuple_of, tuple_on, ℕ}
+use Rattle.law_copies.proofs.Imports.{[], if◌then◌else◌, ◌++◌, ◌+◌, ◌<◌, ◌==◌, ◌∙◌, ◌∷◌, ◌≡◌, ◌≤◌, ◌⊎◌, Cell, Command, HasDied, HasProperTuples, IsBelow}
+use Rattle.law_copies.proofs.Imports.{IsLater, IsPrefix, LinkRow, List, None, PairState, Setting, Some, State, StaysSo, after, ap, arith, blank_joins_in}
+use Rattle.law_copies.proofs.Imports.{cell_link, false, fold-append, front_itself, front_long, front_more, front_on, front_plain, front_within, inl, inr}
+use Rattle.law_copies.proofs.Imports.{length, length-append, link_at, link_of, log_below, log_grown, log_plain, log_steady, none_some, one_front}
+use Rattle.law_copies.proofs.Imports.{option_and_then, option_map_or, other_of, places_grow, places_later, places_on, same_place, same_some, some_or_none}
+use Rattle.law_copies.proofs.Imports.{stage_at, stage_live, stage_most, state_after, subst, sym, touches, true, true_false, tuple_of, tuple_on, ℕ}
 use Rattle.spec_state.specs.State.{start}
 use Rattle.law_copies.specs.CopyProgress.{links_of}
 use Rattle.law_copies.specs.Visits.{AliveIn, IsLinked, place_by, Visits, Visits, HasReached, HasFilled}
@@ -62,7 +62,7 @@ module _ (setting : Setting) where
       counted log entry row ∙ ap (λ b. place_by setting log row + (if b then 1 else 0)) off in
       omega arith
 
-  module _ (whole : List Command) (all : IsPlainLog setting.servers whole) where
+  module _ (whole : List Command) (all : HasProperTuples setting.servers whole) where
     pub below_at : (front more : List Command) → IsPrefix front more → IsPrefix more whole
         → IsBelow (state_after setting.servers front) (state_after setting.servers more)
     below_at front more one two = log_below setting.servers front more (front_plain setting.servers more whole all two) one

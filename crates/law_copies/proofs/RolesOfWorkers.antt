@@ -70,13 +70,10 @@ module _ (here : JobContext) (steady : IsSteady here.state) (cell : Cell) (row :
       (sym (alone_both here.me (other_of here.me row) row.state mine other.alone)))
 
   module _ (holder : ℕ) (held : holder_of here.me row ≡ Some holder) where
-    abbrev theirs : IsOtherOf here.me row holder
-    theirs = other_row here.me row holder held
-
     pub other_not_alone : {B : Type 0} → is_alone here.me row.state ≡ true → B
     other_not_alone mine =
         absurd (other_apart row here.me (steady.linked cell row is).apart
-        (sym (alone_both here.me (other_of here.me row) row.state mine theirs.alone)))
+        (sym (alone_both here.me (other_of here.me row) row.state mine (other_row here.me row holder held).alone)))
 
     pub other_not_leading : {B : Type 0} → leads_link here.state here.me cell ≡ true → B
     other_not_leading e = held_not_leading here steady cell holder (ap (option_and_then (holder_of here.me)) is ∙ held) e

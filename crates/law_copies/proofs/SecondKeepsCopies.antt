@@ -1,18 +1,12 @@
 -- What a step of the second server of a cell in Both keeps of its two copies.
-use Rattle.law_copies.proofs.Imports.{◌+◌, ◌∙◌, ◌≡◌, ◌≢◌, ◌≤◌, ◌⊎◌, Body, Cell, Chain, Declines, DidSecond, Far, Follows, In, JobContext, JobResult, Key}
-use Rattle.law_copies.proofs.Imports.{LastOp, List, PairState, Post, Promises, Sets_apart, Some, about, ap, arith, at, cell_apart, cell_cmp, cell_of}
-use Rattle.law_copies.proofs.Imports.{cell_same, chain_apart, chain_in, chain_put, follows, inl, inr, nat_cmp, posted, progress, put, refl}
-use Rattle.law_copies.proofs.Imports.{same_cell_or_apart, same_some, subst, sym, tells, told_own, version_of, with_last, with_tickets, ℕ}
-use Rattle.law_copies.specs.BothSteps.{SaysKnown}
+use Rattle.law_copies.proofs.Imports.{◌+◌, ◌∙◌, ◌≡◌, ◌≢◌, ◌≤◌, ◌⊎◌, Body, Cell, Chain, Declines, DidSecond, Follows, JobContext, JobResult, Key, LastOp, List}
+use Rattle.law_copies.proofs.Imports.{PairState, Promises, Sets_apart, Some, about, ap, arith, at, cell_apart, cell_cmp, cell_of, cell_same, chain_apart}
+use Rattle.law_copies.proofs.Imports.{chain_in, chain_put, follows, inl, inr, nat_cmp, progress, put, refl, same_cell_or_apart, subst, sym, told_own}
+use Rattle.law_copies.proofs.Imports.{version_of, with_last, with_tickets, ℕ}
 use Rattle.law_copies.specs.Pair.{Pair, pair_of, far, PairOk, IsPutting, Keeps, Known}
 use Rattle.petal_msg.specs.declared.body.Body.TheVariants as body
 use Rattle.petal_msg.specs.declared.operation.Far.TheVariants as far_is
 use Rattle.law_copies.proofs.CellChangesKeepCopies as moves
-
--- what a step leaves of the cell, and of what it tells
-pub record IsSecondKept (first own new : PairState) (posts : List Post) (cell : Cell) : Type 0 where
-  pub keeps : Keeps (pair_of first own cell) (pair_of first new cell)
-  pub says : SaysKnown posts cell (pair_of first new cell)
 
 -- a second server that has not followed was asked to by an operation that is pending
 pub asked : (number : ℕ) (key : Key) (bytes : List ℕ) (pair : Pair) → pair.last ≡ Some (record { op = number; far = far_is.Reserved })
@@ -22,8 +16,8 @@ asked number key bytes pair last (inr past) = let e : far pair ≡ number + numb
 
 module _ (heard : Body → Type 0) (here : JobContext) (first own : PairState) (cell : Cell) (ok : PairOk (pair_of first own cell))
     (known : (said : Body) → heard said → (about said).cell ≡ Some cell → Known (pair_of first own cell) said) where
-  abbrev F : PairState → List Post → Type 0
-  F new posts = IsSecondKept first own new posts cell
+  abbrev F : PairState → Type 0
+  F new = Keeps (pair_of first own cell) (pair_of first new cell)
 
   ok_at : (q : Cell) → q ≡ cell → PairOk (pair_of first own q)
   ok_at q e = subst (λ (c : Cell). PairOk (pair_of first own c)) (sym e) ok
@@ -53,39 +47,19 @@ module _ (heard : Body → Type 0) (here : JobContext) (first own : PairState) (
     | inr ne ↦ off new (chains cell ne) (last cell ne)
   ]
 
-  says_at : (q : Cell) (new : PairState) (posts : List Post) (said : Body) → ((post : Post) → In post posts → post.body ≡ said) → (about said).cell ≡ Some q
-      → (q ≡ cell → Known (pair_of first new q) said) → SaysKnown posts cell (pair_of first new cell)
-  says_at q new posts said all of h post i is =
-      let e : q ≡ cell = same_some (sym of ∙ sym (ap (λ b. (about b).cell) (all post i)) ∙ is) in
-      subst (Known (pair_of first new cell)) (sym (all post i)) (subst (λ (c : Cell). Known (pair_of first new c) said) e (h e))
-
-  -- how far it is, where the last operation stands so
-  told_known : (new : PairState) (q : Cell) (number : ℕ) (how : Far) → at cell_cmp new.pairs.last q ≡ Some (record { op = number; far = how })
-      → SaysKnown (tells here new q number how).posts cell (pair_of first new cell)
-  told_known new q number far_is.Reserved is =
-      let e : progress (at cell_cmp new.pairs.last q) ≡ number + number = ap progress is in
-      says_at q new _ (body.Reserved number q) (λ post i. posted _ _ post i) refl (λ same. omega arith)
-  told_known new q number far_is.Replicated is =
-      let e : progress (at cell_cmp new.pairs.last q) ≡ number + number + 1 = ap progress is in
-      says_at q new _ (body.Replicated number q) (λ post i. posted _ _ post i) refl (λ same. omega arith)
-
   reserves_keeps : (number : ℕ) (q : Cell) (tickets : ℕ) → heard (body.Reserve number q) → progress (at cell_cmp own.pairs.last q) ≤ number + number
       → F (with_last (with_tickets own tickets) q number far_is.Reserved)
-      (tells here (with_last (with_tickets own tickets) q number far_is.Reserved) q number far_is.Reserved).posts
   reserves_keeps number q tickets h le =
       let now : LastOp = record { op = number; far = far_is.Reserved } in
       let new = with_last (with_tickets own tickets) q number far_is.Reserved in
       let there : at cell_cmp new.pairs.last q ≡ Some now = cell_same own.pairs.last q now in
-      record {
-        keeps = at_cell q new (λ c ne. refl) (λ c ne. cell_apart own.pairs.last q now c ne)
-            (λ e. subst (Keeps (pair_of first own q)) (λ i. record (pair_of first new q) { last = sym there i })
-            (moves.reserves (pair_of first own q) number (ok_at q e) le (known_at _ h q refl e)));
-        says = told_known new q number far_is.Reserved there;
-      }
+      at_cell q new (λ c ne. refl) (λ c ne. cell_apart own.pairs.last q now c ne)
+      (λ e. subst (Keeps (pair_of first own q)) (λ i. record (pair_of first new q) { last = sym there i })
+      (moves.reserves (pair_of first own q) number (ok_at q e) le (known_at _ h q refl e)))
 
   follows_keeps : (number : ℕ) (key : Key) (version : ℕ) (bytes : List ℕ) → heard (body.Replicate number key version bytes)
       → at cell_cmp own.pairs.last (cell_of key) ≡ Some (record { op = number; far = far_is.Reserved })
-      → F (follows here own number key bytes).own (follows here own number key bytes).posts
+      → F (follows here own number key bytes).own
   follows_keeps number key version bytes h is =
       let q = cell_of key in
       let chains = own.store.chains in
@@ -93,32 +67,19 @@ module _ (heard : Body → Type 0) (here : JobContext) (first own : PairState) (
       let now : LastOp = record { op = number; far = far_is.Replicated } in
       let there : at cell_cmp new.pairs.last q ≡ Some now = cell_same own.pairs.last q now in
       let chain : Chain = put nat_cmp (chain_in chains q) key.epoch (record { version = version_of (chain_in chains q) + 1; bytes = bytes }) in
-      record {
-        keeps = at_cell q new (λ c ne. chain_apart chains q chain c ne) (λ c ne. cell_apart own.pairs.last q now c ne)
-            (λ e. subst (Keeps (pair_of first own q))
-            (λ i. record {
-              first = chain_in first.store.chains q;
-              second = sym (chain_put chains q chain) i;
-              pending = at cell_cmp first.pairs.pending q;
-              next = first.pairs.next;
-              last = sym there i;
-            })
-            (moves.follows (pair_of first own q) number key bytes (ok_at q e) is
-            (asked number key bytes (pair_of first own q) is (known_at _ h q refl e))));
-        says = told_known new q number far_is.Replicated there;
-      }
+      at_cell q new (λ c ne. chain_apart chains q chain c ne) (λ c ne. cell_apart own.pairs.last q now c ne)
+      (λ e. subst (Keeps (pair_of first own q))
+      (λ i. record {
+        first = chain_in first.store.chains q;
+        second = sym (chain_put chains q chain) i;
+        pending = at cell_cmp first.pairs.pending q;
+        next = first.pairs.next;
+        last = sym there i;
+      })
+      (moves.follows (pair_of first own q) number key bytes (ok_at q e) is (asked number key bytes (pair_of first own q) is (known_at _ h q refl e))))
 
-  pub second_keeps : (done : JobResult) → DidSecond heard here own done → F done.own done.posts
+  pub second_keeps : (done : JobResult) → DidSecond heard here own done → F done.own
   second_keeps _ (Sets_apart number q tickets h s le) = reserves_keeps number q tickets h le
-  second_keeps _ (Promises number q how s is) =
-      let same = told_own here own q number how in
-      record {
-        keeps = off (tells here own q number how).own (ap (λ (o : PairState). chain_in o.store.chains cell) same)
-            (ap (λ (o : PairState). at cell_cmp o.pairs.last cell) same);
-        says = subst (λ (o : PairState). SaysKnown (tells here own q number how).posts cell (pair_of first o cell)) (sym same) (told_known own q number how is);
-      }
-  second_keeps _ (Declines number q h s no_room) = record {
-    keeps = off own refl refl;
-    says = says_at q own _ (body.PairFull number q) (λ post i. posted _ _ post i) refl (λ e. known_at _ h q refl e);
-  }
+  second_keeps _ (Promises number q how s is) = subst F (sym (told_own here own q number how)) (off own refl refl)
+  second_keeps _ (Declines number q h s no_room) = off own refl refl
   second_keeps _ (Follows number key version bytes h s is) = follows_keeps number key version bytes h is

@@ -1,10 +1,10 @@
 -- Who may have served a cell's link at later fronts of the log: what a server that is at a place may rely on, whatever has been chosen
 -- since.
 use Rattle.law_copies.proofs.Imports.{[], ◌++◌, ◌<◌, ◌==◌, ◌∙◌, ◌∷◌, ◌≡◌, ◌≤◌, ◌⊎◌, Bool, Both, ByBoth, ByNone, ByOne, Caught, Cell, Command, Firm}
-use Rattle.law_copies.proofs.Imports.{IsCaughtStill, IsHeldStill, IsPlainLog, IsPrefix, IsSteady, LinkRow, List, Lost, None, Only, PairState, Record, Setting}
-use Rattle.law_copies.proofs.Imports.{Some, State, StaysSo, Store, WasStarted, World, alone_not_both, alone_row, ap, arith, by_bool, cell_link, chosen_log}
-use Rattle.law_copies.proofs.Imports.{either_true, false, front_itself, front_more, front_on, front_plain, has_server, held_as_flag, id_of, inl, inr}
-use Rattle.law_copies.proofs.Imports.{is_alone_on, is_flagged, is_in, is_some, log_alone, log_both_place, log_steady, lost_not_both, number_itself}
+use Rattle.law_copies.proofs.Imports.{HasProperTuples, IsCaughtStill, IsHeldStill, IsPrefix, IsSteady, LinkRow, List, Lost, None, Only, PairState, Record}
+use Rattle.law_copies.proofs.Imports.{Setting, Some, State, StaysSo, Store, WasStarted, World, alone_not_both, alone_row, ap, arith, by_bool, cell_link}
+use Rattle.law_copies.proofs.Imports.{chosen_log, either_true, false, front_itself, front_more, front_on, front_plain, has_server, held_as_flag, id_of, inl}
+use Rattle.law_copies.proofs.Imports.{inr, is_alone_on, is_flagged, is_in, is_some, log_alone, log_both_place, log_steady, lost_not_both, number_itself}
 use Rattle.law_copies.proofs.Imports.{option_map_or, other_between, other_of, primary_is_one, refl, running_fronts, same_numbers, same_some, secondary_is_one}
 use Rattle.law_copies.proofs.Imports.{server_state, serves, some_or_none, state_after, stays_alone, stays_both, subst, sym, true, true_false, up_some, ℕ}
 use Rattle.law_copies.specs.CopyProgress.{IsCaught}
@@ -73,7 +73,7 @@ module _ (setting : Setting) (records : List Record) (w : World) (stores : ℕ �
   abbrev own_front : ℕ → List Command
   own_front n = (w.servers n).log.applied
 
-  plain_at : (front : List Command) → IsPrefix front chosen → IsPlainLog setting.servers front
+  plain_at : (front : List Command) → IsPrefix front chosen → HasProperTuples setting.servers front
   plain_at front prefix = front_plain setting.servers front chosen firm.plain prefix
 
   steady_at : (front : List Command) → IsPrefix front chosen → IsSteady (state_after setting.servers front)

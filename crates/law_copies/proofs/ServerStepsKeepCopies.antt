@@ -1,13 +1,12 @@
 -- Each step of a server that is allowed keeps what is kept of two copies, by the stores that count.
 use Rattle.law_copies.proofs.Imports.{[], if◌then◌else◌, ◌++◌, ◌==◌, ◌∙◌, ◌∷◌, ◌≡◌, ◌≤◌, ◌⊎◌, Acted, BeforeBlank, By_ballot, By_entry, By_job, Caught}
 use Rattle.law_copies.proofs.Imports.{Command, Ends, Fails, Goes, In, IsPrefix, IsRising, JobResult, Letter, List, None, Option, PairState, Post, Sender}
-use Rattle.law_copies.proofs.Imports.{Server, Serving, Setting, Some, Starts, State, Stays, Step, Store, Wakes, World, ap, awake, before_blanks}
+use Rattle.law_copies.proofs.Imports.{Server, Serving, Setting, Some, Starts, State, Stays, Step, Store, Wakes, World, acts, ap, awake, before_blanks}
 use Rattle.law_copies.proofs.Imports.{blank_joins_in, by_bool, chain_in, counted_by, crossed, false, front_itself, front_more, has_mark, in-append, inl, inr}
-use Rattle.law_copies.proofs.Imports.{is_between, is_in, kept, kept_store, last_copy, letters_of, live, map, mark_on, nat_cmp, own_place, post_of, proposed}
-use Rattle.law_copies.proofs.Imports.{put_apart, put_same, raised, refl, sender, served_so, server_state, settled_by, settling, shown_so, silent, stage_at}
-use Rattle.law_copies.proofs.Imports.{stamped, start, state_after, state_in, stays, stopped_so, subject_of, subst, sym, true, true_false, wakes, with_store}
-use Rattle.law_copies.proofs.Imports.{without_rev, world_after, ℕ}
-use Rattle.spec_rules.specs.World.{acts}
+use Rattle.law_copies.proofs.Imports.{is_between, is_in, kept, kept_store, last_copy, letters_of, live, logged_apart, map, mark_on, nat_cmp, own_place}
+use Rattle.law_copies.proofs.Imports.{post_of, proposed, put_apart, put_same, raised, refl, sender, served_so, server_state, settled_by, settling, shown_so}
+use Rattle.law_copies.proofs.Imports.{silent, stage_at, stamped, start, state_after, state_in, stays, stopped_so, subject_of, subst, sym, true, true_false}
+use Rattle.law_copies.proofs.Imports.{wakes, with_store, without_rev, world_after, ℕ}
 use Rattle.law_copies.specs.GoodCopies.{IsUnheard}
 use Rattle.law_copies.specs.Pair.{HaveMarks}
 use Rattle.law_copies.specs.LoneSteps.{AreFilled}
@@ -18,7 +17,6 @@ use Rattle.law_copies.proofs.AtStep.{IsStep, at_step}
 use Rattle.law_copies.proofs.LeftByEntry.{IsCrossed}
 use Rattle.law_copies.proofs.FramesKeepFronts.{store_same}
 use Rattle.law_copies.proofs.JobsAndBallotsKeep.{ballot_keeping, job_keeping}
-use Rattle.law_copies.proofs.MuteLettersTellNothing.{logged_mute}
 use Rattle.law_copies.proofs.StepsLeaveCopies.{posts_mute}
 use Rattle.law_copies.proofs.AtSeat.{AtSeat, IsAtWork}
 use Rattle.law_copies.proofs.StepsKeepCopies.{GoesOn, IsSoundOwn, IsTrue}
@@ -268,7 +266,7 @@ module _ (it : OneMore) where
       (ballot_keeping (seated k runs seat) started posts starts logged) refl same refl refl)
       (λ out. quiet_goes k stamp what acted unblanked (out_ballot setting w k started starts out) same (λ on. runs) refl
       (sender (own_place setting w k)) posts refl
-      (λ post i. logged_mute (subject_of post.body) (logged post i)))
+      (λ post i. logged_apart (subject_of post.body) (logged post i)))
   server_goes k stamp what _ unblanked (Goes _ _ queue runs (By_entry log entry more front) queued works) =
       entry_goes k stamp what (served_so setting w k log (silent
       (settled_by (own_place setting w k) entry (crossed (server_state setting w k) entry (w.servers k).own))) queue)

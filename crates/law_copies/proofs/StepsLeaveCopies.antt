@@ -88,8 +88,8 @@ module _ (it : AtStep) where
         holder_is_one (state_after setting.servers front) (log_steady setting.servers front (front_plain setting.servers front top step.plain prefix))
         holder cell row is alone
 
-    quiet_fronts : KeepsFronts it
-    quiet_fronts = record {
+    unchanged_fronts : KeepsFronts it
+    unchanged_fronts = record {
       both = λ front cell row prefix is both.
           both_framed it front cell row
           (leaves front (place_by setting front row) cell row)
@@ -104,8 +104,8 @@ module _ (it : AtStep) where
           (good.letters letter there front cell row prefix long is alive);
     }
 
-    quiet_flags : KeepsFlags it
-    quiet_flags cell row own whole is alive alone seat visit flagged =
+    unchanged_flags : KeepsFlags it
+    unchanged_flags cell row own whole is alive alone seat visit flagged =
         let same : own ≡ server.own =
         same_some (sym visit ∙ sym (still k (place_by setting server.log.applied row) cell)
         ∙ visited_here it cell row is seat alive) in
@@ -114,4 +114,4 @@ module _ (it : AtStep) where
     pub quiet_good : (own : Record) → IsThen setting (records ++ own ∷ []) v → IsSoundOwn setting top v k server
         → ((letter : Letter) → In letter v.sent → In letter w.sent ⊎ IsTrue setting top next_stores visits reached letter)
         → GoesOn setting records top top w v good own
-    quiet_good own then_is sound sent = good_after it own then_is quiet_flags sound quiet_fronts sent
+    quiet_good own then_is sound sent = good_after it own then_is unchanged_flags sound unchanged_fronts sent

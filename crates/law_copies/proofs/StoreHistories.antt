@@ -1,10 +1,10 @@
 -- The laws, over every legal history of a sound script.
-use Rattle.law_copies.proofs.Imports.{[], ◌++◌, ◌==◌, ◌∙◌, ◌∷◌, ◌≡◌, ◌≢◌, ◌≤◌, AreSteps, At, BeforeBlank, Command, HasJoinedSince, In, IsPlainLog, IsPrefix}
-use Rattle.law_copies.proofs.Imports.{IsSound, Join, List, None, OneMore, Option, Record, Script, Server, Setting, Some, Store, World, ap, append-nil}
-use Rattle.law_copies.proofs.Imports.{append_assoc, arith, before_part, blank_joins_in, by_run, by_test, chosen_join_acts, chosen_log, false, firm_in}
-use Rattle.law_copies.proofs.Imports.{front_more, front_on, grown_in, in_former, inl, inr, is_in, join_has_begun, join_was_wanted, joined_counts, joined_in}
-use Rattle.law_copies.proofs.Imports.{joined_once, joins_grow, kept_store, longer, more_of, none_some, parted, refl, run_of, same_numbers, same_or_apart}
-use Rattle.law_copies.proofs.Imports.{same_some, server_state, setting_in, setting_of, start, state_after, subst, sym, true, true_false, ℕ}
+use Rattle.law_copies.proofs.Imports.{[], ◌++◌, ◌==◌, ◌∙◌, ◌∷◌, ◌≡◌, ◌≢◌, ◌≤◌, AreSteps, At, BeforeBlank, Command, HasJoinedSince, HasProperTuples, In}
+use Rattle.law_copies.proofs.Imports.{IsPrefix, IsSound, Join, List, None, OneMore, Option, Record, Script, Server, Setting, Some, Store, World, ap}
+use Rattle.law_copies.proofs.Imports.{append-nil, append_assoc, arith, before_part, blank_joins_in, by_run, by_test, chosen_join_acts, chosen_log, false}
+use Rattle.law_copies.proofs.Imports.{firm_in, front_more, front_on, grown_in, in_former, inl, inr, is_in, join_has_begun, join_was_wanted, joined_counts}
+use Rattle.law_copies.proofs.Imports.{joined_in, joined_once, joins_grow, kept_store, longer, more_of, none_some, parted, refl, run_of, same_numbers}
+use Rattle.law_copies.proofs.Imports.{same_or_apart, same_some, server_state, setting_in, setting_of, start, state_after, subst, sym, true, true_false, ℕ}
 use Rattle.law_steps.proofs.LogHistories.{history_grows, history_is_firm}
 use Rattle.law_copies.specs.WaitingStores.{AreEmpty, IsEmpty, IsOwn}
 use Rattle.law_copies.proofs.EmptyJoins.{joined_where, stands_in}
@@ -54,13 +54,13 @@ blanked_waits script records n before sound legal is joins = ((kept_after script
 -- ### Whose own store counts
 
 -- what stands before an entry of a plain log is plain
-until_plain : (servers : ℕ) (until chosen : List Command) (entry : Command) → IsPlainLog servers chosen → IsPrefix (until ++ entry ∷ []) chosen
-    → IsPlainLog servers until
+until_plain : (servers : ℕ) (until chosen : List Command) (entry : Command) → HasProperTuples servers chosen → IsPrefix (until ++ entry ∷ []) chosen
+    → HasProperTuples servers until
 until_plain servers until chosen entry plain stands c i =
     let front = front_on until (until ++ entry ∷ []) chosen (front_more until entry) stands in
     plain c (subst (In c) (sym front.is) (in_former c until front.later i))
 
-own_by : (joins : ℕ) (o : Option BeforeBlank) → ((b : BeforeBlank) → o ≡ Some b → b.joins ≢ joins) → (store : Store) → kept_store joins o store ≡ store
+pub own_by : (joins : ℕ) (o : Option BeforeBlank) → ((b : BeforeBlank) → o ≡ Some b → b.joins ≢ joins) → (store : Store) → kept_store joins o store ≡ store
 own_by joins None apart store = refl
 own_by joins (Some b) apart store = by_test (λ s. s ≡ store) (b.joins == joins) b.store store
     (λ same. absurd (apart b refl (same_numbers b.joins joins same))) (λ other. refl)

@@ -1,6 +1,6 @@
 -- What is kept of a server's store: while it waits to be filled it is empty; who is In as itself waits for nobody; and while the store
 -- from before a blank counts, the server's own waits.
-use Rattle.law_copies.proofs.Imports.{[], ◌&&◌, ◌++◌, ◌+◌, ◌<◌, ◌∙◌, ◌∷◌, ◌≡◌, ◌≢◌, ◌≤◌, ◌⊎◌, BeforeBlank, Bool, Command, In, IsPlainLog, IsPrefix, Join}
+use Rattle.law_copies.proofs.Imports.{[], ◌&&◌, ◌++◌, ◌+◌, ◌<◌, ◌∙◌, ◌∷◌, ◌≡◌, ◌≢◌, ◌≤◌, ◌⊎◌, BeforeBlank, Bool, Command, HasProperTuples, In, IsPrefix, Join}
 use Rattle.law_copies.proofs.Imports.{Life, List, Option, Server, Some, Store, ap, arith, blank_joins_from, blanked, by_bool, false, front_itself, front_more}
 use Rattle.law_copies.proofs.Imports.{front_on, in_former, inl, inr, is_blank_join, is_in, joined_counts, joined_since, joins_grow, may_join, number_itself}
 use Rattle.law_copies.proofs.Imports.{refl, same_some, slice_get, state_after, subst, sym, true, true_false, ℕ}
@@ -81,7 +81,7 @@ module _ (servers : ℕ) (chosen : List Command) (n : ℕ) (server : Server) (be
   raised_over to more inc (inr past) = inr (omega arith)
 
   -- what is remembered of a life: that its store waited for nobody when it wanted a Join with its blocks
-  module _ (plain : IsPlainLog servers chosen)
+  module _ (plain : HasProperTuples servers chosen)
       (unfilled : server.life.running ≡ true → In (Join n server.life.inc false) chosen → server.own.store.fresh ≡ false)
       (acts : (log : List Command) (inc : ℕ) (blank : Bool) → IsPrefix (log ++ Join n inc blank ∷ []) chosen
       → may_join (slice_get (state_after servers log).view.members n) inc ≡ true) where

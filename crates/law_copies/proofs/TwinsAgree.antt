@@ -1,45 +1,31 @@
 -- What each step of one of the two servers of a cell in Both keeps of the cell.
-use Rattle.law_copies.proofs.Imports.{[], ◌+◌, ◌∙◌, ◌∷◌, ◌≡◌, ◌≢◌, ◌≤◌, A_copy, A_slot, Action, An_entry_to_move, Asks, Asks_for, Body, By_filler, By_holder}
-use Rattle.law_copies.proofs.Imports.{By_lead, By_other, By_read, By_second, By_sweep, Cell, Closes, Closes_alone, CopyFrame, Copying, Declines, Did, DidLead}
-use Rattle.law_copies.proofs.Imports.{DidSecond, Ending, Fills, Follows, Gives_up, Goes_on_dead, Has_fill, Has_no_room, Ignores, IsReady, Is_full, JobResult}
-use Rattle.law_copies.proofs.Imports.{Key, List, None, Of_the_log, Opens, Opens_fill, PairState, Pairs, Pending, Post, Promises, Refuses, Repeats, Sets_apart}
-use Rattle.law_copies.proofs.Imports.{Some, Stood, Store, Taken, Writes, about, acts, ap, arith, at, cell_cmp, cell_of, cell_same, chain_apart, chain_in}
-use Rattle.law_copies.proofs.Imports.{copying_on, did_come, did_ready, ended, ends, follows, gives_back, has_proposed, in_both, inl, inr, is_clients, is_lead}
-use Rattle.law_copies.proofs.Imports.{is_paired, is_the, lead_links, leads_link, nat_cmp, next_stage, of_filler, of_holder, of_lead, of_other, of_read}
-use Rattle.law_copies.proofs.Imports.{of_second, of_sweep, one_post, option_and_then, pending_on, posted, progress, refl, row_lead, same_cell_or_apart}
-use Rattle.law_copies.proofs.Imports.{same_numbers, same_some, stage_at, stage_live, state_lead, subject_of, subst, sym, taking, tells, told_own, true}
-use Rattle.law_copies.proofs.Imports.{true_false, with_last, with_tickets, without_pending, ℕ}
-use Rattle.law_copies.specs.BothSteps.{LacksFill, LeadKeeps, SecondKeeps, SaysKnown}
-use Rattle.law_copies.specs.Pair.{AreCopies, HaveMarks, IsRecalled, Keeps, Known, PairOk, pair_of}
+use Rattle.law_copies.proofs.Imports.{◌+◌, ◌<◌, ◌∙◌, ◌≡◌, ◌≢◌, ◌≤◌, ◌⊎◌, Asks_copy, Asks_slot, Body, By_filler, By_holder, By_lead, By_other, By_read}
+use Rattle.law_copies.proofs.Imports.{By_second, By_sweep, Cell, Copying, Declines, Did, DidLead, DidSecond, Ends_fill, Fills, Follows, Has_copy, Has_slot}
+use Rattle.law_copies.proofs.Imports.{Ignores, IsReady, JobResult, Key, List, Moves, Moves_on, None, PairState, Pairs, Pending, Post, Promises, Refuses, Says}
+use Rattle.law_copies.proofs.Imports.{Sets_apart, Some, Stage, Stood, Store, Writes, about, ap, arith, at, cell_cmp, cell_of, cell_same, chain_apart}
+use Rattle.law_copies.proofs.Imports.{chain_in, copying_on, did_come, did_ready, ended, follows, has_proposed, inl, inr, is_between, is_clients, is_lead}
+use Rattle.law_copies.proofs.Imports.{is_the, lead_links, leads_link, letters_of_job, nat_cmp, of_filler, of_holder, of_lead, of_other, of_read, of_second}
+use Rattle.law_copies.proofs.Imports.{of_sweep, option_and_then, pending_on, progress, refl, row_lead, same_cell_or_apart, same_numbers, same_some, stage_at}
+use Rattle.law_copies.proofs.Imports.{stage_live, state_lead, subject_of, subst, sym, tells, told_own, true, true_false, with_last, with_tickets, ℕ}
+use Rattle.law_copies.specs.BothSteps.{LacksFill, LeadKeeps, SecondKeeps}
+use Rattle.law_copies.specs.Pair.{AreCopies, HaveMarks, IsRecalled, Keeps, Known, PairOk, pair_of, ceiling_of}
 use Rattle.law_copies.specs.LoneSteps.{IsBare}
 use Rattle.law_copies.proofs.CellInBoth.{CellInBoth}
-use Rattle.law_copies.proofs.MuteLettersTellNothing.{logged_known, unpaired_known}
+use Rattle.law_copies.proofs.MuteLettersTellNothing.{logged_known, known_mute, ended_mute, moved_mute}
 use Rattle.law_copies.proofs.ForeignCellsStay.{away}
 use Rattle.law_copies.proofs.LeadsFindMarks.{job_marked}
 use Rattle.law_copies.proofs.EpochsRise.{AreRising, did_rising}
 use Rattle.law_copies.proofs.WorkedCell.{IsLedHere, lead_beside, lead_cell, lead_leads, sweep_beside}
 use Rattle.petal_msg.specs.declared.body.Body.TheVariants as body
-use Rattle.petal_msg.specs.declared.letter.Actor.TheVariants as actor
-use Rattle.petal_msg.specs.declared.operation.Action.TheVariants as action
-use Rattle.petal_msg.specs.declared.operation.Ending.TheVariants as ending
 use Rattle.petal_msg.specs.declared.operation.Far.TheVariants as far
 use Rattle.law_copies.specs.Pair as pair
+use Rattle.law_jobs.specs.Sayings as says
 use Rattle.law_copies.proofs.LeadKeepsCopies as lead
 use Rattle.law_copies.proofs.SecondKeepsCopies as follow
 use Rattle.law_copies.proofs.BesideTwins as beside
 
 module _ (it : CellInBoth) where
   open it use {heard, here, own, steady, cell, row, is_row, alive, both_row}
-
-  cell_both : in_both here.state cell ≡ true
-  cell_both = beside.cell_both it
-
-  -- what is pending, what was followed last, and what is sent
-  abbrev Says : PairState → PairState → List Post → Type 0
-  Says first second posts = SaysKnown posts cell (pair_of first second cell)
-
-  none_says : (first second : PairState) → Says first second []
-  none_says = beside.none_says it
 
   -- ### The first server
 
@@ -50,60 +36,69 @@ module _ (it : CellInBoth) where
         (bare : (q : Cell) → stage_at here.state q ≡ 0 → IsBare own q)
         (ok : PairOk (pair_of own second cell))
         (known : (said : Body) → heard said → (about said).cell ≡ Some cell → Known (pair_of own second cell) said) where
+      abbrev Kept : PairState → Type 0
+      Kept new = Keeps (pair_of own second cell) (pair_of new second cell)
+
       kept_off : (new : PairState) → chain_in new.store.chains cell ≡ chain_in own.store.chains cell
-          → at cell_cmp new.pairs.pending cell ≡ at cell_cmp own.pairs.pending cell → own.pairs.next ≤ new.pairs.next
-          → Keeps (pair_of own second cell) (pair_of new second cell)
+          → at cell_cmp new.pairs.pending cell ≡ at cell_cmp own.pairs.pending cell → own.pairs.next ≤ new.pairs.next → Kept new
       kept_off = lead.off it ready second ok known
 
-      copied_off : (done : JobResult) → chain_in done.own.store.chains cell ≡ chain_in own.store.chains cell → CopyFrame own done
-          → lead.IsKept own done.own done.posts second cell
-      copied_off done chain frame = record {
-        keeps = kept_off done.own chain (ap (λ t. at cell_cmp t cell) frame.pending) frame.next;
-        says = beside.copies_say it done.own second done frame;
-      }
-
-      step_kept : (done : JobResult) → Did heard here own done → lead.IsKept own done.own done.posts second cell
-      step_kept _ Ignores = record { keeps = kept_off own refl refl (omega arith); says = none_says own second }
-      step_kept _ (Refuses to said is why because) = record {
-        keeps = kept_off own refl refl (omega arith);
-        says = beside.refusal_says it own second to said is.refused;
-      }
-      step_kept _ (By_read done d) =
-          let same = (of_read heard here own done d).same in
-          let next : done.own.pairs.next ≡ own.pairs.next = ap (λ (o : PairState). o.pairs.next) same in
-          record {
-            keeps = kept_off done.own (ap (λ (o : PairState). chain_in o.store.chains cell) same)
-                (ap (λ (o : PairState). at cell_cmp o.pairs.pending cell) same) (omega arith);
-            says = beside.read_says it done.own second done d;
-          }
+      step_kept : (done : JobResult) → Did heard here own done → Kept done.own
+      step_kept _ Ignores = kept_off own refl refl (omega arith)
+      step_kept _ (Refuses to said is why because) = kept_off own refl refl (omega arith)
+      step_kept _ (By_read done d) = subst Kept (sym (of_read heard here own done d).same) (kept_off own refl refl (omega arith))
       step_kept _ (By_lead done d) = lead.lead_keeps it ready second ok known done d
       step_kept _ (By_second done d) =
           let frame = of_second heard here own done d in
-          let next = frame.next in
-          record {
-            keeps = kept_off done.own (beside.second_chain it leads done d)
-                (ap (λ t. at cell_cmp t cell) frame.pending) (omega arith);
-            says = beside.second_says it leads done.own second done d;
-          }
-      step_kept _ (By_holder done d) = copied_off done (beside.holder_chain it done d)
-          (of_holder heard here own done d)
-      step_kept _ (By_other done d) = copied_off done (beside.other_chain it done d)
-          (of_other heard here own done d)
+          kept_off done.own (beside.second_chain it leads done d) (ap (λ t. at cell_cmp t cell) frame.pending) (let next = frame.next in omega arith)
+      step_kept _ (By_holder done d) =
+          let frame = of_holder heard here own done d in
+          kept_off done.own (beside.holder_chain it done d) (ap (λ t. at cell_cmp t cell) frame.pending) frame.next
+      step_kept _ (By_other done d) =
+          let frame = of_other heard here own done d in
+          kept_off done.own (beside.other_chain it done d) (ap (λ t. at cell_cmp t cell) frame.pending) frame.next
       step_kept _ (By_filler done d) =
           let frame = of_filler heard here own done d in
-          let next = ap (λ (p : Pairs). p.next) frame.pairs in
-          record {
-            keeps = kept_off done.own (ap (λ (t : Store). chain_in t.chains cell) frame.store)
-                (ap (λ (p : Pairs). at cell_cmp p.pending cell) frame.pairs) (omega arith);
-            says = beside.filler_says it done.own second done d;
-          }
+          kept_off done.own (ap (λ (t : Store). chain_in t.chains cell) frame.store) (ap (λ (p : Pairs). at cell_cmp p.pending cell) frame.pairs)
+          (let next = ap (λ (p : Pairs). p.next) frame.pairs in omega arith)
       step_kept _ (By_sweep done d) =
-          let next = ap (λ (p : Pairs). p.next) (of_sweep heard here own done d).pairs in
           let rest = (sweep_beside heard here own done d cell alive (bare cell)).rest in
-          record {
-            keeps = kept_off done.own rest.chain rest.pending (omega arith);
-            says = beside.sweep_says it done.own second done d;
-          }
+          kept_off done.own rest.chain rest.pending (let next = ap (λ (p : Pairs). p.next) (of_sweep heard here own done d).pairs in omega arith)
+
+      -- ### What it says
+
+      below_ceiling : (new : PairState) (op : Pending) → pending_on new op.cell ≡ Some op → op.cell ≡ cell → op.op < pair.ceiling (pair_of new second cell)
+      below_ceiling new op is e =
+          let above : ceiling_of (at cell_cmp new.pairs.pending cell) new.pairs.next ≡ op.op + 1 =
+          ap (λ o. ceiling_of o new.pairs.next) (ap (at cell_cmp new.pairs.pending) (sym e) ∙ is) in
+          omega arith
+
+      first_says : (new : PairState) (post : Post) → Says heard here own new post → (about post.body).cell ≡ Some cell
+          → Known (pair_of new second cell) post.body
+      first_says new _ (says.Opens op to l both none is number next so) e = below_ceiling new op is (same_some e)
+      first_says new _ (Asks_slot op to same is stage so) e = below_ceiling new op (ap (λ (o : PairState). pending_on o op.cell) same ∙ is) (same_some e)
+      first_says new _ (Asks_copy op to same is stage so) e =
+          let there : op.cell ≡ cell = sym (ready.staged op.cell op is).keyed ∙ same_some e in
+          inl (record {
+            op = op;
+            is = ap (λ (o : PairState). at cell_cmp o.pairs.pending cell) same ∙ ap (at cell_cmp own.pairs.pending) (sym there) ∙ is;
+            number_is = refl;
+            put = ap (λ (s : Stage). s.put) stage;
+            key_is = refl;
+            bytes_is = refl;
+          })
+      first_says new _ (Has_slot number q to s is so) e = absurd (beside.second_apart it leads q s (sym (same_some e)))
+      first_says new _ (says.Has_no_slot number q to same h s found so) e = absurd (beside.second_apart it leads q s (sym (same_some e)))
+      first_says new _ (Has_copy number q to s is so) e = absurd (beside.second_apart it leads q s (sym (same_some e)))
+      first_says new _ (says.Refuses to said is busy held) e = known_mute (pair_of new second cell) said (ap is_between is.refused)
+      first_says new _ (says.Repeats want last same h l is so) e = known_mute (pair_of new second cell) _ (ended_mute want.seq last.ending)
+      first_says new _ (says.Ends client last why is) e = known_mute (pair_of new second cell) _ (ended_mute last.seq last.ending)
+      first_says new _ (Ends_fill op how to ended is none so) e = known_mute (pair_of new second cell) _ (moved_mute op.key how)
+      first_says new post (Moves _ same next) e = known_mute (pair_of new second cell) post.body (ap (λ (p : Post). is_between (subject_of p.body)) next.is)
+      first_says new post (Moves_on key of _ same h is next) e =
+          known_mute (pair_of new second cell) post.body (ap (λ (p : Post). is_between (subject_of p.body)) next.is)
+      first_says new post (says.Of_the_log _ logged) e = logged_known (pair_of new second cell) post.body logged
+      first_says new _ _ e = tt
 
       -- an operation that is pending then rests, and its block is marked
       still_recalled : (done : JobResult) → Did heard here own done → (op : Pending) → at cell_cmp done.own.pairs.pending cell ≡ Some op
@@ -112,7 +107,7 @@ module _ (it : CellInBoth) where
           let staged = (did_ready heard here own ready done did).staged cell op is in
           let on = stage_live here.state cell staged.born alive in
           record {
-            rests = staged.stage on cell_both;
+            rests = staged.stage on (beside.cell_both it);
             marks = (job_marked heard here own steady ready marks idle done did).marks cell op on is;
           }
 
@@ -137,12 +132,11 @@ module _ (it : CellInBoth) where
 
       pub lead_step : (done : JobResult) → Did heard here own done → LeadKeeps own done.own done.posts second cell
       lead_step done did =
-          let kept = step_kept done did in
           record {
-            keeps = kept.keeps;
+            keeps = step_kept done did;
             recalled = still_recalled done did;
             lacks = still_lacks done did;
-            says = kept.says;
+            says = λ post i e. first_says done.own post (letters_of_job heard here own done did post i) e;
             rising = λ rises. did_rising heard here own rising done did cell;
           }
 
@@ -173,119 +167,56 @@ module _ (it : CellInBoth) where
           let staged = ready.staged op.cell op is in
           led_not (subst (IsLedHere heard here own) (sym e) (record { born = staged.born; leads = staged.leads }))
 
-      taken_apart : (now : PairState) (op : Pending) → Taken own now op → cell ≢ op.cell
-      taken_apart now op taken e =
-          let t = taking own now op taken in
-          let staged = ready.staged op.cell t.old t.was in
-          led_not (subst (IsLedHere heard here own) (sym e) (record { born = staged.born; leads = staged.leads }))
-
       lead_chain : (done : JobResult) → DidLead heard here own done → chain_in done.own.store.chains cell ≡ chain_in own.store.chains cell
       lead_chain done d =
           (lead_beside heard here own ready done d cell
           (away (IsLedHere heard here own) cell led_not (lead_cell heard here own done d) (lead_leads heard here own ready done d))).rest.chain
 
-      ended_says : (second : PairState) (client seq : ℕ) (how : Ending) → Says first second (record { to = actor.Client client; body = ended seq how } ∷ [])
-      ended_says second client seq how post i of =
-          subst (Known (pair_of first second cell)) (sym (one_post (actor.Client client) (ended seq how) post i).1)
-          (lead.ended_known (pair_of first second cell) seq how)
+      -- it follows, or copy and last operation stay
+      abbrev Stays : PairState → Type 0
+      Stays new = (chain_in new.store.chains cell ≡ chain_in own.store.chains cell) × (at cell_cmp new.pairs.last cell ≡ at cell_cmp own.pairs.last cell)
 
-      ending_says : (second base : PairState) (op : Pending) (how : Ending) → Says first second (ends here base op op.kind how).posts
-      ending_says second base op how post i of = lead.ends_known here base op op.kind how post i (pair_of first second cell)
-
-      taken_keyed : (now : PairState) (op : Pending) → Taken own now op → cell_of op.key ≡ op.cell
-      taken_keyed now op taken =
-          let t = taking own now op taken in ap (λ (o : Pending). cell_of o.key) t.is ∙ (ready.staged op.cell t.old t.was).keyed
-
-      -- whatever an operation does next on another cell
-      dead_says : (second now : PairState) (op : Pending) → cell_of op.key ≡ op.cell → cell ≢ op.cell → (next : Action)
-          → Says first second (acts here now op next).posts
-      dead_says second now op keyed ne action.Reserve =
-          beside.apart_says it first second op.cell _ (body.Reserve op.op op.cell) ne
-          (λ post i. posted _ _ post i) refl
-      dead_says second now op keyed ne (action.Mark kind) = none_says first second
-      dead_says second now op keyed ne action.Put = none_says first second
-      dead_says second now op keyed ne action.Replicate =
-          beside.apart_says it first second (cell_of op.key) _
-          (body.Replicate op.op op.key op.version op.bytes) (λ e. ne (e ∙ keyed)) (λ post i. posted _ _ post i) refl
-      dead_says second now op keyed ne (action.Unmark kind) = none_says first second
-      dead_says second now op keyed ne action.Answer = ending_says second (without_pending now op.cell) op ending.Written
-      dead_says second now op keyed ne action.Drop = none_says first second
-
-      asks_say : (second : PairState) (post : Post) → Asks here own post → (about post.body).cell ≡ Some cell → Known (pair_of first second cell) post.body
-      asks_say second _ (A_slot op to is stage e) of = absurd (op_apart op is (sym (same_some of)))
-      asks_say second _ (A_copy op to is stage e) of = absurd (op_apart op is (sym (sym (ready.staged op.cell op is).keyed ∙ same_some of)))
-      asks_say second _ (An_entry_to_move post next) of =
-          unpaired_known (pair_of first second cell) post.body (ap (λ (p : Post). is_paired (subject_of p.body)) next.is)
-      asks_say second post (Of_the_log _ e) of = logged_known (pair_of first second cell) post.body e
-      asks_say second _ _ of = tt
-
-      lead_says : (second : PairState) (done : JobResult) → DidLead heard here own done → Says first second done.posts
-      lead_says second _ (Asks_for posts h) = λ post i of. asks_say second post (h post i) of
-      lead_says second _ (Repeats want last h l is e) = ended_says second want.client want.seq last.ending
-      lead_says second _ (Is_full want new no_room) = ended_says second want.client want.seq ending.Full
-      lead_says second _ (Gives_up op h is reserved put) = ending_says second (gives_back (without_pending own op.cell)) op ending.Full
-      lead_says second _ (Opens want new both) =
-          beside.apart_says it first second want.cell _ (body.Reserve own.pairs.next want.cell)
-          (lead_apart want.cell new.lead) (λ post i. posted _ _ post i) refl
-      lead_says second _ (Closes op is both stage) = ending_says second (without_pending own op.cell) op ending.Written
-      lead_says second _ (Closes_alone now op taken on stale put free) = ending_says second (without_pending now op.cell) op ending.Written
-      lead_says second _ (Opens_fill moving new room both) =
-          beside.apart_says it first second (cell_of moving.key) _
-          (body.Reserve own.pairs.next (cell_of moving.key)) (lead_apart (cell_of moving.key) new.lead)
-          (λ post i. posted _ _ post i) refl
-      lead_says second _ (Has_fill moving there) = λ post i of.
-          subst (Known (pair_of first second cell)) (sym (posted _ (body.Filled moving.key) post i)) tt
-      lead_says second _ (Has_no_room moving new no_room) = λ post i of.
-          subst (Known (pair_of first second cell)) (sym (posted _ (body.FillFull moving.key) post i)) tt
-      lead_says second _ (Goes_on_dead now op taken dead) =
-          dead_says second now op (taken_keyed now op taken) (taken_apart now op taken) (next_stage here.state here.me op)
-      lead_says second _ _ = none_says first second
-
-      follow_off : (new : PairState) → chain_in new.store.chains cell ≡ chain_in own.store.chains cell
-          → at cell_cmp new.pairs.last cell ≡ at cell_cmp own.pairs.last cell
-          → Keeps (pair_of first own cell) (pair_of first new cell)
-      follow_off = follow.off heard here first own cell ok known
-
-      copies_off : (done : JobResult) → chain_in done.own.store.chains cell ≡ chain_in own.store.chains cell → CopyFrame own done
-          → follow.IsSecondKept first own done.own done.posts cell
-      copies_off done chain frame = record {
-        keeps = follow_off done.own chain (ap (λ t. at cell_cmp t cell) frame.last);
-        says = beside.copies_say it first done.own done frame;
-      }
-
-      step_follows : (done : JobResult) → Did heard here own done → follow.IsSecondKept first own done.own done.posts cell
-      step_follows _ Ignores = record { keeps = follow_off own refl refl; says = none_says first own }
-      step_follows _ (Refuses to said is why because) = record {
-        keeps = follow_off own refl refl;
-        says = beside.refusal_says it first own to said is.refused;
-      }
-      step_follows _ (By_read done d) =
-          let same = (of_read heard here own done d).same in
-          record {
-            keeps = follow_off done.own (ap (λ (o : PairState). chain_in o.store.chains cell) same) (ap (λ (o : PairState). at cell_cmp o.pairs.last cell) same);
-            says = beside.read_says it first done.own done d;
-          }
-      step_follows _ (By_lead done d) = record {
-        keeps = follow_off done.own (lead_chain done d) (ap (λ t. at cell_cmp t cell) (of_lead heard here own done d).last);
-        says = lead_says done.own done d;
-      }
-      step_follows _ (By_second done d) = follow.second_keeps heard here first own cell ok known done d
-      step_follows _ (By_holder done d) = copies_off done (beside.holder_chain it done d)
-          (of_holder heard here own done d)
-      step_follows _ (By_other done d) = copies_off done (beside.other_chain it done d)
-          (of_other heard here own done d)
-      step_follows _ (By_filler done d) =
+      follows_or_stays : (done : JobResult) → Did heard here own done → DidSecond heard here own done ⊎ Stays done.own
+      follows_or_stays _ Ignores = inr (refl, refl)
+      follows_or_stays _ (Refuses to said is why because) = inr (refl, refl)
+      follows_or_stays _ (By_read done d) = inr (subst Stays (sym (of_read heard here own done d).same) (refl, refl))
+      follows_or_stays _ (By_lead done d) = inr (lead_chain done d, ap (λ t. at cell_cmp t cell) (of_lead heard here own done d).last)
+      follows_or_stays _ (By_second done d) = inl d
+      follows_or_stays _ (By_holder done d) = inr (beside.holder_chain it done d, ap (λ t. at cell_cmp t cell) (of_holder heard here own done d).last)
+      follows_or_stays _ (By_other done d) = inr (beside.other_chain it done d, ap (λ t. at cell_cmp t cell) (of_other heard here own done d).last)
+      follows_or_stays _ (By_filler done d) =
           let frame = of_filler heard here own done d in
-          record {
-            keeps = follow_off done.own (ap (λ (t : Store). chain_in t.chains cell) frame.store) (ap (λ (p : Pairs). at cell_cmp p.last cell) frame.pairs);
-            says = beside.filler_says it first done.own done d;
-          }
-      step_follows _ (By_sweep done d) =
-          let rest = (sweep_beside heard here own done d cell alive (bare cell)).rest in
-          record {
-            keeps = follow_off done.own rest.chain rest.followed;
-            says = beside.sweep_says it first done.own done d;
-          }
+          inr (ap (λ (t : Store). chain_in t.chains cell) frame.store, ap (λ (p : Pairs). at cell_cmp p.last cell) frame.pairs)
+      follows_or_stays _ (By_sweep done d) = let rest = (sweep_beside heard here own done d cell alive (bare cell)).rest in inr (rest.chain, rest.followed)
+
+      step_follows : (done : JobResult) → Did heard here own done → Keeps (pair_of first own cell) (pair_of first done.own cell)
+      step_follows done did = elim (follows_or_stays done did) [
+        | inl d ↦ follow.second_keeps heard here first own cell ok known done d
+        | inr same ↦ follow.off heard here first own cell ok known done.own same.0 same.1
+      ]
+
+      -- ### What it says
+
+      second_says : (new : PairState) (post : Post) → Says heard here own new post → (about post.body).cell ≡ Some cell
+          → Known (pair_of first new cell) post.body
+      second_says new _ (says.Opens op to l both none is number next so) e = absurd (lead_apart op.cell l (sym (same_some e)))
+      second_says new _ (Asks_slot op to same is stage so) e = absurd (op_apart op is (sym (same_some e)))
+      second_says new _ (Asks_copy op to same is stage so) e = absurd (op_apart op is (sym (same_some e) ∙ (ready.staged op.cell op is).keyed))
+      second_says new _ (Has_slot number q to s is so) e =
+          let far : pair.far (pair_of first new cell) ≡ number + number = ap progress (ap (at cell_cmp new.pairs.last) (sym (same_some e)) ∙ is) in omega arith
+      second_says new _ (says.Has_no_slot number q to same h s found so) e = known (body.Reserve number q) h e
+      second_says new _ (Has_copy number q to s is so) e =
+          let far : pair.far (pair_of first new cell) ≡ number + number + 1 = ap progress (ap (at cell_cmp new.pairs.last) (sym (same_some e)) ∙ is) in
+          omega arith
+      second_says new _ (says.Refuses to said is busy held) e = known_mute (pair_of first new cell) said (ap is_between is.refused)
+      second_says new _ (says.Repeats want last same h l is so) e = known_mute (pair_of first new cell) _ (ended_mute want.seq last.ending)
+      second_says new _ (says.Ends client last why is) e = known_mute (pair_of first new cell) _ (ended_mute last.seq last.ending)
+      second_says new _ (Ends_fill op how to ended is none so) e = known_mute (pair_of first new cell) _ (moved_mute op.key how)
+      second_says new post (Moves _ same next) e = known_mute (pair_of first new cell) post.body (ap (λ (p : Post). is_between (subject_of p.body)) next.is)
+      second_says new post (Moves_on key of _ same h is next) e =
+          known_mute (pair_of first new cell) post.body (ap (λ (p : Post). is_between (subject_of p.body)) next.is)
+      second_says new post (says.Of_the_log _ logged) e = logged_known (pair_of first new cell) post.body logged
+      second_says new _ _ e = tt
 
       -- ### What it has nothing of
 
@@ -321,22 +252,14 @@ module _ (it : CellInBoth) where
       second_lacks _ (Follows number key version bytes h s is) = follows_lacks number key version bytes h is
 
       step_lacks : (done : JobResult) → Did heard here own done → Lacks done.own
-      step_lacks _ Ignores = chain_lacks own refl
-      step_lacks _ (Refuses to said is why because) = chain_lacks own refl
-      step_lacks _ (By_read done d) = chain_lacks done.own (ap (λ (o : PairState). chain_in o.store.chains cell) (of_read heard here own done d).same)
-      step_lacks _ (By_lead done d) = chain_lacks done.own (lead_chain done d)
-      step_lacks _ (By_second done d) = second_lacks done d
-      step_lacks _ (By_holder done d) = chain_lacks done.own (beside.holder_chain it done d)
-      step_lacks _ (By_other done d) = chain_lacks done.own (beside.other_chain it done d)
-      step_lacks _ (By_filler done d) = chain_lacks done.own (ap (λ (t : Store). chain_in t.chains cell) (of_filler heard here own done d).store)
-      step_lacks _ (By_sweep done d) = chain_lacks done.own (sweep_beside heard here own done d cell alive (bare cell)).rest.chain
+      step_lacks done did = elim (follows_or_stays done did) [ inl d ↦ second_lacks done d | inr same ↦ chain_lacks done.own same.0 ]
 
       pub second_step : (done : JobResult) → Did heard here own done → SecondKeeps own done.own done.posts first cell
       second_step done did =
-          let kept = step_follows done did in
+          let keeps = step_follows done did in
           record {
-            keeps = kept.keeps;
-            lacks = step_lacks done did kept.keeps.grows.onward;
-            says = kept.says;
+            keeps = keeps;
+            lacks = step_lacks done did keeps.grows.onward;
+            says = λ post i e. second_says done.own post (letters_of_job heard here own done did post i) e;
             rising = λ rises. did_rising heard here own rising done did cell;
           }

@@ -5,7 +5,7 @@ use Rattle.law_copies.proofs.Imports.{DidSecond, DidSweep, Drops_entry, Ending, 
 use Rattle.law_copies.proofs.Imports.{Goes_on_trimming, Has_entry, Has_no_slot, IsReady, Is_copied_to, Is_full, Is_trimmed, JobContext, JobResult, Key}
 use Rattle.law_copies.proofs.Imports.{LastCopy, LinkRow, MarkKind, Marks, Marks_alone, None, Opens, Opens_alone, Opens_fill, Opens_fill_alone, Option}
 use Rattle.law_copies.proofs.Imports.{OtherReply, PairState, Pending, Promises, Puts, Puts_alone, Puts_entry, Replies, Sets_apart, Some, Stale, Stored}
-use Rattle.law_copies.proofs.Imports.{Sweeps, Taken, TakenCopy, Tidies, TrimStep, Turns_page, Unmarks, Unmarks_alone, Unmarks_copied, about, acts, ap, arith}
+use Rattle.law_copies.proofs.Imports.{Sweeps, Taken, TakenCopy, Tidies, TrimStep, Turns_page, Unmarks, Unmarks_alone, Unmarks_copied, about, ap, arith}
 use Rattle.law_copies.proofs.Imports.{begins_copy, by_test, cell_at, cell_holder, cell_link, cell_of, cell_swept, chain_in, drop_none, ends, false}
 use Rattle.law_copies.proofs.Imports.{fill_operation, first_copy, first_last, gives_back, has_proposed, inl, inr, is_lead, is_second, key_at, lead_links}
 use Rattle.law_copies.proofs.Imports.{leads_link, live, live_stage, marks, nat_tests, next_stage, of_ending, of_filler, opened, operation, pending_on}
@@ -13,6 +13,7 @@ use Rattle.law_copies.proofs.Imports.{progress_on, puts, refl, same_cell_or_apar
 use Rattle.law_copies.proofs.Imports.{unmark_none, unmarks, version_of, with_entry, with_last_copy, with_mark_at, with_mark_on, with_opened, with_page}
 use Rattle.law_copies.proofs.Imports.{with_paired, with_pending, with_reserved, with_ticket, with_tickets, without_copying, without_dead, without_entry}
 use Rattle.law_copies.proofs.Imports.{without_mark_on, without_pending, ℕ}
+use Rattle.spec_rules.specs.Writes.{acts}
 use Rattle.law_copies.specs.LoneSteps.{IsBare, KeepsCell}
 use Rattle.law_copies.proofs.OwnPartFrames.{copied_alike, copied_beside, copying_beside, dropped_beside, ended_beside, entry_beside, followed_beside}
 use Rattle.law_copies.proofs.OwnPartFrames.{keeps_alike, keeps_itself, keeps_on, last_beside, marked_beside, pending_beside, unmarked_beside}

@@ -1,5 +1,5 @@
 -- A legal history, and one with a record more: what the lemmas here and in the laws above are told of.
-use Rattle.law_epochs.proofs.Imports.{[], ◌++◌, ◌∷◌, ◌≡◌, AreSteps, At, Command, IsPlainLog, IsPrefix, List, Record, Script, Setting, State, World}
+use Rattle.law_epochs.proofs.Imports.{[], ◌++◌, ◌∷◌, ◌≡◌, AreSteps, At, Command, HasProperTuples, IsPrefix, List, Record, Script, Setting, State, World}
 use Rattle.law_epochs.proofs.Imports.{before_part, chosen_log, history_grows, history_is_firm, refl, setting_of, state_after, subst}
 pub use Rattle.law_jobs.proofs.Runs.{OneMore, Run}
 
@@ -38,7 +38,7 @@ pub record Ends (script : Script) : Type 0 where
   pub whole : List Command
   pub By : List Command → State
   pub top_whole : IsPrefix top whole
-  pub plain : IsPlainLog script.servers whole
+  pub plain : HasProperTuples script.servers whole
 
 abbrev pub ends_of : (it : OneMore) → Ends it.prior.script
 ends_of it =

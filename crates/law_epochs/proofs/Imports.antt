@@ -8,8 +8,8 @@ pub use Rattle.law_state.proofs.Imports.{arith, by_bool, by_test, cond, false, f
 pub use Rattle.law_state.proofs.Imports.{length-append, link_of, links_of, nat_le, nat_tests, none_some, option_and_then, option_map_or, range_with_len, refl}
 pub use Rattle.law_state.proofs.Imports.{row_lead, same_or_apart, same_some, slice_get, some_or_none, subst, suc, sym, touches, true, true_false, unwrap_or}
 pub use Rattle.law_state.proofs.Imports.{zero, ℕ}
-pub use Rattle.law_log.proofs.Imports.{if◌then◌else◌, ◌||◌, Acted, AreSteps, Body, Ending, Firm, IsPlainLog, IsSound, JobContext, JobResult, Key, Letter, Log}
-pub use Rattle.law_log.proofs.Imports.{Pending, Post, Script, Step, Stored, all_put, blanked, cell_of, chain_in, client_sender, down_posts, ended}
+pub use Rattle.law_log.proofs.Imports.{if◌then◌else◌, ◌||◌, Acted, AreSteps, Body, Ending, Firm, HasProperTuples, IsSound, JobContext, JobResult, Key, Letter}
+pub use Rattle.law_log.proofs.Imports.{Log, Pending, Post, Script, Step, Stored, all_put, blanked, cell_of, chain_in, client_sender, down_posts, ended}
 pub use Rattle.law_log.proofs.Imports.{has_held_write, is_eq, is_logged, log_plain, moved_as, nat_cmp, nat_cmp_total, sender, server_state, setting_of}
 pub use Rattle.law_log.proofs.Imports.{stamped, start, subject_of, tied_itself}
 pub use Rattle.law_steps.specs.Imports.{Copied, Paired, Sender, Subject, Table, cell_cmp, crossed, letters_of, stage_at, without_entry}
@@ -24,8 +24,8 @@ pub use Rattle.law_copies.proofs.Imports.{Asks_copy, At, BeforeBlank, Blanks, By
 pub use Rattle.law_copies.proofs.Imports.{Fails, Fills, Goes, Moves, Moves_on, Read_asked, Says, Serves, Serving, Stays, Stood, Syncs, Turns, Wakes, Worked}
 pub use Rattle.law_copies.proofs.Imports.{Write_asked, Writes, alone_not_both, before_part, below_itself, by_run, chain_apart, chain_put, did_come}
 pub use Rattle.law_copies.proofs.Imports.{drop_apart, front_itself, front_long, front_more, front_on, front_within, gone_chain, kept, letters_of_job}
-pub use Rattle.law_copies.proofs.Imports.{link_led_by, log_grown, log_touched, none_in, one_front, places_grow, places_of_both, places_on, primary_is_one}
-pub use Rattle.law_copies.proofs.Imports.{run_of, said, tuple_on, turned_asks, without_rev}
+pub use Rattle.law_copies.proofs.Imports.{link_led_by, log_grown, log_touched, one_front, places_grow, places_of_both, places_on, primary_is_one, run_of}
+pub use Rattle.law_copies.proofs.Imports.{said, tuple_on, turned_asks, without_rev}
 pub use Rattle.law_requests.proofs.Imports.{Repeats, WasDraining, era_low, log_unheld, own_plain, proposed_pairs, report_was_made, runs_at, runs_now}
 pub use Rattle.law_copies.proofs.EmptyJoins.{stands_in}
 pub use Rattle.law_copies.proofs.PlacesByFronts.{at_most_or_above, place_of_later, place_touched}
@@ -34,6 +34,7 @@ pub use Rattle.law_copies.proofs.VisitsAfterSteps.{IsAt, at_by, is_at_so}
 pub use Rattle.law_copies.specs.Visits.{AliveIn, IsLinked, WasThere, is_at, place_by}
 pub use Rattle.law_jobs.proofs.JobsAreEffects.{effects_of}
 pub use Rattle.law_jobs.proofs.JobsKeepChains.{becomes_keeps}
+pub use Rattle.law_jobs.proofs.JobsSay.{none_in}
 pub use Rattle.law_jobs.specs.Effects.{A_copy, A_lead, An_operation, Becomes, IsPutFor}
 pub use Rattle.law_jobs.specs.Sayings.{Of_the_log, Refuses}
 pub use Rattle.law_requests.proofs.LeadsAtTwoPlaces.{seat_stays}

@@ -1,11 +1,11 @@
 -- Every step keeps that no server has in its stores, nor has pending, an entry of an epoch that it doesn't know of, or of a cell that is not live yet.
 use Rattle.law_epochs.proofs.Imports.{[], ◌==◌, ◌∙◌, ◌≡◌, ◌≤◌, Acted, BeforeBlank, Blanks, Body, By_ballot, By_entry, By_job, Cell, Command, Ends, Fails}
-use Rattle.law_epochs.proofs.Imports.{Fills, Firm, Goes, Handled, Happens, In, IsPlainLog, IsPrefix, JobResult, Key, Letter, List, Log, None, Option, Pairs}
-use Rattle.law_epochs.proofs.Imports.{Pending, Server, Serves, Serving, Setting, Some, State, Stays, Step, Stood, Store, Table, Turns, Wakes, Worked, World}
-use Rattle.law_epochs.proofs.Imports.{Writes, all_put, ap, arith, at, at-empty, ballot_store, blank_joins_in, blanked, by_bool, by_test, cell_cmp, cell_of}
-use Rattle.law_epochs.proofs.Imports.{chosen_log, crossed, did_come, epoch_at, false, front_on, is_clients, kept, kept_store, length, log_below, none_some}
-use Rattle.law_epochs.proofs.Imports.{one_front, own_place, own_plain, proposed_pairs, refl, same_some, server_state, settling, stage_at, start, state_after}
-use Rattle.law_epochs.proofs.Imports.{subst, sym, true, true_false, ℕ}
+use Rattle.law_epochs.proofs.Imports.{Fills, Firm, Goes, Handled, Happens, HasProperTuples, In, IsPrefix, JobResult, Key, Letter, List, Log, None, Option}
+use Rattle.law_epochs.proofs.Imports.{Pairs, Pending, Server, Serves, Serving, Setting, Some, State, Stays, Step, Stood, Store, Table, Turns, Wakes, Worked}
+use Rattle.law_epochs.proofs.Imports.{World, Writes, all_put, ap, arith, at, at-empty, ballot_store, blank_joins_in, blanked, by_bool, by_test, cell_cmp}
+use Rattle.law_epochs.proofs.Imports.{cell_of, chosen_log, crossed, did_come, epoch_at, false, front_on, is_clients, kept, kept_store, length, log_below}
+use Rattle.law_epochs.proofs.Imports.{none_some, one_front, own_place, own_plain, proposed_pairs, refl, same_some, server_state, settling, stage_at, start}
+use Rattle.law_epochs.proofs.Imports.{state_after, subst, sym, true, true_false, ℕ}
 use Rattle.law_epochs.proofs.PendingIsInTime.{firm, opened_by, was_opened}
 use Rattle.law_epochs.proofs.EntriesAfterJobs.{did_kept}
 use Rattle.law_epochs.proofs.ReportedHaveNoPending.{resting}
@@ -18,7 +18,7 @@ pub record IsKnownBy (servers : ℕ) (log : List Command) (cell : Cell) (epoch :
   pub born : 1 ≤ stage_at (state_after servers log) cell
 
 -- so it is by more of them
-pub known_more : (servers : ℕ) (front whole : List Command) → IsPlainLog servers whole → IsPrefix front whole → (cell : Cell) (epoch : ℕ)
+pub known_more : (servers : ℕ) (front whole : List Command) → HasProperTuples servers whole → IsPrefix front whole → (cell : Cell) (epoch : ℕ)
     → IsKnownBy servers front cell epoch → IsKnownBy servers whole cell epoch
 known_more servers front whole plain prefix cell epoch k =
     let below = log_below servers front whole plain prefix in

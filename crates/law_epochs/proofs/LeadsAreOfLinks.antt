@@ -1,9 +1,9 @@
 -- A server that has led a cell's link is one of the link's two.
-use Rattle.law_epochs.proofs.Imports.{◌∙◌, ◌≡◌, Cell, Command, IsPlainLog, IsPrefix, LinkRow, List, Some, State, cell_link, front_plain, has_server}
+use Rattle.law_epochs.proofs.Imports.{◌∙◌, ◌≡◌, Cell, Command, HasProperTuples, IsPrefix, LinkRow, List, Some, State, cell_link, front_plain, has_server}
 use Rattle.law_epochs.proofs.Imports.{holder_is_one, inl, inr, is_the_one, leads_link, link_led_by, log_below, log_steady, none_some, option_and_then}
 use Rattle.law_epochs.proofs.Imports.{primary_is_one, row_lead, same_some, state_after, subst, sym, true, ℕ}
 
-pub led_has : (servers : ℕ) (front whole : List Command) (n : ℕ) (cell : Cell) (row : LinkRow) → IsPlainLog servers whole → IsPrefix front whole
+pub led_has : (servers : ℕ) (front whole : List Command) (n : ℕ) (cell : Cell) (row : LinkRow) → HasProperTuples servers whole → IsPrefix front whole
     → leads_link (state_after servers front) n cell ≡ true → cell_link (state_after servers whole) cell ≡ Some row → has_server n row ≡ true
 led_has servers front whole n cell row plain prefix leads linked =
     elim (link_led_by was (log_steady servers front (front_plain servers front whole plain prefix)) cell n

@@ -1,7 +1,7 @@
 -- A client's write that a server had pending when it was last at a place of the cell's link is in time at each front of the log at that place:
 -- a report by which the era rose would have been made before the visit, or during it.
-use Rattle.law_epochs.proofs.Imports.{[], ◌++◌, ◌∙◌, ◌∷◌, ◌≡◌, ◌≤◌, ◌⊎◌, AliveIn, AreSteps, At, Cell, Command, IsAt, IsLinked, IsPlainLog, IsPrefix, LinkRow}
-use Rattle.law_epochs.proofs.Imports.{List, Pairs, Pending, Record, Setting, Some, WasDraining, WasThere, World, ap, append-nil, arith, at, at_by}
+use Rattle.law_epochs.proofs.Imports.{[], ◌++◌, ◌∙◌, ◌∷◌, ◌≡◌, ◌≤◌, ◌⊎◌, AliveIn, AreSteps, At, Cell, Command, HasProperTuples, IsAt, IsLinked, IsPrefix}
+use Rattle.law_epochs.proofs.Imports.{LinkRow, List, Pairs, Pending, Record, Setting, Some, WasDraining, WasThere, World, ap, append-nil, arith, at, at_by}
 use Rattle.law_epochs.proofs.Imports.{at_most_or_above, before_part, cell_cmp, chosen_log, either_front, front_long, front_on, front_within, history_grows}
 use Rattle.law_epochs.proofs.Imports.{in_between, inl, inr, is_at, is_at_so, is_clients, is_in, length, log_below, place_by, place_of_later, places_from}
 use Rattle.law_epochs.proofs.Imports.{places_grow, same_place, seat_stays, stage_at, stage_most, state_after, subst, sym, true, ℕ}
@@ -55,7 +55,7 @@ module _ (it : Run) (had : HadWrite (end_of it).setting it.records) where
   entries_chosen : IsPrefix entries chosen
   entries_chosen = front_on entries _ chosen ((firm script sound was.before legal_then).servers n) chosen_on
 
-  plain : (log : List Command) → IsPrefix log chosen → IsPlainLog servers log
+  plain : (log : List Command) → IsPrefix log chosen → HasProperTuples servers log
   plain = chosen_plain script sound records legal
 
   abbrev inc : ℕ
@@ -217,7 +217,7 @@ module _ (it : Run) (had : HadWrite (end_of it).setting it.records) where
   timely_known other front row other_lies linked lies at_place le =
       timely_there front lies (same_row (either_front entries other chosen entries_chosen other_lies) ∙ at_place) le
     where
-      all : IsPlainLog servers chosen
+      all : HasProperTuples servers chosen
       all = (firm script sound records legal).plain
 
       same_row : IsPrefix entries other ⊎ IsPrefix other entries → place_by setting front here.row ≡ place_by setting front row

@@ -1,6 +1,6 @@
 -- A client's write that is under way is in time: had the era of its cell risen, its server would have reported before, with no such write
 -- under way.
-use Rattle.law_epochs.proofs.Imports.{[], ◌++◌, ◌<◌, ◌∙◌, ◌∷◌, ◌≡◌, ◌⊎◌, AreSteps, At, Cell, Command, Drained, Firm, IsPlainLog, IsPrefix, IsSound, List}
+use Rattle.law_epochs.proofs.Imports.{[], ◌++◌, ◌<◌, ◌∙◌, ◌∷◌, ◌≡◌, ◌⊎◌, AreSteps, At, Cell, Command, Drained, Firm, HasProperTuples, IsPrefix, IsSound, List}
 use Rattle.law_epochs.proofs.Imports.{Pending, Record, Script, Setting, Some, WasDraining, World, arith, at, cell_cmp, chosen_front, chosen_log, era_at}
 use Rattle.law_epochs.proofs.Imports.{false, front_itself, front_long, front_more, front_on, front_plain, held, history_is_firm, inl, inr, is_clients, is_in}
 use Rattle.law_epochs.proofs.Imports.{is_writes_held, leads_link, length, log_epochs, log_unheld, one_front, report_was_made, runs_now, same_or_apart}
@@ -33,7 +33,7 @@ module _ (script : Script) (sound : IsSound script) (records : List Record) (leg
   pub firm : Firm setting w
   firm = history_is_firm script records sound legal
 
-  pub chosen_plain : (front : List Command) → IsPrefix front chosen → IsPlainLog script.servers front
+  pub chosen_plain : (front : List Command) → IsPrefix front chosen → HasProperTuples script.servers front
   chosen_plain front lies = front_plain script.servers front chosen firm.plain lies
 
   -- what is pending was opened as the incarnation that ran last, which leads the cell by the server's own state

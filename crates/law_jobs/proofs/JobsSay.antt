@@ -1,14 +1,14 @@
 -- Each letter of a job is one that it may say.
-use Rattle.law_jobs.proofs.Imports.{[], ◌∷◌, ◌≡◌, A_copied_entry, A_copy, A_page, A_slot, A_trim, Action, An_entry_to_move, Answers_page, Asks, Asks_for}
+use Rattle.law_jobs.proofs.Imports.{[], ◌+◌, ◌∷◌, ◌≡◌, A_copied_entry, A_copy, A_page, A_slot, A_trim, Action, An_entry_to_move, Answers_page, Asks, Asks_for}
 use Rattle.law_jobs.proofs.Imports.{Asks_page, Asks_to_trim, Begins_copy, Body, By_filler, By_holder, By_lead, By_other, By_read, By_second, By_sweep, Cell}
 use Rattle.law_jobs.proofs.Imports.{Closes, Closes_alone, CopyStep, Copy_as_is, Copying, Declines, Did, DidHolder, DidLead, DidOther, DidRead, DidSecond}
 use Rattle.law_jobs.proofs.Imports.{Drops_entry, Ending, Far, Finished, Follows, Gives_up, Goes_on_copying, Goes_on_dead, Goes_on_trimming, Has_entry}
 use Rattle.law_jobs.proofs.Imports.{Has_fill, Has_no_room, Has_no_slot, Ignores, In, Is_copied_to, Is_filled, Is_full, Is_out_of_slots, Is_trimmed}
 use Rattle.law_jobs.proofs.Imports.{JobContext, JobResult, LastCopy, List, None, Not_here, Of_the_log, OpKind, Opens, Opens_fill, Option, OtherReply}
 use Rattle.law_jobs.proofs.Imports.{PairState, Pending, Post, Promises, Puts_entry, Refuses, Repeats, Replies, Sends, Sets_apart, Shows, Some, Taken}
-use Rattle.law_jobs.proofs.Imports.{TrimStep, acts, ap, cell_gone, cell_holder, cell_of, cell_same, dead_second, ends, false, fill_operation, first_last}
-use Rattle.law_jobs.proofs.Imports.{gives_back, inl, inr, is_second, last_copy, live, nat_cmp, next_stage, none_some, of_sweep, operation, pending_on}
-use Rattle.law_jobs.proofs.Imports.{post_to, put, refl, subst, sym, taking, tells, true, without_pending, ℕ}
+use Rattle.law_jobs.proofs.Imports.{TrimStep, acts, ap, arith, cell_gone, cell_holder, cell_of, cell_same, dead_second, ends, false, fill_operation}
+use Rattle.law_jobs.proofs.Imports.{first_last, gives_back, inl, inr, is_second, last_copy, last_on, live, nat_cmp, next_stage, none_some, of_sweep}
+use Rattle.law_jobs.proofs.Imports.{operation, pending_on, post_to, put, refl, subst, sym, taking, tells, true, without_pending, ℕ}
 use Rattle.law_jobs.specs.Effects.{Alone_has, Both_have, By_operation, Had_no_slot, HasEnded, Is_dead, Is_declined}
 use Rattle.law_jobs.specs.Sayings.{IsCopying, Says, to_server}
 use Rattle.petal_msg.specs.declared.operation.Action.TheVariants as action
@@ -91,15 +91,17 @@ module _ (heard : Body → Type 0) (here : JobContext) (own : PairState) where
   lead_said _ _ = λ post i. none_in post i
 
   tells_said : (now : PairState) (cell : Cell) (number : ℕ) (how : Far) → is_second here.state here.me cell ≡ true
-      → AreSaid (tells here now cell number how).own (tells here now cell number how).posts
-  tells_said now cell number far.Reserved follows = one _ _ _ (λ to so. says.Has_slot number cell to follows so)
-  tells_said now cell number far.Replicated follows = one _ _ _ (λ to so. says.Has_copy number cell to follows so)
+      → last_on now cell ≡ Some (record { op = number; far = how }) → AreSaid (tells here now cell number how).own (tells here now cell number how).posts
+  tells_said now cell number far.Reserved follows is = one _ _ _ (λ to so. says.Has_slot number cell to follows is so)
+  tells_said now cell number far.Replicated follows is = one _ _ _ (λ to so. says.Has_copy number cell to follows is so)
 
   second_said : (done : JobResult) → DidSecond heard here own done → AreSaid done.own done.posts
-  second_said _ (Sets_apart number cell tickets h so le) = tells_said _ cell number far.Reserved so
-  second_said _ (Promises number cell how so is) = tells_said own cell number how so
+  second_said _ (Sets_apart number cell tickets h so le) =
+      tells_said _ cell number far.Reserved so (cell_same own.pairs.last cell (record { op = number; far = far.Reserved }))
+  second_said _ (Promises number cell how so is) = tells_said own cell number how so is
   second_said _ (Declines number cell h follows found) = one _ _ _ (λ to so. says.Has_no_slot number cell to refl h follows found so)
-  second_said _ (Follows number key version bytes h so is) = tells_said _ (cell_of key) number far.Replicated so
+  second_said _ (Follows number key version bytes h so is) =
+      tells_said _ (cell_of key) number far.Replicated so (cell_same own.pairs.last (cell_of key) (record { op = number; far = far.Replicated }))
 
   step_said : (now : PairState) (cell : Cell) (copy : Copying) (done : JobResult) → IsCopying heard here own cell now copy → CopyStep here now cell copy done
       → AreSaid done.own done.posts
@@ -120,7 +122,7 @@ module _ (heard : Body → Type 0) (here : JobContext) (own : PairState) where
 
   reply_said : (to : Option ℕ) (said : Body) → OtherReply heard here own to said → AreSaid own (post_to to said)
   reply_said _ _ (Answers_page id row after h named) = one _ _ _ (λ to so. says.Tells_page id row after to refl h named so)
-  reply_said _ _ (Has_entry entry holder last of_copy lt) = alone _ _ (says.Is_synced entry holder last of_copy)
+  reply_said _ _ (Has_entry entry holder last of_copy lt) = alone _ _ (says.Is_synced entry holder last last of_copy of_copy.last_is refl lt)
   reply_said _ _ (Has_no_slot entry holder last of_copy spot full) = alone _ _ (says.Is_sync_full entry holder last refl of_copy spot full)
 
   other_said : (done : JobResult) → DidOther heard here own done → AreSaid done.own done.posts
@@ -128,7 +130,9 @@ module _ (heard : Body → Type 0) (here : JobContext) (own : PairState) where
   other_said done (Is_copied_to number cell epochs holder _ h held newer step) =
       trim_said _ cell (first_last number epochs) holder done held (cell_same own.copies.last cell (first_last number epochs)) step
   other_said done (Goes_on_trimming cell holder last _ held is step) = trim_said own cell last holder done held is step
-  other_said _ (Puts_entry entry holder last of_copy spot room) = alone _ _ (says.Is_synced entry holder last of_copy)
+  other_said _ (Puts_entry entry holder last of_copy spot room) =
+      let later : LastCopy = record last { index = last.index + 1 } in
+      alone _ _ (says.Is_synced entry holder last later of_copy (cell_same own.copies.last (cell_of entry.key) later) refl (omega arith))
 
   read_said : (done : JobResult) → DidRead heard here own done → AreSaid done.own done.posts
   read_said _ (Shows client seq cell epoch may so) = alone _ _ (says.Shows client seq cell epoch may so)

@@ -1,6 +1,6 @@
 -- The chosen log of a world whose steps are those of a schedule.
-use Rattle.law_log.proofs.Imports.{[], ◌++◌, ◌+◌, ◌<◌, ◌∙◌, ◌∷◌, ◌≡◌, ◌≤◌, ◌⊎◌, Agrees, Among, Bool, Caught, Command, Drained, Firm, HasSchedule, IsChosen}
-use Rattle.law_log.proofs.Imports.{IsChosenBy, IsPlainLog, IsPrefix, IsSingle, IsTold, Join, Leave, Letter, List, Moved, None, Setting, Some, ap}
+use Rattle.law_log.proofs.Imports.{[], ◌++◌, ◌+◌, ◌<◌, ◌∙◌, ◌∷◌, ◌≡◌, ◌≤◌, ◌⊎◌, Agrees, Among, Bool, Caught, Command, Drained, Firm, HasProperTuples}
+use Rattle.law_log.proofs.Imports.{HasSchedule, IsChosen, IsChosenBy, IsPrefix, IsSingle, IsTold, Join, Leave, Letter, List, Moved, None, Setting, Some, ap}
 use Rattle.law_log.proofs.Imports.{append_assoc, arith, begin, by_bool, chosen_at, chosen_is_told, chosen_log, chosen_state, devices, false, front_of_log}
 use Rattle.law_log.proofs.Imports.{inl, inr, is_in, length, log_ends, log_has, log_tells, nat_tests, none_some, run, slice_get, state_after, subst, sym}
 use Rattle.law_log.proofs.Imports.{told_is_chosen, true, true_false, who_is_in, who_is_out, ℕ}
@@ -161,7 +161,7 @@ module _ {Was : Minded} (setting : Setting) (w : World) (fair : IsFair setting) 
         | inr returns ↦ wanted_or_join c returns.0 (next_stands returns.0 (chosen_log setting w) c at.0 returns.1 returns.2 at.1) returns.3
       ]
 
-  plain : IsPlainLog setting.servers (chosen_log setting w)
+  plain : HasProperTuples setting.servers (chosen_log setting w)
   plain c i =
       let at = at_among c (chosen_log setting w) i in
       wanted_plain setting w P fair (at.0 + 1) c (chosen_wanted setting w fair.small l (at.0 + 1) c

@@ -11,7 +11,7 @@ use Rattle.law_log.proofs.Imports.{takes_mark, trims_again, trims_first, trims_f
 use Rattle.law_log.proofs.Imports.{with_page, with_progress, without_copying, ℕ}
 use Rattle.petal_msg.specs.declared.copying.NextCopy.TheVariants.{Nothing}
 use Rattle.law_log.proofs.BallotFlags.{flags_put}
-use Rattle.law_log.proofs.PairJobsLeaveLog.{IsDated, IsQuiet, no_letter, only_stage, posted_dated, quiet_says_to}
+use Rattle.law_log.proofs.PairJobsLeaveLog.{IsDated, SaysDated, no_letter, only_stage, posted_dated, quiet_says_to}
 use Rattle.law_log.proofs.ScheduleTurns.{no_posts}
 use Rattle.petal_msg.specs.declared.body.Body.TheVariants as body
 use Rattle.petal_msg.specs.declared.copying.CopyAction.TheVariants as copy_action
@@ -22,7 +22,7 @@ pub record IsKept (before after : PairState) : Type 0 where
   pub flags : (id : LinkId) → is_flagged before id ≡ true → is_flagged after id ≡ true
 
 pub record IsCalm (own : PairState) (done : JobResult) : Type 0 where
-  pub quiet : IsQuiet done
+  pub quiet : SaysDated done
   pub kept : IsKept own done.own
 
 pub kept_itself : (own : PairState) → IsKept own own

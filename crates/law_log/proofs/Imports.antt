@@ -32,9 +32,9 @@ pub use Rattle.law_state.proofs.Disks.{log_in, who_is_out}
 pub use Rattle.law_state.proofs.EntriesOnlyAdd.{log_plain}
 pub use Rattle.law_state.proofs.Incarnations.{who_is_in}
 pub use Rattle.law_state.specs.Firm.{Firm}
-pub use Rattle.law_state.specs.Plain.{IsPlain, IsPlainLog}
+pub use Rattle.law_state.specs.Plain.{HasProperTuple, HasProperTuples}
 pub use Rattle.law_state.specs.StartedBallots.{HasFlag, is_caught, is_flagged}
-pub use Rattle.law_state.specs.Tables.{IsPlainState}
+pub use Rattle.law_state.specs.Tables.{IsSettledState}
 pub use Rattle.petal_base.specs.Cells.{cell_of, key_at}
 pub use Rattle.petal_base.specs.declared.cell.Key.{Key}
 pub use Rattle.petal_command.specs.Same.{has_command, same_command}

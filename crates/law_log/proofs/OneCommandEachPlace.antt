@@ -1,8 +1,8 @@
 -- What follows from what is kept: one command a place is told, those that are told were asked for, and logs are plain.
-use Rattle.law_log.proofs.Imports.{◌+◌, ◌==◌, ◌≡◌, ◌≤◌, Among, Bool, Caught, Command, Drained, IsChosen, IsPlain, IsPlainLog, IsTold, Join, Leave, Line, List}
-use Rattle.law_log.proofs.Imports.{MakeDisk, Moved, Request, Server, Setting, Snap, Some, StartMove, Witness, ap, begin, begin_holds, command_of, false, inl}
-use Rattle.law_log.proofs.Imports.{inr, is_caught, is_tuple, lines_of, log_in, none_some, one_chosen, refl, run, run_holds, same_some, server_state}
-use Rattle.law_log.proofs.Imports.{servers_of, slice_get, subst, sym, true, true_false, ℕ}
+use Rattle.law_log.proofs.Imports.{◌+◌, ◌==◌, ◌≡◌, ◌≤◌, Among, Bool, Caught, Command, Drained, HasProperTuple, HasProperTuples, IsChosen, IsTold, Join, Leave}
+use Rattle.law_log.proofs.Imports.{Line, List, MakeDisk, Moved, Request, Server, Setting, Snap, Some, StartMove, Witness, ap, begin, begin_holds, command_of}
+use Rattle.law_log.proofs.Imports.{false, inl, inr, is_caught, is_tuple, lines_of, log_in, none_some, one_chosen, refl, run, run_holds, same_some}
+use Rattle.law_log.proofs.Imports.{server_state, servers_of, slice_get, subst, sym, true, true_false, ℕ}
 use Rattle.petal_command.specs.declared.pax.Pax.TheVariants.{Chosen}
 use Rattle.spec_rules.specs.World.{World}
 use Rattle.law_log.specs.AgreedLog.{IsCalledAnywhere, Logged, MayWant, Minded, Returns, is_join}
@@ -53,30 +53,30 @@ line_of lines c i line e = kept_among (λ l. l.client == c) lines line (among_at
 made_plain : (servers client seq : ℕ) (asked : Request) (c : Command)
     → ((name tuple : List ℕ) → asked ≡ request.Disk name tuple → is_tuple servers tuple ≡ true)
     → ((name tuple : List ℕ) → asked ≡ request.Move name tuple → is_tuple servers tuple ≡ true)
-    → command_of client seq asked ≡ Some c → IsPlain servers c
-made_plain servers client seq (request.Disk name tuple) c spread moved e = subst (IsPlain servers) (same_some e) (spread name tuple refl)
-made_plain servers client seq (request.Snap name snap) c spread moved e = subst (IsPlain servers) (same_some e) tt
-made_plain servers client seq (request.Move name tuple) c spread moved e = subst (IsPlain servers) (same_some e) (moved name tuple refl)
+    → command_of client seq asked ≡ Some c → HasProperTuple servers c
+made_plain servers client seq (request.Disk name tuple) c spread moved e = subst (HasProperTuple servers) (same_some e) (spread name tuple refl)
+made_plain servers client seq (request.Snap name snap) c spread moved e = subst (HasProperTuple servers) (same_some e) tt
+made_plain servers client seq (request.Move name tuple) c spread moved e = subst (HasProperTuple servers) (same_some e) (moved name tuple refl)
 made_plain servers client seq _ c spread moved e = none_some refl e
 
-pub scripted_plain : (setting : Setting) (w : World) → IsFair setting → (c : Command) → IsScripted setting w c → IsPlain setting.servers c
+pub scripted_plain : (setting : Setting) (w : World) → IsFair setting → (c : Command) → IsScripted setting w c → HasProperTuple setting.servers c
 scripted_plain setting w fair c s = elim s.so [
   | inl e ↦ made_plain setting.servers s.client (s.before + 1) s.line.request c
       (λ name tuple is. fair.spread s.line name tuple (line_of setting.lines s.client s.before s.line s.is) is)
       (λ name tuple is. fair.moved s.line name tuple (line_of setting.lines s.client s.before s.line s.is) is) e
-  | inr e ↦ subst (IsPlain setting.servers) (sym e.1) tt
+  | inr e ↦ subst (HasProperTuple setting.servers) (sym e.1) tt
 ]
 
-lives_plain : (servers : ℕ) (w : World) (c : Command) → IsOfLives w c → IsPlain servers c
+lives_plain : (servers : ℕ) (w : World) (c : Command) → IsOfLives w c → HasProperTuple servers c
 lives_plain servers w (Leave server inc) h = tt
 lives_plain servers w (Join server inc blank) h = tt
 lives_plain servers w _ h = absurd h
 
-called_plain : (setting : Setting) (w : World) → IsFair setting → (c : Command) → IsCalledFor setting w c → IsPlain setting.servers c
+called_plain : (setting : Setting) (w : World) → IsFair setting → (c : Command) → IsCalledFor setting w c → HasProperTuple setting.servers c
 called_plain setting w fair c (inl s) = scripted_plain setting w fair c s
 called_plain setting w fair c (inr h) = lives_plain setting.servers w c h
 
-returns_plain : (servers : ℕ) (actors : ℕ → Server) (front : List Command) (c : Command) → Returns servers actors front c → IsPlain servers c
+returns_plain : (servers : ℕ) (actors : ℕ → Server) (front : List Command) (c : Command) → Returns servers actors front c → HasProperTuple servers c
 returns_plain servers actors front (Caught of link holder inc other other_inc) h = tt
 returns_plain servers actors front (Join server inc blank) h = tt
 returns_plain servers actors front (Drained server inc fence) h = tt
@@ -84,7 +84,7 @@ returns_plain servers actors front (Moved of region link) h = tt
 returns_plain servers actors front _ h = absurd h
 
 pub wanted_plain : {Was : Minded} (setting : Setting) (w : World) (p : schedule.World) → IsFair setting → (place : ℕ) (c : Command)
-    → MayWant Was setting w w.servers p place c → IsPlain setting.servers c
+    → MayWant Was setting w w.servers p place c → HasProperTuple setting.servers c
 wanted_plain setting w p fair place c h = elim h.0 [
   | inl called ↦ called_plain setting w fair c called.0
   | inr returns ↦ returns_plain setting.servers w.servers returns.front c returns.is
@@ -148,7 +148,7 @@ pub no_join : {B : Type 0} (setting : Setting) (w : World) (server inc : ℕ) (b
 no_join setting w server inc blank h = true_false refl h.1
 
 module _ {Was : Minded} (setting : Setting) (w : World) (fair : IsFair setting) (l : Logged Was setting w) where
-  pub applied_plain : (n : ℕ) → IsPlainLog setting.servers (w.servers n).log.applied
+  pub applied_plain : (n : ℕ) → HasProperTuples setting.servers (w.servers n).log.applied
   applied_plain n c i =
       let at = at_among c (w.servers n).log.applied i in
       let told = (l.is.servers n).told (at.0 + 1) c ((l.is.servers n).applied at.0 c at.1) in

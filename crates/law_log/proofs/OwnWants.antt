@@ -1,6 +1,6 @@
 -- What a server wants by its own part may be wanted: a Join, a Caught, a report and a Moved are each after the entries that it has applied, and it has it in
 -- mind.
-use Rattle.law_log.proofs.Imports.{◌++◌, ◌+◌, ◌<◌, ◌==◌, ◌∙◌, ◌≡◌, ◌≤◌, ◌⊎◌, Among, Command, HasFlag, IsPlainState, Job, Join, LinkId, List, Log, Option}
+use Rattle.law_log.proofs.Imports.{◌++◌, ◌+◌, ◌<◌, ◌==◌, ◌∙◌, ◌≡◌, ◌≤◌, ◌⊎◌, Among, Command, HasFlag, IsSettledState, Job, Join, LinkId, List, Log, Option}
 use Rattle.law_log.proofs.Imports.{Server, Setting, Some, State, Voter, ap, arith, begin, by_test, caught_links, draining, false, first_wanted, id_of}
 use Rattle.law_log.proofs.Imports.{in-append, inl, inr, is_flagged, length, log_plain, may_by, may_join, moving, next_place, number_itself, option_map_or}
 use Rattle.law_log.proofs.Imports.{own_join, own_wants, proposed, put_at, put_same, refl, returning, rev_of, run, seated, slice_get, starts, subst, sym, true}
@@ -34,7 +34,7 @@ join_only {A} state me inc fresh c so h = by_test (λ (xs : List Command). Among
     (λ e i. elim i [ inl is ↦ so e is | inr none ↦ absurd none ]) (λ e i. absurd i) h
 
 -- which is of an incarnation after the first
-join_later : (servers : ℕ) (state : State) → IsPlainState servers state → (me inc : ℕ) → may_join (slice_get state.view.members me) inc ≡ true → 1 < inc
+join_later : (servers : ℕ) (state : State) → IsSettledState servers state → (me inc : ℕ) → may_join (slice_get state.view.members me) inc ≡ true → 1 < inc
 join_later servers state p me inc may =
     let was = may_by (slice_get state.view.members me) inc may in
     let low : 1 ≤ was.0 = p.members me (member.Out was.0) was.1 in
@@ -62,7 +62,7 @@ module _ (it : ServerStep) (runs : (it.w.servers it.n).life.running ≡ true) (r
   starts_to = let done = starts (voter_of here) (w.servers n).log (wanted_by here (w.servers n)) in
       left done (proposed here.state (w.servers n).own started_for) (rest ++ done.jobs)
 
-  own_plain : IsPlainState setting.servers here.state
+  own_plain : IsSettledState setting.servers here.state
   own_plain = log_plain setting.servers _ (applied_plain setting w fair l n)
 
   applied_told : IsToldBefore P (next_place (w.servers n).log) (w.servers n).log.applied

@@ -46,7 +46,7 @@ other_backed p Good Said _ h = tt
 pub dated_backed : (p : World) (Good : Command → Type 0) (Said : Pax → Type 0) (what : Body) → IsDated what → IsBacked p Good Said what
 dated_backed p Good Said what h = other_backed p Good Said what (other_dated what h)
 
-pub record IsQuiet (done : JobResult) : Type 0 where
+pub record SaysDated (done : JobResult) : Type 0 where
   pub posts : (post : Post) → Among post done.posts → IsDated post.body
   pub jobs : (letter : Letter) → Among (job.Letter letter) done.jobs → ⊥
 
@@ -59,25 +59,25 @@ unfolding Among
 only_stage letter cell (inl e) = let f : job.Letter letter ≡ job.Stage cell = e in absurd cc
 only_stage letter cell (inr h) = h
 
-pub quiet_silent : (own : PairState) → IsQuiet (silent own)
+pub quiet_silent : (own : PairState) → SaysDated (silent own)
 quiet_silent own = record { posts = λ post i. no_posts post i; jobs = no_letter }
 
-quiet_stage : (own : PairState) (cell : Cell) → IsQuiet (record { own = own; posts = []; jobs = job.Stage cell ∷ [] })
+quiet_stage : (own : PairState) (cell : Cell) → SaysDated (record { own = own; posts = []; jobs = job.Stage cell ∷ [] })
 quiet_stage own cell = record { posts = λ post i. no_posts post i; jobs = λ letter i. only_stage letter cell i }
 
-pub quiet_says : (own : PairState) (to : Actor) (what : Body) → IsDated what → IsQuiet (says own to what)
+pub quiet_says : (own : PairState) (to : Actor) (what : Body) → IsDated what → SaysDated (says own to what)
 quiet_says own to what h = record { posts = λ post i. only (λ (x : Post). IsDated x.body) _ post i h; jobs = no_letter }
 
 pub posted_dated : (server : Option ℕ) (what : Body) → IsDated what → (post : Post) → Among post (post_to server what) → IsDated post.body
 posted_dated None what h post i = no_posts post i
 posted_dated (Some n) what h post i = only (λ (x : Post). IsDated x.body) (record { to = actor.Server n; body = what }) post i h
 
-pub quiet_says_to : (own : PairState) (server : Option ℕ) (what : Body) → IsDated what → IsQuiet (says_to own server what)
+pub quiet_says_to : (own : PairState) (server : Option ℕ) (what : Body) → IsDated what → SaysDated (says_to own server what)
 quiet_says_to own server what h = record { posts = posted_dated server what h; jobs = no_letter }
 
 -- what it says is handled at its revision alone, and it leaves these copies
 pub record IsOfPairs (done : JobResult) (are : Copies) : Type 0 where
-  pub quiet : IsQuiet done
+  pub quiet : SaysDated done
   pub copies : done.own.copies ≡ are
 
 -- it leaves those of this server

@@ -1,10 +1,10 @@
 -- Each step keeps what letters of entries that move say, and what operations for them were opened for.
-use Rattle.law_moves.proofs.Imports.{[], ◌&&◌, ◌<◌, ◌||◌, ◌∙◌, ◌∷◌, ◌≡◌, Body, Cell, Chain, Command, Fills, Handled, In, IsNextFill, IsPlainLog, IsPrefix}
-use Rattle.law_moves.proofs.Imports.{Is_next, Is_other, Key, Letter, List, OneMore, PairState, Pairs, Pending, Post, Server, Some, State, Stood, Store, Table}
-use Rattle.law_moves.proofs.Imports.{Writes, ap, arith, at, at-empty, cell_cmp, cell_of, chain_in, chosen_log, comes_before, crossed, did_come, did_fills}
-use Rattle.law_moves.proofs.Imports.{ends_of, false, front_on, front_plain, id_of, is_clients, is_fill, is_of_entries, key_at, length, link_named, log_plain}
-use Rattle.law_moves.proofs.Imports.{log_rev, nat_cmp, nat_lt, nat_tests, next_on, none_some, number_itself, or_true, own_place, proposed_pairs, refl}
-use Rattle.law_moves.proofs.Imports.{same_some, server_state, settling, source, stage_facts, subject_of, subst, sym, true, true_false, ℕ}
+use Rattle.law_moves.proofs.Imports.{[], ◌&&◌, ◌<◌, ◌||◌, ◌∙◌, ◌∷◌, ◌≡◌, Body, Cell, Chain, Command, Fills, Handled, HasProperTuples, In, IsNextFill}
+use Rattle.law_moves.proofs.Imports.{IsPrefix, Is_next, Is_other, Key, Letter, List, OneMore, PairState, Pairs, Pending, Post, Server, Some, State, Stood}
+use Rattle.law_moves.proofs.Imports.{Store, Table, Writes, ap, arith, at, at-empty, cell_cmp, cell_of, chain_in, chosen_log, comes_before, crossed, did_come}
+use Rattle.law_moves.proofs.Imports.{did_fills, ends_of, false, front_on, front_plain, id_of, is_clients, is_fill, is_of_entries, key_at, length, link_named}
+use Rattle.law_moves.proofs.Imports.{log_plain, log_rev, nat_cmp, nat_lt, nat_tests, next_on, none_some, number_itself, or_true, own_place, proposed_pairs}
+use Rattle.law_moves.proofs.Imports.{refl, same_some, server_state, settling, source, stage_facts, subject_of, subst, sym, true, true_false, ℕ}
 use Rattle.law_moves.specs.Fills.{Has, IsFrozen, WasFilled}
 use Rattle.law_moves.specs.LeftToMove.{IsKept, IsOurs}
 use Rattle.law_moves.proofs.FrozenIsWhatCounted.{frozen_stays}
@@ -69,7 +69,7 @@ module _ (it : OneMore) (known : WasKnown it) where
     lies_v : IsPrefix log (chosen_log setting v)
     lies_v = front_on log (chosen_log setting w) (chosen_log setting v) lies (chosen_on it)
 
-    plain : IsPlainLog script.servers log
+    plain : HasProperTuples script.servers log
     plain = front_plain script.servers log (chosen_log setting w) (knows it).plain lies
 
     named : link_named here (id_of f.row) ≡ Some f.row

@@ -2,13 +2,12 @@
 use Rattle.law_moves.proofs.Imports.{◌++◌, ◌+◌, ◌∙◌, ◌≡◌, ◌≤◌, AreCopies, AreSteps, AreTwins, At, Bool, Both, Cell, Chain, IsLinked, IsServing, IsSound, Key}
 use Rattle.law_moves.proofs.Imports.{LinkRow, List, None, OneMore, Option, PairState, Pairs, Pending, Record, Run, Script, Some, Store, WasThere, Working, ap}
 use Rattle.law_moves.proofs.Imports.{arith, at, at-empty, at_most_or_above, before_last, blank_joins_in, by_bool, cell_cmp, cell_of, chain_in, cut, ends_of}
-use Rattle.law_moves.proofs.Imports.{false, far, front_itself, front_long, front_on, half, history_grows, inl, inr, is_clients, is_some, kept, none_some}
-use Rattle.law_moves.proofs.Imports.{pair_at, place_by, place_timely, refl, secondary_is_one, serves, setting_of, split_last, stage_at, subst, sym, true}
-use Rattle.law_moves.proofs.Imports.{true_false, ℕ}
+use Rattle.law_moves.proofs.Imports.{false, far, front_itself, front_long, front_on, half, half_store, history_grows, inl, inr, is_clients, is_some, kept}
+use Rattle.law_moves.proofs.Imports.{none_some, pair_at, place_by, place_timely, refl, secondary_is_one, serves, setting_of, split_last, stage_at, subst, sym}
+use Rattle.law_moves.proofs.Imports.{true, true_false, ℕ}
 use Rattle.law_moves.specs.Fills.{Has, IsFrozen}
 use Rattle.law_moves.proofs.FrozenIsWhatCounted.{frozen_stays}
 use Rattle.law_moves.proofs.AllKeptOfMoves.{WereKnown}
-use Rattle.law_moves.proofs.LeadsHaveWhatServersHave.{half_store}
 use Rattle.law_moves.proofs.MovedsHadNothingLeft.{filled_stays, moved_all}
 use Rattle.law_moves.proofs.PendingWasOpened.{opened_within}
 use Rattle.law_moves.proofs.MovedRegionsHaveAll.{AllMoved}

@@ -1,8 +1,8 @@
 -- Who says that an entry is there, and who asks a second server to put: what a job sends of either.
-use Rattle.law_moves.proofs.Imports.{◌∙◌, ◌≡◌, Alone_has, Body, Bool, Both_have, Did, Ending, Filling, Full, HasEnded, Has_fill, In, IsFilled, Is_dead}
-use Rattle.law_moves.proofs.Imports.{JobContext, JobResult, Logged, Moving, None, Of_the_log, PairState, Paired, Pending, Post, Refuses, Repeats, Some}
-use Rattle.law_moves.proofs.Imports.{Subject, Taken, Written, answering, ap, at, by_bool, cell_cmp, copying, ended, false, in_both, is_alone_on, is_logged}
-use Rattle.law_moves.proofs.Imports.{letters_of_job, pending_on, refl, subject_of, to_server, true, true_false, ℕ}
+use Rattle.law_moves.proofs.Imports.{◌∙◌, ◌≡◌, Alone_has, Body, Bool, Both_have, Did, Ending, Filling, Full, HasEnded, In, IsFilled, Is_dead, JobContext}
+use Rattle.law_moves.proofs.Imports.{JobResult, Logged, Moving, None, PairState, Paired, Pending, Post, Some, Subject, Taken, Written, answering, ap, at}
+use Rattle.law_moves.proofs.Imports.{by_bool, cell_cmp, copying, ended, false, in_both, is_alone_on, is_logged, letters_of_job, pending_on, refl, subject_of}
+use Rattle.law_moves.proofs.Imports.{to_server, true, true_false, ℕ}
 use Rattle.law_moves.proofs.JobsChangeOneChain.{NeverDead}
 use Rattle.petal_msg.specs.declared.body.Body.TheVariants as body
 use Rattle.petal_msg.specs.declared.operation.OpKind.TheVariants as kind

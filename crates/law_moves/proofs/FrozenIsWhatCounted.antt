@@ -1,9 +1,9 @@
 -- What is kept of an old map's cells as their region's fence took effect: the step that chooses that entry writes it, from the copy that counts
 -- then, and no other one changes it.
-use Rattle.law_moves.proofs.Imports.{[], if◌then◌else◌, ◌&&◌, ◌++◌, ◌∙◌, ◌∷◌, ◌≡◌, ◌≢◌, ◌≤◌, ◌⊎◌, AreSteps, At, Blanks, Bool, Cell, Chain, Happens, HasStage}
-use Rattle.law_moves.proofs.Imports.{IsPlainLog, IsSound, List, None, OneMore, Option, Record, Script, Serves, Setting, Some, State, Turns, World, after}
-use Rattle.law_moves.proofs.Imports.{always_firm, ap, arith, at_most_or_above, before_part, begins_to_leave, below_itself, both_true, by_bool, by_run}
-use Rattle.law_moves.proofs.Imports.{chain_that_counts, chosen_log, chosen_state, ends_of, false, frozen_by, history_grows, history_is_firm, inl, inr}
+use Rattle.law_moves.proofs.Imports.{[], if◌then◌else◌, ◌&&◌, ◌++◌, ◌∙◌, ◌∷◌, ◌≡◌, ◌≢◌, ◌≤◌, ◌⊎◌, AreSteps, At, Blanks, Bool, Cell, Chain, Happens}
+use Rattle.law_moves.proofs.Imports.{HasProperTuples, HasStage, IsSound, List, None, OneMore, Option, Record, Script, Serves, Setting, Some, State, Turns}
+use Rattle.law_moves.proofs.Imports.{World, after, always_firm, ap, arith, at_most_or_above, before_part, begins_to_leave, below_itself, both_true, by_bool}
+use Rattle.law_moves.proofs.Imports.{by_run, chain_that_counts, chosen_log, chosen_state, ends_of, false, frozen_by, history_grows, history_is_firm, inl, inr}
 use Rattle.law_moves.proofs.Imports.{last_happens, leaving, log_below, none_some, not, refl, run_of, setting_in, setting_of, since, stage_at, stage_facts}
 use Rattle.law_moves.proofs.Imports.{true, true_false, ℕ}
 
@@ -35,10 +35,10 @@ module _ (it : OneMore) (cell : Cell) where
       let state = chosen_state setting v in
       frozen_is setting state w v (last_happens script front own (always_firm script records sound legal) legal state (below_itself state)) cell
 
-  plain_was : IsPlainLog script.servers (chosen_log setting w)
+  plain_was : HasProperTuples script.servers (chosen_log setting w)
   plain_was = (history_is_firm script front sound (before_part script front (own ∷ []) legal)).plain
 
-  plain_now : IsPlainLog script.servers (chosen_log setting v)
+  plain_now : HasProperTuples script.servers (chosen_log setting v)
   plain_now = (history_is_firm script records sound legal).plain
 
   pub stage_grows : stage_was ≤ stage_now

@@ -10,7 +10,7 @@ pub use Rattle.law_state.proofs.Imports.{fold, in-append, in_both, in_former, in
 pub use Rattle.law_state.proofs.Imports.{length-append, link_of, links_of, map, nat_lt, nat_tests, none_some, not, number_itself, option_and_then, option_map}
 pub use Rattle.law_state.proofs.Imports.{option_map_or, range_with_len, refl, row_authority, row_lead, same_numbers, same_or_apart, same_some, second}
 pub use Rattle.law_state.proofs.Imports.{some_or_none, subst, sym, touches, true, true_false, unwrap_or, ℕ}
-pub use Rattle.law_log.proofs.Imports.{◌||◌, Acted, AreSteps, Body, Copies, Copying, Dead, Ending, Entry, Equal, Firm, IsPlainLog, IsSound, JobContext}
+pub use Rattle.law_log.proofs.Imports.{◌||◌, Acted, AreSteps, Body, Copies, Copying, Dead, Ending, Entry, Equal, Firm, HasProperTuples, IsSound, JobContext}
 pub use Rattle.law_log.proofs.Imports.{JobResult, Key, LastCopy, Letter, Log, Moving, Pending, Post, Script, Step, Stored, about, all_put, awake, blanked}
 pub use Rattle.law_log.proofs.Imports.{cell_holder, cell_of, chain_in, client_sender, copying_on, devices, down_posts, ended, eq_by_cmp, fill_of, flat_map}
 pub use Rattle.law_log.proofs.Imports.{gives_back, has_proposed, holds_link, id_of, is_eq, is_flagged, is_logged, is_second, key_at, last_copy, last_on}
@@ -30,30 +30,33 @@ unfoldable pub use Rattle.law_steps.proofs.Imports.{put}
 pub use Rattle.law_jobs.specs.Imports.{IsFilled, IsNextFill, IsNextKey, Taken, TakenCopy, answering, copying, first_last, progress}
 pub use Rattle.law_jobs.proofs.Imports.{Begins_copy, By_filler, By_holder, By_lead, By_other, By_read, By_second, By_sweep, Closes, Closes_alone, Closes_copy}
 pub use Rattle.law_jobs.proofs.Imports.{CopyStep, Copy_as_is, Copy_synced, Copy_trimmed, Did, DidHolder, DidLead, DidOther, DidSecond, Drops_entry, Follows}
-pub use Rattle.law_jobs.proofs.Imports.{Gives_up, Goes_on_copying, Goes_on_dead, Goes_on_trimming, Handled, Happens, Has_fill, Ignores, IsSame, Is_copied_to}
-pub use Rattle.law_jobs.proofs.Imports.{Is_trimmed, Marks_alone, Of_the_log, Promises, Puts, Puts_alone, Puts_entry, Refuses, Repeats, Rests, Sweeps}
-pub use Rattle.law_jobs.proofs.Imports.{TrimStep, Turns_page, Unmarks_alone, always_firm, at_apart, at_same, chains_with, last_happens, of_read, own_place}
-pub use Rattle.law_jobs.proofs.Imports.{rests_after, row_named, same_cell_or_apart, same_itself, same_on, start_rests, stood, taking}
+pub use Rattle.law_jobs.proofs.Imports.{Gives_up, Goes_on_copying, Goes_on_dead, Goes_on_trimming, Handled, Happens, Ignores, IsSame, Is_copied_to}
+pub use Rattle.law_jobs.proofs.Imports.{Is_trimmed, Marks_alone, Promises, Puts, Puts_alone, Puts_entry, Refuses, Rests, Sweeps, TrimStep, Turns_page}
+pub use Rattle.law_jobs.proofs.Imports.{Unmarks_alone, always_firm, at_apart, at_same, chains_with, last_happens, of_read, own_place, rests_after, row_named}
+pub use Rattle.law_jobs.proofs.Imports.{same_cell_or_apart, same_itself, same_on, start_rests, stood, taking}
 pub use Rattle.law_copies.specs.Imports.{WasStarted, blank_joins_in, is_between, kept_store, one_put_ahead}
 pub use Rattle.law_copies.proofs.Imports.{At, BeforeBlank, Blanks, By_ballot, By_caught, By_entry, By_job, By_join, By_leave, Effect, Ends, Fails, Fills}
-pub use Rattle.law_copies.proofs.Imports.{Goes, HasJoinedSince, IsCaughtBy, IsInBoth, IsSeated, May, Serves, Serving, Starts, Stays, Stood, Turns, Wakes}
-pub use Rattle.law_copies.proofs.Imports.{Worked, Writes, applied, before_part, below_itself, by_run, cell_swept, chain_apart, chain_put, chosen_caught_was}
-pub use Rattle.law_copies.proofs.Imports.{copied_chains, counted, counted_by, did_come, drop_apart, drop_none, either_true, first_by, first_state}
-pub use Rattle.law_copies.proofs.Imports.{front_itself, front_long, front_more, front_on, front_within, happened_in, job_keeps, joined_counts, joined_since}
-pub use Rattle.law_copies.proofs.Imports.{kept, kept_by, letters_of_job, link_led_by, live_stage, log_both_place, log_grown, log_lost, log_touched, longer}
-pub use Rattle.law_copies.proofs.Imports.{lost_not_both, none_before_none, of_ending, of_filler, on_row, one_before, one_front, page_chains, past_link}
-pub use Rattle.law_copies.proofs.Imports.{places_grow, primary_is_one, row_joined, run_of, running_fronts, said, second_by, secondary_is_one, setting_in}
-pub use Rattle.law_copies.proofs.Imports.{since, split_last, stage_live, start_plain, stays_alone, stays_both, told_own, tuple_on, turned_asks, without_rev}
+pub use Rattle.law_copies.proofs.Imports.{Goes, HasJoinedSince, IsCaughtBy, IsInBoth, IsSeatedOrMute, May, Serves, Serving, Starts, Stays, Stood, Turns}
+pub use Rattle.law_copies.proofs.Imports.{Wakes, Worked, Writes, applied, before_part, below_itself, by_run, cell_swept, chain_apart, chain_put}
+pub use Rattle.law_copies.proofs.Imports.{chosen_caught_was, copied_chains, counted, counted_by, did_come, drop_apart, drop_none, either_true, first_by}
+pub use Rattle.law_copies.proofs.Imports.{first_state, front_itself, front_long, front_more, front_on, front_within, happened_in, in_none, job_keeps}
+pub use Rattle.law_copies.proofs.Imports.{joined_counts, joined_since, kept, kept_by, letters_of_job, link_led_by, live_stage, log_both_place, log_grown}
+pub use Rattle.law_copies.proofs.Imports.{log_lost, log_touched, longer, lost_not_both, none_before_none, of_ending, of_filler, on_row, one_before, one_front}
+pub use Rattle.law_copies.proofs.Imports.{page_chains, past_link, places_grow, primary_is_one, row_joined, run_of, running_fronts, said, second_by}
+pub use Rattle.law_copies.proofs.Imports.{secondary_is_one, setting_in, since, split_last, stage_live, start_plain, stays_alone, stays_both, told_own}
+pub use Rattle.law_copies.proofs.Imports.{tuple_on, turned_asks, without_rev}
 pub use Rattle.law_epochs.proofs.Imports.{AliveIn, IsAt, IsLinked, IsTouchedBy, WasThere, at_by, at_most_or_above, ballot_store, is_at, is_at_so, log_dead}
 pub use Rattle.law_epochs.proofs.Imports.{next_comes, own_plain, place_by, place_of_later, place_touched, proper, proposed_pairs, runs_at, stage_facts}
 pub use Rattle.law_epochs.proofs.Imports.{stands_in}
 pub use Rattle.law_moves.specs.Imports.{HasNewer, IsFilledFrom, IsServing}
+pub use Rattle.law_copies.proofs.ChainsRise.{in_kept, in_left, in_mapped}
 pub use Rattle.law_copies.proofs.CopiesInHistories.{good_after, start_good, step_goes}
 pub use Rattle.law_copies.proofs.EmptyJoins.{after_front, joined_where}
+pub use Rattle.law_copies.proofs.NewPlaces.{half_store}
 pub use Rattle.law_copies.proofs.OtherIsNotHolder.{IsOther, held_by, other_apart}
 pub use Rattle.law_copies.proofs.PlacesByFronts.{alive_on, fronts_meet, linked_between, one_place, one_row, places_up, rows_later, state_next}
 pub use Rattle.law_copies.proofs.ServedAtLaterFronts.{alone_or_flagged, both_last, both_since, other_than, same_only, serves_alone, serves_its, unseen_beyond}
-pub use Rattle.law_copies.proofs.StoreHistories.{in_counts, in_own, kept_after}
+pub use Rattle.law_copies.proofs.StoreHistories.{in_counts, in_own, kept_after, own_by}
 pub use Rattle.law_copies.proofs.StoresAlongRecords.{before_last, stays_filled}
 pub use Rattle.law_copies.specs.CopyProgress.{AreCopying, HasSent, IsCaught, IsLeft, IsTold}
 pub use Rattle.law_copies.specs.GoodCopies.{AreTwins, Good, pair_at}

@@ -3,12 +3,12 @@
 use Rattle.law_moves.proofs.Imports.{[], ◌+◌, ◌<◌, ◌∙◌, ◌∷◌, ◌≡◌, ◌≢◌, ◌⊎◌, Begins_copy, Body, By_filler, By_holder, By_lead, By_other, By_read, By_second}
 use Rattle.law_moves.proofs.Imports.{By_sweep, Cell, Chain, Closes, Closes_alone, Closes_copy, CopyStep, Copy_as_is, Copy_synced, Copy_trimmed, Copying, Dead}
 use Rattle.law_moves.proofs.Imports.{Did, DidHolder, DidLead, DidOther, DidSecond, Drops_entry, Entry, Follows, Full, Gives_up, Goes_on_copying, Goes_on_dead}
-use Rattle.law_moves.proofs.Imports.{Goes_on_trimming, Ignores, IsSeated, Is_copied_to, Is_trimmed, JobContext, JobResult, Key, LastCopy, List, Marks_alone}
-use Rattle.law_moves.proofs.Imports.{PairState, Pending, Promises, Puts, Puts_alone, Puts_entry, Refuses, Some, Stage, Store, Stored, Sweeps, Table, Taken}
-use Rattle.law_moves.proofs.Imports.{TakenCopy, TrimStep, Turns_page, Unmarks_alone, Written, ap, cell_holder, cell_of, cell_swept, chain_apart, chain_in}
-use Rattle.law_moves.proofs.Imports.{chains_with, copied_chains, drop_apart, drop_none, epochs_beyond, false, first_last, gives_back, inl, inr, is_in}
-use Rattle.law_moves.proofs.Imports.{is_second, key_at, last_copy, last_on, live, of_ending, of_filler, of_read, page_chains, pending_on, refl, sym, taking}
-use Rattle.law_moves.proofs.Imports.{told_own, true, version_of, with_last_copy, without_dead, without_entry, without_pending, ℕ}
+use Rattle.law_moves.proofs.Imports.{Goes_on_trimming, Ignores, IsSeatedOrMute, Is_copied_to, Is_trimmed, JobContext, JobResult, Key, LastCopy, List}
+use Rattle.law_moves.proofs.Imports.{Marks_alone, PairState, Pending, Promises, Puts, Puts_alone, Puts_entry, Refuses, Some, Stage, Store, Stored, Sweeps}
+use Rattle.law_moves.proofs.Imports.{Table, Taken, TakenCopy, TrimStep, Turns_page, Unmarks_alone, Written, ap, cell_holder, cell_of, cell_swept, chain_apart}
+use Rattle.law_moves.proofs.Imports.{chain_in, chains_with, copied_chains, drop_apart, drop_none, epochs_beyond, false, first_last, gives_back, inl, inr}
+use Rattle.law_moves.proofs.Imports.{is_in, is_second, key_at, last_copy, last_on, live, of_ending, of_filler, of_read, page_chains, pending_on, refl, sym}
+use Rattle.law_moves.proofs.Imports.{taking, told_own, true, version_of, with_last_copy, without_dead, without_entry, without_pending, ℕ}
 use Rattle.petal_msg.specs.declared.body.Body.TheVariants as body
 use Rattle.petal_msg.specs.declared.dead.Dead.TheVariants as dead
 use Rattle.petal_msg.specs.declared.operation.Far.TheVariants as far
@@ -93,7 +93,7 @@ module _ (heard : Body → Type 0) (here : JobContext) (own : PairState) (never 
   S new = StoresSo heard here own new
 
   -- a server that is not In as itself stores nothing
-  abbrev pub seated_only : (done : JobResult) → IsSeated here own done → (is_in here.state here.me here.inc ≡ true → S done.own) → S done.own
+  abbrev pub seated_only : (done : JobResult) → IsSeatedOrMute here own done → (is_in here.state here.me here.inc ≡ true → S done.own) → S done.own
   seated_only done (inl seat) stores = stores seat
   seated_only done (inr apart) stores = Nothing_new (ap (λ (o : PairState). o.store.chains) apart.same)
 
@@ -123,7 +123,7 @@ module _ (heard : Body → Type 0) (here : JobContext) (own : PairState) (never 
   lead_stores _ (Goes_on_dead now op taken off) = absurd (never now op taken off)
   lead_stores _ _ = Nothing_new refl
 
-  abbrev pub second_stores : (done : JobResult) → IsSeated here own done → DidSecond heard here own done → S done.own
+  abbrev pub second_stores : (done : JobResult) → IsSeatedOrMute here own done → DidSecond heard here own done → S done.own
   second_stores _ seated (Promises number c how s is) = Nothing_new (ap (λ (o : PairState). o.store.chains) (told_own here own c number how))
   second_stores done seated (Follows number key version bytes h s is) = seated_only done seated (λ seat.
       An_asked (record {
@@ -164,13 +164,13 @@ module _ (heard : Body → Type 0) (here : JobContext) (own : PairState) (never 
   abbrev pub OtherStores : PairState → Type 0
   OtherStores new = (new.store.chains ≡ own.store.chains) ⊎ PutsCopy heard here own new
 
-  seated_copy : (done : JobResult) → IsSeated here own done → (is_in here.state here.me here.inc ≡ true → PutsCopy heard here own done.own)
+  seated_copy : (done : JobResult) → IsSeatedOrMute here own done → (is_in here.state here.me here.inc ≡ true → PutsCopy heard here own done.own)
       → OtherStores done.own
   seated_copy done (inl seat) puts = inr (puts seat)
   seated_copy done (inr apart) puts = inl (ap (λ (o : PairState). o.store.chains) apart.same)
 
   -- what is not the holder's goes, one entry at a time
-  trim_changes : (now : PairState) → now.store ≡ own.store → (cell : Cell) (last : LastCopy) (holder : ℕ) (done : JobResult) → IsSeated here own done
+  trim_changes : (now : PairState) → now.store ≡ own.store → (cell : Cell) (last : LastCopy) (holder : ℕ) (done : JobResult) → IsSeatedOrMute here own done
       → cell_holder here cell ≡ Some holder
       → ((epoch : ℕ) (epochs : List ℕ) → epochs_beyond now cell last.epochs ≡ epoch ∷ epochs
       → done.own.store.chains ≡ (without_entry own.store (key_at cell epoch)).chains → CopiesSo heard own cell done.own.store.chains)
@@ -185,7 +185,7 @@ module _ (heard : Body → Type 0) (here : JobContext) (own : PairState) (never 
         how = how epoch epochs beyond (ap (λ (s : Store). (without_entry s (key_at cell epoch)).chains) same);
       })
 
-  pub other_changes : (done : JobResult) → IsSeated here own done → DidOther heard here own done → OtherStores done.own
+  pub other_changes : (done : JobResult) → IsSeatedOrMute here own done → DidOther heard here own done → OtherStores done.own
   other_changes done seated (Is_copied_to number cell epochs holder _ h held newer step) =
       trim_changes (with_last_copy own cell (first_last number epochs)) refl cell (first_last number epochs) holder done seated held
       (λ epoch later is chains. Is_dropped_first number epochs epoch h newer chains) step
@@ -218,7 +218,7 @@ module _ (heard : Body → Type 0) (here : JobContext) (own : PairState) (never 
   }
   swept (dead.Mark kind cell) seat off = record { cell = cell; seat = seat; off = off; others = λ q ne. refl; none = λ q empty. empty }
 
-  abbrev pub did_stores : (done : JobResult) → IsSeated here own done → Did heard here own done → S done.own
+  abbrev pub did_stores : (done : JobResult) → IsSeatedOrMute here own done → Did heard here own done → S done.own
   did_stores _ seated Ignores = Nothing_new refl
   did_stores _ seated (Refuses to said is why back) = Nothing_new refl
   did_stores _ seated (By_read done d) = Nothing_new (ap (λ (o : PairState). o.store.chains) (of_read heard here own done d).same)

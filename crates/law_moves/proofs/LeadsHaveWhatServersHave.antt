@@ -4,8 +4,8 @@ use Rattle.law_moves.proofs.Imports.{◌+◌, ◌<◌, ◌==◌, ◌∙◌, ◌�
 use Rattle.law_moves.proofs.Imports.{IsInBoth, IsLinked, IsPrefix, IsServing, LinkRow, List, None, Only, Option, PairOk, PairState, Pending, Run, Some, Store}
 use Rattle.law_moves.proofs.Imports.{Working, alone_not_both, alone_row, ap, arith, at, at-empty, at_apart, at_most_or_above, at_same, blank_joins_in}
 use Rattle.law_moves.proofs.Imports.{both_since, by_bool, cell_cmp, cell_link, chain_in, chosen_state, either_true, end_of, false, far, front_itself, half}
-use Rattle.law_moves.proofs.Imports.{has_proposed, has_server, holder_is_one, in_both, inl, inr, is_alone_on, is_clients, is_some, is_the_one, kept}
-use Rattle.law_moves.proofs.Imports.{link_led_by, nat_cmp, none_some, one_before, one_put_ahead, one_row, option_and_then, pair_at, pair_of, pending_on}
+use Rattle.law_moves.proofs.Imports.{half_store, has_proposed, has_server, holder_is_one, in_both, inl, inr, is_alone_on, is_clients, is_some, is_the_one}
+use Rattle.law_moves.proofs.Imports.{kept, link_led_by, nat_cmp, none_some, one_before, one_put_ahead, one_row, option_and_then, pair_at, pair_of, pending_on}
 use Rattle.law_moves.proofs.Imports.{place_by, places_up, primary_is_one, progress, put, refl, row_lead, rows_later, running_fronts, same_numbers, same_only}
 use Rattle.law_moves.proofs.Imports.{same_or_apart, same_some, server_state, serves_alone, serves_its, so_both, stage_at, stage_live, stays_alone, subst, sym}
 use Rattle.law_moves.proofs.Imports.{true, true_false, unseen_beyond, ℕ}
@@ -49,10 +49,6 @@ copies_equal first second far_is (Some op) copies (inr done) =
     by : (put : Bool) → put ≡ true → Working first second far_is op put → first ≡ second
     by false e even = even.even
     by true e ahead = ahead.even (ahead.paired (ap (λ (p : Pending). p.stage.paired) (sym (same_some (sym done.1))) ∙ done.3))
-
-pub half_store : (visit : Option PairState) (store : Store) → (half visit store).store ≡ store
-half_store None store = refl
-half_store (Some own) store = refl
 
 half_none : (visit : Option PairState) (store : Store) (cell : Cell) → visit ≡ None → at cell_cmp (half visit store).pairs.pending cell ≡ None
 half_none visit store cell none = ap (λ o. at cell_cmp (half o store).pairs.pending cell) none ∙ at-empty cell_cmp cell

@@ -1,6 +1,6 @@
 -- What the lead of a link of an old map remembers: up to the last key of which it was told, the new map was told to have all.
-use Rattle.law_moves.proofs.Imports.{[], if◌then◌else◌, ◌&&◌, ◌++◌, ◌==◌, ◌||◌, ◌∙◌, ◌∷◌, ◌≡◌, Cell, Chain, Command, DiskRow, Firm, Handled, IsMoved}
-use Rattle.law_moves.proofs.Imports.{IsNextKey, IsPlainLog, IsPrefix, Key, LinkId, LinkRow, List, None, OneMore, Option, PairState, Some, State, Table, ap}
+use Rattle.law_moves.proofs.Imports.{[], if◌then◌else◌, ◌&&◌, ◌++◌, ◌==◌, ◌||◌, ◌∙◌, ◌∷◌, ◌≡◌, Cell, Chain, Command, DiskRow, Firm, Handled, HasProperTuples}
+use Rattle.law_moves.proofs.Imports.{IsMoved, IsNextKey, IsPrefix, Key, LinkId, LinkRow, List, None, OneMore, Option, PairState, Some, State, Table, ap}
 use Rattle.law_moves.proofs.Imports.{arith, at, by_bool, cell_link, cell_of, cells_same, chain_in, chosen_log, comes_before, ends_of, eq_by_cmp, false}
 use Rattle.law_moves.proofs.Imports.{filled_beside, filled_here, front_itself, front_on, front_plain, history_grows, history_is_firm, id_of, inl, inr}
 use Rattle.law_moves.proofs.Imports.{is_link, is_some, key_at, leaves_with, link_cmp, link_named, log_below, log_comes, log_goes, log_plain, log_steady}
@@ -48,7 +48,7 @@ module _ (it : OneMore) (known : WasKnown it) (y : ℕ) where
   on : IsPrefix (chosen_log setting w) (chosen_log setting v)
   on = history_grows script records sound legal front (it.own ∷ []) refl
 
-  plain_was : (f : List Command) → IsPrefix f (chosen_log setting w) → IsPlainLog script.servers f
+  plain_was : (f : List Command) → IsPrefix f (chosen_log setting w) → HasProperTuples script.servers f
   plain_was f lies = front_plain script.servers f (chosen_log setting w) was.plain lies
 
   pub lift : (key : Key) → WasFilled w key → WasFilled v key

@@ -1,22 +1,17 @@
 -- What the laws below say of the world after a legal history: who serves a link at later fronts, whose store counts, and what the two servers of a
 -- link have.
-use Rattle.law_moves.proofs.Imports.{◌<◌, ◌==◌, ◌∙◌, ◌≡◌, ◌≢◌, ◌≤◌, ◌⊎◌, AliveIn, AreTwins, BeforeBlank, Bool, Both, Cell, Command, Firm, Good}
-use Rattle.law_moves.proofs.Imports.{HasJoinedSince, HasStage, IsBelow, IsLast, IsLinked, IsOwn, IsPlainLog, IsPrefix, IsServing, IsSteady, Join, KeepsRoles}
-use Rattle.law_moves.proofs.Imports.{LinkRow, List, None, Option, PairState, Pairs, Rests, Run, Some, State, Store, WasThere, after_front, always_firm, arith}
-use Rattle.law_moves.proofs.Imports.{blank_joins_in, by_test, cell_link, chosen_state, counted, end_of, false, front_itself, front_plain, has_server}
-use Rattle.law_moves.proofs.Imports.{history_is_firm, in_own, inl, inr, is_in, join_was_wanted, joined_counts, joined_since, kept, kept_after, kept_store}
-use Rattle.law_moves.proofs.Imports.{log_below, log_roles, log_steady, place_by, places_up, refl, rests_after, runs_at, same_numbers, serves, stage_at}
-use Rattle.law_moves.proofs.Imports.{stage_facts, stands_in, start, start_rests, stays_filled, sym, true, true_false, ℕ}
+use Rattle.law_moves.proofs.Imports.{◌<◌, ◌∙◌, ◌≡◌, ◌≤◌, ◌⊎◌, AliveIn, AreTwins, Bool, Both, Cell, Command, Firm, Good, HasJoinedSince, HasProperTuples}
+use Rattle.law_moves.proofs.Imports.{HasStage, IsBelow, IsLast, IsLinked, IsOwn, IsPrefix, IsServing, IsSteady, Join, KeepsRoles, LinkRow, List, PairState}
+use Rattle.law_moves.proofs.Imports.{Pairs, Rests, Run, Some, State, Store, WasThere, after_front, always_firm, arith, blank_joins_in, cell_link}
+use Rattle.law_moves.proofs.Imports.{chosen_state, counted, end_of, false, front_itself, front_plain, has_server, history_is_firm, in_own, inl, inr, is_in}
+use Rattle.law_moves.proofs.Imports.{join_was_wanted, joined_counts, joined_since, kept, kept_after, log_below, log_roles, log_steady, own_by, place_by}
+use Rattle.law_moves.proofs.Imports.{places_up, refl, rests_after, runs_at, serves, stage_at, stage_facts, stands_in, start, start_rests, stays_filled, sym}
+use Rattle.law_moves.proofs.Imports.{true, true_false, ℕ}
 use Rattle.law_moves.proofs.PlacesAreVisits.{seen_after, were}
 
 pub row_serving : (state : State) (n : ℕ) (cell : Cell) (row : LinkRow) → cell_link state cell ≡ Some row → has_server n row ≡ true
     → serves n row row.state ≡ true → IsServing state n cell
 row_serving state n cell row is has so = record { row = row; is = is; one_of = has; so = so }
-
-own_by : (joins : ℕ) (o : Option BeforeBlank) → ((b : BeforeBlank) → o ≡ Some b → b.joins ≢ joins) → (store : Store) → kept_store joins o store ≡ store
-own_by joins None apart store = refl
-own_by joins (Some b) apart store = by_test (λ s. s ≡ store) (b.joins == joins) b.store store
-    (λ same. absurd (apart b refl (same_numbers b.joins joins same))) (λ other. refl)
 
 module _ (it : Run) where
   open it use {script, sound, records, legal}
@@ -43,7 +38,7 @@ module _ (it : Run) where
   pub rests : Rests setting w
   rests = rests_after setting (start setting) records (always_firm script records sound legal) (start_rests script) legal
 
-  pub plain_at : (front : List Command) → IsPrefix front chosen → IsPlainLog script.servers front
+  pub plain_at : (front : List Command) → IsPrefix front chosen → HasProperTuples script.servers front
   plain_at front lies = front_plain script.servers front chosen firm.plain lies
 
   pub steady_at : (front : List Command) → IsPrefix front chosen → IsSteady (By front)

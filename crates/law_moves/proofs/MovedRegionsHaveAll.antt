@@ -1,11 +1,11 @@
 -- A region that has moved has all that was frozen: after the Moved of a link each of its entries was told to be at the new map, and what was told
 -- so is there.
-use Rattle.law_moves.proofs.Imports.{[], ◌++◌, ◌==◌, ◌∙◌, ◌∷◌, ◌≡◌, ◌≤◌, Cell, Chain, Command, HasMovedIn, HasStage, IsMoved, IsPlainLog, IsPrefix, LinkRow}
-use Rattle.law_moves.proofs.Imports.{List, MapRow, Moved, Run, Setting, Some, World, ap, arith, below, both_true, cell_link, chosen_log, end_of, found_at}
-use Rattle.law_moves.proofs.Imports.{front_more, front_on, front_plain, fronts_meet, goal_same, gone_twin, history_is_firm, inl, inr, is_link, key_at, length}
-use Rattle.law_moves.proofs.Imports.{link_at, link_of, links_of, log_comes, log_dead, log_goes, log_grown, log_plain, log_steady, no_home, none_some}
-use Rattle.law_moves.proofs.Imports.{option_and_then, option_map, option_map_or, proper, refl, region_of, row_or_none, same_numbers, some_or_none, source}
-use Rattle.law_moves.proofs.Imports.{stage_at, stage_facts, stage_in, stage_is, subst, sym, tuple_of, tuple_on, ℕ}
+use Rattle.law_moves.proofs.Imports.{[], ◌++◌, ◌==◌, ◌∙◌, ◌∷◌, ◌≡◌, ◌≤◌, Cell, Chain, Command, HasMovedIn, HasProperTuples, HasStage, IsMoved, IsPrefix}
+use Rattle.law_moves.proofs.Imports.{LinkRow, List, MapRow, Moved, Run, Setting, Some, World, ap, arith, below, both_true, cell_link, chosen_log, end_of}
+use Rattle.law_moves.proofs.Imports.{found_at, front_more, front_on, front_plain, fronts_meet, goal_same, gone_twin, history_is_firm, inl, inr, is_link}
+use Rattle.law_moves.proofs.Imports.{key_at, length, link_at, link_of, links_of, log_comes, log_dead, log_goes, log_grown, log_plain, log_steady, no_home}
+use Rattle.law_moves.proofs.Imports.{none_some, option_and_then, option_map, option_map_or, proper, refl, region_of, row_or_none, same_numbers, some_or_none}
+use Rattle.law_moves.proofs.Imports.{source, stage_at, stage_facts, stage_in, stage_is, subst, sym, tuple_of, tuple_on, ℕ}
 use Rattle.law_moves.specs.Fills.{AllFilled, AreFilled, Has, HaveComeOver, IsOnWay, WasFilled}
 
 -- at each Moved of a link that is chosen, while a cell of the link was leaving, the new map was told to have each entry of the cell
@@ -18,10 +18,10 @@ module _ (it : Run) where
   open it use {script, sound, records, legal}
   open end_of it use {setting, w, chosen, By}
 
-  pub all_plain : IsPlainLog script.servers chosen
+  pub all_plain : HasProperTuples script.servers chosen
   all_plain = (history_is_firm script records sound legal).plain
 
-  pub plain : (log : List Command) → IsPrefix log chosen → IsPlainLog script.servers log
+  pub plain : (log : List Command) → IsPrefix log chosen → HasProperTuples script.servers log
   plain log lies = front_plain script.servers log chosen all_plain lies
 
   pub facts : (log : List Command) → IsPrefix log chosen → (cell : Cell) → HasStage (By log) cell

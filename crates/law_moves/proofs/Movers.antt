@@ -1,8 +1,8 @@
 -- A server that is to move a link, by its own entries: each cell of the link and the region is leaving, the server serves it, and has what was
 -- frozen of it; and of what it knows to be there it was told.
-use Rattle.law_moves.proofs.Imports.{◌∙◌, ◌≡◌, Cell, Command, IsPlainLog, IsPrefix, IsServing, List, PairState, Run, Some, State, ap, cell_link, chain_in}
-use Rattle.law_moves.proofs.Imports.{chosen_log, end_of, front_itself, front_plain, history_is_firm, id_of, is_the_one, key_at, leaves_with, log_steady}
-use Rattle.law_moves.proofs.Imports.{on_row, option_and_then, region_left, row_lead, server_state, stage_at, stage_facts, sym, target, ℕ}
+use Rattle.law_moves.proofs.Imports.{◌∙◌, ◌≡◌, Cell, Command, HasProperTuples, IsPrefix, IsServing, List, PairState, Run, Some, State, ap, cell_link}
+use Rattle.law_moves.proofs.Imports.{chain_in, chosen_log, end_of, front_itself, front_plain, history_is_firm, id_of, is_the_one, key_at, leaves_with}
+use Rattle.law_moves.proofs.Imports.{log_steady, on_row, option_and_then, region_left, row_lead, server_state, stage_at, stage_facts, sym, target, ℕ}
 use Rattle.law_moves.specs.Fills.{IsOnWay, WasFilled}
 use Rattle.law_moves.specs.LeftToMove.{IsKept, IsKnown, IsOurs}
 use Rattle.law_moves.proofs.AllKeptOfMoves.{Known}
@@ -27,7 +27,7 @@ module _ (it : Run) (known : Known it.script it.records) (y : ℕ) (mover : IsMo
   lies : IsPrefix log (chosen_log setting w)
   lies = (history_is_firm script records sound legal).servers y
 
-  plain : IsPlainLog script.servers log
+  plain : HasProperTuples script.servers log
   plain = front_plain script.servers log (chosen_log setting w) (history_is_firm script records sound legal).plain lies
 
   module _ (old : Cell) (ours : IsOurs here row region old) where

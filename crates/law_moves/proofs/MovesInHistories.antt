@@ -79,7 +79,7 @@ none_voted : (setting : Setting) (xs : List ℕ) → fold max 0 (map vote_place 
 none_voted setting [] = refl
 none_voted setting (x ∷ xs) = none_voted setting xs
 
-none_chosen : (setting : Setting) → chosen_log setting (start setting) ≡ []
+pub none_chosen : (setting : Setting) → chosen_log setting (start setting) ≡ []
 none_chosen setting = ap (chosen_from setting.servers (devices (start setting)) 1) (none_voted setting (range_with_len 0 setting.servers))
 
 first_stage : (servers : ℕ) (cell : Cell) → stage_at (first_state servers) cell ≡ 0

@@ -1,10 +1,10 @@
 -- The keys that an old lead has still to move: which one comes next, and what the new map is known to have once none is left.
 use Rattle.law_moves.proofs.Imports.{[], ◌&&◌, ◌<◌, ◌==◌, ◌||◌, ◌∙◌, ◌∷◌, ◌≡◌, ◌≤◌, ◌⊎◌, Bool, Cell, Chain, Equal, Greater, In, Key, Less, LinkRow, List}
-use Rattle.law_moves.proofs.Imports.{None, Option, Ordering, PairState, Some, State, Stored, Table, ap, arith, at, at-empty, both_true, by_bool, by_test}
-use Rattle.law_moves.proofs.Imports.{cell_cmp, cell_cmp_same, comes_before, comes_next, cond, earlier, false, fill_left, fill_of, filter, first_key, flat_map}
-use Rattle.law_moves.proofs.Imports.{in_former, in_later, inl, inr, is_eq, is_on, is_some, key_at, keys_in, keys_of, lookup, map, nat_cmp, nat_lt, nat_tests}
-use Rattle.law_moves.proofs.Imports.{next_fill, none_some, not, number_itself, ranked, refl, region_of, region_to_move, same_numbers, same_some, subst, sym}
-use Rattle.law_moves.proofs.Imports.{true, true_false, unwrap_or, ℕ}
+use Rattle.law_moves.proofs.Imports.{None, Option, Ordering, PairState, Some, State, Stored, Table, ap, arith, at, at-empty, at_most_or_above, both_true}
+use Rattle.law_moves.proofs.Imports.{by_bool, by_test, cell_cmp, cell_cmp_same, comes_before, comes_next, cond, earlier, false, fill_left, fill_of, filter}
+use Rattle.law_moves.proofs.Imports.{first_key, flat_map, in_former, in_kept, in_later, in_left, in_mapped, in_none, inl, inr, is_eq, is_on, is_some, key_at}
+use Rattle.law_moves.proofs.Imports.{keys_in, keys_of, lookup, map, nat_cmp, nat_lt, nat_tests, next_fill, none_some, not, number_itself, ranked, refl}
+use Rattle.law_moves.proofs.Imports.{region_of, region_to_move, same_numbers, same_some, subst, sym, true, true_false, unwrap_or, ℕ}
 use Rattle.std.specs.BTreeMap.{is_at}
 use Rattle.law_moves.specs.LeftToMove.{IsKept, IsKnown, IsNext, IsOurs, last_told}
 
@@ -16,9 +16,6 @@ IsBefore one other = (one.block < other.block) ⊎ ((one.block ≡ other.block) 
 
 abbrev pub IsAfter : Key → Key → Type 0
 IsAfter one other = (other.block < one.block) ⊎ ((one.block ≡ other.block) × (one.epoch ≤ other.epoch))
-
-within_or_past : (a b : ℕ) → (a ≤ b) ⊎ (b < a)
-within_or_past a b = grind (arith, nat_tests)
 
 less_is : (a b : ℕ) → nat_lt a b ≡ true → a < b
 less_is a b e = grind (arith, nat_tests)
@@ -105,7 +102,7 @@ here_or_before key last map e = by (after_is last key e)
 
     by : IsAfter last key → (key ≡ last) ⊎ (comes_before key last ≡ true)
     by (inl lt) = inr (is_before key last (inl lt))
-    by (inr h) = epochs h.0 (within_or_past key.epoch last.epoch) h.1
+    by (inr h) = epochs h.0 (at_most_or_above key.epoch last.epoch) h.1
 
 -- ### The first of some keys
 
@@ -152,42 +149,11 @@ first_is (key ∷ keys) first e = by (first_key keys) refl (λ one some. first_i
 
 -- ### The keys of a link and a region
 
-none_among : {A B : Type 0} (x : A) → In x [] → B
-unfolding In
-none_among x h = absurd h
-
-passes : {A : Type 0} (p : A → Bool) (xs : List A) (x : A) → In x xs → p x ≡ true → In x (filter p xs)
-unfolding In
-passes p [] x i t = absurd i
-passes {A} p (y ∷ ys) x (inl e) t =
-    subst (λ b. In x (cond b (y ∷ filter p ys) (filter p ys))) (sym (ap p (sym e) ∙ t)) (inl e)
-passes {A} p (y ∷ ys) x (inr i) t = elim (p y) as (λ b. In x (cond b (y ∷ filter p ys) (filter p ys))) [
-  | true ↦ inr (passes p ys x i t)
-  | false ↦ passes p ys x i t
-]
-
-passed : {A : Type 0} (p : A → Bool) (xs : List A) (x : A) → In x (filter p xs) → In x xs × (p x ≡ true)
-unfolding In
-passed p [] x i = absurd i
-passed {A} p (y ∷ ys) x h = elim (p y) as (λ b. p y ≡ b → In x (cond b (y ∷ filter p ys) (filter p ys)) → In x (y ∷ ys) × (p x ≡ true)) [
-  | true ↦ λ is i. elim i [
-    | inl e ↦ (inl e, ap p e ∙ is)
-    | inr j ↦ (let rest = passed p ys x j in (inr rest.0, rest.1))
-  ]
-  | false ↦ λ is i. let rest = passed p ys x i in (inr rest.0, rest.1)
-] refl h
-
-in_flat : {A B : Type 0} (f : A → List B) (xs : List A) (x : A) (y : B) → In x xs → In y (f x) → In y (flat_map f xs)
+pub in_flat : {A B : Type 0} (f : A → List B) (xs : List A) (x : A) (y : B) → In x xs → In y (f x) → In y (flat_map f xs)
 unfolding In
 in_flat f [] x y i h = absurd i
 in_flat f (z ∷ xs) x y (inl e) h = in_former y (f z) (flat_map f xs) (subst (λ a. In y (f a)) e h)
 in_flat f (z ∷ xs) x y (inr i) h = in_later y (f z) (flat_map f xs) (in_flat f xs x y i h)
-
-in_map : {A B : Type 0} (f : A → B) (xs : List A) (x : A) → In x xs → In (f x) (map f xs)
-unfolding In
-in_map f [] x i = absurd i
-in_map f (y ∷ ys) x (inl e) = inl (ap f e)
-in_map f (y ∷ ys) x (inr i) = inr (in_map f ys x i)
 
 -- what is found in a table is one of its rows
 at_in : {K X : Type 0} (R : K → K → Ordering) (t : Table K X) (q : K) (x : X) → ((k : K) → R q k ≡ Equal → q ≡ k) → at R t q ≡ Some x → In (q, x) t
@@ -221,8 +187,8 @@ module _ (state : State) (row : LinkRow) (region : ℕ) (own : PairState) where
           sym (ap (λ (o : Option Chain). is_some (at nat_cmp (unwrap_or o []) epoch)) some) ∙ kept in
           let entry = entry_of chain (at nat_cmp chain epoch) refl found in
           in_flat keys_of _ (cell, chain) (key_at cell epoch)
-          (passes (λ (held : Cell × Chain). is_on state row held.0 && (region_of held.0.block == region)) own.store.chains (cell, chain) here test)
-          (in_map (λ (r : ℕ × Stored). key_at cell r.0) chain (epoch, entry.0)
+          (in_kept (λ (held : Cell × Chain). is_on state row held.0 && (region_of held.0.block == region)) own.store.chains (cell, chain) here test)
+          (in_mapped (λ (r : ℕ × Stored). key_at cell r.0) chain (epoch, entry.0)
           (at_in nat_cmp chain epoch entry.0 (λ k e. ranked epoch k Equal (sym e)) entry.1))
 
   -- what does not come next is known to be there
@@ -246,8 +212,8 @@ module _ (state : State) (row : LinkRow) (region : ℕ) (own : PairState) where
       let keys = keys_in state row region own in
       let i = key_in cell epoch ours kept in
       by_bool (comes_next region (last_told row own) (key_at cell epoch))
-      (λ new. none_among (key_at cell epoch) (subst (In (key_at cell epoch)) (none_first (filter (comes_next region (last_told row own)) keys) none)
-      (passes (comes_next region (last_told row own)) keys (key_at cell epoch) i new)))
+      (λ new. in_none (key_at cell epoch) (subst (In (key_at cell epoch)) (none_first (filter (comes_next region (last_told row own)) keys) none)
+      (in_kept (comes_next region (last_told row own)) keys (key_at cell epoch) i new)))
       (λ known. known_by (last_told row own) refl (key_at cell epoch) known)
 
   -- and of what comes before the next key, all
@@ -256,7 +222,7 @@ module _ (state : State) (row : LinkRow) (region : ℕ) (own : PairState) where
   next_is next e =
       let keys = keys_in state row region own in
       let first = first_is (filter (comes_next region (last_told row own)) keys) next e in
-      let here = passed (comes_next region (last_told row own)) keys next first.among in
+      let here = in_left (comes_next region (last_told row own)) keys next first.among in
       record {
         among = here.0;
         new = here.1;
@@ -264,7 +230,7 @@ module _ (state : State) (row : LinkRow) (region : ℕ) (own : PairState) where
             let i = key_in cell epoch ours kept in
             by_bool (comes_next region (last_told row own) (key_at cell epoch))
             (λ new. never_both (key_at cell epoch) next (before_is (key_at cell epoch) next before)
-            (first.least (key_at cell epoch) (passes (comes_next region (last_told row own)) keys (key_at cell epoch) i new)))
+            (first.least (key_at cell epoch) (in_kept (comes_next region (last_told row own)) keys (key_at cell epoch) i new)))
             (λ known. known_by (last_told row own) refl (key_at cell epoch) known);
       }
 

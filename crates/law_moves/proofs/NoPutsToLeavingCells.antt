@@ -20,7 +20,7 @@ use Rattle.law_moves.proofs.MoveScenes.{AsksToPut, FillsSo, IsSecondAt}
 use Rattle.petal_msg.specs.declared.body.Body.TheVariants as body
 
 -- an operation is pending there only where the server was there
-op_there : (visit : Option PairState) (store : Store) (cell : Cell) (op : Pending) → at cell_cmp (half visit store).pairs.pending cell ≡ Some op
+pub op_there : (visit : Option PairState) (store : Store) (cell : Cell) (op : Pending) → at cell_cmp (half visit store).pairs.pending cell ≡ Some op
     → (by : PairState) × (visit ≡ Some by) × (at cell_cmp by.pairs.pending cell ≡ Some op)
 op_there None store cell op is = none_some (at-empty cell_cmp cell) is
 op_there (Some by) store cell op is = (by, refl, is)

@@ -2,14 +2,14 @@
 -- that it has pending, or what the lead asked it to put. No copy changes it: by the later state the server serves the link, so a Caught stands between
 -- the two, which the holder had started at the server's own place, and nothing was left to copy then.
 use Rattle.law_moves.proofs.Imports.{[], ◌==◌, ◌∙◌, ◌∷◌, ◌≡◌, ◌≤◌, AliveIn, AreCopying, Body, Bool, Cell, Chain, Command, Copying, Did, Handled, HasSent}
-use Rattle.law_moves.proofs.Imports.{IsCaught, IsLeft, IsLinked, IsOther, IsPrefix, IsSeated, IsServing, IsSteady, IsTold, JobResult, Key, LastCopy, LinkRow}
-use Rattle.law_moves.proofs.Imports.{List, Only, Option, PairState, Pending, Run, Setting, Some, Store, Stored, Table, World, about, alone_or_flagged}
-use Rattle.law_moves.proofs.Imports.{alone_row, ap, arith, at, at_most_or_above, by_bool, cell_cmp, cell_holder, cell_of, chain_apart, chain_in, chain_put}
-use Rattle.law_moves.proofs.Imports.{chains_with, chosen_caught_was, chosen_state, copying_on, end_of, false, front_itself, held_by, id_of, inl, inr}
-use Rattle.law_moves.proofs.Imports.{is_alone, is_alone_on, is_clients, is_flagged, is_in, is_second, kept, last_copy, last_on, live, nat_cmp, none_some}
-use Rattle.law_moves.proofs.Imports.{number_itself, option_map_or, other_apart, other_of, other_than, own_place, place_by, put, refl, running_timely}
-use Rattle.law_moves.proofs.Imports.{same_cell_or_apart, same_numbers, same_some, server_state, serves, serves_alone, stage_at, stage_live, state_after}
-use Rattle.law_moves.proofs.Imports.{subst, sym, taking, true, true_false, unseen_beyond, ℕ}
+use Rattle.law_moves.proofs.Imports.{IsCaught, IsLeft, IsLinked, IsOther, IsPrefix, IsSeatedOrMute, IsServing, IsSteady, IsTold, JobResult, Key, LastCopy}
+use Rattle.law_moves.proofs.Imports.{LinkRow, List, Only, Option, PairState, Pending, Run, Setting, Some, Store, Stored, Table, World, about}
+use Rattle.law_moves.proofs.Imports.{alone_or_flagged, alone_row, ap, arith, at, at_most_or_above, by_bool, cell_cmp, cell_holder, cell_of, chain_apart}
+use Rattle.law_moves.proofs.Imports.{chain_in, chain_put, chains_with, chosen_caught_was, chosen_state, copying_on, end_of, false, front_itself, held_by}
+use Rattle.law_moves.proofs.Imports.{id_of, inl, inr, is_alone, is_alone_on, is_clients, is_flagged, is_in, is_second, kept, last_copy, last_on, live}
+use Rattle.law_moves.proofs.Imports.{nat_cmp, none_some, number_itself, option_map_or, other_apart, other_of, other_than, own_place, place_by, put, refl}
+use Rattle.law_moves.proofs.Imports.{running_timely, same_cell_or_apart, same_numbers, same_some, server_state, serves, serves_alone, stage_at, stage_live}
+use Rattle.law_moves.proofs.Imports.{state_after, subst, sym, taking, true, true_false, unseen_beyond, ℕ}
 use Rattle.law_copies.specs.CopyProgress.{links_of}
 use Rattle.law_copies.proofs.ServedAtLaterFronts.{holder_is_one}
 use Rattle.law_moves.proofs.JobsChangeOneChain.{A_copy, An_asked, An_own, CopiesSo, Is_dropped, Is_dropped_first, Is_put, NeverDead, Nothing_new, Of_the_dead}
@@ -222,7 +222,7 @@ module _ (it : Run) (opened : AreOpenedComing (end_of it).setting (end_of it).w)
             let bare = ((good it).unheard n cell none).bare in
             ap (λ (x : Store). chain_in x.chains cell) (sym (own_counts it n runs mine mine_chosen seat)) ∙ bare.chain
 
-    pub chain_so : (done : JobResult) → Did (Handled w n) (own_place setting w n) own done → IsSeated (own_place setting w n) own done
+    pub chain_so : (done : JobResult) → Did (Handled w n) (own_place setting w n) own done → IsSeatedOrMute (own_place setting w n) own done
         → ChainSo (chain_in done.own.store.chains cell)
     chain_so done did seated =
         stored_so done.own (did_stores (Handled w n) (own_place setting w n) own never_dead done seated did)

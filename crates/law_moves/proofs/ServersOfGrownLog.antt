@@ -1,8 +1,8 @@
 -- Who serves a link at a front of what is chosen after a step, after what was chosen before it: a server that served it then, or the other server of
 -- one that held it alone, by a Caught right after what was chosen then. That one's holder had started the ballot, so the two copies are equal.
 use Rattle.law_moves.proofs.Imports.{[], if◌then◌else◌, ◌&&◌, ◌++◌, ◌<◌, ◌==◌, ◌||◌, ◌∙◌, ◌∷◌, ◌≡◌, ◌≢◌, ◌⊎◌, AliveIn, AreSteps, At, Bool, Both, ByBoth}
-use Rattle.law_moves.proofs.Imports.{ByNone, ByOne, By_caught, By_join, By_leave, Caught, Cell, Chain, Command, Copies, Good, HasJoinedSince, IsCaughtBy}
-use Rattle.law_moves.proofs.Imports.{IsCaughtIn, IsCaughtStill, IsLast, IsLinked, IsPlainLog, IsPrefix, IsServing, IsSteady, IsTouchedBy, Join, Leave}
+use Rattle.law_moves.proofs.Imports.{ByNone, ByOne, By_caught, By_join, By_leave, Caught, Cell, Chain, Command, Copies, Good, HasJoinedSince, HasProperTuples}
+use Rattle.law_moves.proofs.Imports.{IsCaughtBy, IsCaughtIn, IsCaughtStill, IsLast, IsLinked, IsPrefix, IsServing, IsSteady, IsTouchedBy, Join, Leave}
 use Rattle.law_moves.proofs.Imports.{LinkRow, LinkState, List, Lost, OneMore, Only, PairState, Progress, Record, Server, Setting, Some, State, Store}
 use Rattle.law_moves.proofs.Imports.{WasStarted, World, alive_on, ap, arith, at, at-empty, before_part, blank_joins_in, blanked_state, by_bool, cell_link}
 use Rattle.law_moves.proofs.Imports.{chain_in, chosen_caught_was, chosen_log, counted_by, ends_of, false, front_itself, front_long, front_more, front_on}
@@ -16,7 +16,7 @@ use Rattle.law_moves.proofs.StepsTellEntries.{Awakes, Enters, HasGone, Is_blanke
 use Rattle.law_moves.proofs.MoveWorlds.{row_serving}
 
 -- nobody who serves a link has been at a later place than the one by all that is chosen
-pub top_last : (setting : Setting) (records : List Record) (top : List Command) (w : World) → IsPlainLog setting.servers top
+pub top_last : (setting : Setting) (records : List Record) (top : List Command) (w : World) → HasProperTuples setting.servers top
     → (good : Good setting records top w) → (cell : Cell) (row : LinkRow) → IsLinked setting top cell row → IsLast good.reached setting top cell row
 top_last setting records top w plain good cell row is = elim (good.reaching.by cell) [
   | inl none ↦ omega (arith, none)
@@ -36,7 +36,7 @@ module _ (it : OneMore) where
   open it use {prior, prior.{script, sound, records as front}, own, legal}
   open ends_of it use {setting, w, v, top, whole, By, top_whole, plain, records}
 
-  plain_at : (f : List Command) → IsPrefix f whole → IsPlainLog script.servers f
+  plain_at : (f : List Command) → IsPrefix f whole → HasProperTuples script.servers f
   plain_at f lies = front_plain script.servers f whole plain lies
 
   steady_at : (f : List Command) → IsPrefix f whole → IsSteady (By f)

@@ -1,10 +1,10 @@
 -- What a step of a history may have done to each server, and which letters it sent that tell of entries.
 use Rattle.law_moves.proofs.Imports.{[], ◌++◌, ◌+◌, ◌==◌, ◌∙◌, ◌∷◌, ◌≡◌, ◌≢◌, ◌≤◌, Acted, AreSteps, At, BeforeBlank, Blanks, Body, Bool, By_ballot, By_entry}
-use Rattle.law_moves.proofs.Imports.{By_job, Command, Did, Ends, Fails, Firm, Goes, Good, Handled, Happens, In, IsPrefix, IsSeated, IsSound, JobResult, Join}
-use Rattle.law_moves.proofs.Imports.{Letter, List, Log, OneMore, Option, Post, Record, Script, Sender, Server, Serves, Serving, Some, Starts, State, Stays}
-use Rattle.law_moves.proofs.Imports.{Step, Turns, Wakes, Worked, World, after, all_put, always_firm, ap, arith, asked_none, awake, before_last, below_itself}
-use Rattle.law_moves.proofs.Imports.{blank_joins_in, blanked, chosen_log, chosen_state, client_sender, counted_by, crossed, down_posts, ends_of, false}
-use Rattle.law_moves.proofs.Imports.{filter, first_incs, front_itself, front_more, front_on, front_plain, good_after, history_grows, history_is_firm}
+use Rattle.law_moves.proofs.Imports.{By_job, Command, Did, Ends, Fails, Firm, Goes, Good, Handled, Happens, In, IsPrefix, IsSeatedOrMute, IsSound, JobResult}
+use Rattle.law_moves.proofs.Imports.{Join, Letter, List, Log, OneMore, Option, Post, Record, Script, Sender, Server, Serves, Serving, Some, Starts, State}
+use Rattle.law_moves.proofs.Imports.{Stays, Step, Turns, Wakes, Worked, World, after, all_put, always_firm, ap, arith, asked_none, awake, before_last}
+use Rattle.law_moves.proofs.Imports.{below_itself, blank_joins_in, blanked, chosen_log, chosen_state, client_sender, counted_by, crossed, down_posts, ends_of}
+use Rattle.law_moves.proofs.Imports.{false, filter, first_incs, front_itself, front_more, front_on, front_plain, good_after, history_grows, history_is_firm}
 use Rattle.law_moves.proofs.Imports.{in-append, in_former, in_later, inl, inr, is_in, is_of_entries, join_was_wanted, kept, last_happens, length, letters_of}
 use Rattle.law_moves.proofs.Imports.{log_rev, logged_none, longer, not, own_place, proposed, put_apart, put_at, put_same, raised, range_with_len, refl}
 use Rattle.law_moves.proofs.Imports.{run_of, said, said_to_all, same_or_apart, sender, server_state, settled_by, since, stamped, state_after, step_goes}
@@ -44,7 +44,7 @@ module _ (it : OneMore) where
     pub done : JobResult
     pub runs : (Was n).life.running ≡ true
     pub did : Did (Handled w n) (own_place setting w n) (Was n).own done
-    pub seat : IsSeated (own_place setting w n) (Was n).own done
+    pub seat : IsSeatedOrMute (own_place setting w n) (Was n).own done
     pub own_is : to.own ≡ done.own
     pub log_is : to.log.applied ≡ (Was n).log.applied
     pub inc_is : to.life.inc ≡ (Was n).life.inc

@@ -1,9 +1,9 @@
 -- Each kind of step of a client keeps what is known of requests.
 use Rattle.law_requests.proofs.Imports.{[], if◌then◌else◌, ◌++◌, ◌+◌, ◌-◌, ◌<◌, ◌∙◌, ◌∷◌, ◌≡◌, ◌≤◌, A_read, A_write, Actor, Anew, Answer, As_it_was, Asked}
 use Rattle.law_requests.proofs.Imports.{Begins, Blanks_it, Body, Bool, By_verdict, By_witness, Cell, Client, Command, DiskView, Ending, Fails_it, Firm}
-use Rattle.law_requests.proofs.Imports.{Goes_on, Has_no_space, Heard, In, IsCalled, IsJudged, IsPlainLog, IsPrefix, IsReason, IsSame, IsSeenAs, Is_settled}
-use Rattle.law_requests.proofs.Imports.{Is_told, Judges, Letter, Line, List, None, Of_the_log, OnlySays, Option, Pattern, Post, Reaction, Reads, Says}
-use Rattle.law_requests.proofs.Imports.{Setting, Shown, Sight, Some, Starts_it, State, StaysOpen, Stops_at, Stops_it, Turned, WasSent, World, ap}
+use Rattle.law_requests.proofs.Imports.{Goes_on, HasProperTuples, Has_no_space, Heard, In, IsCalled, IsJudged, IsPrefix, IsReason, IsSame, IsSeenAs}
+use Rattle.law_requests.proofs.Imports.{Is_settled, Is_told, Judges, Letter, Line, List, None, Of_the_log, OnlySays, Option, Pattern, Post, Reaction, Reads}
+use Rattle.law_requests.proofs.Imports.{Says, Setting, Shown, Sight, Some, Starts_it, State, StaysOpen, Stops_at, Stops_it, Turned, WasSent, World, ap}
 use Rattle.law_requests.proofs.Imports.{append_assoc, arith, by_bool, cell_asked, chosen_log, command_of, ended, false, find, found_epoch, front_itself}
 use Rattle.law_requests.proofs.Imports.{front_long, front_more, front_on, front_plain, front_within, in_once, inl, inr, is_in, is_lead, is_read, is_some}
 use Rattle.law_requests.proofs.Imports.{is_the_so, is_write, lead, length, line_by, lines_of, log_plain, log_rev, none_some, pattern_block, put_same, refl}
@@ -47,7 +47,7 @@ module _ (setting : Setting) (w : World) (lives : Lives) (firm : Firm setting w)
 
   -- the client's entries only grow, and are plain
   abbrev IsFurther : Client → Type 0
-  IsFurther to = IsPrefix client.applied to.applied × IsPlainLog setting.servers to.applied
+  IsFurther to = IsPrefix client.applied to.applied × HasProperTuples setting.servers to.applied
 
   abbrev own_state : State
   own_state = state_after setting.servers client.applied
@@ -356,7 +356,7 @@ module _ (setting : Setting) (w : World) (lives : Lives) (firm : Firm setting w)
     end_chosen : IsPrefix end.at.front (chosen_log setting w)
     end_chosen = front_on end.at.front _ (chosen_log setting w) end.at.lies (firm.servers server)
 
-    end_plain : IsPlainLog setting.servers end.at.front
+    end_plain : HasProperTuples setting.servers end.at.front
     end_plain = front_plain setting.servers end.at.front _ firm.plain end_chosen
 
     end_known : IsPrefix end.at.front to.applied

@@ -9,7 +9,7 @@ pub use Rattle.law_state.proofs.Imports.{in_later, inl, inr, is_alone_on, is_the
 pub use Rattle.law_state.proofs.Imports.{none_some, number_itself, option_and_then, option_map, option_map_or, primary, range_with_len, refl, row_lead}
 pub use Rattle.law_state.proofs.Imports.{same_numbers, same_or_apart, same_some, secondary, slice_get, some_or_none, subst, sym, true, true_false, unwrap_or}
 pub use Rattle.law_state.proofs.Imports.{ℕ}
-pub use Rattle.law_log.proofs.Imports.{◌-◌, ◌||◌, Acted, Actor, Answer, AreSteps, Asked, Blank, Body, Client, Copies, Ending, Equal, Firm, IsPlainLog}
+pub use Rattle.law_log.proofs.Imports.{◌-◌, ◌||◌, Acted, Actor, Answer, AreSteps, Asked, Blank, Body, Client, Copies, Ending, Equal, Firm, HasProperTuples}
 pub use Rattle.law_log.proofs.Imports.{IsSound, JobContext, JobResult, Letter, Line, Log, Pending, Post, Reaction, Request, Script, Sight, Step, Wanted, acts}
 pub use Rattle.law_log.proofs.Imports.{all_put, all_put_apart, awake, blanked, client_sender, command_of, down_posts, ended, has_held_write, has_proposed}
 pub use Rattle.law_log.proofs.Imports.{here_of, id_of, is_eq, is_flagged, is_logged, is_read, is_some, is_write, lines_of, log_plain, nat_cmp, no_progress}
@@ -67,8 +67,8 @@ pub use Rattle.law_steps.specs.Did.{is_not_here}
 pub use Rattle.law_steps.specs.DidClient.{A_read, A_write, Anew, As_it_was, Begins, Blanks_it, By_verdict, By_witness, Fails_it, Goes_on, Has_no_space}
 pub use Rattle.law_steps.specs.DidClient.{IsCalled, IsJudged, IsReason, IsSame, IsSeenAs, Is_settled, Is_told, Judges, Of_the_log, OnlySays, Reads, Says}
 pub use Rattle.law_steps.specs.DidClient.{Shown, Starts_it, StaysOpen, Stops_at, Stops_it, Turned, WasSent}
-pub use Rattle.law_steps.specs.DidStep.{Blanks, By_ballot, By_entry, By_job, Ends, Fails, Goes, Heard, IsOnward, IsSeated, Serves, Serving, Stays, Turns}
-pub use Rattle.law_steps.specs.DidStep.{Wakes, Worked, served_so, shown_so, stopped_so, without_rev}
+pub use Rattle.law_steps.specs.DidStep.{Blanks, By_ballot, By_entry, By_job, Ends, Fails, Goes, Heard, IsOnward, IsSeatedOrMute, Serves, Serving, Stays}
+pub use Rattle.law_steps.specs.DidStep.{Turns, Wakes, Worked, served_so, shown_so, stopped_so, without_rev}
 pub use Rattle.law_steps.specs.WakingServers.{AllMayWake}
 pub use Rattle.petal_msg.specs.Kinds.{Answered, Read_asked, Write_asked, is_refused}
 pub use Rattle.script_lines.specs.Requests.{names}

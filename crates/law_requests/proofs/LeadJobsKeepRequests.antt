@@ -1,12 +1,12 @@
 -- Each kind of job keeps what is known of requests: by what it is done with, what it leaves pending, and what it says.
 use Rattle.law_requests.proofs.Imports.{◌+◌, ◌∙◌, ◌≡◌, ◌≤◌, ◌⊎◌, Actor, Alone_has, Body, Both_have, By_operation, Cell, Command, Did, Ending, Ends_fill}
-use Rattle.law_requests.proofs.Imports.{Finished, For_a_fill, For_a_write, Had_no_slot, Handled, HasCome, HasEnded, HasFinished, In, IsFinishedFor, IsNew}
-use Rattle.law_requests.proofs.Imports.{IsPlainLog, IsPrefix, IsSeated, Is_dead, Is_declined, Is_done, Is_new, JobContext, JobResult, List, Moves, Moves_on}
-use Rattle.law_requests.proofs.Imports.{None, None_new, PairState, Pending, Post, Refused, Repeats, Setting, Shows_nothing, Some, Stood, Table, Wanted, Was}
-use Rattle.law_requests.proofs.Imports.{World, ap, arith, at, at_apart, at_same, cell_cmp, coming, did_come, did_finish, done_to, ended, false, front_itself}
-use Rattle.law_requests.proofs.Imports.{front_same, held, inl, inr, is_clients, is_in, is_lead, is_logged, is_not_here, is_refused, is_writes_held, length}
-use Rattle.law_requests.proofs.Imports.{letters_of_job, log_rev, nat_cmp, none_some, own_place, own_plain, put, refl, rev_of, same_or_apart, state_after}
-use Rattle.law_requests.proofs.Imports.{subject_of, subst, sym, true, true_false, was_same, was_taken, ℕ}
+use Rattle.law_requests.proofs.Imports.{Finished, For_a_fill, For_a_write, Had_no_slot, Handled, HasCome, HasEnded, HasFinished, HasProperTuples, In}
+use Rattle.law_requests.proofs.Imports.{IsFinishedFor, IsNew, IsPrefix, IsSeatedOrMute, Is_dead, Is_declined, Is_done, Is_new, JobContext, JobResult, List}
+use Rattle.law_requests.proofs.Imports.{Moves, Moves_on, None, None_new, PairState, Pending, Post, Refused, Repeats, Setting, Shows_nothing, Some, Stood}
+use Rattle.law_requests.proofs.Imports.{Table, Wanted, Was, World, ap, arith, at, at_apart, at_same, cell_cmp, coming, did_come, did_finish, done_to, ended}
+use Rattle.law_requests.proofs.Imports.{false, front_itself, front_same, held, inl, inr, is_clients, is_in, is_lead, is_logged, is_not_here, is_refused}
+use Rattle.law_requests.proofs.Imports.{is_writes_held, length, letters_of_job, log_rev, nat_cmp, none_some, own_place, own_plain, put, refl, rev_of}
+use Rattle.law_requests.proofs.Imports.{same_or_apart, state_after, subject_of, subst, sym, true, true_false, was_same, was_taken, ℕ}
 use Rattle.law_requests.specs.AskedRequests.{IsWrite, IsOpen, IsRead}
 use Rattle.law_requests.specs.KnownRequests.{Lives, LedBy, seen, done_by, WriteKnown, Known, asked_for, IsUsed, Has_finished, AskingBy, NothingKnown}
 use Rattle.law_requests.specs.KnownRequests.{ReadKnown}
@@ -284,7 +284,7 @@ module _ (scene : Scene) (n : ℕ) (runs : (scene.w.servers n).life.running ≡ 
         let same : own_log ≡ k.at.front = own_front setting w scene.firm client n (length own_log) k.at refl in
         let there : coming (state_after setting.servers k.at.front) cell ≡ true =
         subst (λ log. coming (state_after setting.servers log) cell ≡ true) same comes in
-        let plain = subst (IsPlainLog setting.servers) same (own_plain setting w scene.firm n) in
+        let plain = subst (HasProperTuples setting.servers) same (own_plain setting w scene.firm n) in
         let untold = coming_untold setting.servers k.at.front plain setting.lines client seq k.told cell epoch k.read there in
         record {
           cell = cell;
@@ -323,7 +323,7 @@ module _ (scene : Scene) (n : ℕ) (runs : (scene.w.servers n).life.running ≡ 
     says_tells post (says.Of_the_log _ logged) = nothing_said new post.to post.body (logged_untold (subject_of post.body) logged)
     says_tells _ _ = tt
 
-  pub job_tells : (done : JobResult) → IsSeated here own done → Did hears here own done → J done.own done.posts
+  pub job_tells : (done : JobResult) → IsSeatedOrMute here own done → Did hears here own done → J done.own done.posts
   job_tells done seat d =
       let seated : IsSeat ⊎ (done.own ≡ own) = elim seat [ inl seated ↦ inl seated | inr apart ↦ inr apart.same ] in
       record {

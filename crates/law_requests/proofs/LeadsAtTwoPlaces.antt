@@ -1,12 +1,12 @@
 -- Who leads a cell at an earlier and at a later place of the log.
-use Rattle.law_requests.proofs.Imports.{if◌then◌else◌, ◌==◌, ◌∙◌, ◌≡◌, ◌≤◌, ◌⊎◌, Bool, ByBoth, ByNone, ByOne, Cell, Command, HasDied, HasLater, HasStage}
-use Rattle.law_requests.proofs.Imports.{IsBelow, IsCaughtBy, IsPlainLog, IsPrefix, IsServed, IsSteady, LinkRow, List, Lost, None, Only, Some, State, StaysSo}
-use Rattle.law_requests.proofs.Imports.{alone_leads_link, alone_row, alone_row_not_both, ap, arith, both_leads, both_up, by_bool, cell_link, either_true}
-use Rattle.law_requests.proofs.Imports.{false, front_more, front_on, front_plain, has_server, has_stage, in_up, inc_of, inl, inr, is_alone_on, is_in, is_lead}
-use Rattle.law_requests.proofs.Imports.{is_the_one, is_the_so, is_up, lead, lead_alone, lead_is, leaving, led_by, led_so, live, log_alone, log_below}
-use Rattle.law_requests.proofs.Imports.{log_plain, log_steady, lost_leads, lost_not_alone, none_some, option_and_then, option_map_or, other_of, places_from}
-use Rattle.law_requests.proofs.Imports.{primary_is_one, row_lead, same_numbers, same_place, same_some, secondary_is_one, so_alone, some_or_none, stage_at}
-use Rattle.law_requests.proofs.Imports.{start, state_after, subst, sym, true, true_false, ℕ}
+use Rattle.law_requests.proofs.Imports.{if◌then◌else◌, ◌==◌, ◌∙◌, ◌≡◌, ◌≤◌, ◌⊎◌, Bool, ByBoth, ByNone, ByOne, Cell, Command, HasDied, HasLater}
+use Rattle.law_requests.proofs.Imports.{HasProperTuples, HasStage, IsBelow, IsCaughtBy, IsPrefix, IsServed, IsSteady, LinkRow, List, Lost, None, Only, Some}
+use Rattle.law_requests.proofs.Imports.{State, StaysSo, alone_leads_link, alone_row, alone_row_not_both, ap, arith, both_leads, both_up, by_bool, cell_link}
+use Rattle.law_requests.proofs.Imports.{either_true, false, front_more, front_on, front_plain, has_server, has_stage, in_up, inc_of, inl, inr, is_alone_on}
+use Rattle.law_requests.proofs.Imports.{is_in, is_lead, is_the_one, is_the_so, is_up, lead, lead_alone, lead_is, leaving, led_by, led_so, live, log_alone}
+use Rattle.law_requests.proofs.Imports.{log_below, log_plain, log_steady, lost_leads, lost_not_alone, none_some, option_and_then, option_map_or, other_of}
+use Rattle.law_requests.proofs.Imports.{places_from, primary_is_one, row_lead, same_numbers, same_place, same_some, secondary_is_one, so_alone, some_or_none}
+use Rattle.law_requests.proofs.Imports.{stage_at, start, state_after, subst, sym, true, true_false, ℕ}
 use Rattle.law_state.proofs.LoneHolders.{alone_not_both}
 use Rattle.law_requests.specs.KnownRequests.{LedBy}
 
@@ -122,7 +122,7 @@ caught_up state row entry c served n has =
 
 -- ### A log
 
-module _ (servers : ℕ) (log : List Command) (plain : IsPlainLog servers log) (cell : Cell) where
+module _ (servers : ℕ) (log : List Command) (plain : HasProperTuples servers log) (cell : Cell) where
   pub stage_by : HasStage (state_after servers log) cell
   stage_by = let p = log_plain servers log plain in has_stage (state_after servers log) p.rows p.homes cell
 
@@ -175,7 +175,7 @@ led_while s t was now cell row is stays takes n inc led =
           })
     ]
 
-module _ (servers : ℕ) (front whole : List Command) (plain : IsPlainLog servers whole) (prefix : IsPrefix front whole) where
+module _ (servers : ℕ) (front whole : List Command) (plain : HasProperTuples servers whole) (prefix : IsPrefix front whole) where
   abbrev earlier : State
   earlier = state_after servers front
 

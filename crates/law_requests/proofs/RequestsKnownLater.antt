@@ -1,8 +1,8 @@
 -- What was known of requests is known later.
-use Rattle.law_requests.proofs.Imports.{◌∙◌, ◌≡◌, ◌≤◌, ◌⊎◌, Actor, Answered, Asked, Body, Bool, Cell, Client, Command, In, IsPlainLog, IsPrefix, Letter, Line}
-use Rattle.law_requests.proofs.Imports.{List, Logged, Option, Read_asked, Refused, Request, Setting, State, Subject, Wanted, Write_asked, ap, arith, cases_lt}
-use Rattle.law_requests.proofs.Imports.{cell_asked, false, find, front_itself, front_long, front_on, front_within, inl, inr, is_logged, length, names}
-use Rattle.law_requests.proofs.Imports.{one_front, refl, same_some, subject_of, sym, true, true_false, ℕ}
+use Rattle.law_requests.proofs.Imports.{◌∙◌, ◌≡◌, ◌≤◌, ◌⊎◌, Actor, Answered, Asked, Body, Bool, Cell, Client, Command, HasProperTuples, In, IsPrefix, Letter}
+use Rattle.law_requests.proofs.Imports.{Line, List, Logged, Option, Read_asked, Refused, Request, Setting, State, Subject, Wanted, Write_asked, ap, arith}
+use Rattle.law_requests.proofs.Imports.{cases_lt, cell_asked, false, find, front_itself, front_long, front_on, front_within, inl, inr, is_logged, length}
+use Rattle.law_requests.proofs.Imports.{names, one_front, refl, same_some, subject_of, sym, true, true_false, ℕ}
 use Rattle.law_requests.specs.AskedRequests.{IsWrite, IsOpen, IsOpenFrom, HasItsWay, WasToldAt}
 use Rattle.law_requests.specs.KnownRequests.{Seen, IsLate, Is_past, Had_no_lead, Had_another, IsLedAlong, AreLate, IsSent, WriteKnown, EndKnownAt}
 use Rattle.law_requests.specs.KnownRequests.{NothingKnownAt, Known, PendingFor}
@@ -76,7 +76,7 @@ pub record Later (setting : Setting) (v u : Seen) : Type 0 where
   pub seqs : (c : ℕ) → (v.clients c).seq ≤ (u.clients c).seq
   pub clients : (c : ℕ) → IsPrefix (v.clients c).applied (u.clients c).applied
   pub logs : (n : ℕ) → IsPrefix (v.logs n) (u.logs n)
-  pub logs_plain : (n : ℕ) → IsPlainLog setting.servers (u.logs n)
+  pub logs_plain : (n : ℕ) → HasProperTuples setting.servers (u.logs n)
   pub dones : (n inc c : ℕ) → v.done n inc c ≤ u.done n inc c
   pub closes : (want : Wanted) (rev : ℕ) → (sent : IsSent setting v want rev) → IsOpenFrom (v.clients want.client) want.seq rev
       → IsOpenFrom (u.clients want.client) want.seq rev ⊎ AreLate setting.servers u want sent.at.front

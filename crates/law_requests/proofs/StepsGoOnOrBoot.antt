@@ -1,9 +1,9 @@
 -- What a step leaves of the server that takes it, as requests need it: it goes on as it was, or boots, and what it has pending is known of.
 use Rattle.law_requests.proofs.Imports.{[], ◌+◌, ◌<◌, ◌∙◌, ◌∷◌, ◌≡◌, ◌≤◌, Acted, AllMayWake, By_ballot, By_entry, By_job, Cell, Command, Copies, Ends, Fails}
-use Rattle.law_requests.proofs.Imports.{Goes, In, IsPlainLog, IsPrefix, JobResult, Log, PairState, Pairs, Pending, Progress, Ready, Server, Serving, Some}
-use Rattle.law_requests.proofs.Imports.{Stays, Step, Wakes, Wanted, Worked, ap, arith, at, at-empty, awake, blanked, cell_cmp, chosen_log, crossed, done_to}
-use Rattle.law_requests.proofs.Imports.{false, front_itself, front_on, front_plain, front_same, id_of, inl, inr, is_flagged, is_in, link_cmp, nat_cmp}
-use Rattle.law_requests.proofs.Imports.{no_pairs, none_some, option_map_or, own_place, own_plain, proposed_pairs, raised, refl, runs_at, served_so}
+use Rattle.law_requests.proofs.Imports.{Goes, HasProperTuples, In, IsPrefix, JobResult, Log, PairState, Pairs, Pending, Progress, Ready, Server, Serving}
+use Rattle.law_requests.proofs.Imports.{Some, Stays, Step, Wakes, Wanted, Worked, ap, arith, at, at-empty, awake, blanked, cell_cmp, chosen_log, crossed}
+use Rattle.law_requests.proofs.Imports.{done_to, false, front_itself, front_on, front_plain, front_same, id_of, inl, inr, is_flagged, is_in, link_cmp}
+use Rattle.law_requests.proofs.Imports.{nat_cmp, no_pairs, none_some, option_map_or, own_place, own_plain, proposed_pairs, raised, refl, runs_at, served_so}
 use Rattle.law_requests.proofs.Imports.{server_state, settled_by, settling, state_after, state_in, stopped_so, subst, sym, true, true_false, was_same, ℕ}
 use Rattle.law_requests.specs.KnownRequests.{LedBy, done_by, IsLedAlong, asked_for, IsUsed, Has_pending, Has_finished}
 use Rattle.law_requests.proofs.EndedRequestsLeaveNothing.{bound_now, pending_new, rises}
@@ -51,7 +51,7 @@ module _ (scene : Scene) (ready : Ready scene.setting scene.state scene.w) (n st
   worked_grows _ _ (By_ballot log started posts same starts says) = own_grows log same
   worked_grows _ _ (By_entry log entry more front) = (record { later = entry ∷ []; is = more }, front)
 
-  worked_plain : (log : Log) → IsPrefix log.applied (chosen_log setting w) → IsPlainLog setting.servers log.applied
+  worked_plain : (log : Log) → IsPrefix log.applied (chosen_log setting w) → HasProperTuples setting.servers log.applied
   worked_plain log chosen = front_plain setting.servers log.applied _ scene.firm.plain chosen
 
   -- what is used stands where the server is In as itself
@@ -112,7 +112,7 @@ module _ (scene : Scene) (ready : Ready scene.setting scene.state scene.w) (n st
             subst (λ (o : PairState). is_flagged o (id_of row) ≡ true) (sym owns)
             (worked_flags setting w n log done worked (same ∙ ap (λ (l : Log). l.applied) logs) row flag));
         more = subst (λ (l : Log). IsPrefix (w.servers n).log.applied l.applied) (sym logs) grows.0;
-        plain = subst (λ (l : Log). IsPlainLog setting.servers l.applied) (sym logs) (worked_plain log grows.1);
+        plain = subst (λ (l : Log). HasProperTuples setting.servers l.applied) (sym logs) (worked_plain log grows.1);
         bound = λ c. subst (λ (o : PairState). done_by o c ≤ (w.clients c).seq + 1) (sym owns) (bound_now scene n done.own shows.tells c);
         used = λ u. record {
           same = λ on. ran;
@@ -141,7 +141,7 @@ module _ (scene : Scene) (ready : Ready scene.setting scene.state scene.w) (n st
         life = Goes_on same later (λ c. let e = done c in omega arith)
             (λ all row flag. ap (λ (c : Copies). option_map_or (λ (p : Progress). p.caught) (at link_cmp c.progress (id_of row)) false) copies ∙ flag);
         more = subst (IsPrefix (w.servers n).log.applied) (sym logs) (front_itself (w.servers n).log.applied);
-        plain = subst (IsPlainLog setting.servers) (sym logs) (own_plain setting w scene.firm n);
+        plain = subst (HasProperTuples setting.servers) (sym logs) (own_plain setting w scene.firm n);
         bound = λ c. let e = done c in let le = asking.finished n c in omega arith;
         used = λ u. record {
           same = same;
@@ -174,7 +174,7 @@ module _ (scene : Scene) (ready : Ready scene.setting scene.state scene.w) (n st
       none_some (ap (λ (p : Pairs). at cell_cmp p.pending cell) empty ∙ at-empty cell_cmp cell) is
 
   boot_stepped : (new : Server) → new.own.pairs ≡ no_pairs → new.life.running ≡ true → (w.servers n).life.inc < new.life.inc
-      → IsPrefix (w.servers n).log.applied new.log.applied → IsPlainLog setting.servers new.log.applied → IsStepped scene n new
+      → IsPrefix (w.servers n).log.applied new.log.applied → HasProperTuples setting.servers new.log.applied → IsStepped scene n new
   boot_stepped new empty on later more plain = record {
     life = Begins on later (none_done new empty);
     more = more;

@@ -1,10 +1,10 @@
 -- What is known of requests is kept by each step.
 use Rattle.law_requests.proofs.Imports.{◌<◌, ◌==◌, ◌∙◌, ◌≡◌, ◌≢◌, Acted, Actor, AllMayWake, Blank, Blanks, Body, Bool, Cell, Ends, Fails, Firm, Goes, Happens}
-use Rattle.law_requests.proofs.Imports.{Heard, In, IsPlainLog, IsPrefix, Letter, List, Pending, Post, Reaction, Ready, Sender, Serves, Serving, Setting, Some}
-use Rattle.law_requests.proofs.Imports.{State, Stays, Step, Turned, Turns, Wakes, Wanted, World, acts, ap, arith, at, awake, blanked, cell_cmp, client_sender}
-use Rattle.law_requests.proofs.Imports.{down_posts, false, filter, in_later, inl, is_clients, length, letters_of, log_rev, not, own_place, raised}
-use Rattle.law_requests.proofs.Imports.{range_with_len, reacts, refl, rev_of, said, said_to_all, sender, served_so, server_state, servers_of, shown_so}
-use Rattle.law_requests.proofs.Imports.{stamped, stays, stopped_so, subject_of, subst, sym, true, wakes, was_same, without_rev, ℕ}
+use Rattle.law_requests.proofs.Imports.{HasProperTuples, Heard, In, IsPrefix, Letter, List, Pending, Post, Reaction, Ready, Sender, Serves, Serving, Setting}
+use Rattle.law_requests.proofs.Imports.{Some, State, Stays, Step, Turned, Turns, Wakes, Wanted, World, acts, ap, arith, at, awake, blanked, cell_cmp}
+use Rattle.law_requests.proofs.Imports.{client_sender, down_posts, false, filter, in_later, inl, is_clients, length, letters_of, log_rev, not, own_place}
+use Rattle.law_requests.proofs.Imports.{raised, range_with_len, reacts, refl, rev_of, said, said_to_all, sender, served_so, server_state, servers_of}
+use Rattle.law_requests.proofs.Imports.{shown_so, stamped, stays, stopped_so, subject_of, subst, sym, true, wakes, was_same, without_rev, ℕ}
 use Rattle.law_requests.specs.KnownRequests.{Seen, Lives, AreLives, lives_after, seen, Known, KnownLetter, PendingFor, AskingBy, KnowsReports}
 use Rattle.law_requests.proofs.ServerStepsKeepRequests.{Scene, WasOrNew, goes_on, opened_now, says_known, step_asking, steps}
 use Rattle.law_requests.proofs.RequestsKnownLater.{Later, pending_later, tells_request, untold}
@@ -129,7 +129,7 @@ scene_at setting state w lives ready asking reports = record {
 }
 
 turned_ok : (setting : Setting) (w : World) (lives : Lives) (firm : Firm setting w) → AskingBy setting w lives → (c : ℕ) → c < 9 → (stamp : ℕ) (in_call : Bool)
-    (reacted : Reaction) → IsPrefix (w.clients c).applied reacted.client.applied → IsPlainLog setting.servers reacted.client.applied
+    (reacted : Reaction) → IsPrefix (w.clients c).applied reacted.client.applied → HasProperTuples setting.servers reacted.client.applied
     → Turned (Heard w (actor.Client c)) setting.servers setting.lines c (w.clients c) in_call reacted
     → TurnOk setting w lives (seen_with lives w (reacts w c stamp reacted).world.sent c reacted.client) c reacted.client reacted.posts
 turned_ok setting w lives firm asking c within stamp in_call reacted grows plain turned =

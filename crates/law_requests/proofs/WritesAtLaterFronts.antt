@@ -1,14 +1,14 @@
 -- A write of a front is the same at a later one by which its cell takes writes still; and a read of a cell that is coming asks the new map.
-use Rattle.law_requests.proofs.Imports.{◌∙◌, ◌≡◌, ◌≤◌, Bool, Cell, Command, DiskView, IsPlainLog, IsPrefix, Line, List, Some, State, ap, arith, asked_only}
-use Rattle.law_requests.proofs.Imports.{cell_asked, disk_on, false, find, front_plain, has_stage, log_below, log_grown, log_plain, made_for, refl, stage_at}
-use Rattle.law_requests.proofs.Imports.{state_after, subst, sym, told_settled_at, true, ℕ}
+use Rattle.law_requests.proofs.Imports.{◌∙◌, ◌≡◌, ◌≤◌, Bool, Cell, Command, DiskView, HasProperTuples, IsPrefix, Line, List, Some, State, ap, arith}
+use Rattle.law_requests.proofs.Imports.{asked_only, cell_asked, disk_on, false, find, front_plain, has_stage, log_below, log_grown, log_plain, made_for, refl}
+use Rattle.law_requests.proofs.Imports.{stage_at, state_after, subst, sym, told_settled_at, true, ℕ}
 use Rattle.spec_state.specs.CellState.{coming}
 use Rattle.law_requests.specs.AskedRequests.{IsRead, IsWrite}
 
 -- ### By a log
 
 -- a read of a cell that is coming was not told that the new map has nothing
-pub coming_untold : (servers : ℕ) (log : List Command) → IsPlainLog servers log → (lines : List Line) (client seq : ℕ) (told : Bool) (cell : Cell) (epoch : ℕ)
+pub coming_untold : (servers : ℕ) (log : List Command) → HasProperTuples servers log → (lines : List Line) (client seq : ℕ) (told : Bool) (cell : Cell) (epoch : ℕ)
     → IsRead (state_after servers log) lines client seq told cell epoch → coming (state_after servers log) cell ≡ true → told ≡ false
 coming_untold servers log plain lines client seq false cell epoch read comes = refl
 coming_untold servers log plain lines client seq true cell epoch read comes =
@@ -20,7 +20,7 @@ coming_untold servers log plain lines client seq true cell epoch read comes =
 
 -- ### By a longer log
 
-module _ (servers : ℕ) (front whole : List Command) (plain : IsPlainLog servers whole) (prefix : IsPrefix front whole) where
+module _ (servers : ℕ) (front whole : List Command) (plain : HasProperTuples servers whole) (prefix : IsPrefix front whole) where
   abbrev earlier : State
   earlier = state_after servers front
 

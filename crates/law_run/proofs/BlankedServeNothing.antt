@@ -1,7 +1,7 @@
 -- A server that came back with nothing serves none of its links until the other server has filled it.
 use Rattle.law_run.proofs.Imports.{[], if◌then◌else◌, ◌&&◌, ◌++◌, ◌==◌, ◌||◌, ◌∙◌, ◌∷◌, ◌≡◌, ◌⊎◌, Bool, ByBoth, ByNone, ByOne, By_caught, By_join, By_leave}
-use Rattle.law_run.proofs.Imports.{Caught, Cell, Command, HasJoinedSince, HasLater, IsCaughtStill, IsPlainLog, IsPrefix, Join, Leave, LinkRow, List, Lost}
-use Rattle.law_run.proofs.Imports.{Only, Some, State, ap, blank_joins_from, blanked_state, by_bool, cell_link, false, fold-append, front_more, front_on}
+use Rattle.law_run.proofs.Imports.{Caught, Cell, Command, HasJoinedSince, HasLater, HasProperTuples, IsCaughtStill, IsPrefix, Join, Leave, LinkRow, List}
+use Rattle.law_run.proofs.Imports.{Lost, Only, Some, State, ap, blank_joins_from, blanked_state, by_bool, cell_link, false, fold-append, front_more, front_on}
 use Rattle.law_run.proofs.Imports.{front_plain, has_server, inl, inr, joined_where, log_alone, log_below, log_lost, log_steady, log_touched, none_some}
 use Rattle.law_run.proofs.Imports.{one_before, other_of, row_blanked, row_joined, same_or_apart, serves, state_after, sym, touches, true, ℕ}
 use Rattle.spec_state.specs.Command.{after}
@@ -29,7 +29,7 @@ module _ (servers : ℕ) (n : ℕ) where
 same_join : {n m inc other : ℕ} {one two : Bool} → Join n inc one ≡ Join m other two → (n ≡ m) × (one ≡ two)
 same_join e = (cc, cc)
 
-module _ (servers : ℕ) (whole : List Command) (all : IsPlainLog servers whole) (cell : Cell) where
+module _ (servers : ℕ) (whole : List Command) (all : HasProperTuples servers whole) (cell : Cell) where
   abbrev IsLinkedBy : List Command → LinkRow → Type 0
   IsLinkedBy front row = cell_link (state_after servers front) cell ≡ Some row
 

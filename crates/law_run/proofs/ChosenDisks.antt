@@ -1,6 +1,6 @@
 -- What is chosen in a world, as a later state tells it; and its disks, with the cells under which their blocks are named.
 use Rattle.law_run.proofs.Imports.{if◌then◌else◌, ◌==◌, ◌∙◌, ◌≡◌, ◌≤◌, ◌⊎◌, AreDisks, Cell, DiskRow, DiskView, Firm, HasRowLater, In, IsBelow, IsGrown}
-use Rattle.law_run.proofs.Imports.{IsPlainState, IsSteady, List, MapRow, Move, Setting, Some, State, World, ap, arith, authority, by_bool, bytes_of}
+use Rattle.law_run.proofs.Imports.{IsSettledState, IsSteady, List, MapRow, Move, Setting, Some, State, World, ap, arith, authority, by_bool, bytes_of}
 use Rattle.law_run.proofs.Imports.{chosen_state, content_at, content_where, counted, entry_before, entry_of, epoch_at, epoch_in, epoch_is, false, find}
 use Rattle.law_run.proofs.Imports.{found_at, get_in, has_content_at, has_content_where, has_map, home_later, in_get, inl, inr, is_some, known_row, log_disks}
 use Rattle.law_run.proofs.Imports.{log_plain, map_made, named_cell, no_home, old_cell, option_and_then, option_map, owner, same_numbers, same_some, slice_get}
@@ -16,12 +16,12 @@ rows_in setting w = (chosen_state setting w).disks.rows
 -- a plain state that what is chosen grows to
 pub record Along (setting : Setting) (state : State) (w : World) : Type 0 where
   pub steady : IsSteady state
-  pub last : IsPlainState setting.servers state
+  pub last : IsSettledState setting.servers state
   pub firm : Firm setting w
   pub grown : IsGrown (chosen_state setting w) state
   pub below : IsBelow (chosen_state setting w) state
 
-pub plain_now : (setting : Setting) (w : World) → Firm setting w → IsPlainState setting.servers (chosen_state setting w)
+pub plain_now : (setting : Setting) (w : World) → Firm setting w → IsSettledState setting.servers (chosen_state setting w)
 plain_now setting w firm = log_plain setting.servers _ firm.plain
 
 pub disks_now : (setting : Setting) (w : World) → Firm setting w → AreDisks (chosen_state setting w)
@@ -39,7 +39,7 @@ pub record IsFound (state : State) (name : List ℕ) (disk : DiskView) : Type 0 
   pub name_is : row.name ≡ name
   pub view : view_of row ≡ disk
 
-pub found_row : (servers : ℕ) (state : State) → IsPlainState servers state → (name : List ℕ) (disk : DiskView) → find state name ≡ Some disk
+pub found_row : (servers : ℕ) (state : State) → IsSettledState servers state → (name : List ℕ) (disk : DiskView) → find state name ≡ Some disk
     → IsFound state name disk
 found_row servers state plain name disk finds =
     let v = viewed servers state plain name disk finds in
@@ -48,7 +48,7 @@ found_row servers state plain name disk finds =
 
 -- ### The cells of a disk's blocks
 
-module _ (servers : ℕ) (s : State) (p : IsPlainState servers s) (disks : AreDisks s) where
+module _ (servers : ℕ) (s : State) (p : IsSettledState servers s) (disks : AreDisks s) where
   -- a move leaves an earlier map
   pub left_apart : (row : DiskRow) → In row s.disks.rows → (move : Move) → row.moving ≡ Some move → (row.map == move.old_map) ≡ false
   left_apart row h move e =
@@ -176,7 +176,7 @@ pub record WasMade (s : State) (i : ℕ) (cell : Cell) : Type 0 where
   pub is : slice_get s.disks.rows i ≡ Some was
   pub epoch : epoch_at s cell ≡ was.epoch
 
-module _ (servers : ℕ) (s t : State) (p : IsPlainState servers s) (q : IsPlainState servers t) (g : IsGrown s t) where
+module _ (servers : ℕ) (s t : State) (p : IsSettledState servers s) (q : IsSettledState servers t) (g : IsGrown s t) where
   pub made_before : (i : ℕ) (row : DiskRow) → slice_get t.disks.rows i ≡ Some row → (cell : Cell) → has_map cell.map row ≡ true
       → ((stage_at s cell ≡ 0) × (epoch_at s cell ≡ 0)) ⊎ WasMade s i cell
   made_before i row is cell has = elim (some_or_none (slice_get s.maps cell.map)) [

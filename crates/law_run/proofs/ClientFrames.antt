@@ -9,7 +9,7 @@ use Rattle.law_run.specs.WritesGoOn.{IsMindful, held_in, is_held, Seat}
 use Rattle.law_run.specs.MachineTies.{HasCounted, Is_told, Is_followed, Is_counted, Follow}
 use Rattle.law_run.proofs.ChosenDisks.{rows_in, disks_now}
 use Rattle.law_run.proofs.SnapshotsTaken.{no_freezes}
-use Rattle.law_run.proofs.ReadsLookWhereSent.{is_looked, no_look}
+use Rattle.law_run.proofs.ReadsLookWhereSent.{is_looked, no_look, one_client}
 use Rattle.law_run.proofs.DisksMade.{drop_all}
 use Rattle.law_run.proofs.ListMembers.{all_empty}
 use Rattle.law_run.proofs.ContentChanges.{no_takes}
@@ -24,9 +24,6 @@ ask_data : (said : Body) → is_ask said ≡ true → is_looked said ≡ false
 ask_data (body.Data seq bytes) e = let f : false ≡ true = e in absurd cc
 ask_data (body.NotHere seq) e = let f : false ≡ true = e in absurd cc
 ask_data _ e = refl
-
-one_client : {c d : ℕ} → actor.Client c ≡ actor.Client d → c ≡ d
-one_client e = cc
 
 -- ### What a client's step has to show
 

@@ -1,12 +1,11 @@
 -- What the machine is told of contents that change.
 use Rattle.law_run.proofs.Imports.{[], ◌&&◌, ◌<◌, ◌==◌, ◌||◌, ◌∙◌, ◌∷◌, ◌≡◌, ◌⊎◌, Asked, Bool, Cell, Chain, Change, DiskRow, Event, In, List, None, Option}
-use Rattle.law_run.proofs.Imports.{Request, Some, Take, World, Write, after_step, all_there, ap, arith, at, before_step, blocks_in, blocks_of, both_true}
-use Rattle.law_run.proofs.Imports.{by_bool, cell_cmp, cell_cmp_same, changed_blocks, false, filter_map, flat_map, had_content, has_content_next, in_flat_map}
-use Rattle.law_run.proofs.Imports.{inl, inr, is_changed, map, nat_list_eq_equiv, nat_lists_same, none_some, not, number_itself, open_write, range_with_len}
-use Rattle.law_run.proofs.Imports.{refl, same_bytes, same_numbers, same_some, subst, sym, taken, taker, takes, takes_on, true, true_false, with_first}
-use Rattle.law_run.proofs.Imports.{write_asked, write_by, writes_so, ℕ}
-use Rattle.law_run.proofs.ListMembers.{all_empty, into_map, of_map, into_flat_map, into_range, into_filter, of_filter, none_pass, into_filter_map}
-use Rattle.law_run.proofs.ListMembers.{of_filter_map, found_one, row_at, key_at, put_key}
+use Rattle.law_run.proofs.Imports.{Request, Some, Take, World, Write, after_step, all_left, all_there, ap, arith, at, before_step, blocks_in, blocks_of}
+use Rattle.law_run.proofs.Imports.{both_true, by_bool, cell_cmp, cell_cmp_same, changed_blocks, false, filter_map, flat_map, had_content, has_content_next}
+use Rattle.law_run.proofs.Imports.{in_flat, in_flat_map, in_kept, in_left, in_map, in_mapped, inl, inr, is_changed, map, nat_list_eq_equiv, nat_lists_same}
+use Rattle.law_run.proofs.Imports.{none_some, not, number_itself, open_write, range_with_len, refl, same_bytes, same_numbers, same_some, subst, sym, taken}
+use Rattle.law_run.proofs.Imports.{taker, takes, takes_on, true, true_false, with_first, write_asked, write_by, writes_so, ℕ}
+use Rattle.law_run.proofs.ListMembers.{all_empty, into_range, into_filter_map, of_filter_map, found_one, row_at, key_at, put_key}
 use Rattle.script_lines.specs.declared.request.Request.TheVariants as request
 
 unlike : (xs ys : List ℕ) → xs ≡ ys → not (same_bytes xs ys) ≡ false
@@ -82,7 +81,7 @@ module _ (change : Change) where
   pub no_takes : ((row : DiskRow) → In row rows → (b : ℕ) → has_content_next change row b ≡ true → IsAsBefore row b) → takes change ≡ Some []
   no_takes same = ap all_there (all_empty (takes_on change) rows (λ row h.
       ap (map (λ b. taken (taker change.w row.name b (after_step change row b))))
-      (none_pass (is_changed change row) (blocks_in change.setting change.next)
+      (all_left (is_changed change row) (blocks_in change.setting change.next)
       (λ b i. and_when _ _ (λ has. let k = same row h b has in same_there _ _ _ k.0 k.1)))))
 
   -- a block of which a server has an entry is among those that are looked at
@@ -95,9 +94,9 @@ module _ (change : Change) where
       let same : cell ≡ found.0.0 = cell_cmp_same cell found.0.0 found.2 in
       let there : In block (blocks_of (change.next.servers n)) =
       subst (λ i. In i (blocks_of (change.next.servers n))) (ap (λ (c : Cell). c.block) (sym same))
-      (into_map (λ row. row.0.block) (change.next.servers n).own.store.chains found.0 found.1) in
+      (in_mapped (λ row. row.0.block) (change.next.servers n).own.store.chains found.0 found.1) in
       key_at _ block block (put_key _ [] block
-      (into_flat_map (λ k. blocks_of (change.next.servers k)) (range_with_len 0 change.setting.servers) n block
+      (in_flat (λ k. blocks_of (change.next.servers k)) (range_with_len 0 change.setting.servers) n block
       (into_range 0 change.setting.servers n (omega arith) (omega arith)) there))
 
   -- a write under way gives a block its new content, and a server has an entry of the block
@@ -174,9 +173,9 @@ module _ (change : Change) where
     told_so x h =
         let of_row = in_flat_map (takes_on change) rows x h in
         let row = of_row.0 in
-        let of_block = of_map (told_of row) (changed_blocks change row) x of_row.2 in
+        let of_block = in_map (told_of row) (changed_blocks change row) x of_row.2 in
         let b = of_block.0 in
-        let changed = (of_filter (is_changed change row) (blocks_in change.setting change.next) b of_block.1).1 in
+        let changed = (in_left (is_changed change row) (blocks_in change.setting change.next) b of_block.1).1 in
         let one = told_one row b (told_changed row of_row.1 b changed) in
         (one.0, of_block.2 ∙ one.1, record { row = row; there = of_row.1; block = b; it = one.2 })
 
@@ -192,9 +191,9 @@ module _ (change : Change) where
               let changed : is_changed change row b ≡ true = (λ i. has i && differs i) in
               let g = told_changed row h b changed in
               let one = told_one row b g in
-              let place = into_flat_map (takes_on change) rows row (told_of row b) h
-              (into_map (told_of row) (changed_blocks change row) b
-              (into_filter (is_changed change row) (blocks_in change.setting change.next) b g.looked changed)) in
+              let place = in_flat (takes_on change) rows row (told_of row b) h
+              (in_mapped (told_of row) (changed_blocks change row) b
+              (in_kept (is_changed change row) (blocks_in change.setting change.next) b g.looked changed)) in
               inr (one.0, there.on one.0 (subst (λ (x : Option Event). In x (flat_map (takes_on change) rows)) one.1 place), one.2))
               (λ same. inl (had_same _ _ _ same));
         }

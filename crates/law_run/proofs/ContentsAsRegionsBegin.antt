@@ -1,7 +1,7 @@
 -- What is chosen grows: by which cells a block's content is told after a step, and before it. A region that begins its way has what counted at the
 -- old map, and one that has come has at the new one all that was frozen.
 use Rattle.law_run.proofs.Imports.{if◌then◌else◌, ◌&&◌, ◌||◌, ◌∙◌, ◌≡◌, ◌≤◌, ◌⊎◌, AreDisks, Bool, Cell, Chain, DiskRow, Has, HasRowLater, HasStage, In}
-use Rattle.law_run.proofs.Imports.{IsPlainState, None, Option, Some, Stored, ap, arith, authority, begins_to_leave, by_bool, bytes_of, cases_lt, chain_in}
+use Rattle.law_run.proofs.Imports.{IsSettledState, None, Option, Some, Stored, ap, arith, authority, begins_to_leave, by_bool, bytes_of, cases_lt, chain_in}
 use Rattle.law_run.proofs.Imports.{chain_that_counts, content_at, counted, disk_at, disk_on, entry_at, entry_before, entry_by, entry_of, false, first_entry}
 use Rattle.law_run.proofs.Imports.{get_in, has_content_at, has_map, inl, inr, is_some, kept, leaving, log_twins, map_made, named_cell, none_some, not}
 use Rattle.law_run.proofs.Imports.{old_cell, option_and_then, option_map, refl, same_some, stage_at, stage_facts, sym, true, true_false, ℕ}
@@ -12,15 +12,12 @@ use Rattle.law_run.proofs.CountingServerServes.{counts_serves}
 use Rattle.law_run.proofs.FillsComeInTurn.{old_source}
 use Rattle.law_run.proofs.ContentsByCells.{entry_over, has_over, is_between}
 use Rattle.law_run.proofs.SourceCells.{source_stays}
-use Rattle.law_run.proofs.EventsOfServerSteps.{ServerStep, ends_of, grounded, unput}
+use Rattle.law_run.proofs.EventsOfServerSteps.{ServerStep, ends_of, grounded, unput, plain_chosen}
 
 module _ (this : ServerStep) where
   open ends_of this use {v, top, end, chosen, after}
 
-  plain_then : IsPlainState this.setting.servers chosen
-  plain_then = plain_now this.setting this.w this.along.firm
-
-  plain_after : IsPlainState this.setting.servers after
+  plain_after : IsSettledState this.setting.servers after
   plain_after = plain_now this.setting v this.next.firm
 
   disks_then : AreDisks chosen
@@ -84,13 +81,13 @@ module _ (this : ServerStep) where
     old = old_cell row b
 
     named_has : has_map named.map row ≡ true
-    named_has = named_map_is this.setting.servers chosen plain_then disks_then row h b
+    named_has = named_map_is this.setting.servers chosen (plain_chosen this) disks_then row h b
 
     low : 1 ≤ stage_at chosen named
-    low = named_low this.setting.servers chosen plain_then disks_then row h b
+    low = named_low this.setting.servers chosen (plain_chosen this) disks_then row h b
 
     high : stage_at chosen named ≤ 2
-    high = named_high this.setting.servers chosen plain_then disks_then row h b
+    high = named_high this.setting.servers chosen (plain_chosen this) disks_then row h b
 
     pub low_after : 1 ≤ stage_at after named
     low_after = let up = stages_up named in let l = low in omega arith
@@ -106,11 +103,11 @@ module _ (this : ServerStep) where
     one_disk cell has d =
         let at = get_in (rows_in this.setting this.w) row h in
         let at_d = get_in (rows_in this.setting v) d.row d.there in
-        let here = map_made chosen.maps at.0 cell.map row (plain_then.rows at.0 row at.1) has in
+        let here = map_made chosen.maps at.0 cell.map row ((plain_chosen this).rows at.0 row at.1) has in
         let there = map_made after.maps at_d.0 cell.map d.row (plain_after.rows at_d.0 d.row at_d.1) d.has in
         let place : at.0 ≡ at_d.0 = same_some (sym (disk_on chosen.maps after.maps cell.map at.0 this.grown.maps here) ∙ there) in
         let id : d.row.id ≡ later.now.id =
-        (plain_after.rows at_d.0 d.row at_d.1).id ∙ sym place ∙ sym (plain_then.rows at.0 row at.1).id ∙ sym later.so.id in
+        (plain_after.rows at_d.0 d.row at_d.1).id ∙ sym place ∙ sym ((plain_chosen this).rows at.0 row at.1).id ∙ sym later.so.id in
         same_some (sym (disks_after.at d.row d.there)
         ∙ ap (disk_at after.disks.rows) id ∙ disks_after.at later.now later.there)
 
@@ -150,7 +147,7 @@ module _ (this : ServerStep) where
       -- its region is on its way still, from the same cell
       module _ (comes : stage_at after named ≡ 1) where
         between_then : is_between row b ≡ true
-        between_then = cell_comes this.setting.servers chosen plain_then disks_then row h named named_has
+        between_then = cell_comes this.setting.servers chosen (plain_chosen this) disks_then row h named named_has
             (let up = stages_up named in let l = low in omega arith)
 
         between_after : is_between later.now b ≡ true
@@ -160,12 +157,12 @@ module _ (this : ServerStep) where
         same_old =
             source_stays this.setting.servers top end this.next.firm.plain this.grows named old
             (old_source (grounded this) named
-            (named_comes this.setting.servers chosen plain_then disks_then row h b between_then) row h named_has)
+            (named_comes this.setting.servers chosen (plain_chosen this) disks_then row h b between_then) row h named_has)
             later.now later.there later_has comes
 
         old_frozen : v.frozen (old_cell later.now b) ≡ this.w.frozen old
         old_frozen = ap v.frozen (sym same_old) ∙ frozen_kept old
-            (inl ((facts_then old).left (old_leaves this.setting.servers chosen plain_then disks_then row h b between_then)))
+            (inl ((facts_then old).left (old_leaves this.setting.servers chosen (plain_chosen this) disks_then row h b between_then)))
 
         over_kept : (e : ℕ) → now_kept this row e b ≡ bytes_of (first_entry (entry_now e) (entry_before this.w old e))
         over_kept e = now_by e
@@ -220,20 +217,21 @@ module _ (this : ServerStep) where
           not_before : stage_at chosen (named_cell later.now b) ≡ 1 → ⊥
           not_before was =
               let new = named_cell later.now b in
-              let d = disk_here this.setting.servers chosen plain_then disks_then new (omega (arith, was)) (omega (arith, was)) in
+              let d = disk_here this.setting.servers chosen (plain_chosen this) disks_then new (omega (arith, was)) (omega (arith, was)) in
               let at = get_in (rows_in this.setting this.w) row h in
               let at_d = get_in (rows_in this.setting this.w) d.row d.there in
               let at_l = get_in (rows_in this.setting v) later.now later.there in
               let here = disk_on chosen.maps after.maps new.map at_d.0 this.grown.maps
-              (map_made chosen.maps at_d.0 new.map d.row (plain_then.rows at_d.0 d.row at_d.1) d.has) in
+              (map_made chosen.maps at_d.0 new.map d.row ((plain_chosen this).rows at_d.0 d.row at_d.1) d.has) in
               let there = map_made after.maps at_l.0 new.map later.now (plain_after.rows at_l.0 later.now at_l.1) new_has in
               let place : at_d.0 ≡ at_l.0 = same_some (sym here ∙ there) in
               let id : d.row.id ≡ row.id =
-              (plain_then.rows at_d.0 d.row at_d.1).id ∙ place ∙ sym (plain_after.rows at_l.0 later.now at_l.1).id ∙ later.so.id in
+              ((plain_chosen this).rows at_d.0 d.row at_d.1).id ∙ place ∙ sym (plain_after.rows at_l.0 later.now at_l.1).id ∙ later.so.id in
               let row_is : d.row ≡ row = same_some (sym (disks_then.at d.row d.there)
               ∙ ap (disk_at chosen.disks.rows) id ∙ disks_then.at row h) in
               let has : has_map new.map row ≡ true = ap (λ (r : DiskRow). has_map new.map r) (sym row_is) ∙ d.has in
-              let same : new ≡ named = cell_named this.setting.servers chosen plain_then disks_then row h new has (omega (arith, was)) (omega (arith, was)) in
+              let same : new ≡ named = cell_named this.setting.servers chosen (plain_chosen this) disks_then row h new has
+              (omega (arith, was)) (omega (arith, was)) in
               let one = new_comes in
               let three : stage_at after new ≡ 3 = ap (stage_at after) same ∙ leaves in
               omega arith
@@ -284,11 +282,11 @@ module _ (this : ServerStep) where
 
     has_all : is_between row b ≡ true → 2 ≤ stage_at after named → HasAll
     has_all between come =
-        let one = named_comes this.setting.servers chosen plain_then disks_then row h b between in
+        let one = named_comes this.setting.servers chosen (plain_chosen this) disks_then row h b between in
         let from = old_source (grounded this) named one row h named_has in
         let dead : stage_at after old ≡ 4 = log_twins this.setting.servers top end named old this.next.firm.plain this.grows from one come in
         let died = this.onward.moves.died old dead in
-        let same = frozen_kept old (inl ((facts_then old).left (old_leaves this.setting.servers chosen plain_then disks_then row h b between))) in
+        let same = frozen_kept old (inl ((facts_then old).left (old_leaves this.setting.servers chosen (plain_chosen this) disks_then row h b between))) in
         record {
           before = died.0;
           frozen = sym same ∙ died.1;

@@ -1,6 +1,6 @@
 -- Which content a read asks for, by what is chosen: that of a disk's block at an epoch that it has, or has had.
 use Rattle.law_run.proofs.Imports.{◌∙◌, ◌≡◌, ◌≤◌, ◌⊎◌, AreDisks, Body, Bool, Cell, Command, DiskRow, DiskView, Firm, Handled, HasLaterView, Holds, In}
-use Rattle.law_run.proofs.Imports.{IsBelow, IsGrown, IsPlainState, IsPrefix, IsRead, IsServing, Known, Line, List, MayLook, None, Option, PlainDisk}
+use Rattle.law_run.proofs.Imports.{IsBelow, IsGrown, IsPrefix, IsRead, IsServing, IsSettledState, Known, Line, List, MayLook, None, Option, PlainDisk}
 use Rattle.law_run.proofs.Imports.{PlainSnapshot, ReadKnown, Setting, Snapshot, Some, State, Store, World, ap, arith, asks_old, cell_asked, chain_in}
 use Rattle.law_run.proofs.Imports.{chosen_log, chosen_state, disk_at, disk_on, epoch_at, epoch_for, false, front_on, front_plain, get_in, has_map}
 use Rattle.law_run.proofs.Imports.{holder_is_one, inl, inr, is_in, job_asks_old, leaving, log_below, log_disks, log_grown, log_plain, map_made, none_some}
@@ -48,7 +48,7 @@ module _ (setting : Setting) (w : World) (firm : Firm setting w) (front : List C
   abbrev chosen : State
   chosen = chosen_state setting w
 
-  plain_front : IsPlainState setting.servers s
+  plain_front : IsSettledState setting.servers s
   plain_front = log_plain setting.servers front (front_plain setting.servers front (chosen_log setting w) firm.plain lies)
 
   disks_front : AreDisks s

@@ -1,14 +1,14 @@
 -- What is chosen grows: whose copy of a cell counts after the step, and what becomes of its entries. Where the cell's second server leaves, and
 -- the first one is one put ahead, the first one's write is taken; and where a link is in Both again, or held by the other server, the copies are equal.
 use Rattle.law_run.proofs.Imports.{[], ◌++◌, ◌+◌, ◌<◌, ◌==◌, ◌∙◌, ◌∷◌, ◌≡◌, ◌≢◌, ◌≤◌, ◌⊎◌, AliveIn, AreTwins, Bool, Both, ByBoth, ByNone, ByOne, Cell, Chain}
-use Rattle.law_run.proofs.Imports.{Good, IsCaughtStill, IsFrozen, IsLast, IsLater, IsLinked, IsOpen, IsPlainLog, IsSteady, IsTimely, LinkRow, Lost, None}
+use Rattle.law_run.proofs.Imports.{Good, HasProperTuples, IsCaughtStill, IsFrozen, IsLast, IsLater, IsLinked, IsOpen, IsSteady, IsTimely, LinkRow, Lost, None}
 use Rattle.law_run.proofs.Imports.{Only, PairState, Pending, Some, Store, Stored, WasThere, alone_authority, ap, arith, asked_for, at, authority}
 use Rattle.law_run.proofs.Imports.{both_authority, by_bool, cell_cmp, chain_in, chosen_steady, counted, counted_by, entry_at, entry_by, entry_of, epoch_at}
-use Rattle.law_run.proofs.Imports.{false, far, front_itself, front_long, front_more, front_on, half, has_server, holder_is_one, inl, inr, is_alone_on}
-use Rattle.law_run.proofs.Imports.{is_clients, is_some, kept, length, linked_alive, live, log_alone, log_lost, lost_authority, nat_cmp, none_some}
-use Rattle.law_run.proofs.Imports.{number_itself, one_before, one_put_ahead, one_row, open_at_place, other_of, other_than, owns_of, pair_at, pair_of}
-use Rattle.law_run.proofs.Imports.{place_by, places_up, primary_is_one, put, refl, rows_later, same_numbers, same_only, same_or_apart, secondary_is_one}
-use Rattle.law_run.proofs.Imports.{serves, so_alone, some_or_none, stage_at, stage_facts, subst, sym, true, unwrap_or, version_of, ℕ}
+use Rattle.law_run.proofs.Imports.{false, far, front_itself, front_long, front_more, front_on, half, half_store, has_server, holder_is_one, inl, inr}
+use Rattle.law_run.proofs.Imports.{is_alone_on, is_clients, is_some, kept, length, linked_alive, live, log_alone, log_lost, lost_authority, nat_cmp}
+use Rattle.law_run.proofs.Imports.{none_some, number_itself, one_before, one_put_ahead, one_row, op_there, open_at_place, other_of, other_than, owns_of}
+use Rattle.law_run.proofs.Imports.{pair_at, pair_of, place_by, places_up, primary_is_one, put, refl, rows_later, same_numbers, same_only, same_or_apart}
+use Rattle.law_run.proofs.Imports.{secondary_is_one, serves, so_alone, some_or_none, stage_at, stage_facts, subst, sym, true, unwrap_or, version_of, ℕ}
 use Rattle.law_run.specs.MachineTies.{IsRemembered}
 use Rattle.law_run.proofs.ChosenDisks.{disks_now, plain_now, named_epoch}
 use Rattle.law_run.proofs.EntryAtEpoch.{entry_below, entry_put}
@@ -16,13 +16,13 @@ use Rattle.law_run.proofs.ServingStoresCount.{been_within, caught_visit, serving
 use Rattle.law_run.proofs.GroundGives.{remembered, write_of, recalled_timely}
 use Rattle.law_run.proofs.OpenWritesAreOnDisks.{Placed, placed}
 use Rattle.law_run.proofs.EventsOfServerSteps.{ServerStep, ends_of, grounded, joined_now, joined_then, kept_chain, kept_middle, new}
-use Rattle.law_run.proofs.OwnPlacesAreLatest.{chosen_last, chosen_store, chosen_twins, half_store, op_there}
+use Rattle.law_run.proofs.OwnPlacesAreLatest.{chosen_last, chosen_store, chosen_twins}
 use Rattle.law_run.proofs.FirstIsOneAhead.{copied_low}
 
 module _ (this : ServerStep) (same_store : (new this).store.chains ≡ (owns_of this.w this.n).store.chains) where
   open ends_of this use {v, top, end, chosen, after}
 
-  abbrev plain_end : IsPlainLog this.setting.servers end
+  abbrev plain_end : HasProperTuples this.setting.servers end
   plain_end = this.next.firm.plain
 
   pub steady : IsSteady chosen

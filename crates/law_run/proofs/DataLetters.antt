@@ -8,7 +8,7 @@ use Rattle.law_run.proofs.Imports.{is_refused, letters_of, letters_of_job, map, 
 use Rattle.law_run.proofs.Imports.{own_place, owns_of, post_of, posted, range_with_len, refl, said, same_some, stamped, subject_of, subst, sym, to_client}
 use Rattle.law_run.proofs.Imports.{true, true_false, without_pending, ℕ}
 use Rattle.law_run.specs.WritesGoOn.{is_held, Onward}
-use Rattle.law_run.proofs.ReadsLookWhereSent.{is_looked}
+use Rattle.law_run.proofs.ReadsLookWhereSent.{is_looked, one_client}
 use Rattle.law_run.proofs.Machine.{held_onward}
 use Rattle.law_run.proofs.LeadPutsThatCount.{finish_held}
 use Rattle.law_run.proofs.EventsOfServerSteps.{ServerStep, ends_of}
@@ -88,9 +88,9 @@ glances_unended post e = ap is_reply e
 
 -- ### A job
 
-abbrev pub IsQuiet : {heard : Body → Type 0} {here : JobContext} {own : PairState} {done : JobResult} → Did heard here own done → Type 0
-IsQuiet (By_read done d) = ⊥
-IsQuiet _ = Unit {0}
+abbrev pub IsNoRead : {heard : Body → Type 0} {here : JobContext} {own : PairState} {done : JobResult} → Did heard here own done → Type 0
+IsNoRead (By_read done d) = ⊥
+IsNoRead _ = Unit {0}
 
 asks_unended : (here : JobContext) (own : PairState) (post : Post) → Asks here own post → IsUnended post
 asks_unended here own _ (Of_the_log post e) = logged_unended post.body e
@@ -130,22 +130,19 @@ module _ (heard : Body → Type 0) (here : JobContext) (own : PairState) (never 
   second_unended done d post i = ap is_reply ((of_second heard here own done d).says post i)
 
   -- only a read's job sends data
-  pub quiet_data : (done : JobResult) (d : Did heard here own done) → IsQuiet d → (post : Post) → In post done.posts → is_looked post.body ≡ false
+  pub mute_data : (done : JobResult) (d : Did heard here own done) → IsNoRead d → (post : Post) → In post done.posts → is_looked post.body ≡ false
   unfolding In
-  quiet_data _ Ignores quiet post i = absurd i
-  quiet_data _ (Refuses to what is why back) quiet post i = ap is_looked (one_post to what post i).1 ∙ refused_looks what is
-  quiet_data _ (By_read done d) quiet post i = absurd quiet
-  quiet_data _ (By_lead done d) quiet post i = lead_data done d post i
-  quiet_data _ (By_second done d) quiet post i = unended_data post.body (second_unended done d post i)
-  quiet_data _ (By_holder done d) quiet post i = unended_data post.body (ap is_reply ((of_holder heard here own done d).says post i))
-  quiet_data _ (By_other done d) quiet post i = unended_data post.body (ap is_reply ((of_other heard here own done d).says post i))
-  quiet_data _ (By_filler done d) quiet post i = unended_data post.body (ap is_reply ((of_filler heard here own done d).says post i))
-  quiet_data _ (By_sweep done d) quiet post i = absurd ((of_sweep heard here own done d).silent post i)
+  mute_data _ Ignores quiet post i = absurd i
+  mute_data _ (Refuses to what is why back) quiet post i = ap is_looked (one_post to what post i).1 ∙ refused_looks what is
+  mute_data _ (By_read done d) quiet post i = absurd quiet
+  mute_data _ (By_lead done d) quiet post i = lead_data done d post i
+  mute_data _ (By_second done d) quiet post i = unended_data post.body (second_unended done d post i)
+  mute_data _ (By_holder done d) quiet post i = unended_data post.body (ap is_reply ((of_holder heard here own done d).says post i))
+  mute_data _ (By_other done d) quiet post i = unended_data post.body (ap is_reply ((of_other heard here own done d).says post i))
+  mute_data _ (By_filler done d) quiet post i = unended_data post.body (ap is_reply ((of_filler heard here own done d).says post i))
+  mute_data _ (By_sweep done d) quiet post i = absurd ((of_sweep heard here own done d).silent post i)
 
 -- ### Writes that end as written
-
-one_client : {c d : ℕ} → actor.Client c ≡ actor.Client d → c ≡ d
-one_client e = cc
 
 ended_written : (seq : ℕ) (how : Ending) (other : ℕ) → ended seq how ≡ body.Written other → how ≡ ending.Written
 ended_written seq ending.Written other e = refl

@@ -1,14 +1,14 @@
 -- What the machine is told of a server's step: takes, disks that are made, snapshots that are taken, and looks.
 use Rattle.law_run.proofs.Imports.{[], ◌++◌, ◌<◌, ◌∙◌, ◌∷◌, ◌≡◌, ◌≢◌, Acted, AllMayWake, AreEarly, Body, By_ballot, By_entry, By_job, Cell, Chain, Command}
-use Rattle.law_run.proofs.Imports.{DiskRow, Ends, Event, Fails, Firm, Goes, Good, Handled, In, IsBelow, IsGrown, IsOwn, IsPrefix, JobContext, JobResult}
-use Rattle.law_run.proofs.Imports.{Letter, List, Log, None, Obeys, Option, PairState, Plain, Record, Server, Serving, Setting, Some, State, Stays, Step}
-use Rattle.law_run.proofs.Imports.{Store, Visits, Wakes, Worked, World, acts, all_put, ap, arith, at_row, authority, before_blanks, begins_to_leave}
+use Rattle.law_run.proofs.Imports.{DiskRow, Ends, Event, Fails, Firm, Goes, Good, Handled, In, IsBelow, IsGrown, IsOwn, IsPrefix, IsSettledState, JobContext}
+use Rattle.law_run.proofs.Imports.{JobResult, Letter, List, Log, None, Obeys, Option, PairState, Plain, Record, Server, Serving, Setting, Some, State, Stays}
+use Rattle.law_run.proofs.Imports.{Step, Store, Visits, Wakes, Worked, World, acts, all_put, ap, arith, at_row, authority, before_blanks, begins_to_leave}
 use Rattle.law_run.proofs.Imports.{blank_joins_in, by_test, chain_in, chain_that_counts, change_by, chosen_log, chosen_state, counted, counted_by, entry_at}
 use Rattle.law_run.proofs.Imports.{entry_by, epoch_at, false, flat_map, freezes, front_itself, front_same, inl, inr, kept, kept_by, kept_store, log_below}
 use Rattle.law_run.proofs.Imports.{look_of, makes, nat_cmp_total, none_some, option_map, own_place, owns_of, put_apart, put_same, refl, replay, same_or_apart}
 use Rattle.law_run.proofs.Imports.{same_some, server_state, stage_at, stamped, state_after, subst, sym, takes, told_with, ℕ}
 use Rattle.law_run.specs.MachineTies.{Ground, Follow}
-use Rattle.law_run.proofs.ChosenDisks.{Along, rows_in}
+use Rattle.law_run.proofs.ChosenDisks.{Along, plain_now, rows_in}
 use Rattle.law_run.proofs.StoresThatCount.{of_kept, same_kept, frozen_stays}
 use Rattle.law_run.proofs.EntryAtEpoch.{AreUpTo}
 use Rattle.law_run.proofs.ReadsLookWhereSent.{Looked, is_looked, no_look}
@@ -150,6 +150,9 @@ module _ (this : ServerStep) where
     own_state = server_state this.setting this.w this.n;
     front = (this.w.servers this.n).log.applied;
   }
+
+  pub plain_chosen : IsSettledState this.setting.servers (chosen_state this.setting this.w)
+  plain_chosen = plain_now this.setting this.w this.along.firm
 
   -- ### Servers
 

@@ -1,11 +1,12 @@
 -- What the machine is told of a server's step, put together: takes, then disks that are made, then snapshots that are taken, then looks.
 use Rattle.law_run.proofs.Imports.{[], ◌++◌, ◌==◌, ◌∙◌, ◌≡◌, ◌≤◌, AreDisks, AreSnapshots, Bool, Cell, Chain, DiskRow, Event, Holds, In, IsLaterDisk}
-use Rattle.law_run.proofs.Imports.{IsPlainState, List, None, Obeys, Option, Plain, Snapshot, Some, State, Stored, ap, append-nil, arith, authority, by_bool}
+use Rattle.law_run.proofs.Imports.{IsSettledState, List, None, Obeys, Option, Plain, Snapshot, Some, State, Stored, ap, append-nil, arith, authority, by_bool}
 use Rattle.law_run.proofs.Imports.{bytes_of, chain_in, chosen_state, content_at, counted, disk_at, disk_of, entry_at, entry_before, entry_by, entry_of}
 use Rattle.law_run.proofs.Imports.{epoch_at, false, find_none, first_entry, flat_map, found_at, fresh_rows, get_in, has_content_at, has_map, in-append}
-use Rattle.law_run.proofs.Imports.{in_former, in_get, in_later, inl, inr, is_disk, is_some, kept, later_place, later_rows, length, make_of, map, named}
-use Rattle.law_run.proofs.Imports.{named_cell, nat_lists_same, old_cell, old_or_new, option_and_then, refl, replay, same_name, same_numbers, same_some}
-use Rattle.law_run.proofs.Imports.{slice_get, slice_get_within, snapshots_of, some_or_none, stage_at, stays_row, subst, sym, told_with, true, zero_block, ℕ}
+use Rattle.law_run.proofs.Imports.{in_former, in_get, in_later, in_map, in_mapped, in_none, inl, inr, is_disk, is_some, kept, later_place, later_rows, length}
+use Rattle.law_run.proofs.Imports.{make_of, map, named, named_cell, nat_lists_same, old_cell, old_or_new, option_and_then, refl, replay, same_name}
+use Rattle.law_run.proofs.Imports.{same_numbers, same_some, slice_get, slice_get_within, snapshots_of, some_or_none, stage_at, stays_row, subst, sym}
+use Rattle.law_run.proofs.Imports.{told_with, true, zero_block, ℕ}
 use Rattle.law_run.specs.MachineTies.{Follow, Stores}
 use Rattle.law_run.proofs.ChosenDisks.{rows_in, content_is, disks_now, has_content_is, made_before, named_map_is, old_map_is, plain_now}
 use Rattle.law_run.proofs.EntryAtEpoch.{AreUpTo, entry_later}
@@ -13,15 +14,10 @@ use Rattle.law_run.proofs.ContentsByCells.{entry_over, has_over, is_between}
 use Rattle.law_run.proofs.SnapshotsTaken.{AllFrozen, IsFrozenFrom, apart_by, freeze_rows, freezes_of}
 use Rattle.law_run.proofs.Machine.{Obeys-append, onward_joined, replay-append}
 use Rattle.law_run.proofs.DisksMade.{Made, fresh_made, made_all, made_same, new_row, unlike_named}
-use Rattle.law_run.proofs.ListMembers.{into_map, of_map}
 use Rattle.law_run.proofs.MachineGoesOn.{follow_onward}
 use Rattle.law_run.proofs.SnapshotsAreChosen.{as_of}
 use Rattle.law_run.proofs.EventsOfServerSteps.{LooksTold, ServerStep, ServerTold, TakesTold, ends_of, frozen_early, frozen_empty, looks_here, unput}
 use Rattle.law_run.proofs.EventsOfServerSteps.{unput_above}
-
-no_member : {A : Type 0} (x : A) → In x [] → ⊥
-unfolding In
-no_member x h = h
 
 module _ (this : ServerStep) where
   open ends_of this use {v, after}
@@ -39,10 +35,10 @@ module _ (this : ServerStep) where
   abbrev more : List DiskRow
   more = later_rows before after
 
-  one : IsPlainState this.setting.servers before
+  one : IsSettledState this.setting.servers before
   one = plain_now this.setting this.w this.along.firm
 
-  two : IsPlainState this.setting.servers after
+  two : IsSettledState this.setting.servers after
   two = plain_now this.setting v this.next.firm
 
   abbrev has : DiskRow → (epoch block : ℕ) → Bool
@@ -223,7 +219,7 @@ module _ (this : ServerStep) where
             let empty = frozen_empty this (old_cell row b)
             (new_zero (old_cell row b) (old_map_is this.setting.servers after two (disks_now this.setting v this.next.firm) row there_new b between))
             chain is in
-            no_member r (subst (λ (c : Chain). In r c) empty there_row)
+            in_none r (subst (λ (c : Chain). In r c) empty there_row)
 
     frozen_new : IsFrozenFrom has contents done row
     frozen_new = record {
@@ -263,9 +259,9 @@ module _ (this : ServerStep) where
     made : Made this.setting (old_rows ++ map new_row more) v k1 ms
     made = made_all this.setting v old_rows (map new_row more) k1
         (fresh_made old_rows more (fresh_rows this.setting.servers before after two this.grown)) taken.follows.stores
-        (λ row h. let from = of_map new_row more row h in ap (λ (r : DiskRow). r.snaps) from.2)
+        (λ row h. let from = in_map new_row more row h in ap (λ (r : DiskRow). r.snaps) from.2)
         (λ row h b.
-        let from = of_map new_row more row h in
+        let from = in_map new_row more row h in
         subst (λ (r : DiskRow). content_at this.setting v r.id r.epoch b ≡ zero_block) (sym from.2) (empty_new from.0 from.1 0 b))
 
     held_was : (row was : DiskRow) (h : In was old_rows) → IsLaterDisk was row
@@ -290,7 +286,7 @@ module _ (this : ServerStep) where
     held_then row there = elim (old_or_new this.setting.servers before after one two this.grown row there) [
       | inl old ↦ held_was row old.0 old.1 old.2 (made.stores.known old.0 (in_former old.0 old_rows (map new_row more) old.1))
       | inr new ↦ subst (λ snaps. Holds k2.disks (as_of row snaps) (has row) (contents row)) (sym (done_new row new))
-          (made.stores.known (new_row row) (in_later (new_row row) old_rows (map new_row more) (into_map new_row more row new)))
+          (made.stores.known (new_row row) (in_later (new_row row) old_rows (map new_row more) (in_mapped new_row more row new)))
     ]
 
     all_frozen : AllFrozen has contents done k2 new_rows fs
@@ -308,7 +304,7 @@ module _ (this : ServerStep) where
                 let later = stays_row this.setting.servers before after one two this.grown some.0 old in
                 absurd (unlike_named new_rows name later.now none later.there (later.so.name ∙ same))
             | inr new ↦
-                let from = of_map new_row more some.0 new in
+                let from = in_map new_row more some.0 new in
                 absurd (unlike_named new_rows name from.0 none (there_new from.0 from.1) (ap (λ (r : DiskRow). r.name) (sym from.2) ∙ same))
           ]
     ]

@@ -1,12 +1,12 @@
 -- What follows from the ground on which the run stands: of operations that are remembered, of the epochs of those that are put, and of
 -- entries.
-use Rattle.law_run.proofs.Imports.{[], ◌+◌, ◌∙◌, ◌∷◌, ◌≡◌, ◌≤◌, ◌⊎◌, AliveIn, AreEarly, AskingBy, Body, Caught, Cell, Chain, Command, Drops, Handled}
-use Rattle.law_run.proofs.Imports.{IsFrozen, IsLinked, IsPutting, IsSteady, IsTimely, IsWrite, JobContext, Key, LinkRow, List, Lives, NeverDead, None, Option}
-use Rattle.law_run.proofs.Imports.{PairState, Pending, PendingFor, PutsAsked, Setting, Some, State, Store, WasThere, World, ap, arith, asked_for, at}
-use Rattle.law_run.proofs.Imports.{at-empty, at_row, cases_lt, cell_cmp, cell_of, chain_in, chosen_log, chosen_state, epoch_at, false, front_itself}
-use Rattle.law_run.proofs.Imports.{front_long, front_on, half, holds_link, inl, inr, is_clients, is_in, kept, length, link_named, live, nat_cmp}
-use Rattle.law_run.proofs.Imports.{nat_cmp_total, none_some, own_below, own_place, own_plain, owns_of, place_by, progress, proposed, refl, runs_now}
-use Rattle.law_run.proofs.Imports.{same_cell_or_apart, seen, server_state, stage_at, stage_facts, subst, sym, taking, true, true_false, write_stays, ℕ}
+use Rattle.law_run.proofs.Imports.{[], ◌+◌, ◌∙◌, ◌∷◌, ◌≡◌, ◌≤◌, ◌⊎◌, AliveIn, AreEarly, AskingBy, Body, Cell, Chain, Drops, Handled, IsFrozen, IsLinked}
+use Rattle.law_run.proofs.Imports.{IsPutting, IsSteady, IsTimely, IsWrite, JobContext, Key, LinkRow, List, Lives, NeverDead, None, Option, PairState, Pending}
+use Rattle.law_run.proofs.Imports.{PendingFor, PutsAsked, Setting, Some, State, Store, WasThere, World, ap, arith, asked_for, at, at-empty, at_row, cases_lt}
+use Rattle.law_run.proofs.Imports.{cell_cmp, cell_of, chain_in, chosen_log, chosen_state, epoch_at, false, front_itself, front_long, front_on, half, inl, inr}
+use Rattle.law_run.proofs.Imports.{is_clients, is_in, kept, length, live, nat_cmp, nat_cmp_total, none_some, own_below, own_place, own_plain, owns_of}
+use Rattle.law_run.proofs.Imports.{place_by, progress, refl, runs_now, same_cell_or_apart, seen, server_state, stage_at, stage_facts, subst, sym, taking}
+use Rattle.law_run.proofs.Imports.{true, true_false, write_stays, ℕ}
 use Rattle.law_run.specs.MachineTies.{Ground, IsRemembered, Is_pending, Was_pending}
 use Rattle.law_run.proofs.StoresThatCount.{of_kept}
 use Rattle.law_run.proofs.EntryAtEpoch.{AreUpTo}
@@ -15,17 +15,6 @@ use Rattle.law_run.proofs.OwnPlacesAreLatest.{own_there}
 use Rattle.law_run.proofs.RunScenes.{Grounded}
 use Rattle.petal_msg.specs.declared.body.Body.TheVariants as body
 use Rattle.petal_msg.specs.declared.operation.Far.TheVariants as far
-
-link_store : (mine : PairState) (o : Option LinkRow) → (holds_link mine o).store ≡ mine.store
-link_store mine None = refl
-link_store mine (Some row) = refl
-
--- a ballot that starts leaves the store as it is
-pub proposed_store : (at : State) (mine : PairState) (started : Option Command) → (proposed at mine started).store ≡ mine.store
-proposed_store at mine (Some (Caught of link holder inc other other_inc)) = link_store mine
-    (link_named at (record { map = of; link = link }))
-proposed_store at mine (Some _) = refl
-proposed_store at mine None = refl
 
 -- a cell is dead, or not
 pub alive_or_dead : (state : State) (cell : Cell) → stage_at state cell ≤ 4 → AliveIn state cell ⊎ (stage_at state cell ≡ 4)

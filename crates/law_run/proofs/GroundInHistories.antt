@@ -1,13 +1,13 @@
 -- The ground of a legal history is there at its beginning, and each step of it keeps it.
 use Rattle.law_run.proofs.Imports.{[], ◌++◌, ◌∙◌, ◌∷◌, ◌≡◌, ◌⊎◌, AllMayWake, AllStarted, AreSteps, AskingAlong, At, Caught, Cell, Command, Firm, Follows}
-use Rattle.law_run.proofs.Imports.{Good, Happens, In, IsGrown, IsOwn, IsPlainLog, IsPrefix, IsSound, IsSteady, KeepsOn, KnowsReports, List, OneMore, Option}
-use Rattle.law_run.proofs.Imports.{PairState, Ready, Record, Run, Script, Setting, Some, State, World, ap, at_by, blank_joins_in, by_run, by_test}
-use Rattle.law_run.proofs.Imports.{chosen_caught_was, chosen_from, chosen_log, chosen_state, counted, devices, early_after, firm_in, firm_then, first_lives}
-use Rattle.law_run.proofs.Imports.{flat_map, fold, follows_in, front_on, grown_in, grown_then, happens, happens_asking, happens_later, in_counts, in_own, inl}
-use Rattle.law_run.proofs.Imports.{inr, is_in, lives_after, log_below, log_grown, log_plain, log_steady, longer, map, max, may_wake, more_lives, none_some}
-use Rattle.law_run.proofs.Imports.{one_more, pending_timely, place_by, place_timely, range_with_len, refl, reports_known, rests_in, rests_next, run_of}
-use Rattle.law_run.proofs.Imports.{same_some, second_timely, server_state, setting_in, setting_of, start, start_along, start_asking, start_good, start_lives}
-use Rattle.law_run.proofs.Imports.{start_visits, state_after, step_goes, stepped, stepped_in, subst, sym, true, vote_place, world_after, world_more, ℕ}
+use Rattle.law_run.proofs.Imports.{Good, Happens, HasProperTuples, In, IsGrown, IsOwn, IsPrefix, IsSound, IsSteady, KeepsOn, KnowsReports, List, OneMore}
+use Rattle.law_run.proofs.Imports.{Option, PairState, Ready, Record, Run, Script, Setting, Some, State, World, ap, at_by, blank_joins_in, by_run, by_test}
+use Rattle.law_run.proofs.Imports.{chosen_caught_was, chosen_log, chosen_state, counted, early_after, firm_in, firm_then, first_lives, follows_in, front_on}
+use Rattle.law_run.proofs.Imports.{grown_in, grown_then, happens, happens_asking, happens_later, in_counts, in_own, inl, inr, is_in, lives_after, log_below}
+use Rattle.law_run.proofs.Imports.{log_grown, log_plain, log_steady, longer, may_wake, more_lives, none_chosen, none_some, one_more, pending_timely, place_by}
+use Rattle.law_run.proofs.Imports.{place_timely, refl, reports_known, rests_in, rests_next, run_of, same_some, second_timely, server_state, setting_in}
+use Rattle.law_run.proofs.Imports.{setting_of, start, start_along, start_asking, start_good, start_lives, start_visits, state_after, step_goes, stepped}
+use Rattle.law_run.proofs.Imports.{stepped_in, subst, sym, true, world_after, world_more, ℕ}
 use Rattle.law_copies.specs.Visits.{is_at}
 use Rattle.law_copies.proofs.VisitsAfterSteps.{seen}
 use Rattle.law_jobs.proofs.Runs.{after}
@@ -29,7 +29,7 @@ epochs_after script records sound legal = record {
   early = early_after script records sound legal;
 }
 
-module _ (script : Script) (sound : IsSound script) (whole : List Command) (all : IsPlainLog (setting_of script).servers whole) where
+module _ (script : Script) (sound : IsSound script) (whole : List Command) (all : HasProperTuples (setting_of script).servers whole) where
   abbrev setting : Setting
   setting = setting_of script
 
@@ -171,14 +171,6 @@ module _ (script : Script) (sound : IsSound script) (whole : List Command) (all 
 
 -- ### The beginning
 
--- nobody has voted, and nothing is chosen
-none_voted : (setting : Setting) (xs : List ℕ) → fold max 0 (map vote_place (flat_map (devices (start setting)) xs)) ≡ 0
-none_voted setting [] = refl
-none_voted setting (x ∷ xs) = none_voted setting xs
-
-pub none_chosen : (setting : Setting) → chosen_log setting (start setting) ≡ []
-none_chosen setting = ap (chosen_from setting.servers (devices (start setting)) 1) (none_voted setting (range_with_len 0 setting.servers))
-
 -- nothing has happened
 start_ground : (state : State) (script : Script) → IsSound script → Ready (setting_of script) state (start (setting_of script))
     → AllMayWake (setting_of script) (start (setting_of script)) → Ground (setting_of script) state (start (setting_of script))
@@ -235,13 +227,13 @@ first_ground state script sound ready wake = record {
 -- ### Of a run
 
 -- the footing of a world, after the run's records
-pub record IsFooted (run : Run) (whole : List Command) (all : IsPlainLog run.script.servers whole) (w : World) : Type 0 where
+pub record IsFooted (run : Run) (whole : List Command) (all : HasProperTuples run.script.servers whole) (w : World) : Type 0 where
   pub footing : Footing run.script run.sound whole all w
   pub records_are : footing.ground.records ≡ run.records
 
 -- in view of a log, of which what is chosen is a front
 abbrev FootedBelow : Run → Type 0
-FootedBelow run = (whole : List Command) (all : IsPlainLog run.script.servers whole) → IsPrefix (chosen_log (setting_in run) (after run)) whole
+FootedBelow run = (whole : List Command) (all : HasProperTuples run.script.servers whole) → IsPrefix (chosen_log (setting_in run) (after run)) whole
     → IsFooted run whole all (after run)
 
 footed_first : (script : Script) (sound : IsSound script) (legal : AreSteps script []) → FootedBelow (run_of script sound [] legal)
@@ -253,12 +245,12 @@ footed_first script sound legal whole all front =
     record { footing = record { ground = first.now; known = first.known; lives_are = first.lives_are }; records_are = first.records_are }
 
 -- one record on
-pub record IsOn (it : OneMore) (whole : List Command) (all : IsPlainLog it.prior.script.servers whole) (v : World) : Type 0 where
+pub record IsOn (it : OneMore) (whole : List Command) (all : HasProperTuples it.prior.script.servers whole) (v : World) : Type 0 where
   pub footing : Footing it.prior.script it.prior.sound whole all v
   pub records_are : footing.ground.records ≡ (longer it).records
   pub middle : IsMiddle (setting_in it.prior) (after it.prior) v footing.ground.records footing.ground.good.visits
 
-pub footed_on : (it : OneMore) (whole : List Command) (all : IsPlainLog it.prior.script.servers whole)
+pub footed_on : (it : OneMore) (whole : List Command) (all : HasProperTuples it.prior.script.servers whole)
     → IsPrefix (chosen_log (setting_in it.prior) (after (longer it))) whole → FootedBelow it.prior
     → IsOn it whole all (stepped (setting_in it.prior) (after it.prior) it.own).world
 footed_on it whole all front old =

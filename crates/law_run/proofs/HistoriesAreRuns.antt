@@ -1,13 +1,13 @@
 -- Every legal history is a run of the plain machine.
-use Rattle.law_run.proofs.Imports.{[], ◌++◌, ◌∙◌, ◌∷◌, ◌≡◌, Actor, AreHeld, AreSteps, AreStepsFrom, At, Blank, Call, Command, DiskRow, Event, Follows, In}
-use Rattle.law_run.proofs.Imports.{IsMoment, IsPlainLog, IsPrefix, IsRunOf, IsSound, Law, Letter, List, MayActor, Obeys, Option, Plain, Record, Run, Script}
-use Rattle.law_run.proofs.Imports.{Setting, SnapshotsStay, Some, State, Step, World, acts, always_empty, ap, append-nil, append_assoc, at-empty, at_moment}
-use Rattle.law_run.proofs.Imports.{before_part, begins, blank, cell_cmp, change_by, chosen_log, client_state, client_step, client_turns, copies_after}
-use Rattle.law_run.proofs.Imports.{covered_after, events_of, firm_in, firm_then, flat_map, follows_in, freezes, front_legal, grown_then, history_agrees}
-use Rattle.law_run.proofs.Imports.{history_grows, is_call, joined, longer, look_of, machine_after, makes, marks_first, nat_cmp, next_line, none_some}
-use Rattle.law_run.proofs.Imports.{open_write, out_has_stopped, own_steady, reacts, refl, replay, reports_hold, requests_after, rule_after, run_of}
-use Rattle.law_run.proofs.Imports.{server_serves, server_state, server_step, setting_in, setting_of, start, state_after, step, stepped, stepped_in, subst}
-use Rattle.law_run.proofs.Imports.{sym, takes, told, told_from, told_with, ℕ}
+use Rattle.law_run.proofs.Imports.{[], ◌++◌, ◌∙◌, ◌∷◌, ◌≡◌, Actor, AreHeld, AreSteps, AreStepsFrom, At, Blank, Call, Command, DiskRow, Event, Follows}
+use Rattle.law_run.proofs.Imports.{HasProperTuples, In, IsMoment, IsPrefix, IsRunOf, IsSound, Law, Letter, List, MayActor, Obeys, Option, Plain, Record, Run}
+use Rattle.law_run.proofs.Imports.{Script, Setting, SnapshotsStay, Some, State, Step, World, acts, always_empty, ap, append-nil, append_assoc, at-empty}
+use Rattle.law_run.proofs.Imports.{at_moment, before_part, begins, blank, cell_cmp, change_by, chosen_log, client_state, client_step, client_turns}
+use Rattle.law_run.proofs.Imports.{copies_after, covered_after, events_of, firm_in, firm_then, flat_map, follows_in, freezes, front_legal, grown_then}
+use Rattle.law_run.proofs.Imports.{history_agrees, history_grows, is_call, joined, longer, look_of, machine_after, makes, marks_first, nat_cmp, next_line}
+use Rattle.law_run.proofs.Imports.{none_chosen, none_some, open_write, out_has_stopped, own_steady, reacts, refl, replay, reports_hold, requests_after}
+use Rattle.law_run.proofs.Imports.{rule_after, run_of, server_serves, server_state, server_step, setting_in, setting_of, start, state_after, step, stepped}
+use Rattle.law_run.proofs.Imports.{stepped_in, subst, sym, takes, told, told_from, told_with, ℕ}
 use Rattle.spec_history.specs.Events.{ended, ends}
 use Rattle.law_jobs.proofs.Runs.{after}
 use Rattle.law_run.specs.MachineTies.{Follow, Ground}
@@ -22,13 +22,13 @@ use Rattle.law_run.proofs.ServerStepsAllowed.{step_told}
 use Rattle.law_run.proofs.BlanksTellNothing.{blank_follow, blank_told}
 use Rattle.law_run.proofs.EventsOfServerSteps.{IsMiddle, ServesAt}
 use Rattle.law_run.proofs.SnapshotsNeverChange.{contents_still}
-use Rattle.law_run.proofs.GroundInHistories.{along_at, footed_on, footing_after, grown_at, none_chosen}
+use Rattle.law_run.proofs.GroundInHistories.{along_at, footed_on, footing_after, grown_at}
 use Rattle.law_run.proofs.RunScenes.{Followed}
 use Rattle.petal_msg.specs.declared.letter.Actor.TheVariants as actor
 
 -- ### Steps, where the chosen logs are fronts of one
 
-module _ (script : Script) (sound : IsSound script) (whole : List Command) (all : IsPlainLog (setting_of script).servers whole) where
+module _ (script : Script) (sound : IsSound script) (whole : List Command) (all : HasProperTuples (setting_of script).servers whole) where
   abbrev setting : Setting
   setting = setting_of script
 
@@ -184,7 +184,7 @@ module _ (run : Run) where
   abbrev whole_log : List Command
   whole_log = chosen_log of_run (after run)
 
-  pub plain : IsPlainLog script.servers whole_log
+  pub plain : HasProperTuples script.servers whole_log
   plain = (firm_in run).plain
 
   -- what is chosen on the way is at the front of what is chosen at the end

@@ -6,28 +6,27 @@ pub use Rattle.law_script.proofs.Imports.{refl, subst, suc, sym, text_lines, tru
 unfoldable pub use Rattle.law_script.proofs.Imports.{a_tuple, boot_of, client_request, fault_of, filled_of, first_line, four_words, halves_of, in_limits}
 unfoldable pub use Rattle.law_script.proofs.Imports.{lines_after, move_of, net_line, one_word, operator_request, read_of, script_of, servers_line, snap_of}
 unfoldable pub use Rattle.law_script.proofs.Imports.{spread_of, stop_at, stop_of, three_words, two_words, write_of}
-pub use Rattle.law_state.specs.Imports.{Both, Caught, Cell, Command, DiskRow, DiskView, Drained, Fenced, IsPrefix, Join, Leave, LinkRow, LinkState, Lost}
-pub use Rattle.law_state.specs.Imports.{MapRow, Move, New, Old, Only, PairState, Record, RegionState, Server, Setting, Snapshot, State, World}
-pub use Rattle.law_state.specs.Imports.{blank_joins_from, cell_asked, cell_link, chosen_log, chosen_state, disk_at, find, has_map, has_server, held, inc_of}
-pub use Rattle.law_state.specs.Imports.{is_in, is_lead, leads_link, leaves, move_region, named, other_of, owner, region_of, row_blanked, servers_of, serves}
-pub use Rattle.law_state.specs.Imports.{snapshot, snapshot_named, source, state_after, tuple_of}
+pub use Rattle.law_state.specs.Imports.{Both, Caught, Cell, Command, DiskRow, DiskView, Drained, Fenced, IsPrefix, Join, Leave, LinkRow, Lost, MapRow, Move}
+pub use Rattle.law_state.specs.Imports.{New, Old, Only, PairState, Record, RegionState, Server, Setting, Snapshot, State, World, blank_joins_from, cell_asked}
+pub use Rattle.law_state.specs.Imports.{cell_link, chosen_log, chosen_state, disk_at, find, has_map, has_server, held, inc_of, is_in, is_lead, leads_link}
+pub use Rattle.law_state.specs.Imports.{leaves, move_region, named, other_of, owner, region_of, row_blanked, servers_of, serves, snapshot, snapshot_named}
+pub use Rattle.law_state.specs.Imports.{source, state_after, tuple_of}
 unfoldable pub use Rattle.law_state.specs.Imports.{In, at}
 pub use Rattle.law_state.proofs.Imports.{if◌then◌else◌, ◌≤◌, append-nil, append_assoc, authority, blanked_state, both_true, by_bool, by_test, drop, filter}
-pub use Rattle.law_state.proofs.Imports.{fold, fold-append, in-append, in_both, in_former, in_later, is_all_held, is_alone, is_alone_on, is_disk, is_fenced}
-pub use Rattle.law_state.proofs.Imports.{is_some, is_the_one, is_the_so, map, map_asked, nat_le, nat_lists_same, nat_tests, none_some, number_itself}
-pub use Rattle.law_state.proofs.Imports.{option_and_then, option_map, option_map_or, range_with_len, readable, region_at, same_name, same_numbers}
-pub use Rattle.law_state.proofs.Imports.{same_or_apart, same_some, second, slice_get, slice_get_within, some_or_none, source_in, touches, true_false}
-pub use Rattle.law_state.proofs.Imports.{unwrap_or, view_of}
+pub use Rattle.law_state.proofs.Imports.{fold, fold-append, in-append, in_both, in_former, in_later, is_all_held, is_alone_on, is_disk, is_fenced, is_some}
+pub use Rattle.law_state.proofs.Imports.{is_the_one, is_the_so, map, map_asked, nat_le, nat_lists_same, nat_tests, none_some, number_itself, option_and_then}
+pub use Rattle.law_state.proofs.Imports.{option_map, option_map_or, range_with_len, readable, region_at, same_name, same_numbers, same_or_apart, same_some}
+pub use Rattle.law_state.proofs.Imports.{second, slice_get, slice_get_within, some_or_none, source_in, touches, true_false, unwrap_or, view_of}
 pub use Rattle.law_log.proofs.Imports.{Acted, Actor, After, Answer, AreSteps, AreStepsFrom, Asked, Before, Blank, Body, Boot, Call, Client, Deliver, Ending}
-pub use Rattle.law_log.proofs.Imports.{Equal, Firm, IsPlainLog, IsPlainState, IsSound, Job, JobContext, JobResult, Key, LastCopy, Letter, Log, LogDone}
+pub use Rattle.law_log.proofs.Imports.{Equal, Firm, HasProperTuples, IsSettledState, IsSound, Job, JobContext, JobResult, Key, LastCopy, Letter, Log, LogDone}
 pub use Rattle.law_log.proofs.Imports.{MayActor, OpKind, Pending, Post, Reaction, Sight, Step, StopIn, Stored, Work, WorkEnd, about, acts, all_put}
 pub use Rattle.law_log.proofs.Imports.{all_put_apart, answers, awake, blanked, boots, cell_of, chain_in, client_sender, client_state, client_step, command_of}
-pub use Rattle.law_log.proofs.Imports.{copying_on, crossing, devices, down_posts, ended, ends, entered, epoch_for, fill_operation, first_wanted, gives_back}
-pub use Rattle.law_log.proofs.Imports.{has_proposed, hears, hears_any, hears_of, here_of, holds_link, id_of, is_eq, is_flagged, is_log_job, is_logged}
-pub use Rattle.law_log.proofs.Imports.{is_overfull, is_read, is_second, is_under_way, is_write, job_done, known, link_named, log_plain, nat_cmp}
-pub use Rattle.law_log.proofs.Imports.{nat_cmp_total, next_line, next_place, post_of, proposed, put_apart, put_same, raised, ranked, reacts, rev_of, sender}
-pub use Rattle.law_log.proofs.Imports.{server_state, server_step, setting_of, stamped, start, state_in, stays, stepped, stopped, stops, subject_of, voter_of}
-pub use Rattle.law_log.proofs.Imports.{wakes, wanted_by, without_pending, worked, works, world_after}
+pub use Rattle.law_log.proofs.Imports.{copying_on, crossing, down_posts, ended, ends, entered, epoch_for, fill_operation, first_wanted, gives_back}
+pub use Rattle.law_log.proofs.Imports.{has_proposed, hears, hears_any, hears_of, here_of, id_of, is_eq, is_flagged, is_log_job, is_logged, is_overfull}
+pub use Rattle.law_log.proofs.Imports.{is_read, is_second, is_under_way, is_write, job_done, known, log_plain, nat_cmp, nat_cmp_total, next_line, next_place}
+pub use Rattle.law_log.proofs.Imports.{post_of, put_apart, put_same, raised, ranked, reacts, rev_of, sender, server_state, server_step, setting_of, stamped}
+pub use Rattle.law_log.proofs.Imports.{start, state_in, stays, stepped, stopped, stops, subject_of, voter_of, wakes, wanted_by, without_pending, worked}
+pub use Rattle.law_log.proofs.Imports.{works, world_after}
 unfoldable pub use Rattle.law_log.proofs.Imports.{applies, does, heard, log_does, refusal, starts, step}
 pub use Rattle.law_steps.specs.Imports.{Busy, Finished, Glanced, IsBelow, Refused, Sender, Stage, Stale, StaysSo, Subject, Table, before_blanks, bytes_of}
 pub use Rattle.law_steps.specs.Imports.{cell_cmp, coming, crossed, entry_at, epochs_beyond, letters_of, live, old_lead, operation, pattern_block, puts}
@@ -46,36 +45,38 @@ pub use Rattle.law_jobs.proofs.Imports.{Opens_fill_alone, Puts, Puts_alone, Read
 pub use Rattle.law_jobs.proofs.Imports.{always_firm, at_apart, at_same, chains_with, dead_second, front_legal, of_read, of_sweep, own_place, rests_after}
 pub use Rattle.law_jobs.proofs.Imports.{same_cell_or_apart, start_rests, stood, taking, world_more}
 pub use Rattle.law_copies.specs.Imports.{IsRising, blank_joins_in, kept_store, no_pairs, one_put_ahead}
-pub use Rattle.law_copies.proofs.Imports.{AllMayWake, Answered, At, BeforeBlank, Blanks, By_ballot, By_caught, By_entry, By_job, By_join, By_leave, Ends}
-pub use Rattle.law_copies.proofs.Imports.{Ends_fill, Fails, Goes, HasJoinedSince, IsLater, IsSeated, Moves, Moves_on, OneMore, Run, Says, Serves, Serving}
-pub use Rattle.law_copies.proofs.Imports.{Stays, Turns, Wakes, Worked, alone_by, at_row, before_part, both_row, by_run, cases_lt, chain_apart, chain_put}
+pub use Rattle.law_copies.proofs.Imports.{AllMayWake, At, BeforeBlank, Blanks, By_ballot, By_caught, By_entry, By_job, By_join, By_leave, Ends, Ends_fill}
+pub use Rattle.law_copies.proofs.Imports.{Fails, Goes, HasJoinedSince, IsLater, IsSeatedOrMute, Moves, Moves_on, OneMore, Run, Says, Serves, Serving, Stays}
+pub use Rattle.law_copies.proofs.Imports.{Turns, Wakes, Worked, alone_by, at_row, before_part, both_row, by_run, cases_lt, chain_apart, chain_put}
 pub use Rattle.law_copies.proofs.Imports.{chosen_caught_was, counted, counted_by, either_true, firm_in, front_itself, front_long, front_more, front_on}
-pub use Rattle.law_copies.proofs.Imports.{get_in, grown_in, held_as_flag, in_get, is_at_work, kept, kept_by, lead_links, letters_of_job, live_stage}
-pub use Rattle.law_copies.proofs.Imports.{log_grown, log_lost, log_touched, longer, may_wake, of_ending, of_filler, of_holder, of_other, of_second}
-pub use Rattle.law_copies.proofs.Imports.{one_before, one_front, one_post, other_between, own_steady, places_grow, posted, primary_is_one, put_rises, putting}
+pub use Rattle.law_copies.proofs.Imports.{get_in, grown_in, held_as_flag, in_get, in_map, in_none, is_at_work, kept, kept_by, lead_links, letters_of_job}
+pub use Rattle.law_copies.proofs.Imports.{live_stage, log_grown, log_lost, log_touched, longer, may_wake, of_ending, of_filler, of_holder, of_other}
+pub use Rattle.law_copies.proofs.Imports.{of_second, one_before, one_front, other_between, own_steady, places_grow, primary_is_one, put_rises, putting}
 pub use Rattle.law_copies.proofs.Imports.{row_joined, run_of, said, second_by, secondary_is_one, served_so, setting_in, shown_so, stopped_so, turned_asks}
 pub use Rattle.law_copies.proofs.Imports.{without_rev}
 pub use Rattle.law_requests.specs.Imports.{done_to, line_by}
-pub use Rattle.law_requests.proofs.Imports.{Alone_has, Begins, Blanks_it, Both_have, By_operation, By_verdict, By_witness, Fails_it, Goes_on, Had_no_slot}
-pub use Rattle.law_requests.proofs.Imports.{Has_no_space, Heard, IsCalled, IsFinishedFor, IsJudged, IsReason, IsSeenAs, Is_dead, Is_declined, Is_settled}
-pub use Rattle.law_requests.proofs.Imports.{Is_told, Judges, OnlySays, Reads, Shown, Starts_it, StaysOpen, Stops_at, Stops_it, Turned, both_leads}
+pub use Rattle.law_requests.proofs.Imports.{Alone_has, Answered, Begins, Blanks_it, Both_have, By_operation, By_verdict, By_witness, Fails_it, Goes_on}
+pub use Rattle.law_requests.proofs.Imports.{Had_no_slot, Has_no_space, Heard, IsCalled, IsFinishedFor, IsJudged, IsReason, IsSeenAs, Is_dead, Is_declined}
+pub use Rattle.law_requests.proofs.Imports.{Is_settled, Is_told, Judges, OnlySays, Reads, Shown, Starts_it, StaysOpen, Stops_at, Stops_it, Turned, both_leads}
 pub use Rattle.law_requests.proofs.Imports.{chosen_steady, did_finish, disk_on, front_same, is_refused, leaving, led_by, own_below, own_plain, rests_in}
 pub use Rattle.law_requests.proofs.Imports.{runs_now, write_refusal}
 pub use Rattle.law_moves.specs.Imports.{HasNewer, IsFilledFrom, IsServing}
 pub use Rattle.law_moves.proofs.Imports.{AliveIn, AreCopies, AreCopying, AreTwins, Good, HasSent, IsAt, IsCaught, IsLast, IsLeft, IsLinked, IsOther, IsOwn}
-pub use Rattle.law_moves.proofs.Imports.{IsStaged, IsTold, PairOk, WasThere, Working, alive_on, alone_authority, alone_or_flagged, at_by, begins_to_leave}
-pub use Rattle.law_moves.proofs.Imports.{both_authority, both_last, both_since, chain_that_counts, chosen_from, far, fronts_meet, frozen_by, good_after, half}
-pub use Rattle.law_moves.proofs.Imports.{held_by, in_counts, in_own, joined_where, lead, linked_between, no_home, one_place, one_row, other_apart, other_than}
-pub use Rattle.law_moves.proofs.Imports.{pair_at, pair_of, place_by, place_of_later, place_touched, places_up, rows_later, source_same, stage_facts, stage_in}
-pub use Rattle.law_moves.proofs.Imports.{stage_is, start_good, step_goes, store_by, unseen_beyond, vote_place}
+pub use Rattle.law_moves.proofs.Imports.{IsStaged, IsTold, PairOk, WasThere, Working, alive_on, alone_authority, alone_or_flagged, at_by, ballot_store}
+pub use Rattle.law_moves.proofs.Imports.{begins_to_leave, both_authority, both_last, both_since, chain_that_counts, far, fronts_meet, frozen_by, good_after}
+pub use Rattle.law_moves.proofs.Imports.{half, half_store, held_by, in_counts, in_kept, in_left, in_mapped, in_own, joined_where, lead, linked_between}
+pub use Rattle.law_moves.proofs.Imports.{no_home, one_place, one_row, other_apart, other_than, pair_at, pair_of, place_by, place_of_later, place_touched}
+pub use Rattle.law_moves.proofs.Imports.{places_up, rows_later, source_same, stage_facts, stage_in, stage_is, start_good, step_goes, store_by, unseen_beyond}
 pub use Rattle.std.proofs.Math.Seq.{drop-append_seam}
 pub use Rattle.std.proofs.lemmas.Cmp.{nat_list_eq_equiv}
 pub use Rattle.std.proofs.lemmas.List.{length-append}
 pub use Rattle.std.proofs.lemmas.List.Folds.{find-append}
 pub use Rattle.std.specs.List.{cons_option, filter_map}
 pub use Rattle.std.specs.Option.{option_or}
+pub use Rattle.law_copies.proofs.ChainsRise.{all_left}
 pub use Rattle.law_copies.proofs.CopiesInHistories.{KeepsOn, KeptAfter, start_visits}
 pub use Rattle.law_copies.proofs.LastCopies.{of_last, past_last, past_of}
+pub use Rattle.law_copies.proofs.LeftToCopy.{tied}
 pub use Rattle.law_copies.proofs.MarksPrecedePuts.{marks_first}
 pub use Rattle.law_copies.proofs.OtherIsNotHolder.{held_not_lead}
 pub use Rattle.law_copies.proofs.PlacesByFronts.{dead_not, linked_alive}
@@ -96,7 +97,9 @@ pub use Rattle.law_moves.proofs.JobsChangeOneChain.{A_copy, An_asked, An_own, Co
 pub use Rattle.law_moves.proofs.JobsChangeOneChain.{Of_the_dead, OtherStores, PutsAsked, PutsCopy, PutsOwn, StoresSo, copied_apart, did_stores, holder_chains}
 pub use Rattle.law_moves.proofs.JobsChangeOneChain.{lead_stores, other_changes, second_stores, swept}
 pub use Rattle.law_moves.proofs.KnownOfMoves.{comes_after, dead_frozen, filling_after, over_after, rule_after}
-pub use Rattle.law_moves.proofs.MovesInHistories.{known_after}
+pub use Rattle.law_moves.proofs.MovesInHistories.{known_after, none_chosen}
+pub use Rattle.law_moves.proofs.NextFill.{in_flat}
+pub use Rattle.law_moves.proofs.NoPutsToLeavingCells.{op_there}
 pub use Rattle.law_moves.specs.EntryEpochs.{AreEarly}
 pub use Rattle.law_moves.specs.Fills.{Has, IsFrozen}
 pub use Rattle.law_moves.specs.InTime.{IsTimely}
@@ -132,6 +135,7 @@ pub use Rattle.law_state.specs.Tables.{IsGrown, IsLaterDisk, IsRowAt}
 pub use Rattle.law_steps.proofs.ClientLetters.{is_ask}
 pub use Rattle.law_steps.proofs.ClientStepKinds.{client_turns, is_call}
 pub use Rattle.law_steps.proofs.KindsInHistories.{happens, ready_chosen, rests_next}
+pub use Rattle.law_steps.proofs.Letters.{one_post, posted}
 pub use Rattle.law_steps.proofs.LogJobs.{LogFrame, applied_entry, applied_none, letter_frame_of, start_frame_of}
 pub use Rattle.law_steps.proofs.Records.{split_fronts}
 pub use Rattle.law_steps.proofs.ServerStepKinds.{chosen_same, server_serves}

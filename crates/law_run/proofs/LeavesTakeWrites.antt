@@ -1,9 +1,9 @@
 -- What is chosen grows: where a cell's second server leaves, and the first one is one put ahead, the machine takes the first one's write; all
 -- else that is told of a block is as before. Of a link that is Lost nothing is told.
-use Rattle.law_run.proofs.Imports.{◌&&◌, ◌+◌, ◌||◌, ◌∙◌, ◌≡◌, ◌≤◌, ◌⊎◌, AreDisks, Bool, Cell, DiskRow, In, IsLinked, IsOpen, IsPlainState, Letter, None}
-use Rattle.law_run.proofs.Imports.{Option, PairOk, Pending, Server, Some, Store, Stored, all_put_apart, ap, arith, at, authority, by_bool, bytes_of, cases_lt}
-use Rattle.law_run.proofs.Imports.{cell_cmp, cell_of, chain_in, change_by, counted, entry_at, entry_before, entry_by, entry_of, false, far, first_entry}
-use Rattle.law_run.proofs.Imports.{front_itself, half, has_map, inl, inr, is_clients, is_some, kept, leader_alone, named_cell, nat_cmp, none_some, old_cell}
+use Rattle.law_run.proofs.Imports.{◌&&◌, ◌+◌, ◌||◌, ◌∙◌, ◌≡◌, ◌≤◌, ◌⊎◌, AreDisks, Bool, Cell, DiskRow, In, IsLinked, IsOpen, Letter, None, Option, PairOk}
+use Rattle.law_run.proofs.Imports.{Pending, Server, Some, Store, Stored, all_put_apart, ap, arith, at, authority, by_bool, bytes_of, cases_lt, cell_cmp}
+use Rattle.law_run.proofs.Imports.{cell_of, chain_in, change_by, counted, entry_at, entry_before, entry_by, entry_of, false, far, first_entry, front_itself}
+use Rattle.law_run.proofs.Imports.{half, half_store, has_map, inl, inr, is_clients, is_some, kept, leader_alone, named_cell, nat_cmp, none_some, old_cell}
 use Rattle.law_run.proofs.Imports.{one_put_ahead, one_row, option_and_then, own_below, owns_of, pair_of, place_by, put, refl, replay, same_some, so_both}
 use Rattle.law_run.proofs.Imports.{stage_at, subject_of, subst, sym, true, true_false, ℕ}
 use Rattle.law_run.proofs.ContentsAsRegionsBegin.{IsNow, By_both, By_entry, HasAll, high_after, is_now}
@@ -19,8 +19,8 @@ use Rattle.law_run.proofs.EventsPutTogether.{assembled}
 use Rattle.law_run.proofs.Machine.{held_onward}
 use Rattle.law_run.proofs.OpenWritesAreOnDisks.{Placed, placed_given}
 use Rattle.law_run.proofs.DataLetters.{is_written, unended_data, unended_written, is_reply}
-use Rattle.law_run.proofs.EventsOfServerSteps.{ServerStep, ServerTold, ends_of, grounded, grounded_after, letters, new, quiet_looks}
-use Rattle.law_run.proofs.OwnPlacesAreLatest.{chosen_store, chosen_twins, half_store, op_leads, shared_before, visit_here, alive_here, op_high}
+use Rattle.law_run.proofs.EventsOfServerSteps.{ServerStep, ServerTold, ends_of, grounded, grounded_after, letters, new, quiet_looks, plain_chosen}
+use Rattle.law_run.proofs.OwnPlacesAreLatest.{chosen_store, chosen_twins, op_leads, shared_before, visit_here, alive_here, op_high}
 use Rattle.law_run.proofs.FirstIsOneAhead.{put_ahead}
 use Rattle.law_run.proofs.ContentChanges.{block_there}
 use Rattle.law_run.proofs.CountingAsLogGrows.{steady, IsLeftToFirst, Moves, Stays_there, Is_left, Is_handed_on, Is_lost, moves, entry, was_second, now_first}
@@ -230,11 +230,8 @@ module _ (this : ServerStep) (same_store : (new this).store.chains ≡ (owns_of 
 
   all_votes : AreGiven this
   all_votes row h b =
-      by (turns this same_store (named_cell row b) (named_low this.setting.servers chosen plain_then disks_then row h b) (high_after this row h b))
+      by (turns this same_store (named_cell row b) (named_low this.setting.servers chosen (plain_chosen this) disks_then row h b) (high_after this row h b))
     where
-      plain_then : IsPlainState this.setting.servers chosen
-      plain_then = plain_now this.setting this.w this.along.firm
-
       disks_then : AreDisks chosen
       disks_then = disks_now this.setting this.w this.along.firm
 
@@ -245,8 +242,8 @@ module _ (this : ServerStep) (same_store : (new this).store.chains ≡ (owns_of 
       by (Is_written left a clients) =
           let spot = put_at (named_cell row b) left a clients in
           let row_is : row ≡ spot.row = one_row_of chosen disks_then row spot.row h spot.there
-          (named_map_is this.setting.servers chosen plain_then disks_then row h b)
-          (named_map_is this.setting.servers chosen plain_then disks_then spot.row spot.there spot.block) (ap (λ (c : Cell). c.map) spot.at_block) in
+          (named_map_is this.setting.servers chosen (plain_chosen this) disks_then row h b)
+          (named_map_is this.setting.servers chosen (plain_chosen this) disks_then spot.row spot.there spot.block) (ap (λ (c : Cell). c.map) spot.at_block) in
           let block_is : b ≡ spot.block = ap (λ (c : Cell). c.block) spot.at_block in
           inr (subst (λ (r : DiskRow). IsGiven this r b) (sym row_is)
           (subst (IsGiven this spot.row) (sym block_is) (written_given (named_cell row b) left a clients)))

@@ -48,6 +48,7 @@ pub mod ClientSteps
 pub mod OperationsRecalled
 pub mod BlanksTellNothing
 pub mod SnapshotsNeverChange
+pub mod SearchesFindData
 pub mod OldReads
 pub mod NotHere
 pub mod MovesKnown

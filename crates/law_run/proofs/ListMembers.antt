@@ -1,55 +1,13 @@
 -- What stands in lists that are made of others, and in tables.
-use Rattle.law_run.proofs.Imports.{[], ◌++◌, ◌+◌, ◌<◌, ◌∙◌, ◌∷◌, ◌≡◌, ◌≤◌, Bool, Equal, Greater, In, Less, List, None, Option, Ordering, Some, Table, ap}
-use Rattle.law_run.proofs.Imports.{arith, at, at_apart, at_same, cond, cons_option, false, filter, filter_map, flat_map, fold, in_former, in_later, inl, inr}
-use Rattle.law_run.proofs.Imports.{is_at, is_eq, lookup, map, nat_cmp, none_some, put, range_with_len, ranked, refl, same_or_apart, subst, suc, sym, true}
-use Rattle.law_run.proofs.Imports.{zero, ℕ}
+use Rattle.law_run.proofs.Imports.{[], ◌++◌, ◌+◌, ◌<◌, ◌∙◌, ◌∷◌, ◌≡◌, ◌≤◌, Bool, Equal, In, List, None, Option, Ordering, Some, Table, ap, arith, at}
+use Rattle.law_run.proofs.Imports.{at_apart, at_same, cond, cons_option, false, filter_map, flat_map, fold, in_mapped, inl, inr, is_at, is_eq, lookup, map}
+use Rattle.law_run.proofs.Imports.{nat_cmp, none_some, put, range_with_len, ranked, refl, same_or_apart, subst, suc, sym, tied, true, zero, ℕ}
 use Rattle.std.specs.Prelude.{find}
-
-pub into_map : {A B : Type 0} (f : A → B) (xs : List A) (x : A) → In x xs → In (f x) (map f xs)
-unfolding In
-into_map f [] x h = h
-into_map f (y ∷ ys) x (inl e) = inl (ap f e)
-into_map f (y ∷ ys) x (inr h) = inr (into_map f ys x h)
-
-pub into_flat_map : {A B : Type 0} (f : A → List B) (xs : List A) (x : A) (y : B) → In x xs → In y (f x) → In y (flat_map f xs)
-unfolding In
-into_flat_map f [] x y h g = absurd h
-into_flat_map {B = B} f (z ∷ zs) x y (inl e) g = in_former y (f z) (flat_map f zs) (subst (λ k. In y (f k)) e g)
-into_flat_map f (z ∷ zs) x y (inr h) g = in_later y (f z) (flat_map f zs) (into_flat_map f zs x y h g)
-
-pub of_map : {A B : Type 0} (f : A → B) (xs : List A) (y : B) → In y (map f xs) → (x : A) × In x xs × (y ≡ f x)
-unfolding In
-of_map f [] y h = absurd h
-of_map f (x ∷ xs) y (inl e) = (x, inl refl, e)
-of_map f (x ∷ xs) y (inr h) = let found = of_map f xs y h in (found.0, inr found.1, found.2)
 
 pub into_range : (start n i : ℕ) → start ≤ i → i < start + n → In i (range_with_len start n)
 unfolding In
 into_range start zero i low high = absurd (omega arith)
 into_range start (suc n) i low high = elim (same_or_apart i start) [ inl e ↦ inl e | inr ne ↦ inr (into_range (start + 1) n i (omega arith) (omega arith)) ]
-
-pub into_filter : {A : Type 0} (p : A → Bool) (xs : List A) (x : A) → In x xs → p x ≡ true → In x (filter p xs)
-unfolding In
-into_filter p [] x h e = h
-into_filter {A} p (y ∷ ys) x (inl is) e = subst (λ b. In x (cond b (y ∷ filter p ys) (filter p ys))) (sym (ap p (sym is) ∙ e)) (inl is)
-into_filter {A} p (y ∷ ys) x (inr h) e =
-    let later = into_filter p ys x h e in
-    elim (p y) as (λ b. In x (cond b (y ∷ filter p ys) (filter p ys))) [ true ↦ inr later | false ↦ later ]
-
-pub of_filter : {A : Type 0} (p : A → Bool) (xs : List A) (x : A) → In x (filter p xs) → In x xs × (p x ≡ true)
-unfolding In
-of_filter p [] x h = absurd h
-of_filter {A} p (y ∷ ys) x h =
-    elim (p y) as (λ b. p y ≡ b → (In x (filter p ys) → In x ys × (p x ≡ true)) → In x (cond b (y ∷ filter p ys) (filter p ys))
-    → In x (y ∷ ys) × (p x ≡ true)) [
-      | true ↦ λ is later i. elim i [ inl e ↦ (inl e, subst (λ (z : A). p z ≡ true) (sym e) is) | inr j ↦ let l = later j in (inr l.0, l.1) ]
-      | false ↦ λ is later i. let l = later i in (inr l.0, l.1)
-    ] refl (of_filter p ys x) h
-
-pub none_pass : {A : Type 0} (p : A → Bool) (xs : List A) → ((x : A) → In x xs → p x ≡ false) → filter p xs ≡ []
-unfolding In
-none_pass p [] h = refl
-none_pass p (x ∷ xs) h = ap (λ b. cond b (x ∷ filter p xs) (filter p xs)) (h x (inl refl)) ∙ none_pass p xs (λ y i. h y (inr i))
 
 pub all_empty : {A B : Type 0} (f : A → List B) (xs : List A) → ((x : A) → In x xs → f x ≡ []) → flat_map f xs ≡ []
 unfolding In
@@ -87,11 +45,6 @@ found_one {A} p (z ∷ zs) x h e =
       ]
     ] refl (λ i. found_one p zs x i e)
 
-tied : (r : Ordering) → is_eq r ≡ true → r ≡ Equal
-tied Less e = cc
-tied Equal e = refl
-tied Greater e = cc
-
 -- what stands at a key is a row
 pub row_at : {K X : Type 0} (R : K → K → Ordering) (t : Table K X) (k : K) (x : X) → at R t k ≡ Some x → (row : K × X) × In row t × (R k row.0 ≡ Equal)
 unfolding at In
@@ -106,7 +59,7 @@ row_at {K} {X} R (e ∷ es) k x h =
 pub key_at : {X : Type 0} (t : Table ℕ X) (k : ℕ) (x : X) → at nat_cmp t k ≡ Some x → In k (map (λ row. row.0) t)
 key_at t k x e =
     let r = row_at nat_cmp t k x e in
-    subst (λ i. In i (map (λ row. row.0) t)) (sym (ranked k r.0.0 Equal (sym r.2))) (into_map (λ row. row.0) t r.0 r.1)
+    subst (λ i. In i (map (λ row. row.0) t)) (sym (ranked k r.0.0 Equal (sym r.2))) (in_mapped (λ row. row.0) t r.0 r.1)
 
 -- the keys of a table that numbers were put into
 kept_key : (bs : List ℕ) (t : Table ℕ ℕ) (b : ℕ) → at nat_cmp t b ≡ Some b → at nat_cmp (fold (λ (t : Table ℕ ℕ) b. put nat_cmp t b b) t bs) b ≡ Some b

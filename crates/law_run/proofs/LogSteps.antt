@@ -2,11 +2,10 @@
 -- what its state device has, so that nothing more is chosen.
 use Rattle.law_run.proofs.Imports.{[], ◌+◌, ◌∙◌, ◌∷◌, ◌≡◌, Acted, After, Before, Boot, Command, Deliver, In, Job, JobContext, Letter, List, LogDone, LogFrame}
 use Rattle.law_run.proofs.Imports.{None, Option, Sender, Server, Some, State, Step, StopIn, Work, WorkEnd, ap, applied_entry, applied_none, applies, awake}
-use Rattle.law_run.proofs.Imports.{boots, by_test, crossing, does, down_posts, entered, false, first_wanted, here_of, is_log_job, is_overfull, job_done}
-use Rattle.law_run.proofs.Imports.{known, letter_frame_of, letters_of, log_does, next_place, no_pairs, proposed_pairs, raised, refl, rev_of, said, sender}
-use Rattle.law_run.proofs.Imports.{server_step, servers_of, stamped, start_frame_of, starts, stays, stops, subject_of, voter_of, wakes, wanted_by}
+use Rattle.law_run.proofs.Imports.{ballot_store, boots, by_test, crossing, does, down_posts, entered, false, first_wanted, here_of, is_log_job, is_overfull}
+use Rattle.law_run.proofs.Imports.{job_done, known, letter_frame_of, letters_of, log_does, next_place, no_pairs, proposed_pairs, raised, refl, rev_of, said}
+use Rattle.law_run.proofs.Imports.{sender, server_step, servers_of, stamped, start_frame_of, starts, stays, stops, subject_of, voter_of, wakes, wanted_by}
 use Rattle.law_run.proofs.Imports.{without_rev, worked, works, ℕ}
-use Rattle.law_run.proofs.GroundGives.{proposed_store}
 use Rattle.law_run.proofs.DataLetters.{downs_unended, is_reply, logged_unended}
 use Rattle.petal_msg.specs.declared.letter.Actor.TheVariants as actor
 use Rattle.spec_rules.specs.declared.job.Job.TheVariants as job
@@ -50,7 +49,7 @@ module _ (state : State) (me : ℕ) (server : Server) where
       let first = first_wanted server.log.phase (rev_of server.log) wants in
       let done = starts (voter_of here) server.log wants in
       let frame = start_frame_of (voter_of here) server.log wants in
-      Of_the_log (proposed_store here.state server.own first) (proposed_pairs here.state server.own first)
+      Of_the_log (ballot_store here.state server.own first) (proposed_pairs here.state server.own first)
       (λ stamp letter h. let s = said (sender here) stamp 0 done.posts letter h in
       ap (λ b. is_reply (subject_of b)) s.body ∙ logged_unended s.post.body (frame.says s.post s.there))
   job_kind _ rest = Of_the_rest refl

@@ -84,7 +84,7 @@ or_true : (a : Bool) → (a || true) ≡ true
 or_true true = refl
 or_true false = refl
 
-or_former : (a b : Bool) → a ≡ true → (a || b) ≡ true
+pub or_former : (a b : Bool) → a ≡ true → (a || b) ≡ true
 or_former true b e = refl
 or_former false b e = let f : false ≡ true = e in absurd cc
 

@@ -1,21 +1,21 @@
 -- A server that says that the new map has nothing: what the old map answers then is what the machine has.
-use Rattle.law_run.proofs.Imports.{[], ◌++◌, ◌∙◌, ◌∷◌, ◌≡◌, ◌≤◌, AreDisks, AreStepsFrom, Body, Bool, Cell, Chain, Handled, Has, HasStage, In, IsPlainState}
-use Rattle.law_run.proofs.Imports.{IsPrefix, IsRead, IsReadable, IsRising, Letter, Line, List, None, NotThere, Option, Some, State, Store, Stored, World, ap}
-use Rattle.law_run.proofs.Imports.{arith, at, by_bool, bytes_of, cases_lt, cell_asked, cell_cmp, chain_in, chosen_log, chosen_state, coming, counted}
-use Rattle.law_run.proofs.Imports.{entry_at, entry_of, epoch_at, epoch_for, false, find, flat_map, front_itself, front_on, has_map, inl, inr, is_lead}
-use Rattle.law_run.proofs.Imports.{is_some, kept, leaving, log_disks, log_plain, log_rev, look_for, look_for_data, look_of, named_cell, nat_cmp, none_some}
-use Rattle.law_run.proofs.Imports.{old_cell, old_data, one_front, option_and_then, own_below, own_place, own_plain, owns_of, refl, same_some, server_state}
-use Rattle.law_run.proofs.Imports.{source, stage_at, stage_facts, state_after, subst, sym, true, true_false, ℕ}
+use Rattle.law_run.proofs.Imports.{[], ◌++◌, ◌∙◌, ◌∷◌, ◌≡◌, ◌≤◌, AreDisks, AreStepsFrom, Body, Bool, Cell, Chain, Handled, Has, HasStage, In, IsPrefix}
+use Rattle.law_run.proofs.Imports.{IsRead, IsReadable, IsRising, IsSettledState, Letter, Line, List, None, NotThere, Option, Some, State, Store, Stored}
+use Rattle.law_run.proofs.Imports.{World, ap, arith, at, by_bool, bytes_of, cases_lt, cell_asked, cell_cmp, chain_in, chosen_log, chosen_state, coming}
+use Rattle.law_run.proofs.Imports.{counted, entry_at, entry_of, epoch_at, epoch_for, false, find, flat_map, front_itself, front_on, has_map, inl, inr}
+use Rattle.law_run.proofs.Imports.{is_lead, is_some, kept, leaving, log_disks, log_plain, log_rev, look_for, look_for_data, look_of, named_cell, nat_cmp}
+use Rattle.law_run.proofs.Imports.{none_some, old_cell, old_data, one_front, option_and_then, own_below, own_place, own_plain, owns_of, refl, same_some}
+use Rattle.law_run.proofs.Imports.{server_state, source, stage_at, stage_facts, state_after, subst, sym, true, true_false, ℕ}
 use Rattle.law_run.proofs.ChosenDisks.{cell_comes, cell_lives, cell_old, content_is, disks_now, has_content_is, plain_now}
 use Rattle.law_run.proofs.MachineTakesWrites.{was_has, was_kept}
 use Rattle.law_run.proofs.EntryAtEpoch.{AreUpTo}
-use Rattle.law_run.proofs.ReadsLookWhereSent.{Accepts, AreGrounded, Looked, letter_looks}
+use Rattle.law_run.proofs.ReadsLookWhereSent.{Accepts, AreGrounded, Looked, letter_looks, one_client}
 use Rattle.law_run.proofs.ContentsByCells.{entry_over, has_over}
 use Rattle.law_run.proofs.OldReads.{IsFoundAt, found}
 use Rattle.law_run.proofs.Overlay.{entry_there, has_below}
 use Rattle.law_run.proofs.ContentsAsked.{IsAskedAt, IsKnownRead, IsOfDisk, known_read}
 use Rattle.law_run.proofs.ReadersHaveContents.{IsReading, entry_is, now_high, now_low, serving_now, shown_none, some_is}
-use Rattle.law_run.proofs.ReadsShowContents.{AreCalm, all_looked, look_may, nothing_looked, of, row_has, same_above, same_chain}
+use Rattle.law_run.proofs.ReadsShowContents.{AreUnchanged, all_looked, look_may, nothing_looked, of, row_has, same_above, same_chain}
 use Rattle.law_run.proofs.SourceCells.{source_here, source_stays}
 use Rattle.law_run.proofs.EventsOfServerSteps.{LooksTold, ServerStep, ends_of, frozen_same, grounded, later_world, letters, look_here}
 use Rattle.petal_msg.specs.declared.body.Body.TheVariants as body
@@ -87,9 +87,6 @@ module _ (this : ServerStep) where
 
     same_client : f.client ≡ client
     same_client = one_client (sym f.to ∙ to)
-      where
-        one_client : {c d : ℕ} → actor.Client c ≡ actor.Client d → c ≡ d
-        one_client e = cc
 
     abbrev old : Cell
     old = f.old.cell
@@ -120,7 +117,7 @@ module _ (this : ServerStep) where
         sym (frozen_same this same old) ∙ sym (f.stays old (omega arith)) ∙ f.old.frozen
 
     -- it is the cell from which the new one is filled
-    plain_own : IsPlainState this.setting.servers own_state
+    plain_own : IsSettledState this.setting.servers own_state
     plain_own = log_plain this.setting.servers front (own_plain this.setting this.w this.along.firm this.n)
 
     disks_own : AreDisks own_state
@@ -217,7 +214,7 @@ module _ (this : ServerStep) where
       → coming own_state cell ≡ true → entry_at (chain_in own.store.chains cell) epoch ≡ None
       → (is_lead own_state this.n cell ≡ true → at cell_cmp own.pairs.pending cell ≡ None)
       → (letter : Letter) → letters this ≡ letter ∷ [] → letter.to ≡ actor.Client client → letter.rev ≡ own_state.rev → letter.body ≡ body.NotHere seq
-      → chosen_log this.setting (later_world this) ≡ chosen_log this.setting this.w → AreCalm this
+      → chosen_log this.setting (later_world this) ≡ chosen_log this.setting this.w → AreUnchanged this
       → AreGrounded this.setting this.state (later_world this) this.later → AreStepsFrom this.setting (later_world this) this.later
       → LooksTold this
   not_here_told numbered runs client seq cell epoch readable comes none idle letter all to rev says same calm grounds legal m following =

@@ -1,22 +1,16 @@
 -- A server at work that has started a ballot for a Caught has nothing under way on the link: an operation would be held, and a copy was closed.
 -- And the two copies are equal while nothing touches the link.
 use Rattle.law_run.proofs.Imports.{◌++◌, ◌==◌, ◌∙◌, ◌≡◌, ◌≢◌, ◌⊎◌, AliveIn, AreCaughtUp, AreInAsThen, AreSteps, Bool, Both, Cell, Command, CopiesStayEqual}
-use Rattle.law_run.proofs.Imports.{CopiesWaitEqual, HasAppliedNone, HasDied, HasEqualCopies, IsAt, IsBetween, IsCatching, IsLast, IsPlainLog, IsPrefix}
-use Rattle.law_run.proofs.Imports.{IsSound, KeptAfter, LinkRow, LinkState, List, Lost, None, Only, Option, PairOk, PairState, Record, Rests, Script, Server}
-use Rattle.law_run.proofs.Imports.{Setting, Some, State, StaysSo, Store, WasThere, World, alive_on, always_firm, ap, arith, asking_along, at, at_by}
-use Rattle.law_run.proofs.Imports.{both_true, cell_cmp, cell_link, chain_in, chosen_log, chosen_state, copying_on, counted, false, front_itself, front_legal}
-use Rattle.law_run.proofs.Imports.{front_on, front_plain, good_after, has_proposed, held_as_flag, history_agrees, history_grows, history_is_firm}
-use Rattle.law_run.proofs.Imports.{holder_is_one, id_of, in_once, inc_of, inl, inr, is_alone, is_at_work, is_flagged, is_in, live, live_stage}
-use Rattle.law_run.proofs.Imports.{log_held_or_both, log_steady, none_some, one_place, one_row, option_map_or, other_alone, other_between, other_of, pair_at}
-use Rattle.law_run.proofs.Imports.{place_by, place_in, place_of_later, places_grow, places_up, refl, rests_after, same_numbers, same_or_apart, same_place}
-use Rattle.law_run.proofs.Imports.{server_state, setting_of, some_or_none, split_fronts, start, start_rests, state_after, store_by, subst, sym, true}
-use Rattle.law_run.proofs.Imports.{true_false, world_after, ℕ}
+use Rattle.law_run.proofs.Imports.{CopiesWaitEqual, HasAppliedNone, HasDied, HasEqualCopies, HasProperTuples, IsAt, IsBetween, IsCatching, IsLast, IsPrefix}
+use Rattle.law_run.proofs.Imports.{IsSound, KeptAfter, LinkRow, List, None, Only, Option, PairOk, PairState, Record, Rests, Script, Server, Setting, Some}
+use Rattle.law_run.proofs.Imports.{State, StaysSo, Store, WasThere, World, alive_on, alone_by, always_firm, ap, arith, asking_along, at, at_by, both_true}
+use Rattle.law_run.proofs.Imports.{cell_cmp, cell_link, chain_in, chosen_log, chosen_state, copying_on, counted, false, front_itself, front_legal, front_on}
+use Rattle.law_run.proofs.Imports.{front_plain, good_after, has_proposed, held_as_flag, history_agrees, history_grows, history_is_firm, holder_is_one, id_of}
+use Rattle.law_run.proofs.Imports.{in_once, inc_of, inl, inr, is_at_work, is_flagged, is_in, live, live_stage, log_held_or_both, log_steady, none_some}
+use Rattle.law_run.proofs.Imports.{one_place, one_row, option_map_or, other_alone, other_between, other_of, pair_at, place_by, place_in, place_of_later}
+use Rattle.law_run.proofs.Imports.{places_grow, places_up, refl, rests_after, same_or_apart, same_place, server_state, setting_of, some_or_none, split_fronts}
+use Rattle.law_run.proofs.Imports.{start, start_rests, state_after, store_by, subst, sym, true, true_false, world_after, ℕ}
 use Rattle.law_run.proofs.OwnPlacesAreLatest.{equal_pair, unfollowed_halves}
-
-alone_so : (n : ℕ) (s : LinkState) → is_alone n s ≡ true → (whole : Bool) × (s ≡ Only n whole)
-alone_so n Both e = absurd (cc)
-alone_so n (Only k whole) e = (whole, ap (λ i. Only i whole) (same_numbers k n e))
-alone_so n Lost e = absurd (cc)
 
 module _ (script : Script) (records : List Record) (sound : IsSound script) (legal : AreSteps script records) where
   abbrev setting : Setting
@@ -49,7 +43,7 @@ module _ (script : Script) (records : List Record) (sound : IsSound script) (leg
     none_copied = elim (some_or_none (copying_on (w.servers n).own cell)) [
       | inl some ↦ (
           let may = ((rests.resting n).copying cell some.0 some.1).may in
-          let alone = alone_so n may.row.state (other_alone state n may.other may.row may.other_is) in
+          let alone = alone_by n may.row.state (other_alone state n may.other may.row may.other_is) in
           let here = good.here n cell may.row may.is seated (live_stage state cell lives).1 in
           let flag : is_flagged here.own (id_of may.row) ≡ true = subst (λ (o : PairState). is_flagged o (id_of may.row) ≡ true) (sym here.same)
           (sym (held_as_flag state (w.servers n).own cell may.row may.is) ∙ started) in
@@ -67,7 +61,7 @@ module _ (script : Script) (records : List Record) (sound : IsSound script) (leg
   abbrev chosen : List Command
   chosen = chosen_log setting w
 
-  plain : IsPlainLog script.servers chosen
+  plain : HasProperTuples script.servers chosen
   plain = (history_is_firm script records sound legal).plain
 
   legal_front : (front back : List Record) → records ≡ front ++ back → AreSteps script front
@@ -92,7 +86,7 @@ module _ (script : Script) (records : List Record) (sound : IsSound script) (leg
     prefix = applied_within front back is n
 
     whole : (b : Bool) × (row.state ≡ Only n b)
-    whole = alone_so n row.state catching.alone
+    whole = alone_by n row.state catching.alone
 
     alive : AliveIn (chosen_state setting w) cell
     alive = (live_stage (chosen_state setting w) cell lives).1

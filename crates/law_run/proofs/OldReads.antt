@@ -1,21 +1,20 @@
 -- A read that was told that the new map has nothing, and is answered under the old one: whoever answers has what was frozen.
-use Rattle.law_run.proofs.Imports.{[], if◌then◌else◌, ◌&&◌, ◌==◌, ◌||◌, ◌∙◌, ◌∷◌, ◌≡◌, ◌≤◌, ◌⊎◌, Acted, Actor, AreStepsFrom, Blank, Body, Bool, By_ballot}
-use Rattle.law_run.proofs.Imports.{By_entry, By_job, By_read, Cell, Did, Ends, Fails, Firm, Goes, Handled, In, IsPrefix, IsRead, IsReadable, IsSteady}
-use Rattle.law_run.proofs.Imports.{JobResult, Letter, List, MayActor, NeverDead, None, NotThere, Not_here, Option, Post, Record, Sender, Serving, Setting}
-use Rattle.law_run.proofs.Imports.{Shows, Some, State, Stays, Step, Wakes, World, accepted, acts, ap, arith, awake, begins_to_leave, both_true, by_bool}
-use Rattle.law_run.proofs.Imports.{by_test, bytes_of, chain_in, chain_that_counts, chosen_log, chosen_state, data_among, data_of, down_posts, entry_at}
-use Rattle.law_run.proofs.Imports.{epoch_at, first_data, front_itself, front_on, in_former, inl, inr, leaving, length, letters_of, log_below, log_rev}
-use Rattle.law_run.proofs.Imports.{none_some, not, old_data, one_post, option_map, own_place, own_plain, own_steady, owns_of, raised, reads_old, refl, rev_of}
-use Rattle.law_run.proofs.Imports.{said, same_actor, same_numbers, same_some, sender, server_serves, server_state, server_step, servers_of, stage_at}
+use Rattle.law_run.proofs.Imports.{[], if◌then◌else◌, ◌&&◌, ◌||◌, ◌∙◌, ◌∷◌, ◌≡◌, ◌≤◌, Acted, Actor, AreStepsFrom, Blank, Bool, By_ballot, By_entry, By_job}
+use Rattle.law_run.proofs.Imports.{By_read, Cell, Did, Ends, Fails, Firm, Goes, Handled, In, IsPrefix, IsRead, IsReadable, IsSteady, JobResult, Letter, List}
+use Rattle.law_run.proofs.Imports.{MayActor, NeverDead, None, NotThere, Not_here, Post, Record, Sender, Serving, Setting, Shows, Some, State, Stays, Step}
+use Rattle.law_run.proofs.Imports.{Wakes, World, acts, ap, arith, awake, begins_to_leave, both_true, by_bool, by_test, bytes_of, chain_in, chain_that_counts}
+use Rattle.law_run.proofs.Imports.{chosen_log, chosen_state, data_among, down_posts, entry_at, epoch_at, front_itself, front_on, in_former, in_none, inl, inr}
+use Rattle.law_run.proofs.Imports.{leaving, length, letters_of, log_below, log_rev, none_some, not, old_data, one_post, own_place, own_plain, own_steady}
+use Rattle.law_run.proofs.Imports.{owns_of, raised, reads_old, refl, rev_of, said, sender, server_serves, server_state, server_step, servers_of, stage_at}
 use Rattle.law_run.proofs.Imports.{stage_facts, stamped, step, stepped, subst, sym, true, true_false, turns, without_rev, ℕ}
 use Rattle.law_run.specs.MachineTies.{Ground}
 use Rattle.law_run.proofs.EntryAtEpoch.{AreUpTo}
 use Rattle.law_run.proofs.GroundGives.{never_dead}
 use Rattle.law_run.proofs.ReadsLookWhereSent.{Accepts, AreGrounded, ground_now, is_looked, who_accepts}
-use Rattle.law_run.proofs.LetterNames.{one_actor}
 use Rattle.law_run.proofs.ContentsAsked.{known_read, own_up_to, reader_serves, reads_old_is}
-use Rattle.law_run.proofs.DataLetters.{IsUnended, downs_unended, glances_unended, logged_unended, quiet_data, unended_no_data}
+use Rattle.law_run.proofs.DataLetters.{IsUnended, downs_unended, glances_unended, logged_unended, mute_data, unended_no_data}
 use Rattle.law_run.proofs.RunScenes.{Grounded}
+use Rattle.law_run.proofs.SearchesFindData.{IsAmong, in_data, some_data}
 use Rattle.petal_msg.specs.declared.body.Body.TheVariants as body
 use Rattle.petal_msg.specs.declared.letter.Actor.TheVariants as actor
 
@@ -32,10 +31,10 @@ pub record IsShown (setting : Setting) (u : World) (y : ℕ) (letter : Letter) (
   pub rev : letter.rev ≡ (server_state setting u y).rev
   pub is : bytes ≡ bytes_of (entry_at (chain_in (owns_of u y).store.chains cell) epoch)
 
-same_seq : {a b : ℕ} {xs ys : List ℕ} → body.Data a xs ≡ body.Data b ys → a ≡ b
+pub same_seq : {a b : ℕ} {xs ys : List ℕ} → body.Data a xs ≡ body.Data b ys → a ≡ b
 same_seq e = cc
 
-same_data : {a b : ℕ} {xs ys : List ℕ} → body.Data a xs ≡ body.Data b ys → xs ≡ ys
+pub same_data : {a b : ℕ} {xs ys : List ℕ} → body.Data a xs ≡ body.Data b ys → xs ≡ ys
 same_data e = cc
 
 module _ (g : Grounded) (steady : IsSteady g.state) (y stamp : ℕ) (letter : Letter) (seq : ℕ) (bytes : List ℕ) (says : letter.body ≡ body.Data seq bytes) where
@@ -73,17 +72,14 @@ module _ (g : Grounded) (steady : IsSteady g.state) (y stamp : ℕ) (letter : Le
   job_shows done d runs h =
       let s = said (sender (own_place setting u y)) stamp 0 done.posts letter h in
       let never : NeverDead (own_place setting u y) (owns_of u y) = never_dead g steady y runs in
-      true_false (ap is_looked (sym s.body ∙ says)) (quiet_data (Handled u y) (own_place setting u y) (owns_of u y) never done d tt s.post s.there)
-
-  no_posts : (post : Post) → In post [] → IsUnended post
-  unfolding In
-  no_posts post i = absurd i
+      true_false (ap is_looked (sym s.body ∙ says)) (mute_data (Handled u y) (own_place setting u y) (owns_of u y) never done d tt s.post s.there)
 
   pub shows : (what : Step) (acted : Acted) → Serving setting u y what acted → In letter (stamped stamp acted.letters) → S
   shows what _ (Goes log done queue runs (By_job log' done' applied did seat) queued works) h = job_shows done did runs h
   shows what _ (Goes log done queue runs (By_ballot log' started posts applied starts told) queued works) h =
       not_unended (sender (own_place setting u y)) posts (λ post i. logged_unended post.body (told post i)) h
-  shows what _ (Goes log done queue runs (By_entry log' entry more front) queued works) h = not_unended (sender (own_place setting u y)) [] no_posts h
+  shows what _ (Goes log done queue runs (By_entry log' entry more front) queued works) h =
+      not_unended (sender (own_place setting u y)) [] (λ post i. in_none post i) h
   shows what _ (Ends log done runs worked) h =
       not_unended (without_rev (own_place setting u y)) _ (downs_unended y (u.servers y).life.inc (servers_of (server_state setting u y))) h
   shows what _ (Stays who posts from shown) h = not_unended who posts (λ post i. glances_unended post (shown post i)) h
@@ -91,7 +87,7 @@ module _ (g : Grounded) (steady : IsSteady g.state) (y stamp : ℕ) (letter : Le
       not_unended (record { from = actor.Server y; inc = (awake (raised (u.servers y))).life.inc; rev = rev_of (awake (raised (u.servers y))).log })
       (down_posts y (u.servers y).life.inc (servers_of (server_state setting u y)))
       (downs_unended y (u.servers y).life.inc (servers_of (server_state setting u y))) h
-  shows what _ (Fails booted asleep) h = not_unended (without_rev (own_place setting u y)) [] no_posts h
+  shows what _ (Fails booted asleep) h = not_unended (without_rev (own_place setting u y)) [] (λ post i. in_none post i) h
 
 -- ### Data of an old map
 
@@ -152,68 +148,6 @@ module _ (setting : Setting) (state : State) (steady : IsSteady state) where
       true_false both.1 (ap not was))
       (λ f. refl)
 
-  -- ### The data that is found
-
-  some_data : (one two : Option (ℕ × List ℕ)) (given : ℕ × List ℕ) → first_data one two ≡ Some given → (one ≡ Some given) ⊎ (two ≡ Some given)
-  some_data None two given e = inr e
-  some_data (Some x) two given e = inl e
-
-  -- the letter has the data
-  record HasData (told : NotThere) (later : List Record) (letter : Letter) (given : ℕ × List ℕ) : Type 0 where
-    seq : ℕ
-    bytes : List ℕ
-    says : letter.body ≡ body.Data seq bytes
-    to : told.letter.to ≡ letter.to
-    rev : told.letter.rev ≡ letter.rev
-    seq_is : told.seq ≡ seq
-    accepts : accepted later letter ≡ Some given.0
-    bytes_are : bytes ≡ given.1
-
-  -- so has one of those that a step sent
-  record IsAmong (told : NotThere) (later : List Record) (letters : List Letter) (given : ℕ × List ℕ) : Type 0 where
-    letter : Letter
-    there : In letter letters
-    data_is : HasData told later letter given
-    open data_is use *
-
-  one_data : (told : NotThere) (later : List Record) (letter : Letter) (said : Body) (given : ℕ × List ℕ) → letter.body ≡ said
-      → data_of told later letter said ≡ Some given → HasData told later letter given
-  one_data told later letter (body.Data seq bytes) given says e =
-      by_bool (same_actor told.letter.to letter.to && (told.letter.rev == letter.rev) && (told.seq == seq))
-      (λ t.
-      let outer = both_true (same_actor told.letter.to letter.to && (told.letter.rev == letter.rev)) (told.seq == seq) t in
-      let inner = both_true (same_actor told.letter.to letter.to) (told.letter.rev == letter.rev) outer.0 in
-      let is : option_map (λ (line : ℕ). (line, bytes)) (accepted later letter) ≡ Some given =
-      sym (ap (λ b. if b then option_map (λ (line : ℕ). (line, bytes)) (accepted later letter) else None) t) ∙ e in
-      let m = mapped (accepted later letter) bytes given is in
-      record {
-        seq = seq;
-        bytes = bytes;
-        says = says;
-        to = one_actor told.letter.to letter.to inner.0;
-        rev = same_numbers told.letter.rev letter.rev inner.1;
-        seq_is = same_numbers told.seq seq outer.1;
-        accepts = m.0;
-        bytes_are = m.1;
-      })
-      (λ f. none_some (ap (λ b. if b then option_map (λ (line : ℕ). (line, bytes)) (accepted later letter) else None) f) e)
-    where
-      mapped : (o : Option ℕ) (bytes : List ℕ) (given : ℕ × List ℕ) → option_map (λ (line : ℕ). (line, bytes)) o ≡ Some given
-          → (o ≡ Some given.0) × (bytes ≡ given.1)
-      mapped None bytes given e = none_some refl e
-      mapped (Some line) bytes given e = let same : (line, bytes) ≡ given = same_some e in
-          (ap (λ (g : ℕ × List ℕ). Some g.0) same, ap (λ (g : ℕ × List ℕ). g.1) same)
-  one_data told later letter _ given says e = none_some refl e
-
-  in_data : (told : NotThere) (later : List Record) (letters : List Letter) (given : ℕ × List ℕ) → data_among told later letters ≡ Some given
-      → IsAmong told later letters given
-  unfolding In
-  in_data told later [] given e = none_some refl e
-  in_data told later (letter ∷ letters) given e = elim (some_data (data_of told later letter letter.body) (data_among told later letters) given e) [
-    | inl now ↦ record { letter = letter; there = inl refl; data_is = one_data told later letter letter.body given refl now }
-    | inr on ↦ let k = in_data told later letters given on in record { letter = k.letter; there = inr k.there; data_is = k.data_is }
-  ]
-
   -- what was found, at a world on the way
   pub record IsFoundAt (v : World) (told : NotThere) (given : ℕ × List ℕ) : Type 0 where
     pub u : World
@@ -245,22 +179,18 @@ module _ (setting : Setting) (state : State) (steady : IsSteady state) where
         let serving = server_serves setting u ground.ready.rests firm y (own_steady setting u firm y) stamp what refl may.1
         (ground_now setting state next later grounded).ready.firm in
         let g : Grounded = record { setting = setting; state = state; w = u; firm = firm; ground = ground } in
-        let s = shows g steady y stamp a.letter a.seq a.bytes a.says what acted serving a.there in
-        let o = shown_old g y a.letter a.seq a.bytes s old in
-        let ok = who_accepts setting state next later grounded legal a.letter a.seq a.bytes given.0
-        (in_former a.letter (stamped stamp acted.letters) u.sent a.there) a.says a.accepts in
+        let s = shows g steady y stamp a.letter told.seq given.1 a.has.says what acted serving a.there in
+        let ok = who_accepts setting state next later grounded legal a.letter told.seq given.1 given.0
+        (in_former a.letter (stamped stamp acted.letters) u.sent a.there) a.has.says a.has.accepts in
         record {
           u = u;
           firm = firm;
           grows = grows;
           stays = stays;
           client = s.client;
-          to = a.to ∙ s.to;
-          old = subst (λ q. IsOld setting u s.client q told.letter.rev given.1) (sym a.seq_is)
-              (subst (λ r. IsOld setting u s.client a.seq r given.1) (sym a.rev)
-              (subst (λ bs. IsOld setting u s.client a.seq a.letter.rev bs) a.bytes_are o));
-          accepts = subst (λ q. Accepts setting.lines told.letter q given.0) (sym a.seq_is)
-              (record { client = ok.client; to = a.to ∙ ok.to; line = ok.line; is = ok.is; number_is = ok.number_is });
+          to = a.has.to ∙ s.to;
+          old = subst (λ r. IsOld setting u s.client told.seq r given.1) (sym a.has.rev) (shown_old g y a.letter told.seq given.1 s old);
+          accepts = record { client = ok.client; to = a.has.to ∙ ok.to; line = ok.line; is = ok.is; number_is = ok.number_is };
         }
 
     -- in one of these

@@ -1,9 +1,9 @@
 -- A block between two maps: its entry is the new map's or, where that has none, the frozen one. A fill that is put in its turn, and that all has
 -- come over, change no entry.
-use Rattle.law_run.proofs.Imports.{[], ◌<◌, ◌∙◌, ◌∷◌, ◌≡◌, ◌≢◌, ◌≤◌, Chain, Equal, Greater, Has, HasNewer, In, IsRising, Less, List, None, Ordering, Some}
-use Rattle.law_run.proofs.Imports.{Stored, ap, arith, at, at_apart, at_row, at_same, by_bool, bytes_of, cases_lt, cond, entry_at, first_entry, inl, inr}
-use Rattle.law_run.proofs.Imports.{is_eq, is_some, nat_cmp, nat_cmp_total, nat_le, nat_tests, none_some, or_else, put, put_rises, ranked, refl, same_or_apart}
-use Rattle.law_run.proofs.Imports.{same_some, some_or_none, sym, true, true_false, ℕ}
+use Rattle.law_run.proofs.Imports.{[], ◌<◌, ◌∙◌, ◌∷◌, ◌≡◌, ◌≢◌, ◌≤◌, Chain, Equal, Has, HasNewer, In, IsRising, Less, List, None, Some, Stored, ap, arith, at}
+use Rattle.law_run.proofs.Imports.{at_apart, at_row, at_same, by_bool, bytes_of, cases_lt, cond, entry_at, first_entry, inl, inr, is_eq, is_some, nat_cmp}
+use Rattle.law_run.proofs.Imports.{nat_cmp_total, nat_le, nat_tests, none_some, or_else, put, put_rises, ranked, refl, same_or_apart, same_some, some_or_none}
+use Rattle.law_run.proofs.Imports.{sym, tied, true, true_false, ℕ}
 use Rattle.law_run.proofs.EntryAtEpoch.{entry_below, first_so, within}
 use Rattle.law_run.proofs.ListMembers.{row_at}
 
@@ -37,11 +37,6 @@ entry_there [] epoch later rises has le = true_false has refl
 entry_there (row ∷ rows) epoch later rises has le =
     let first = has_first row rows epoch rises has in
     ap (λ b. is_some (first_so b rows later row.1)) (within row.0 later (omega arith))
-
-equal_so : (o : Ordering) → is_eq o ≡ true → o ≡ Equal
-equal_so Less e = true_false e refl
-equal_so Equal e = refl
-equal_so Greater e = true_false e refl
 
 -- an entry that is found is the last one
 pub entry_top : (chain : Chain) (epoch : ℕ) (entry : Stored) → IsRising nat_cmp chain → entry_at chain epoch ≡ Some entry → IsTop chain epoch entry
@@ -82,7 +77,7 @@ entry_top (row ∷ rows) epoch entry rises is = by_bool (nat_le row.0 epoch)
     -- what is not of the first row is of those after it
     following : (other : ℕ) → other ≢ row.0 → at nat_cmp (row ∷ rows) other ≡ at nat_cmp rows other
     following other ne = by_bool (is_eq (nat_cmp other row.0))
-        (λ t. absurd (ne (ranked other row.0 Equal (sym (equal_so (nat_cmp other row.0) t)))))
+        (λ t. absurd (ne (ranked other row.0 Equal (sym (tied (nat_cmp other row.0) t)))))
         (λ f. ap (λ b. cond b (Some row.1) (at nat_cmp rows other)) f)
 
     following_first : (other : ℕ) (x : Stored) → at nat_cmp rows other ≡ Some x → row.0 < other

@@ -1,33 +1,21 @@
 -- What a server that runs relies on at its own place of a cell's link: that no server that serves the link has been further, and what the
 -- other server has in memory of the place.
-use Rattle.law_run.proofs.Imports.{[], ◌&&◌, ◌++◌, ◌∙◌, ◌∷◌, ◌≡◌, ◌≤◌, ◌⊎◌, AliveIn, AreCopies, AreTwins, Body, Both, Cell, Command, Handled, HasStage}
-use Rattle.law_run.proofs.Imports.{IsHeldBy, IsLast, IsLinked, IsPlainLog, IsPrefix, IsStaged, Join, LinkRow, List, None, Only, Option, Pair, PairOk}
-use Rattle.law_run.proofs.Imports.{PairState, Pending, Setting, Some, Store, about, alive_on, alone_authority, alone_not_both, ap, arith, at, at-empty}
-use Rattle.law_run.proofs.Imports.{authority, blank_joins_in, both_last, both_row, both_since, by_bool, cell_cmp, chain_in, chosen_log, chosen_state}
-use Rattle.law_run.proofs.Imports.{dead_second, far, front_itself, front_more, front_on, half, has_proposed, has_server, held_as_flag, holds_since, in_both}
-use Rattle.law_run.proofs.Imports.{inl, inr, is_alone_on, is_clients, is_in, is_lead, is_second, is_the_one, kept, lead, led_by, linked_alive, linked_between}
-use Rattle.law_run.proofs.Imports.{live, live_stage, none_some, one_before, one_row, own_below, own_plain, own_steady, owns_of, pair_at, pair_of, place_by}
-use Rattle.law_run.proofs.Imports.{place_of_later, place_touched, places_up, primary_is_one, reached_here, ready_chosen, refl, rows_later, runs_now, second}
-use Rattle.law_run.proofs.Imports.{second_by, secondary_is_one, server_state, serves, so_alone, so_both, stage_at, stage_facts, subst, sym, true, true_false}
-use Rattle.law_run.proofs.Imports.{ℕ}
+use Rattle.law_run.proofs.Imports.{[], ◌&&◌, ◌++◌, ◌∙◌, ◌∷◌, ◌≡◌, ◌≤◌, ◌⊎◌, AliveIn, AreCopies, AreTwins, Body, Both, Cell, Command, Handled, HasProperTuples}
+use Rattle.law_run.proofs.Imports.{HasStage, IsHeldBy, IsLast, IsLinked, IsPrefix, IsStaged, Join, LinkRow, List, None, Only, Option, Pair, PairOk, PairState}
+use Rattle.law_run.proofs.Imports.{Pending, Setting, Some, Store, about, alive_on, alone_authority, alone_not_both, ap, arith, at, at-empty, authority}
+use Rattle.law_run.proofs.Imports.{blank_joins_in, both_last, both_row, both_since, by_bool, cell_cmp, chain_in, chosen_log, chosen_state, dead_second, far}
+use Rattle.law_run.proofs.Imports.{front_itself, front_more, front_on, half, half_store, has_proposed, has_server, held_as_flag, holds_since, in_both, inl}
+use Rattle.law_run.proofs.Imports.{inr, is_alone_on, is_clients, is_in, is_lead, is_second, is_the_one, kept, lead, led_by, linked_alive, linked_between}
+use Rattle.law_run.proofs.Imports.{live, live_stage, none_some, one_before, one_row, op_there, own_below, own_plain, own_steady, owns_of, pair_at, pair_of}
+use Rattle.law_run.proofs.Imports.{place_by, place_of_later, place_touched, places_up, primary_is_one, reached_here, ready_chosen, refl, rows_later, runs_now}
+use Rattle.law_run.proofs.Imports.{second, second_by, secondary_is_one, server_state, serves, so_alone, so_both, stage_at, stage_facts, subst, sym, true}
+use Rattle.law_run.proofs.Imports.{true_false, ℕ}
 use Rattle.law_copies.specs.Pair.{Known}
 use Rattle.law_run.proofs.FirstIsOneAhead.{unfollowed_equal}
 use Rattle.law_run.proofs.BlankedServeNothing.{more_joins}
 use Rattle.law_run.proofs.RunScenes.{Grounded}
 
 -- ### What is remembered of a place
-
--- the store is the server's as it is now
-pub half_store : (visit : Option PairState) (store : Store) → (half visit store).store ≡ store
-half_store None store = refl
-half_store (Some own) store = refl
-
--- an operation is pending there only where the server was there
-pub op_there : (visit : Option PairState) (store : Store) (cell : Cell) (op : Pending)
-    → at cell_cmp (half visit store).pairs.pending cell ≡ Some op
-    → (own : PairState) × (visit ≡ Some own) × (at cell_cmp own.pairs.pending cell ≡ Some op)
-op_there None store cell op is = none_some (at-empty cell_cmp cell) is
-op_there (Some own) store cell op is = (own, refl, is)
 
 -- where none is, the copies are equal
 pub equal_pair : (one other : Option PairState) (a b : Store) (cell : Cell) → PairOk (pair_of (half one a) (half other b) cell)
@@ -53,7 +41,7 @@ unfollowed_halves one other a b cell ok none =
     ∙ ap (λ (s : Store). chain_in s.chains cell) (half_store other b)
 
 -- at one place of a link none of its servers has joined with an empty store since
-place_joins : (setting : Setting) (whole : List Command) → IsPlainLog setting.servers whole → (front : List Command) (cell : Cell) (row now : LinkRow)
+place_joins : (setting : Setting) (whole : List Command) → HasProperTuples setting.servers whole → (front : List Command) (cell : Cell) (row now : LinkRow)
     → IsPrefix front whole → IsLinked setting front cell row → IsLinked setting whole cell now
     → place_by setting front row ≡ place_by setting whole now → (n : ℕ) → has_server n row ≡ true
     → blank_joins_in setting whole n ≡ blank_joins_in setting front n

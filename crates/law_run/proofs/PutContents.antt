@@ -1,10 +1,10 @@
 -- Where nothing is chosen: a put of the copy that counts gives a block the bytes of its write, a fill changes no content, and neither does what
 -- leaves the chains that count.
-use Rattle.law_run.proofs.Imports.{◌&&◌, ◌<◌, ◌||◌, ◌∙◌, ◌≡◌, ◌≢◌, AliveIn, AreDisks, Bool, Cell, Chain, DiskRow, In, IsFrozen, IsOwn, IsPlainState, IsRising}
-use Rattle.law_run.proofs.Imports.{Key, List, None, Option, Pending, Plain, Some, State, Store, Stored, ap, arith, at, authority, blank_joins_in, bytes_of}
-use Rattle.law_run.proofs.Imports.{cell_cmp, cell_of, cell_same, chain_apart, chain_in, chain_put, chains_with, change_by, chosen_log, chosen_state, counted}
-use Rattle.law_run.proofs.Imports.{entry_at, entry_before, entry_by, entry_of, epoch_at, false, first_entry, inl, inr, is_some, kept, named_cell, nat_cmp}
-use Rattle.law_run.proofs.Imports.{old_cell, option_and_then, put, refl, replay, same_cell_or_apart, stage_at, state_after, subst, sym, true, ℕ}
+use Rattle.law_run.proofs.Imports.{◌&&◌, ◌<◌, ◌||◌, ◌∙◌, ◌≡◌, ◌≢◌, AliveIn, AreDisks, Bool, Cell, Chain, DiskRow, In, IsFrozen, IsOwn, IsRising, Key, List}
+use Rattle.law_run.proofs.Imports.{None, Option, Pending, Plain, Some, State, Store, Stored, ap, arith, at, authority, blank_joins_in, bytes_of, cell_cmp}
+use Rattle.law_run.proofs.Imports.{cell_of, cell_same, chain_apart, chain_in, chain_put, chains_with, change_by, chosen_log, chosen_state, counted, entry_at}
+use Rattle.law_run.proofs.Imports.{entry_before, entry_by, entry_of, epoch_at, false, first_entry, inl, inr, is_some, kept, named_cell, nat_cmp, old_cell}
+use Rattle.law_run.proofs.Imports.{option_and_then, put, refl, replay, same_cell_or_apart, stage_at, state_after, subst, sym, true, ℕ}
 use Rattle.law_run.proofs.FillsComeInTurn.{fill_there}
 use Rattle.law_run.proofs.SourceCells.{source_stays}
 use Rattle.law_run.proofs.Overlay.{IsFill, fill_same}
@@ -17,7 +17,7 @@ use Rattle.law_run.proofs.EntryAtEpoch.{entry_below, entry_put}
 use Rattle.law_run.proofs.ServerFrames.{OwnFollow, SaysOk, CountsOk}
 use Rattle.law_run.proofs.OpenWritesAreOnDisks.{Placed, placed_given}
 use Rattle.law_run.proofs.EventsOfServerSteps.{ServerStep, TakesTold, ends_of, frozen_same, grounded, joined_now, joined_then, kept_here, later_world, new}
-use Rattle.law_run.proofs.EventsOfServerSteps.{own_after, same_entry}
+use Rattle.law_run.proofs.EventsOfServerSteps.{own_after, same_entry, plain_chosen}
 use Rattle.law_run.proofs.ContentChanges.{block_there}
 
 module _ (this : ServerStep) (same : chosen_log this.setting (later_world this) ≡ chosen_log this.setting this.w) where
@@ -272,20 +272,17 @@ module _ (this : ServerStep) (same : chosen_log this.setting (later_world this) 
     abbrev was_chain : Chain
     was_chain = chain_in own.store.chains cell
 
-    plain_chosen : IsPlainState this.setting.servers chosen
-    plain_chosen = plain_now this.setting this.w this.along.firm
-
     disks : AreDisks chosen
     disks = disks_now this.setting this.w this.along.firm
 
-    disk : HasDisk this.setting.servers chosen plain_chosen disks cell
-    disk = disk_here this.setting.servers chosen plain_chosen disks cell (omega (arith, one)) (omega (arith, one))
+    disk : HasDisk this.setting.servers chosen (plain_chosen this) disks cell
+    disk = disk_here this.setting.servers chosen (plain_chosen this) disks cell (omega (arith, one)) (omega (arith, one))
 
     between : is_between disk.row cell.block ≡ true
-    between = cell_comes this.setting.servers chosen plain_chosen disks disk.row disk.there cell disk.has one
+    between = cell_comes this.setting.servers chosen (plain_chosen this) disks disk.row disk.there cell disk.has one
 
     named : cell ≡ named_cell disk.row cell.block
-    named = cell_named this.setting.servers chosen plain_chosen disks disk.row disk.there cell disk.has (omega (arith, one)) (omega (arith, one))
+    named = cell_named this.setting.servers chosen (plain_chosen this) disks disk.row disk.there cell disk.has (omega (arith, one)) (omega (arith, one))
 
     -- what was frozen is of the cell of the old map
     old_is : frozen.old ≡ old_cell disk.row cell.block
@@ -359,7 +356,7 @@ module _ (this : ServerStep) (same : chosen_log this.setting (later_world this) 
       | inl is ↦
           let at = is ∙ named in
           let row_is : row ≡ disk.row = one_row_of chosen disks row disk.row h disk.there
-          (named_map_is this.setting.servers chosen plain_chosen disks row h b) disk.has (ap (λ (c : Cell). c.map) is) in
+          (named_map_is this.setting.servers chosen (plain_chosen this) disks row h b) disk.has (ap (λ (c : Cell). c.map) is) in
           let block_is : b ≡ cell.block = ap (λ (c : Cell). c.block) is in
           subst (λ (r : DiskRow). IsSame r e b) (sym row_is) (subst (IsSame disk.row e) (sym block_is) (fill_here e))
     ]))

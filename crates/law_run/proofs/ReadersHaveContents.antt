@@ -1,17 +1,17 @@
 -- A server that may read a cell which is not leaving has the copy that counts, and so the contents of the cell's block.
 use Rattle.law_run.proofs.Imports.{◌==◌, ◌∙◌, ◌≡◌, ◌≤◌, AliveIn, AreDisks, Bool, Both, ByBoth, ByNone, ByOne, Cell, DiskRow, Firm, HasStage, In, IsLinked}
-use Rattle.law_run.proofs.Imports.{IsPlainState, IsServing, Line, LinkRow, List, None, Option, PairOk, PairState, Some, Store, Stored, alone_authority, ap}
-use Rattle.law_run.proofs.Imports.{arith, at, authority, both_authority, both_leads, by_bool, bytes_of, cases_lt, cell_cmp, chain_in, chosen_steady, coming}
-use Rattle.law_run.proofs.Imports.{counted, dead_not, dead_reader, either_true, entry_at, entry_before, entry_by, entry_of, false, front_itself, half}
-use Rattle.law_run.proofs.Imports.{has_map, held, inl, inr, is_all_held, is_in, is_lead, is_some, is_the_so, leads_link, leaving, linked_between, live}
-use Rattle.law_run.proofs.Imports.{log_roles, named_cell, old_cell, one_row, own_below, own_plain, pair_of, place_by, places_up, readable, refl, runs_now}
-use Rattle.law_run.proofs.Imports.{same_numbers, same_some, serves, stage_at, stage_facts, subst, sym, true, true_false, ℕ}
+use Rattle.law_run.proofs.Imports.{IsServing, Line, LinkRow, List, None, Option, PairOk, PairState, Some, Store, Stored, alone_authority, ap, arith, at}
+use Rattle.law_run.proofs.Imports.{authority, both_authority, both_leads, by_bool, bytes_of, cases_lt, cell_cmp, chain_in, chosen_steady, coming, counted}
+use Rattle.law_run.proofs.Imports.{dead_not, dead_reader, either_true, entry_at, entry_before, entry_by, entry_of, false, front_itself, half, has_map, held}
+use Rattle.law_run.proofs.Imports.{inl, inr, is_all_held, is_in, is_lead, is_some, is_the_so, leads_link, leaving, linked_between, live, log_roles}
+use Rattle.law_run.proofs.Imports.{named_cell, old_cell, one_row, own_below, own_plain, pair_of, place_by, places_up, readable, refl, runs_now, same_numbers}
+use Rattle.law_run.proofs.Imports.{same_some, serves, stage_at, stage_facts, subst, sym, true, true_false, ℕ}
 use Rattle.law_run.proofs.ContentsByCells.{entry_over, has_over, is_between}
 use Rattle.law_run.proofs.ContentsAsked.{reader_serves}
 use Rattle.law_run.proofs.OwnPlacesAreLatest.{chosen_store, chosen_twins, equal_pair, visit_here, alive_here}
-use Rattle.law_run.proofs.ChosenDisks.{cell_named, content_is, disks_now, has_content_is, named_comes, plain_now, rows_in}
+use Rattle.law_run.proofs.ChosenDisks.{cell_named, content_is, disks_now, has_content_is, named_comes, rows_in}
 use Rattle.law_run.proofs.MachineTakesWrites.{was_kept, was_has}
-use Rattle.law_run.proofs.EventsOfServerSteps.{ServerStep, ends_of, grounded}
+use Rattle.law_run.proofs.EventsOfServerSteps.{ServerStep, ends_of, grounded, plain_chosen}
 
 module _ (this : ServerStep) where
   open ends_of this use {top, chosen, own, own_state}
@@ -153,14 +153,11 @@ module _ (this : ServerStep) where
     -- ### The block's content
 
     module _ (row : DiskRow) (there : In row (rows_in this.setting this.w)) (has : has_map cell.map row ≡ true) where
-      plain_chosen : IsPlainState this.setting.servers chosen
-      plain_chosen = plain_now this.setting this.w firm
-
       disks : AreDisks chosen
       disks = disks_now this.setting this.w firm
 
       pub named : cell ≡ named_cell row cell.block
-      named = cell_named this.setting.servers chosen plain_chosen disks row there cell has now_low now_high
+      named = cell_named this.setting.servers chosen (plain_chosen this) disks row there cell has now_low now_high
 
       pub entry_is : (e : ℕ) → entry_of chosen (counted this.setting this.w) (named_cell row cell.block) e ≡ entry_at (chain_in own.store.chains cell) e
       entry_is e = ap (λ (c : Cell). entry_of chosen (counted this.setting this.w) c e) (sym named) ∙ counts.entry e
@@ -204,7 +201,8 @@ module _ (this : ServerStep) where
       shown_by e (Some x) is none = (let k = shown_entry e x is in (k.0, k.1 ∙ sym (ap bytes_of is)))
       shown_by e None is none = shown_none (by_bool (is_between row cell.block)
           (λ t.
-          let one : stage_at chosen cell ≡ 1 = ap (stage_at chosen) named ∙ named_comes this.setting.servers chosen plain_chosen disks row there cell.block t in
+          let one : stage_at chosen cell ≡ 1 = ap (stage_at chosen) named
+          ∙ named_comes this.setting.servers chosen (plain_chosen this) disks row there cell.block t in
           let up = (own_below this.setting this.w firm this.n).stages cell in
           let low = own_low in
           true_false (own_facts.came (omega arith)) (none refl))

@@ -2,13 +2,12 @@
 use Rattle.law_run.proofs.Imports.{[], if◌then◌else◌, ◌&&◌, ◌==◌, ◌∙◌, ◌∷◌, ◌≡◌, ◌⊎◌, Actor, AreStepsFrom, Asked, Body, Bool, Client, Deliver, Event, In}
 use Rattle.law_run.proofs.Imports.{IsPrefix, Letter, Line, List, Look, MayActor, MayLook, None, Obeys, Option, Plain, Record, Request, Setting, Some, State}
 use Rattle.law_run.proofs.Imports.{Step, World, accepted, accepts, after, ap, both_true, by_bool, by_test, chosen_log, client_state, counts, data_line, false}
-use Rattle.law_run.proofs.Imports.{first_of, heard, hears, hears_any, hears_of, in-append, in_later, inl, inr, is_read, line_by, look_by, look_for, look_of}
-use Rattle.law_run.proofs.Imports.{none_some, refl, replay, same_numbers, same_some, slice_get, step, stepped, subst, suc, sym, true, true_false, zero, ℕ}
+use Rattle.law_run.proofs.Imports.{first_of, heard, hears, hears_any, hears_of, in-append, in_get, in_later, in_left, inl, inr, is_read, line_by, look_by}
+use Rattle.law_run.proofs.Imports.{look_for, look_of, none_some, refl, replay, same_numbers, same_some, step, stepped, subst, sym, true, true_false, ℕ}
 use Rattle.spec_history.specs.Events.{same_name}
 use Rattle.law_run.specs.WritesGoOn.{IsMindful, Onward}
 use Rattle.law_run.specs.MachineTies.{Ground}
 use Rattle.law_run.proofs.Machine.{disks_after, after_mindful, look_onward, onward_itself, onward_joined}
-use Rattle.law_run.proofs.ListMembers.{of_filter}
 use Rattle.petal_msg.specs.declared.body.Body.TheVariants as body
 use Rattle.petal_msg.specs.declared.letter.Actor.TheVariants as actor
 use Rattle.script_lines.specs.declared.answer.Answer.TheVariants as answer
@@ -45,15 +44,12 @@ looked m name snap block bytes may mindful (e ∷ es) all =
 
 -- ### Who accepts a letter
 
-in_get : {A : Type 0} (xs : List A) (i : ℕ) (x : A) → slice_get xs i ≡ Some x → In x xs
-unfolding In
-in_get [] i x e = none_some refl e
-in_get (y ∷ ys) zero x e = inl (sym (same_some e))
-in_get (y ∷ ys) (suc i) x e = inr (in_get ys i x e)
+pub one_client : {c d : ℕ} → actor.Client c ≡ actor.Client d → c ≡ d
+one_client e = cc
 
 -- the line of a request is one of the script's
 pub line_in : (lines : List Line) (c seq : ℕ) (line : Line) → line_by lines c seq ≡ Some line → In line lines
-line_in lines c seq line e = (of_filter (λ l. l.client == c) lines line (in_get _ _ line e)).0
+line_in lines c seq line e = (in_left (λ l. l.client == c) lines line (in_get _ _ line e)).0
 
 -- the request of the line that accepts is that of the letter's number
 pub record Accepts (lines : List Line) (letter : Letter) (seq number : ℕ) : Type 0 where
@@ -63,7 +59,7 @@ pub record Accepts (lines : List Line) (letter : Letter) (seq number : ℕ) : Ty
   pub is : line_by lines client seq ≡ Some line
   pub number_is : line.number ≡ number
 
-some_first : (one two : Option ℕ) (number : ℕ) → first_of one two ≡ Some number → (one ≡ Some number) ⊎ (two ≡ Some number)
+pub some_first : (one two : Option ℕ) (number : ℕ) → first_of one two ≡ Some number → (one ≡ Some number) ⊎ (two ≡ Some number)
 some_first None two number e = inr e
 some_first (Some k) two number e = inl e
 
@@ -192,9 +188,6 @@ letter_looks lines numbered letter seq client name snap block bytes line to is a
     let the_line : found.0 ≡ line =
     numbered found.0 line found.1 (line_in lines client seq line is) (found.2 ∙ sym a.number_is ∙ ap (λ (l : Line). l.number) same_line) in
     look_is found.0.request name snap block bytes e (ap (λ (l : Line). l.request) the_line ∙ asks) found.3
-  where
-    one_client : {c d : ℕ} → actor.Client c ≡ actor.Client d → c ≡ d
-    one_client e = cc
 
 -- a letter of these kinds may tell of a look: it answers a read, or says that the new map has nothing
 abbrev pub is_looked : Body → Bool

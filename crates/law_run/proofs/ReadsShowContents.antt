@@ -80,12 +80,12 @@ module _ (this : ServerStep) where
         (x.0, x.1 ∙ ap bytes_of same)
 
   -- the contents after the step are those before it
-  abbrev pub AreCalm : Type 0
-  AreCalm = (row : DiskRow) → In row (rows_in this.setting this.w) → (b epoch : ℕ)
+  abbrev pub AreUnchanged : Type 0
+  AreUnchanged = (row : DiskRow) → In row (rows_in this.setting this.w) → (b epoch : ℕ)
       → (was_has this row epoch b ≡ now_has this row epoch b) × (was_kept this row epoch b ≡ now_kept this row epoch b)
 
   -- the machine has a block's content, where it is this before the step
-  pub look_may : chosen_log this.setting (later_world this) ≡ chosen_log this.setting this.w → AreCalm
+  pub look_may : chosen_log this.setting (later_world this) ≡ chosen_log this.setting this.w → AreUnchanged
       → (k : Plain) → Follow this.setting (rows_in this.setting (later_world this)) (later_world this) k
       → (row : DiskRow) → In row (rows_in this.setting this.w) → (epoch block : ℕ) (bytes : List ℕ) (snap : Option (List ℕ)) → AsksFor row epoch snap
       → ((e : ℕ) → IsAskedAt epoch snap e → (was_has this row e block ≡ true) × (was_kept this row e block ≡ bytes))
@@ -105,7 +105,7 @@ module _ (this : ServerStep) where
       → (entry_at (chain_in own.store.chains cell) epoch ≡ None → coming own_state cell ≡ false)
       → (is_lead own_state this.n cell ≡ true → at cell_cmp own.pairs.pending cell ≡ None)
       → (letter : Letter) → letters this ≡ letter ∷ [] → letter.to ≡ actor.Client client → letter.body ≡ body.Data seq (data_of this cell epoch)
-      → chosen_log this.setting (later_world this) ≡ chosen_log this.setting this.w → AreCalm
+      → chosen_log this.setting (later_world this) ≡ chosen_log this.setting this.w → AreUnchanged
       → ((number : ℕ) → accepted this.later letter ≡ Some number → Accepts lines letter seq number)
       → LooksTold this
   show_told numbered runs client seq cell epoch readable there none letter all to says same calm accepts k following =

@@ -1,8 +1,8 @@
 -- Each kind of job shows what it has to, where the write of what it has put where it counts has had its bytes.
 use Rattle.law_run.proofs.Imports.{◌∙◌, ◌≡◌, ◌≢◌, ◌⊎◌, A_copy, AliveIn, An_asked, An_own, Both, By_filler, By_holder, By_lead, By_other, By_read, By_second}
-use Rattle.law_run.proofs.Imports.{By_sweep, Cell, Chain, Did, DidOther, DidSecond, Drops, Finished, Ignores, IsOpen, IsOwn, IsSeated, IsSteady, JobResult}
-use Rattle.law_run.proofs.Imports.{LinkRow, NeverDead, Nothing_new, Of_the_dead, Only, OtherStores, PairState, Pairs, Pending, Plain, PutsAsked, PutsCopy}
-use Rattle.law_run.proofs.Imports.{PutsOwn, Refuses, Some, Store, StoresSo, Sweeps, ap, at, cell_cmp, cell_of, chain_apart, chain_in, chosen_state}
+use Rattle.law_run.proofs.Imports.{By_sweep, Cell, Chain, Did, DidOther, DidSecond, Drops, Finished, Ignores, IsOpen, IsOwn, IsSeatedOrMute, IsSteady}
+use Rattle.law_run.proofs.Imports.{JobResult, LinkRow, NeverDead, Nothing_new, Of_the_dead, Only, OtherStores, PairState, Pairs, Pending, Plain, PutsAsked}
+use Rattle.law_run.proofs.Imports.{PutsCopy, PutsOwn, Refuses, Some, Store, StoresSo, Sweeps, ap, at, cell_cmp, cell_of, chain_apart, chain_in, chosen_state}
 use Rattle.law_run.proofs.Imports.{copied_apart, did_finish, did_stores, finished_of, held_not_lead, holder_chains, inl, inr, is_clients, is_lead, is_second}
 use Rattle.law_run.proofs.Imports.{is_the_one, kept, lead_links, led_by, live, nat_cmp, of_filler, of_holder, of_other, of_read, of_second, one_lead}
 use Rattle.law_run.proofs.Imports.{other_changes, own_steady, owns_of, refl, same_cell_or_apart, same_some, second_by, second_stores, subst, swept, sym, true}
@@ -170,7 +170,7 @@ module _ (this : ServerStep) (k : Plain) where
           | inr why ↦ finish_held this k runs onward never done.own.pairs.pending c last why written still
         ]
 
-    second_no_own : (done : JobResult) (seated : IsSeated here own done) (d : DidSecond hears here own done)
+    second_no_own : (done : JobResult) (seated : IsSeatedOrMute here own done) (d : DidSecond hears here own done)
         → IsNoOwn (second_stores hears here own never done seated d)
     second_no_own done (inl seat) (Follows number key version bytes h s is) = tt
     second_no_own done (inr apart) (Follows number key version bytes h s is) = tt
@@ -181,7 +181,7 @@ module _ (this : ServerStep) (k : Plain) where
     other_pending done d (inl same) = stays_pending done.own (Nothing_new same) tt (of_other hears here own done d).pending
     other_pending done d (inr copy) = stays_pending done.own (A_copy copy) tt (of_other hears here own done d).pending
 
-    did_pending : (done : JobResult) (seated : IsSeated here own done) (d : Did hears here own done)
+    did_pending : (done : JobResult) (seated : IsSeatedOrMute here own done) (d : Did hears here own done)
         → PutHeld this k (did_stores hears here own never done seated d)
         → (cell : Cell) (o : Pending)
         → at cell_cmp done.own.pairs.pending cell ≡ Some o → Counted this k cell o (chain_in done.own.store.chains cell) → Held this k o
@@ -203,7 +203,7 @@ module _ (this : ServerStep) (k : Plain) where
     did_pending _ seated (By_sweep _ (Sweeps what seat next off)) held =
         stays_pending _ (Of_the_dead (swept hears here own never what seat off)) tt refl
 
-    pub did_job : (done : JobResult) (seated : IsSeated here own done) (d : Did hears here own done)
+    pub did_job : (done : JobResult) (seated : IsSeatedOrMute here own done) (d : Did hears here own done)
         → PutHeld this k (did_stores hears here own never done seated d)
         → own_left this ≡ done.own → OwnFollow this k done.own
     did_job done seated d held is_new = record {

@@ -1,13 +1,14 @@
 -- What the machine is told of a server's step is allowed, and keeps it tied to the world.
 use Rattle.law_run.proofs.Imports.{[], ◌+◌, ◌||◌, ◌∙◌, ◌≡◌, Acted, AreStepsFrom, Body, By_ballot, By_entry, By_job, By_read, Cell, Command, Did, Ends, Fails}
-use Rattle.law_run.proofs.Imports.{Goes, Handled, In, IsSeated, IsSettling, Job, JobContext, JobResult, Letter, Line, List, Log, NeverDead, None, Not_here}
-use Rattle.law_run.proofs.Imports.{Option, PairState, Pairs, Pending, Plain, Post, Sender, Serving, Shows, Some, Stays, Store, Wakes, Worked, World, ap, at}
-use Rattle.law_run.proofs.Imports.{awake, cell_cmp, chain_in, chosen_log, chosen_same, copying_on, crossed, did_stores, down_posts, false, inl, is_some}
-use Rattle.law_run.proofs.Imports.{is_under_way, letters_of, named_cell, own_place, owns_of, proposed_pairs, raised, refl, rev_of, said, sender, served_so}
-use Rattle.law_run.proofs.Imports.{server_state, servers_of, settled_by, settling, stamped, stopped_so, subst, sym, true, true_false, without_rev, ℕ}
-use Rattle.law_run.proofs.GroundGives.{never_dead, proposed_store}
+use Rattle.law_run.proofs.Imports.{Goes, Handled, In, IsSeatedOrMute, IsSettling, Job, JobContext, JobResult, Letter, Line, List, Log, NeverDead, None}
+use Rattle.law_run.proofs.Imports.{Not_here, Option, PairState, Pairs, Pending, Plain, Post, Sender, Serving, Shows, Some, Stays, Store, Wakes, Worked, World}
+use Rattle.law_run.proofs.Imports.{ap, at, awake, ballot_store, cell_cmp, chain_in, chosen_log, chosen_same, copying_on, crossed, did_stores, down_posts}
+use Rattle.law_run.proofs.Imports.{false, in_none, inl, is_some, is_under_way, letters_of, named_cell, own_place, owns_of, proposed_pairs, raised, refl}
+use Rattle.law_run.proofs.Imports.{rev_of, said, sender, served_so, server_state, servers_of, settled_by, settling, stamped, stopped_so, subst, sym, true}
+use Rattle.law_run.proofs.Imports.{true_false, without_rev, ℕ}
+use Rattle.law_run.proofs.GroundGives.{never_dead}
 use Rattle.law_run.proofs.NotHere.{not_here_told}
-use Rattle.law_run.proofs.ReadsShowContents.{AreCalm, data_of, show_told}
+use Rattle.law_run.proofs.ReadsShowContents.{AreUnchanged, data_of, show_told}
 use Rattle.law_run.proofs.EventsOfServerSteps.{LooksTold, Next, ServerStep, ServerTold, ServesAt, after_step, kept_here, later_world, letters, new}
 use Rattle.law_run.proofs.EventsOfServerSteps.{quiet_looks}
 use Rattle.law_run.specs.WritesGoOn.{Onward}
@@ -16,7 +17,7 @@ use Rattle.law_run.proofs.LogSteps.{IsOfKind, Of_the_log, Of_a_boot, Of_the_rest
 use Rattle.law_run.proofs.ReadsLookWhereSent.{is_looked, AreGrounded, who_accepts}
 use Rattle.law_run.proofs.PutContents.{calm_told, joined_same, unchanged}
 use Rattle.law_run.proofs.CountedPutsGiveBytes.{stored_told}
-use Rattle.law_run.proofs.DataLetters.{IsUnended, is_written, did_says, downs_unended, glances_unended, logged_unended, quiet_data, unended_no_data}
+use Rattle.law_run.proofs.DataLetters.{IsUnended, is_written, did_says, downs_unended, glances_unended, logged_unended, mute_data, unended_no_data}
 use Rattle.law_run.proofs.DataLetters.{unended_no_end}
 use Rattle.law_run.proofs.ServerJobs.{did_job}
 use Rattle.law_run.proofs.EventsPutTogether.{assembled}
@@ -78,7 +79,7 @@ module _ (at : ServesAt) where
     -- a job of the pairs
     -- where nothing is chosen and no chain changes, the contents are as before
     calm : (this : ServerStep) → chosen_log this.setting (later_world this) ≡ chosen_log this.setting this.w
-        → (new this).store.chains ≡ (owns_of this.w this.n).store.chains → AreCalm this
+        → (new this).store.chains ≡ (owns_of this.w this.n).store.chains → AreUnchanged this
     calm this same chains row there b epoch =
         let is = unchanged this same row there b
         (λ mine. ap (λ c. chain_in c (named_cell row b)) (kept_here this chains (joined_same this same this.n))) epoch in
@@ -118,9 +119,9 @@ module _ (at : ServesAt) where
           let this = step_of _ serving next in
           quiet_looks this (λ letter i.
           let s = said (sender here) at.stamp 0 done.posts letter i in
-          ap is_looked s.body ∙ quiet_data hears here own (never runs) done d tt s.post s.there)
+          ap is_looked s.body ∙ mute_data hears here own (never runs) done d tt s.post s.there)
 
-      job_told : (done : JobResult) (seated : IsSeated here own done) (did : Did hears here own done) (queue : List Job)
+      job_told : (done : JobResult) (seated : IsSeatedOrMute here own done) (did : Did hears here own done) (queue : List Job)
           (serving : Serving at.setting at.w at.n at.what (served_so at.setting at.w at.n log done queue))
           (next : Next at (served_so at.setting at.w at.n log done queue)) → IsSame (served_so at.setting at.w at.n log done queue)
           → HasLater (after_step at (served_so at.setting at.w at.n log done queue))
@@ -135,7 +136,7 @@ module _ (at : ServesAt) where
           (job_looks done did queue serving next same later)
 
       -- the server stops once its commit is made
-      job_stopped : (done : JobResult) (seated : IsSeated here own done) (did : Did hears here own done)
+      job_stopped : (done : JobResult) (seated : IsSeatedOrMute here own done) (did : Did hears here own done)
           (serving : Serving at.setting at.w at.n at.what (stopped_so at.setting at.w at.n log done))
           (next : Next at (stopped_so at.setting at.w at.n log done)) → IsSame (stopped_so at.setting at.w at.n log done)
           → ServerTold (step_of (stopped_so at.setting at.w at.n log done) serving next)
@@ -145,10 +146,6 @@ module _ (at : ServesAt) where
           assembled this (stored_told this same runs says (did_stores hears here own (never runs) done seated did)
           (λ k onward held. did_job this k runs onward (never runs) done seated did held refl))
           (unended_looks this (without_rev here) downs refl downs_end)
-
-    no_posts : (post : Post) → In post [] → IsUnended post
-    unfolding In
-    no_posts post i = absurd i
 
     -- a step that changes no chain, and ends no request
     calm_step : (acted : Acted) (serving : Serving at.setting at.w at.n at.what acted) (next : Next at acted) → IsSame acted
@@ -174,9 +171,9 @@ module _ (at : ServesAt) where
         serving next same later
     goes_told _ _ queue runs (By_ballot log started posts applied starts says) serving next same later =
         let pairs = proposed_pairs (server_state at.setting at.w at.n) own started in
-        calm_step _ serving next same (ap (λ (s : Store). s.chains) (proposed_store (server_state at.setting at.w at.n) own started))
+        calm_step _ serving next same (ap (λ (s : Store). s.chains) (ballot_store (server_state at.setting at.w at.n) own started))
         (λ k onward. kept_own (step_of _ serving next) k onward
-        (ap (λ (s : Store). s.chains) (proposed_store (server_state at.setting at.w at.n) own started))
+        (ap (λ (s : Store). s.chains) (ballot_store (server_state at.setting at.w at.n) own started))
         (λ on. As_before runs (ap (λ (p : Pairs). p.finished) pairs) (ap (λ (p : Pairs). p.pending) pairs)))
         (sender here) posts refl (λ post i. logged_unended post.body (says post i))
     goes_told _ _ queue runs (By_entry log entry more front) serving next same later =
@@ -184,7 +181,7 @@ module _ (at : ServesAt) where
         calm_step _ serving next same settled.chains
         (λ k onward. kept_own (step_of _ serving next) k onward settled.chains
         (λ on. As_before runs (ap (λ (p : Pairs). p.finished) settled.pairs) (ap (λ (p : Pairs). p.pending) settled.pairs)))
-        (sender here) [] refl no_posts
+        (sender here) [] refl (λ post i. in_none post i)
 
     ends_told : (log : Log) (done : JobResult) (runs : (at.w.servers at.n).life.running ≡ true) → Worked at.setting at.w at.n log done
         → (serving : Serving at.setting at.w at.n at.what (stopped_so at.setting at.w at.n log done))
@@ -193,9 +190,9 @@ module _ (at : ServesAt) where
     ends_told _ _ runs (By_job log done applied did seat) serving next same = job_stopped log runs done seat did serving next same
     ends_told _ _ runs (By_ballot log started posts applied starts says) serving next same =
         let pairs = proposed_pairs (server_state at.setting at.w at.n) own started in
-        calm_step _ serving next same (ap (λ (s : Store). s.chains) (proposed_store (server_state at.setting at.w at.n) own started))
+        calm_step _ serving next same (ap (λ (s : Store). s.chains) (ballot_store (server_state at.setting at.w at.n) own started))
         (λ k onward. kept_own (step_of _ serving next) k onward
-        (ap (λ (s : Store). s.chains) (proposed_store (server_state at.setting at.w at.n) own started))
+        (ap (λ (s : Store). s.chains) (ballot_store (server_state at.setting at.w at.n) own started))
         (λ on. As_before runs (ap (λ (p : Pairs). p.finished) pairs) (ap (λ (p : Pairs). p.pending) pairs)))
         (without_rev here) downs refl downs_end
     ends_told _ _ runs (By_entry log entry more front) serving next same =
@@ -219,7 +216,7 @@ module _ (at : ServesAt) where
         downs refl downs_end
     rest_told _ (Fails booted asleep) of_it next same later =
         calm_step _ of_it next same refl (λ k onward. kept_own (step_of _ of_it next) k onward refl (λ on. true_false on asleep))
-        (without_rev here) [] refl no_posts
+        (without_rev here) [] refl (λ post i. in_none post i)
 
     -- a server that runs after the step ran before, or has nothing in memory
     serves_kept : (acted : Acted) (serving of_it : Serving at.setting at.w at.n at.what acted) (next : Next at acted)

@@ -1,7 +1,7 @@
 -- Who serves a cell's link after a step has not come back with nothing in it: its store counts as it did, if what is chosen tells of no
 -- other blank of it.
-use Rattle.law_run.proofs.Imports.{[], ◌++◌, ◌∷◌, ◌≡◌, ◌≤◌, AliveIn, Bool, Cell, Command, HasJoinedSince, IsCaughtStill, IsLinked, IsPlainLog, IsPrefix, Join}
-use Rattle.law_run.proofs.Imports.{LinkRow, List, Only, PairState, Some, Visits, alive_on, arith, chosen_state, front_itself, front_more, front_on}
+use Rattle.law_run.proofs.Imports.{[], ◌++◌, ◌∷◌, ◌≡◌, ◌≤◌, AliveIn, Bool, Cell, Command, HasJoinedSince, HasProperTuples, IsCaughtStill, IsLinked, IsPrefix}
+use Rattle.law_run.proofs.Imports.{Join, LinkRow, List, Only, PairState, Some, Visits, alive_on, arith, chosen_state, front_itself, front_more, front_on}
 use Rattle.law_run.proofs.Imports.{has_server, id_of, inl, inr, is_flagged, other_of, place_by, place_of_later, place_touched, places_up, serves, subst, true}
 use Rattle.law_run.proofs.Imports.{true_false, ℕ}
 use Rattle.law_run.proofs.BlankedServeNothing.{IsUncaught, more_joins, serves_none}
@@ -10,7 +10,7 @@ use Rattle.law_run.proofs.EventsOfServerSteps.{ServerStep, ends_of, joined_now, 
 module _ (this : ServerStep) where
   open ends_of this use {v, top, end}
 
-  plain_end : IsPlainLog this.setting.servers end
+  plain_end : HasProperTuples this.setting.servers end
   plain_end = this.next.firm.plain
 
   abbrev pub visits : Visits

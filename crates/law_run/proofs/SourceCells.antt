@@ -1,6 +1,6 @@
 -- From which cell the entries of a cell that is coming come: it is the same by each state by which it is coming.
-use Rattle.law_run.proofs.Imports.{if◌then◌else◌, ◌==◌, ◌∙◌, ◌≡◌, AreDisks, Cell, Command, DiskRow, Fenced, In, IsPlainLog, IsPlainState, IsPrefix, List}
-use Rattle.law_run.proofs.Imports.{Move, New, None, Old, Option, RegionState, Some, State, ap, arith, has_map, home_of, inl, inr, is_fenced, log_disks}
+use Rattle.law_run.proofs.Imports.{if◌then◌else◌, ◌==◌, ◌∙◌, ◌≡◌, AreDisks, Cell, Command, DiskRow, Fenced, HasProperTuples, In, IsPrefix, IsSettledState}
+use Rattle.law_run.proofs.Imports.{List, Move, New, None, Old, Option, RegionState, Some, State, ap, arith, has_map, home_of, inl, inr, is_fenced, log_disks}
 use Rattle.law_run.proofs.Imports.{log_plain, move_region, named_cell, named_map, number_itself, old_cell, old_map, option_and_then, option_map, refl}
 use Rattle.law_run.proofs.Imports.{region_of, some_or_none, source, source_in, source_same, stage_at, state_after, sym, true, true_false, ℕ}
 use Rattle.law_run.proofs.ChosenDisks.{cell_comes, cell_named}
@@ -22,7 +22,7 @@ own_map row b between = sym (by (home_of row b) between)
     by New e = true_false e refl
 
 -- by the row of its disk
-pub source_here : (servers : ℕ) (s : State) → IsPlainState servers s → AreDisks s → (cell : Cell) (row : DiskRow) → In row s.disks.rows
+pub source_here : (servers : ℕ) (s : State) → IsSettledState servers s → AreDisks s → (cell : Cell) (row : DiskRow) → In row s.disks.rows
     → has_map cell.map row ≡ true → stage_at s cell ≡ 1 → source s cell ≡ Some (old_cell row cell.block)
 source_here servers s p disks cell row h has one =
     let between = cell_comes servers s p disks row h cell has one in
@@ -36,7 +36,7 @@ source_here servers s p disks cell row h has one =
     ∙ (λ i. Some (record { map = sym (ap (old_map row.map) m.1) i; block = cell.block }))
 
 -- so it is by each front by which it had a source
-pub source_stays : (servers : ℕ) (front whole : List Command) → IsPlainLog servers whole → IsPrefix front whole → (cell old : Cell)
+pub source_stays : (servers : ℕ) (front whole : List Command) → HasProperTuples servers whole → IsPrefix front whole → (cell old : Cell)
     → source (state_after servers front) cell ≡ Some old → (row : DiskRow) → In row (state_after servers whole).disks.rows
     → has_map cell.map row ≡ true → stage_at (state_after servers whole) cell ≡ 1 → old ≡ old_cell row cell.block
 source_stays servers front whole plain prefix cell old e row h has one =

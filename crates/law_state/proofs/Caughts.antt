@@ -5,7 +5,7 @@ use Rattle.law_state.proofs.Imports.{option_map, other_of, refl, row_caught, sam
 use Rattle.spec_state.specs.State.{State}
 use Rattle.law_state.specs.Ages.{age_of}
 use Rattle.law_state.specs.LinkRows.{IsHeldOn, IsLater, IsLostOn, IsServed, IsServedBy, IsServedOn, ByBoth, ByNone, ByOne}
-use Rattle.law_state.specs.Tables.{IsPlainState}
+use Rattle.law_state.specs.Tables.{IsSettledState}
 use Rattle.law_state.proofs.Ages.{in_up, no_less}
 use Rattle.law_state.proofs.Fences.{Acted, queued_on, requeued_itself}
 use Rattle.law_state.proofs.GrownStates.{later_itself}
@@ -118,7 +118,7 @@ act_caught P s of link holder holder_inc other other_inc acts stays =
 pub record ActingCaught : Type 0 where
   pub servers : ℕ
   pub s : State
-  pub p : IsPlainState servers s
+  pub p : IsSettledState servers s
   pub of : ℕ
   pub link : ℕ
   pub holder : ℕ
@@ -127,7 +127,7 @@ pub record ActingCaught : Type 0 where
   pub other_inc : ℕ
   pub acts : IsCatch s of link holder holder_inc other other_inc
 
-abbrev pub acting_caught : {servers : ℕ} {s : State} → IsPlainState servers s → {of link holder holder_inc other other_inc : ℕ}
+abbrev pub acting_caught : {servers : ℕ} {s : State} → IsSettledState servers s → {of link holder holder_inc other other_inc : ℕ}
     → IsCatch s of link holder holder_inc other other_inc → ActingCaught
 acting_caught {servers} {s} p {of} {link} {holder} {holder_inc} {other} {other_inc} acts = record {
   servers = servers;

@@ -9,9 +9,9 @@ use Rattle.spec_rules.specs.State.{is_in}
 use Rattle.law_state.specs.LaterStates.{HasLater}
 use Rattle.law_state.specs.Homes.{HasDied}
 use Rattle.law_state.specs.LinkChanges.{IsCaughtBy, IsCaughtIn, IsCaughtSince, IsCaughtStill, IsHeldStill, IsLostIn, By_caught, By_join, By_leave, StaysSo}
-use Rattle.law_state.specs.Plain.{IsPlain, IsPlainLog}
+use Rattle.law_state.specs.Plain.{HasProperTuple, HasProperTuples}
 use Rattle.law_state.specs.LinkRows.{IsLater}
-use Rattle.law_state.specs.Tables.{IsPlainState}
+use Rattle.law_state.specs.Tables.{IsSettledState}
 use Rattle.law_state.proofs.Ages.{between, in_up, out_by}
 use Rattle.law_state.proofs.Caughts.{touch_by}
 use Rattle.law_state.proofs.EntriesOnlyAdd.{entering, folding, log_plain}
@@ -112,7 +112,7 @@ stays_row row server holder has alone =
 
 module _ (servers : ℕ) where
   -- where nothing touches the link after the entry
-  made_both : (s : State) → IsPlainState servers s → (entry : Command) → IsPlain servers entry → (rest : List Command) (cell : Cell) (row next now : LinkRow)
+  made_both : (s : State) → IsSettledState servers s → (entry : Command) → HasProperTuple servers entry → (rest : List Command) (cell : Cell) (row next now : LinkRow)
       → cell_link s cell ≡ Some row → touches s entry row ≡ true → cell_link (after s entry) cell ≡ Some next → IsLater row next
       → StaysSo cell next (after s entry) (fold after (after s entry) rest) → places_from (after s entry) rest next ≡ 0
       → next ≡ now → now.state ≡ Both → IsCaughtLast s (entry ∷ rest) cell now
@@ -133,7 +133,7 @@ module _ (servers : ℕ) where
             })
       ]
 
-  both_by : (entries : List Command) (s : State) → IsPlainState servers s → IsPlainLog servers entries → (cell : Cell) (row now : LinkRow)
+  both_by : (entries : List Command) (s : State) → IsSettledState servers s → HasProperTuples servers entries → (cell : Cell) (row now : LinkRow)
       → cell_link s cell ≡ Some row → cell_link (fold after s entries) cell ≡ Some now → now.state ≡ Both
       → (places_from s entries row ≡ 0) ⊎ IsCaughtLast s entries cell now
   unfolding In
@@ -159,7 +159,7 @@ module _ (servers : ℕ) where
       ]
 
   -- a link that is Lost stays so
-  lost_until : (entries : List Command) (s : State) → IsPlainState servers s → IsPlainLog servers entries → (cell : Cell) (row now : LinkRow)
+  lost_until : (entries : List Command) (s : State) → IsSettledState servers s → HasProperTuples servers entries → (cell : Cell) (row now : LinkRow)
       → cell_link s cell ≡ Some row → row.state ≡ Lost → cell_link (fold after s entries) cell ≡ Some now → now.state ≡ Lost
   lost_until entries s p all cell row now is lost end =
       let later = folding servers entries s p all in
@@ -169,7 +169,7 @@ module _ (servers : ℕ) where
       ]
 
   -- one that a server holds alone leaves that state by a Caught first, or by the holder's Join with an empty store
-  alone_until : (entries : List Command) (s : State) → IsPlainState servers s → IsPlainLog servers entries → (cell : Cell) (row now : LinkRow) (holder : ℕ)
+  alone_until : (entries : List Command) (s : State) → IsSettledState servers s → HasProperTuples servers entries → (cell : Cell) (row now : LinkRow) (holder : ℕ)
       (whole : Bool) → cell_link s cell ≡ Some (held_row row holder whole) → cell_link (fold after s entries) cell ≡ Some now
       → HeldUntil s entries cell row now holder whole
   unfolding In
@@ -210,7 +210,7 @@ module _ (servers : ℕ) where
       ])
 
   -- a link that is gone is touched by who leaves or joins alone
-  gone_untouched : (s : State) → IsPlainState servers s → (entry : Command) → IsPlain servers entry → (cell : Cell) (row : LinkRow) (one other : ℕ)
+  gone_untouched : (s : State) → IsSettledState servers s → (entry : Command) → HasProperTuple servers entry → (cell : Cell) (row : LinkRow) (one other : ℕ)
       → row.map ≡ cell.map → HasDied s cell → is_up s row.primary ≡ true → is_up s row.secondary ≡ true
       → is_up_as (after s entry) row.primary one ≡ true → is_up_as (after s entry) row.secondary other ≡ true → touches s entry row ≡ false
   gone_untouched s p (Join server inc blank) plain cell row one other same gone first second first_on second_on =
@@ -244,7 +244,7 @@ module _ (servers : ℕ) where
   gone_untouched s p (Witness client seq turn) plain cell row one other same gone first second first_on second_on = refl
 
   -- two servers that are In before these entries and after them are so after the first one
-  ups_between : (entry : Command) (rest : List Command) (s : State) → IsPlainState servers s → IsPlainLog servers (entry ∷ rest)
+  ups_between : (entry : Command) (rest : List Command) (s : State) → IsSettledState servers s → HasProperTuples servers (entry ∷ rest)
       → (row : LinkRow) (one other : ℕ) → is_up_as s row.primary one ≡ true → is_up_as s row.secondary other ≡ true
       → is_up_as (fold after s (entry ∷ rest)) row.primary one ≡ true → is_up_as (fold after s (entry ∷ rest)) row.secondary other ≡ true
       → (is_up_as (after s entry) row.primary one ≡ true) × (is_up_as (after s entry) row.secondary other ≡ true)
@@ -257,7 +257,7 @@ module _ (servers : ℕ) where
       (ups row.primary one first first_on, ups row.secondary other second second_on)
 
   -- while a link is in Both, and both of its servers stay In, nothing touches it; nor where its cell is dead
-  both_quiet : (entries : List Command) (s : State) → IsPlainState servers s → IsPlainLog servers entries → (cell : Cell) (row : LinkRow) (one other : ℕ)
+  both_quiet : (entries : List Command) (s : State) → IsSettledState servers s → HasProperTuples servers entries → (cell : Cell) (row : LinkRow) (one other : ℕ)
       → row.map ≡ cell.map → row.state ≡ Both → (cell_link s cell ≡ Some row) ⊎ HasDied s cell
       → is_up_as s row.primary one ≡ true → is_up_as s row.secondary other ≡ true
       → is_up_as (fold after s entries) row.primary one ≡ true → is_up_as (fold after s entries) row.secondary other ≡ true → places_from s entries row ≡ 0
@@ -285,13 +285,13 @@ module _ (servers : ℕ) where
       let on : (cell_link t cell ≡ Some row) ⊎ HasDied t cell = elim held [
         | inl is ↦ elim (entry_stays servers s p cell row is entry plain off) [ inl stays ↦ inl stays.same | inr gone ↦ inr gone ]
         | inr gone ↦ inr (still_dead servers s p (entry ∷ [])
-            (λ c h. elim h [ inl e ↦ subst (IsPlain servers) (sym e) plain | inr none ↦ absurd none ]) cell gone)
+            (λ c h. elim h [ inl e ↦ subst (HasProperTuple servers) (sym e) plain | inr none ↦ absurd none ]) cell gone)
       ] in
       ap (λ b. if b then places_from t rest row + 1 else places_from t rest row) off
       ∙ both_quiet rest t step.plain more cell row one other same both on ups.0 ups.1 first_on second_on
 
   -- a link that one server holds alone, while both of its servers stay In: a Caught alone touches it, which puts it in Both
-  held_or_both : (entries : List Command) (s : State) → IsPlainState servers s → IsPlainLog servers entries → (cell : Cell) (row : LinkRow)
+  held_or_both : (entries : List Command) (s : State) → IsSettledState servers s → HasProperTuples servers entries → (cell : Cell) (row : LinkRow)
       (one other : ℕ) → cell_link s cell ≡ Some row → is_up_as s row.primary one ≡ true → is_up_as s row.secondary other ≡ true
       → is_up_as (fold after s entries) row.primary one ≡ true → is_up_as (fold after s entries) row.secondary other ≡ true
       → (places_from s entries row ≡ 0) ⊎ (cell_link (fold after s entries) cell ≡ Some (record row { state = Both }))
@@ -331,14 +331,14 @@ module _ (servers : ℕ) where
 
 -- ### Fronts of a log
 
-module _ (servers : ℕ) (front whole : List Command) (all : IsPlainLog servers whole) (prefix : IsPrefix front whole) where
+module _ (servers : ℕ) (front whole : List Command) (all : HasProperTuples servers whole) (prefix : IsPrefix front whole) where
   abbrev s : State
   s = state_after servers front
 
-  plain : IsPlainState servers s
+  plain : IsSettledState servers s
   plain = log_plain servers front (front_plain servers front whole all prefix)
 
-  more : IsPlainLog servers prefix.later
+  more : HasProperTuples servers prefix.later
   more command h = all command (subst (In command) (sym prefix.is) (in_later command front prefix.later h))
 
   whole_is : state_after servers whole ≡ fold after s prefix.later

@@ -6,9 +6,9 @@ use Rattle.law_state.proofs.Imports.{nat_lists_same, not, number_itself, option_
 use Rattle.law_state.proofs.Imports.{same_some, slice_get, slice_get_within, snapshot_named, some_or_none, start, state_after, subst, sym, told, true}
 use Rattle.law_state.proofs.Imports.{true_false, with_disk, ℕ}
 use Rattle.law_state.specs.Disks.{AreDisks, AreInOrOut}
-use Rattle.law_state.specs.Plain.{IsPlain, IsPlainLog}
+use Rattle.law_state.specs.Plain.{HasProperTuple, HasProperTuples}
 use Rattle.law_state.specs.Steady.{HasLink}
-use Rattle.law_state.specs.Tables.{IsPlainState}
+use Rattle.law_state.specs.Tables.{IsSettledState}
 use Rattle.law_state.proofs.Ages.{in_once, in_up, up_some}
 use Rattle.law_state.proofs.Caughts.{act_caught}
 use Rattle.law_state.proofs.Joins.{joined_by, was_out, in_beside as joined_beside}
@@ -23,7 +23,7 @@ use Rattle.law_state.proofs.EntriesOnlyAdd.{entering, log_plain}
 use Rattle.global_tables.specs.declared.fence.Member.TheVariants as member
 use Rattle.global_tables.specs.declared.disk.Verdict.TheVariants as Verdict
 
-module _ (servers : ℕ) (s : State) (p : IsPlainState servers s) where
+module _ (servers : ℕ) (s : State) (p : IsSettledState servers s) where
   at : (row : DiskRow) → In row s.disks.rows → disk_at s.disks.rows row.id ≡ Some row
   at row h =
       let place = get_in s.disks.rows row h in
@@ -96,16 +96,16 @@ module _ (servers : ℕ) (s : State) (p : IsPlainState servers s) where
     seated = in_up s;
   }
 
-pub log_disks : (servers : ℕ) (log : List Command) → IsPlainLog servers log → AreDisks (state_after servers log)
+pub log_disks : (servers : ℕ) (log : List Command) → HasProperTuples servers log → AreDisks (state_after servers log)
 log_disks servers log all = plain_disks servers (state_after servers log) (log_plain servers log all)
 
-pub log_in : (servers : ℕ) (log : List Command) → IsPlainLog servers log → AreInOrOut servers (state_after servers log)
+pub log_in : (servers : ℕ) (log : List Command) → HasProperTuples servers log → AreInOrOut servers (state_after servers log)
 log_in servers log all = plain_in servers (state_after servers log) (log_plain servers log all)
 
 -- ### Who is Out has left
 
 -- an incarnation that an entry makes Out has this very Leave
-made_out : (servers : ℕ) (s : State) → IsPlainState servers s → (entry : Command) → IsPlain servers entry → (n inc : ℕ) → is_up_as s n inc ≡ true
+made_out : (servers : ℕ) (s : State) → IsSettledState servers s → (entry : Command) → HasProperTuple servers entry → (n inc : ℕ) → is_up_as s n inc ≡ true
     → is_up_as (act entry s) n inc ≡ false → Leave n inc ≡ entry
 made_out servers s p (Join server later blank) plain n inc is =
     by_test (λ (t : State). is_up_as t n inc ≡ false → Leave n inc ≡ Join server later blank) (may_join (slice_get s.view.members server) later)
@@ -146,7 +146,7 @@ made_out servers s p (Drained server last fence) plain n inc is =
     (λ head up out. true_false is out)
 made_out servers s p (Witness client seq turn) plain n inc is = λ out. true_false is out
 
-out_left : (servers : ℕ) (log : List Command) (s : State) → IsPlainState servers s → IsPlainLog servers log → (n inc : ℕ) → is_up_as s n inc ≡ true
+out_left : (servers : ℕ) (log : List Command) (s : State) → IsSettledState servers s → HasProperTuples servers log → (n inc : ℕ) → is_up_as s n inc ≡ true
     → is_up_as (fold after s log) n inc ≡ false → In (Leave n inc) log
 unfolding In
 out_left servers [] s p all n inc is out = true_false is out
@@ -162,7 +162,7 @@ first_at_start servers n lt =
     ap (λ o. option_map_or (λ present. present == 1) (option_and_then inc_in o) false) (get_replicate servers n (member.In 1) lt) ∙ number_itself 1
 
 -- the part of the log in which it was In at first and is not In at last has its Leave
-pub who_is_out : (servers : ℕ) (front whole : List Command) (n inc : ℕ) → IsPlainLog servers whole → IsPrefix front whole
+pub who_is_out : (servers : ℕ) (front whole : List Command) (n inc : ℕ) → HasProperTuples servers whole → IsPrefix front whole
     → is_up_as (state_after servers front) n inc ≡ true → is_up_as (state_after servers whole) n inc ≡ false → In (Leave n inc) whole
 who_is_out servers front whole n inc all prefix is out =
     let rest = λ (c : Command) (h : In c prefix.later). subst (In c) (sym prefix.is) (in_later c front prefix.later h) in

@@ -3,8 +3,8 @@ use Rattle.law_state.proofs.Imports.{[], ◌+◌, ◌∷◌, ◌≡◌, Caught, 
 use Rattle.law_state.proofs.Imports.{StartMove, State, Verdict, Whole, Witness, act, after, ap, arith, by_test, fold, inl, inr, is_new, is_some, is_up_as}
 use Rattle.law_state.proofs.Imports.{last_inc, latest, length-replicate, may_join, named, none_some, not, refl, replicate, same_some, settled, slice_get}
 use Rattle.law_state.proofs.Imports.{start, state_after, suc, sym, told, with_disk, with_fence, with_move, zero, ℕ}
-use Rattle.law_state.specs.Plain.{IsPlain, IsPlainLog}
-use Rattle.law_state.specs.Tables.{IsPlainState}
+use Rattle.law_state.specs.Plain.{HasProperTuple, HasProperTuples}
+use Rattle.law_state.specs.Tables.{IsSettledState}
 use Rattle.law_state.proofs.Fences.{Acted, acts_not, renumbered, untabled}
 use Rattle.law_state.proofs.GrownStates.{Step, grown_on, stays}
 use Rattle.law_state.proofs.Leaves.{leaving}
@@ -16,7 +16,7 @@ use Rattle.law_state.proofs.FencesPass.{settling}
 use Rattle.law_state.proofs.SnapsQueueFences.{act_drained, act_snap, draining, none_of, snapping}
 use Rattle.global_tables.specs.declared.fence.Member.TheVariants as member
 
-pub acting : (servers : ℕ) (s : State) (command : Command) → IsPlainState servers s → IsPlain servers command → Acted servers s (act command s)
+pub acting : (servers : ℕ) (s : State) (command : Command) → IsSettledState servers s → HasProperTuple servers command → Acted servers s (act command s)
 acting servers s (Join server inc blank) p proper =
     by_test (Acted servers s) (may_join (slice_get s.view.members server) inc) _ s (λ may. joining servers s p server inc blank may)
     (λ no. acts_not servers s p)
@@ -61,14 +61,14 @@ acting servers s (Drained server inc fence) p proper =
     act_drained (Acted servers s) s server inc fence (acts_not servers s p) (λ is up. draining servers s p server)
 acting servers s (Witness client seq turn) p proper = acts_not servers s p
 
-pub entering : (servers : ℕ) (s : State) (command : Command) → IsPlainState servers s → IsPlain servers command → Step servers s (after s command)
+pub entering : (servers : ℕ) (s : State) (command : Command) → IsSettledState servers s → HasProperTuple servers command → Step servers s (after s command)
 entering servers s command p is =
     let one = acting servers s command p is in
     let two = settling servers (act command s) one.plain in
     renumbered servers (s.rev + 1) s (settled (act command s))
     (record { plain = two.plain; grown = grown_on s (act command s) (settled (act command s)) one.grown two.grown })
 
-pub folding : (servers : ℕ) (log : List Command) (s : State) → IsPlainState servers s → IsPlainLog servers log → Step servers s (fold after s log)
+pub folding : (servers : ℕ) (log : List Command) (s : State) → IsSettledState servers s → HasProperTuples servers log → Step servers s (fold after s log)
 unfolding In
 folding servers [] s p all = stays servers s p
 folding servers (command ∷ log) s p all =
@@ -86,7 +86,7 @@ no_row : {A : Type 0} (row : LinkRow) → In row [] → A
 unfolding In
 no_row row h = absurd h
 
-pub start_plain : (servers : ℕ) → IsPlainState servers (start servers)
+pub start_plain : (servers : ℕ) → IsSettledState servers (start servers)
 start_plain servers = record {
   unsettled = record {
     many = length-replicate servers (member.In 1);
@@ -109,5 +109,5 @@ start_plain servers = record {
   waits = λ fence e. none_some refl e;
 }
 
-pub log_plain : (servers : ℕ) (log : List Command) → IsPlainLog servers log → IsPlainState servers (state_after servers log)
+pub log_plain : (servers : ℕ) (log : List Command) → HasProperTuples servers log → IsSettledState servers (state_after servers log)
 log_plain servers log all = (folding servers log (start servers) (start_plain servers) all).plain

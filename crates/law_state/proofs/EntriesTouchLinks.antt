@@ -8,9 +8,9 @@ use Rattle.law_state.proofs.Imports.{new_rows, none_some, not, number_itself, op
 use Rattle.law_state.proofs.Imports.{same_numbers, same_or_apart, slice_get, some_or_none, start, state_after, subst, sym, told, touches, true, true_false}
 use Rattle.law_state.proofs.Imports.{tuple_of, ups, with_disk, with_fence, with_move, ℕ}
 use Rattle.law_state.specs.LinkChanges.{IsReseated, IsTouchedBy, By_caught, By_join, By_leave, StaysSo, row_joined}
-use Rattle.law_state.specs.Plain.{IsPlain, IsPlainLog}
+use Rattle.law_state.specs.Plain.{HasProperTuple, HasProperTuples}
 use Rattle.law_state.specs.Homes.{HasDied}
-use Rattle.law_state.specs.Tables.{IsPlainState}
+use Rattle.law_state.specs.Tables.{IsSettledState}
 use Rattle.law_state.proofs.EntriesOnlyAdd.{entering, folding, log_plain}
 use Rattle.law_state.specs.LinkRows.{IsServed, ByBoth, ByNone, ByOne}
 use Rattle.law_state.proofs.Caughts.{act_caught, acting_caught, alone_by, catch_so, caught_by, link_caught, row_in_both, row_uncaught, the_row, touch_by}
@@ -31,7 +31,7 @@ use Rattle.global_tables.specs.declared.disk.Verdict.TheVariants as Verdict
 differ : (a b : ℕ) → (a == b) ≡ false → a ≢ b
 differ a b away e = true_false (ap (λ k. k == b) e ∙ number_itself b) away
 
-module _ (servers : ℕ) (s : State) (p : IsPlainState servers s) (cell : Cell) (row : LinkRow) (is : cell_link s cell ≡ Some row) where
+module _ (servers : ℕ) (s : State) (p : IsSettledState servers s) (cell : Cell) (row : LinkRow) (is : cell_link s cell ≡ Some row) where
   itself : StaysSo cell row s s
   itself = record { same = is; primary = refl; secondary = refl }
 
@@ -64,7 +64,7 @@ module _ (servers : ℕ) (s : State) (p : IsPlainState servers s) (cell : Cell) 
     secondary = ap (λ (m : List Member). option_and_then inc_in (slice_get m row.secondary)) members;
   })
 
-  act_stays : (entry : Command) → IsPlain servers entry → touches s entry row ≡ false → Stays (act entry s)
+  act_stays : (entry : Command) → HasProperTuple servers entry → touches s entry row ≡ false → Stays (act entry s)
   act_stays (Join server inc blank) plain off =
       by_test Stays (may_join (slice_get s.view.members server) inc) (joined_by s server inc blank) s
       (λ may.
@@ -144,7 +144,7 @@ module _ (servers : ℕ) (s : State) (p : IsPlainState servers s) (cell : Cell) 
       act_drained Stays s server inc fence (inl itself) (λ head up. inl (record { same = is; primary = refl; secondary = refl }))
   act_stays (Witness client seq turn) plain off = inl itself
 
-  pub entry_stays : (entry : Command) → IsPlain servers entry → touches s entry row ≡ false
+  pub entry_stays : (entry : Command) → HasProperTuple servers entry → touches s entry row ≡ false
       → StaysSo cell row s (after s entry) ⊎ HasDied (after s entry) cell
   entry_stays entry plain off =
       let t = act entry s in
@@ -164,17 +164,17 @@ module _ (servers : ℕ) (s : State) (p : IsPlainState servers s) (cell : Cell) 
 
 -- ### An entry that touches the link
 
-module _ (servers : ℕ) (s : State) (p : IsPlainState servers s) (cell : Cell) (row : LinkRow) (is : cell_link s cell ≡ Some row) (served : IsServed s row) where
+module _ (servers : ℕ) (s : State) (p : IsSettledState servers s) (cell : Cell) (row : LinkRow) (is : cell_link s cell ≡ Some row) (served : IsServed s row) where
   -- who is In after the entry, by what its command does
-  seats_after : (entry : Command) → IsPlain servers entry → (server : ℕ) (now : Option ℕ) → IsReseated s (act entry s) server now
+  seats_after : (entry : Command) → HasProperTuple servers entry → (server : ℕ) (now : Option ℕ) → IsReseated s (act entry s) server now
       → IsReseated s (after s entry) server now
   seats_after entry plain server now h =
       record { here = inc_settled (act entry s) server ∙ h.here; beside = λ n ne. inc_settled (act entry s) n ∙ h.beside n ne }
 
-  row_after : (entry : Command) → IsPlain servers entry → (now : LinkRow) → cell_link (act entry s) cell ≡ Some now → cell_link (after s entry) cell ≡ Some now
+  row_after : (entry : Command) → HasProperTuple servers entry → (now : LinkRow) → cell_link (act entry s) cell ≡ Some now → cell_link (after s entry) cell ≡ Some now
   row_after entry plain now e = cell_settled (act entry s) cell ∙ e
 
-  pub touched : (entry : Command) → IsPlain servers entry → touches s entry row ≡ true → IsTouchedBy cell row s entry
+  pub touched : (entry : Command) → HasProperTuple servers entry → touches s entry row ≡ true → IsTouchedBy cell row s entry
   touched (Join server inc blank) plain on =
       let h = both_true (may_join (slice_get s.view.members server) inc) (has_server server row) on in
       By_join (record { server = server; inc = inc; blank = blank; is = refl; may = h.0; one_of = h.1 })
@@ -226,7 +226,7 @@ module _ (servers : ℕ) (s : State) (p : IsPlainState servers s) (cell : Cell) 
         secondary = same_seat of link holder inc other other_inc plain row.secondary;
       })
     where
-      same_seat : (of link holder inc other other_inc : ℕ) (plain : IsPlain servers (Caught of link holder inc other other_inc)) (n : ℕ)
+      same_seat : (of link holder inc other other_inc : ℕ) (plain : HasProperTuple servers (Caught of link holder inc other other_inc)) (n : ℕ)
           → inc_of (after s (Caught of link holder inc other other_inc)) n ≡ inc_of s n
       same_seat of link holder inc other other_inc plain n =
           inc_settled (act (Caught of link holder inc other other_inc) s) n
@@ -238,13 +238,13 @@ module _ (servers : ℕ) (s : State) (p : IsPlainState servers s) (cell : Cell) 
   touched (Moved of region link) plain on = let f : false ≡ true = on in absurd cc
   touched (Witness client seq turn) plain on = let f : false ≡ true = on in absurd cc
 
-pub log_entry_stays : (servers : ℕ) (log : List Command) (entry : Command) (cell : Cell) (row : LinkRow) → IsPlainLog servers log → IsPlain servers entry
+pub log_entry_stays : (servers : ℕ) (log : List Command) (entry : Command) (cell : Cell) (row : LinkRow) → HasProperTuples servers log → HasProperTuple servers entry
     → cell_link (state_after servers log) cell ≡ Some row → touches (state_after servers log) entry row ≡ false
     → StaysSo cell row (state_after servers log) (after (state_after servers log) entry) ⊎ HasDied (after (state_after servers log) entry) cell
 log_entry_stays servers log entry cell row all plain is off =
     entry_stays servers (state_after servers log) (log_plain servers log all) cell row is entry plain off
 
-pub log_touched : (servers : ℕ) (log : List Command) (entry : Command) (cell : Cell) (row : LinkRow) → IsPlainLog servers log → IsPlain servers entry
+pub log_touched : (servers : ℕ) (log : List Command) (entry : Command) (cell : Cell) (row : LinkRow) → HasProperTuples servers log → HasProperTuple servers entry
     → cell_link (state_after servers log) cell ≡ Some row → touches (state_after servers log) entry row ≡ true
     → IsTouchedBy cell row (state_after servers log) entry
 log_touched servers log entry cell row all plain is on =
@@ -273,14 +273,14 @@ pub stays_on : (cell : Cell) (row : LinkRow) (s t u : State) → StaysSo cell ro
 stays_on cell row s t u a b = record { same = b.same; primary = b.primary ∙ a.primary; secondary = b.secondary ∙ a.secondary }
 
 -- a cell that has died stays so: all cells of its map have
-pub gone_owner : (servers : ℕ) (s : State) → IsPlainState servers s → (cell : Cell) → HasDied s cell → owner s cell.map ≡ None
+pub gone_owner : (servers : ℕ) (s : State) → IsSettledState servers s → (cell : Cell) → HasDied s cell → owner s cell.map ≡ None
 gone_owner servers s p cell died = elim (owned_or_none servers s p cell) [
   | inl h ↦ none_some died.0 (linked_owner servers s p cell h.0 h.1).1
   | inr none ↦ none
 ]
 
 -- a cell's link is of its map
-pub map_of : (servers : ℕ) (s : State) → IsPlainState servers s → (cell : Cell) (row : LinkRow) → cell_link s cell ≡ Some row → row.map ≡ cell.map
+pub map_of : (servers : ℕ) (s : State) → IsSettledState servers s → (cell : Cell) (row : LinkRow) → cell_link s cell ≡ Some row → row.map ≡ cell.map
 map_of servers s p cell row is = elim (some_or_none (tuple_of s.maps cell.map)) [
   | inl h ↦ (
       let at = found_at (is_link cell.map (link_of (length h.0) cell.block)) s.links row
@@ -289,14 +289,14 @@ map_of servers s p cell row is = elim (some_or_none (tuple_of s.maps cell.map)) 
   | inr none ↦ none_some (ap (option_and_then (λ ids. link_at s.links cell.map (link_of (length ids) cell.block))) none) is
 ]
 
-pub still_dead : (servers : ℕ) (s : State) → IsPlainState servers s → (entries : List Command) → IsPlainLog servers entries → (cell : Cell) → HasDied s cell
+pub still_dead : (servers : ℕ) (s : State) → IsSettledState servers s → (entries : List Command) → HasProperTuples servers entries → (cell : Cell) → HasDied s cell
     → HasDied (fold after s entries) cell
 still_dead servers s p entries all cell gone =
     let step = folding servers entries s p all in
     died servers (fold after s entries) step.plain cell
     (gone_on s (fold after s entries) cell.map step.grown.stages (all_died servers s p cell gone))
 
-pub untouched : (servers : ℕ) (entries : List Command) (s : State) → IsPlainState servers s → IsPlainLog servers entries → (cell : Cell) (row : LinkRow)
+pub untouched : (servers : ℕ) (entries : List Command) (s : State) → IsSettledState servers s → HasProperTuples servers entries → (cell : Cell) (row : LinkRow)
     → cell_link s cell ≡ Some row → places_from s entries row ≡ 0 → StaysSo cell row s (fold after s entries) ⊎ HasDied (fold after s entries) cell
 unfolding In
 untouched servers [] s p all cell row is none = inl (record { same = is; primary = refl; secondary = refl })
@@ -319,7 +319,7 @@ untouched servers (entry ∷ entries) s p all cell row is none =
     ])
 
 -- two logs at one place of a link say the same of it
-pub same_place : (servers : ℕ) (front whole : List Command) (cell : Cell) (row : LinkRow) → IsPlainLog servers whole → IsPrefix front whole
+pub same_place : (servers : ℕ) (front whole : List Command) (cell : Cell) (row : LinkRow) → HasProperTuples servers whole → IsPrefix front whole
     → cell_link (state_after servers front) cell ≡ Some row
     → places_from (start servers) whole row ≡ places_from (start servers) front row
     → StaysSo cell row (state_after servers front) (state_after servers whole) ⊎ HasDied (state_after servers whole) cell

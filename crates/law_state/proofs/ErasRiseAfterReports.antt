@@ -11,8 +11,8 @@ use Rattle.law_state.proofs.Imports.{with_link, with_move, ℕ}
 use Rattle.spec_rules.specs.State.{is_in}
 use Rattle.law_state.specs.Epochs.{HasReported, HasReportedBy}
 use Rattle.law_state.specs.Homes.{epoch_at, era_at, new_stage, old_stage, stage_at, stage_of}
-use Rattle.law_state.specs.Plain.{IsPlain, IsPlainLog}
-use Rattle.law_state.specs.Tables.{IsForSnapshot, IsPlainState, Of_disk, Of_region}
+use Rattle.law_state.specs.Plain.{HasProperTuple, HasProperTuples}
+use Rattle.law_state.specs.Tables.{IsForSnapshot, IsSettledState, Of_disk, Of_region}
 use Rattle.law_state.proofs.Ages.{between, in_once, in_up}
 use Rattle.law_state.proofs.Caughts.{act_caught}
 use Rattle.law_state.proofs.EntriesOnlyAdd.{acting, entering, folding, log_plain}
@@ -184,7 +184,7 @@ module _ (which : Hold → Bool) (every : which All ≡ true) (nothing : which N
   record AwaitedServer : Type 0 where
     servers : ℕ
     s : State
-    p : IsPlainState servers s
+    p : IsSettledState servers s
     n : ℕ
     inc : ℕ
     cell : Cell
@@ -363,7 +363,7 @@ module _ (which : Hold → Bool) (every : which All ≡ true) (nothing : which N
           }))
     ]
 
-    comes : (entry : Command) → IsPlain servers entry → Comes entry (act entry s)
+    comes : (entry : Command) → HasProperTuple servers entry → Comes entry (act entry s)
     comes (Join server later blank) plain =
         by_test (Comes (Join server later blank)) (may_join (slice_get s.view.members server) later) (joined_by s server later blank) s
         (λ may still. inl (record { awaited = awaited; epoch = λ on. refl; low = low; high = high })) (λ no still. inl same_state)
@@ -410,7 +410,7 @@ module _ (which : Hold → Bool) (every : which All ≡ true) (nothing : which N
         (λ every last still. inl (move_over of region link h every last)))
     comes (Witness client seq turn) plain = λ still. inl same_state
 
-    enters : (entry : Command) → IsPlain servers entry → Comes entry (after s entry)
+    enters : (entry : Command) → HasProperTuple servers entry → Comes entry (after s entry)
     enters entry plain still =
         let t = act entry s in
         let on : is_up_as t n inc ≡ true = sym (in_settled t n inc) ∙ still in
@@ -442,7 +442,7 @@ module _ (which : Hold → Bool) (every : which All ≡ true) (nothing : which N
   abbrev StillOrReport : State → List Command → (n inc : ℕ) → Cell → Type 0
   StillOrReport s entries n inc cell = IsStill s n cell (fold after s entries) ⊎ IsReportAmong s entries n inc cell
 
-  still_or_report : (servers : ℕ) (entries : List Command) (s : State) → IsPlainState servers s → IsPlainLog servers entries → (n inc : ℕ) (cell : Cell)
+  still_or_report : (servers : ℕ) (entries : List Command) (s : State) → IsSettledState servers s → HasProperTuples servers entries → (n inc : ℕ) (cell : Cell)
       → is_up_as s n inc ≡ true → is_up_as (fold after s entries) n inc ≡ true → IsAwaited s n cell → 1 ≤ stage_at s cell → stage_at s cell ≤ 2
       → StillOrReport s entries n inc cell
   unfolding In
@@ -480,7 +480,7 @@ module _ (which : Hold → Bool) (every : which All ≡ true) (nothing : which N
         ]
       ]
 
-  module _ (servers : ℕ) (front whole : List Command) (n inc : ℕ) (cell : Cell) (all : IsPlainLog servers whole) (prefix : IsPrefix front whole) where
+  module _ (servers : ℕ) (front whole : List Command) (n inc : ℕ) (cell : Cell) (all : HasProperTuples servers whole) (prefix : IsPrefix front whole) where
     whole_is : state_after servers whole ≡ fold after (state_after servers front) prefix.later
     whole_is = ap (state_after servers) prefix.is ∙ fold-append after (start servers) front prefix.later
 
@@ -513,7 +513,7 @@ module _ (which : Hold → Bool) (every : which All ≡ true) (nothing : which N
         ]
 
   -- what is so after a Leave that acts
-  left_still : (servers : ℕ) (s : State) → IsPlainState servers s → (other other_inc n inc : ℕ) (cell : Cell) → is_up_as s other other_inc ≡ true
+  left_still : (servers : ℕ) (s : State) → IsSettledState servers s → (other other_inc n inc : ℕ) (cell : Cell) → is_up_as s other other_inc ≡ true
       → is_up_as (after s (Leave other other_inc)) n inc ≡ true → 1 ≤ stage_at s cell → stage_at s cell ≤ 2
       → IsStill s n cell (after s (Leave other other_inc))
   left_still servers s p other other_inc n inc cell acts still low high =
@@ -524,7 +524,7 @@ module _ (which : Hold → Bool) (every : which All ≡ true) (nothing : which N
       let k = settles_still servers t (acting servers s (Leave other other_inc) p tt).plain n cell h.awaited (in_up t n inc on) h.low h.high in
       record { awaited = k.awaited; epoch = λ on. k.epoch on ∙ h.epoch on; low = k.low; high = k.high }
 
-pub log_epochs : (servers : ℕ) (front whole : List Command) (cell : Cell) → IsPlainLog servers whole → IsPrefix front whole
+pub log_epochs : (servers : ℕ) (front whole : List Command) (cell : Cell) → HasProperTuples servers whole → IsPrefix front whole
     → era_at (state_after servers front) cell ≤ era_at (state_after servers whole) cell
 log_epochs servers front whole cell all prefix = (log_below servers front whole all prefix).eras cell
 
@@ -541,7 +541,7 @@ risen servers front whole n inc cell low high rises (inl k) =
     let same = k.epoch refl in
     absurd (omega arith)
 
-pub log_unheld : (servers : ℕ) (front whole : List Command) (n inc : ℕ) (cell : Cell) → IsPlainLog servers whole → IsPrefix front whole
+pub log_unheld : (servers : ℕ) (front whole : List Command) (n inc : ℕ) (cell : Cell) → HasProperTuples servers whole → IsPrefix front whole
     → is_in (state_after servers front) n inc ≡ true → is_in (state_after servers whole) n inc ≡ true
     → is_writes_held (held (state_after servers front) cell) ≡ false → 1 ≤ stage_at (state_after servers front) cell
     → stage_at (state_after servers front) cell ≤ 2
@@ -552,7 +552,7 @@ log_unheld servers front whole n inc cell all prefix is end free low high rises 
     (unheld_awaited is_writes_held refl refl (state_after servers front) n cell free) low high)
 
 -- while the server stays In, the cell begins to leave only after the server's report to a fence that holds reads of the cell
-pub log_unread : (servers : ℕ) (front whole : List Command) (n inc : ℕ) (cell : Cell) → IsPlainLog servers whole → IsPrefix front whole
+pub log_unread : (servers : ℕ) (front whole : List Command) (n inc : ℕ) (cell : Cell) → HasProperTuples servers whole → IsPrefix front whole
     → is_in (state_after servers front) n inc ≡ true → is_in (state_after servers whole) n inc ≡ true
     → is_all_held (held (state_after servers front) cell) ≡ false → 1 ≤ stage_at (state_after servers front) cell
     → stage_at (state_after servers front) cell ≤ 2
@@ -564,7 +564,7 @@ log_unread servers front whole n inc cell all prefix is end free low high =
       | inr report ↦ inr report
     ]
 
-pub log_left : (servers : ℕ) (front whole : List Command) (n inc other other_inc : ℕ) (cell : Cell) → IsPlainLog servers whole
+pub log_left : (servers : ℕ) (front whole : List Command) (n inc other other_inc : ℕ) (cell : Cell) → HasProperTuples servers whole
     → IsPrefix (front ++ Leave other other_inc ∷ []) whole → is_in (state_after servers front) other other_inc ≡ true
     → is_in (state_after servers (front ++ Leave other other_inc ∷ [])) n inc ≡ true → is_in (state_after servers whole) n inc ≡ true
     → 1 ≤ stage_at (state_after servers front) cell → stage_at (state_after servers front) cell ≤ 2

@@ -6,7 +6,7 @@ use Rattle.law_state.proofs.Imports.{length, link_at, list_any, nat_eq, nat_test
 use Rattle.law_state.proofs.Imports.{reported, same_numbers, same_some, servers_in, slice_get, slice_get_within, snapshot_named, stands_in, subst, suc, sym}
 use Rattle.law_state.proofs.Imports.{true, true_false, with_fence, zero, ℕ}
 use Rattle.law_state.specs.Homes.{stage_at}
-use Rattle.law_state.specs.Tables.{IsForRegion, IsForSnapshot, IsLinkOf, HasLinkOf, IsFence, IsGrown, IsPlainState, IsShape, Of_disk, Of_region}
+use Rattle.law_state.specs.Tables.{IsForRegion, IsForSnapshot, IsLinkOf, HasLinkOf, IsFence, IsGrown, IsSettledState, IsShape, Of_disk, Of_region}
 use Rattle.law_state.specs.LinkRows.{IsServed}
 use Rattle.law_state.proofs.Ages.{no_less}
 use Rattle.law_state.proofs.ListLookups.{get_last}
@@ -18,7 +18,7 @@ pub record Acted (servers : ℕ) (s t : State) : Type 0 where
   pub plain : IsUnsettled servers t
   pub grown : IsGrown s t
 
-pub acts_not : (servers : ℕ) (s : State) → IsPlainState servers s → Acted servers s s
+pub acts_not : (servers : ℕ) (s : State) → IsSettledState servers s → Acted servers s s
 acts_not servers s p = record { plain = p.unsettled; grown = grown_itself s }
 
 -- a head that is not ready waits for somebody
@@ -28,7 +28,7 @@ waits_for (first ∷ rest) fence none is = λ e. none_some none
     (ap (λ (waiting : List ℕ). if length waiting == 0 then Some first else None) (ap (λ (f : Fence). f.waiting) (same_some is) ∙ e))
 
 -- where no fence is ready the state is plain
-pub settles : (servers : ℕ) (s : State) → IsUnsettled servers s → ready s.view.queue ≡ None → IsPlainState servers s
+pub settles : (servers : ℕ) (s : State) → IsUnsettled servers s → ready s.view.queue ≡ None → IsSettledState servers s
 settles servers s p none = record { unsettled = p; waits = λ fence is. waits_for s.view.queue fence none is }
 
 empty : (xs : List ℕ) → length xs ≡ 0 → xs ≡ []
@@ -42,7 +42,7 @@ none_ready (first ∷ rest) waits = by_bool (length first.waiting == 0)
     (λ t. absurd (waits first refl (empty first.waiting (same_numbers (length first.waiting) 0 t))))
     (λ f. ap (λ b. if b then Some first else None) f)
 
-pub not_ready : (servers : ℕ) (s : State) → IsPlainState servers s → ready s.view.queue ≡ None
+pub not_ready : (servers : ℕ) (s : State) → IsSettledState servers s → ready s.view.queue ≡ None
 not_ready servers s p = none_ready s.view.queue p.waits
 
 -- the fence that is ready is the head, and waits for nobody

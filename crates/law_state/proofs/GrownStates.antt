@@ -4,7 +4,7 @@ use Rattle.law_state.proofs.Imports.{arith, has_server, inl, inr, length, link_a
 use Rattle.law_state.specs.Ages.{age, age_of}
 use Rattle.law_state.specs.LinkRows.{GoesOn, IsBetween, IsHeldOn, IsLater, IsServedOn}
 use Rattle.law_state.specs.Homes.{stage_at, stage_of}
-use Rattle.law_state.specs.Tables.{HasLaterDisk, HasLaterRow, IsGone, IsGrown, IsLaterDisk, IsPlainState}
+use Rattle.law_state.specs.Tables.{HasLaterDisk, HasLaterRow, IsGone, IsGrown, IsLaterDisk, IsSettledState}
 use Rattle.law_state.proofs.Ages.{between, no_less, out_same}
 use Rattle.law_state.proofs.Stages.{stage_most}
 
@@ -155,8 +155,8 @@ grown_on s t u one two = record {
 
 -- the state is plain, and has grown from this one
 pub record Step (servers : ℕ) (s t : State) : Type 0 where
-  pub plain : IsPlainState servers t
+  pub plain : IsSettledState servers t
   pub grown : IsGrown s t
 
-pub stays : (servers : ℕ) (s : State) → IsPlainState servers s → Step servers s s
+pub stays : (servers : ℕ) (s : State) → IsSettledState servers s → Step servers s s
 stays servers s p = record { plain = p; grown = grown_itself s }

@@ -7,8 +7,8 @@ use Rattle.law_state.proofs.Imports.{state_after, subst, sym, told, true, true_f
 use Rattle.law_state.specs.Ages.{age, age_of}
 use Rattle.law_state.specs.Disks.{HasJoined}
 use Rattle.law_state.specs.Joins.{HasJoinedSince}
-use Rattle.law_state.specs.Plain.{IsPlain, IsPlainLog}
-use Rattle.law_state.specs.Tables.{IsPlainState}
+use Rattle.law_state.specs.Plain.{HasProperTuple, HasProperTuples}
+use Rattle.law_state.specs.Tables.{IsSettledState}
 use Rattle.law_state.proofs.Ages.{in_age, may_by}
 use Rattle.law_state.proofs.Caughts.{act_caught}
 use Rattle.law_state.proofs.EntriesOnlyAdd.{entering, in_at_start, log_plain}
@@ -26,7 +26,7 @@ abbrev Joins : State → Command → (n inc : ℕ) → Type 0
 Joins s entry n inc = (blank : Bool) × (entry ≡ Join n inc blank) × (may_join (slice_get s.view.members n) inc ≡ true)
 
 -- an incarnation that an entry makes In has this very Join
-made_in : (servers : ℕ) (s : State) → IsPlainState servers s → (entry : Command) → IsPlain servers entry → (n inc : ℕ) → is_up_as s n inc ≡ false
+made_in : (servers : ℕ) (s : State) → IsSettledState servers s → (entry : Command) → HasProperTuple servers entry → (n inc : ℕ) → is_up_as s n inc ≡ false
     → is_up_as (act entry s) n inc ≡ true → Joins s entry n inc
 made_in servers s p (Join server later blank) plain n inc out =
     by_test (λ (t : State). is_up_as t n inc ≡ true → Joins s (Join server later blank) n inc) (may_join (slice_get s.view.members server) later)
@@ -76,7 +76,7 @@ record IsJoinAmong (s : State) (entries : List Command) (n inc : ℕ) : Type 0 w
   lies : entries ≡ before ++ Join n inc blank ∷ rest
   may : may_join (slice_get (fold after s before).view.members n) inc ≡ true
 
-in_joined : (servers : ℕ) (entries : List Command) (s : State) → IsPlainState servers s → IsPlainLog servers entries → (n inc : ℕ)
+in_joined : (servers : ℕ) (entries : List Command) (s : State) → IsSettledState servers s → HasProperTuples servers entries → (n inc : ℕ)
     → is_up_as s n inc ≡ false → is_up_as (fold after s entries) n inc ≡ true → IsJoinAmong s entries n inc
 unfolding In
 in_joined servers [] s p all n inc out is = true_false is out
@@ -92,7 +92,7 @@ in_joined servers (entry ∷ entries) s p all n inc out is =
 
 -- ### Fronts of a log
 
-module _ (servers : ℕ) (front whole : List Command) (n inc : ℕ) (all : IsPlainLog servers whole) (prefix : IsPrefix front whole) where
+module _ (servers : ℕ) (front whole : List Command) (n inc : ℕ) (all : HasProperTuples servers whole) (prefix : IsPrefix front whole) where
   whole_is : state_after servers whole ≡ fold after (state_after servers front) prefix.later
   whole_is = ap (state_after servers) prefix.is ∙ fold-append after (start servers) front prefix.later
 
@@ -130,7 +130,7 @@ module _ (servers : ℕ) (front whole : List Command) (n inc : ℕ) (all : IsPla
       absurd (omega arith))
       (λ no. no)
 
-pub joined_in : (servers : ℕ) (front whole : List Command) (n inc : ℕ) (blank : Bool) → IsPlainLog servers whole
+pub joined_in : (servers : ℕ) (front whole : List Command) (n inc : ℕ) (blank : Bool) → HasProperTuples servers whole
     → (joined : HasJoinedSince servers front whole n inc blank)
     → is_up_as (state_after servers (joined.until ++ Join n inc blank ∷ [])) n inc ≡ true
 unfolding In
@@ -163,7 +163,7 @@ in_log servers log n inc blank joined = subst (In (Join n inc blank)) (sym joine
     (in_former (Join n inc blank) (joined.until ++ Join n inc blank ∷ []) joined.stands.later
     (in_later (Join n inc blank) joined.until (Join n inc blank ∷ []) (inl refl)))
 
-pub who_is_in : (servers : ℕ) (log : List Command) (n inc : ℕ) → IsPlainLog servers log → is_up_as (state_after servers log) n inc ≡ true
+pub who_is_in : (servers : ℕ) (log : List Command) (n inc : ℕ) → HasProperTuples servers log → is_up_as (state_after servers log) n inc ≡ true
     → (inc ≡ 1) ⊎ HasJoined log n inc
 who_is_in servers log n inc all is = elim (joined_since servers [] log n inc all (record { later = log; is = refl }) is) [
   | inl first ↦ inl (one_at_start servers n inc first)

@@ -8,7 +8,7 @@ use Rattle.spec_state.specs.State.{State}
 use Rattle.law_state.specs.Ages.{age, age_of}
 use Rattle.law_state.specs.LinkChanges.{IsHeldStill, row_joined}
 use Rattle.law_state.specs.LinkRows.{IsBetween, IsHeldOn, IsLater, IsLostOn, IsServed, IsServedBy, IsServedOn, ByBoth, ByNone, ByOne}
-use Rattle.law_state.specs.Tables.{IsPlainState}
+use Rattle.law_state.specs.Tables.{IsSettledState}
 use Rattle.law_state.proofs.Ages.{in_up, may_by}
 use Rattle.law_state.proofs.MembershipChanges.{changed_by, changing, link_changed}
 use Rattle.law_state.proofs.Fences.{Acted, queued_on, requeued_itself}
@@ -89,7 +89,7 @@ row_beside server true up first row served away = (λ i. record row { state = sa
 abbrev pub joined_by : State → (server inc : ℕ) → Bool → State
 joined_by s server inc blank = record s { view = view.joined s.view server inc; links = links.joined s.links server blank }
 
-module _ (servers : ℕ) (s : State) (p : IsPlainState servers s) (server inc : ℕ) (blank : Bool)
+module _ (servers : ℕ) (s : State) (p : IsSettledState servers s) (server inc : ℕ) (blank : Bool)
     (may : may_join (slice_get s.view.members server) inc ≡ true) where
   abbrev t : State
   t = joined_by s server inc blank

@@ -3,7 +3,7 @@ use Rattle.law_state.proofs.Imports.{[], ◌++◌, ◌+◌, ◌<◌, ◌==◌, �
 use Rattle.law_state.proofs.Imports.{ap, arith, cell_link, disk_of, drop, has_map, inl, inr, leaves, length, length-append, named, nat_lists_same, none_some}
 use Rattle.law_state.proofs.Imports.{number_itself, refl, same_name, same_some, slice_get, slice_get_past, slice_get_within, some_or_none, subst, suc, sym}
 use Rattle.law_state.proofs.Imports.{true, zero, ℕ}
-use Rattle.law_state.specs.Tables.{IsGrown, IsLaterDisk, IsPlainState}
+use Rattle.law_state.specs.Tables.{IsGrown, IsLaterDisk, IsSettledState}
 use Rattle.law_state.proofs.Owners.{disk_on, map_made, no_owner}
 use Rattle.law_state.proofs.ListLookups.{found_at, get_in, get_last, get_within, in_get}
 use Rattle.law_state.proofs.Steady.{found, owned_or_none, unlinked, viewed}
@@ -21,7 +21,7 @@ pub record HasRow (rows : List DiskRow) (name : List ℕ) (of : ℕ) : Type 0 wh
   pub name_is : row.name ≡ name
   pub map_is : has_map of row ≡ true
 
-module _ (servers : ℕ) (s : State) (p : IsPlainState servers s) where
+module _ (servers : ℕ) (s : State) (p : IsSettledState servers s) where
   -- found by name
   pub known_row : (name : List ℕ) (row : DiskRow) → named s.disks.rows name ≡ Some row → In row s.disks.rows × (row.name ≡ name)
   known_row name row e = let at = found servers s p name row e in (in_get s.disks.rows at.0 row at.1, at.2)
@@ -64,7 +64,7 @@ pub record HasRowLater (rows : List DiskRow) (row : DiskRow) : Type 0 where
   pub there : In now rows
   pub so : IsLaterDisk row now
 
-module _ (servers : ℕ) (s t : State) (p : IsPlainState servers s) (q : IsPlainState servers t) (g : IsGrown s t) where
+module _ (servers : ℕ) (s t : State) (p : IsSettledState servers s) (q : IsSettledState servers t) (g : IsGrown s t) where
   pub stays_row : (row : DiskRow) → In row s.disks.rows → HasRowLater t.disks.rows row
   stays_row row h =
       let at = get_in s.disks.rows row h in
@@ -136,7 +136,7 @@ module _ (servers : ℕ) (s t : State) (p : IsPlainState servers s) (q : IsPlain
           drop_get n xs i x (subst (λ k. slice_get (y ∷ xs) k ≡ Some x) (let f : suc n + i ≡ suc (n + i) = omega arith in f) e)
 
 -- what follows in a list of disks of different names
-fresh_by : (servers : ℕ) (t : State) → IsPlainState servers t → (rows more : List DiskRow)
+fresh_by : (servers : ℕ) (t : State) → IsSettledState servers t → (rows more : List DiskRow)
     → ((i : ℕ) (row : DiskRow) → slice_get rows i ≡ Some row → (now : DiskRow) × (slice_get t.disks.rows i ≡ Some now) × (now.name ≡ row.name))
     → ((i : ℕ) (row : DiskRow) → slice_get more i ≡ Some row → slice_get t.disks.rows (length rows + i) ≡ Some row) → AreFresh rows more
 fresh_by servers t q rows [] front following = tt
@@ -165,7 +165,7 @@ fresh_by servers t q rows (row ∷ more) front following = (
     one_more : (i : ℕ) → length (rows ++ row ∷ []) + i ≡ length rows + suc i
     one_more i = simp length-append (omega arith)
 
-pub fresh_rows : (servers : ℕ) (s t : State) → IsPlainState servers t → IsGrown s t → AreFresh s.disks.rows (later_rows s t)
+pub fresh_rows : (servers : ℕ) (s t : State) → IsSettledState servers t → IsGrown s t → AreFresh s.disks.rows (later_rows s t)
 fresh_rows servers s t q g = fresh_by servers t q s.disks.rows (later_rows s t)
     (λ i row e. let later = g.rows i row e in (later.now, later.is, later.so.name))
     (λ i row e. get_drop (length s.disks.rows) t.disks.rows i row e)

@@ -6,7 +6,7 @@ use Rattle.law_state.proofs.Imports.{same_numbers, same_or_apart, same_some, ser
 use Rattle.spec_state.specs.State.{State}
 use Rattle.law_state.specs.Ages.{age, age_of}
 use Rattle.law_state.specs.LinkRows.{IsHeldOn, IsLostOn, IsServed, IsServedOn, IsBetween, IsLater, ByBoth, ByNone, ByOne}
-use Rattle.law_state.specs.Tables.{IsPlainState}
+use Rattle.law_state.specs.Tables.{IsSettledState}
 use Rattle.law_state.proofs.Ages.{in_up, out_not}
 use Rattle.law_state.proofs.Fences.{Acted, head_awaiting, queued_on, requeued_awaiting, waits_present}
 use Rattle.law_state.proofs.GrownStates.{later_itself}
@@ -71,7 +71,7 @@ member_of : (o : Option Member) (inc : ℕ) → option_map_or (λ present. prese
 member_of None inc e = let f : false ≡ true = e in absurd cc
 member_of (Some m) inc e = (m, refl)
 
-module _ (servers : ℕ) (s : State) (p : IsPlainState servers s) (server inc : ℕ) (is : is_up_as s server inc ≡ true) where
+module _ (servers : ℕ) (s : State) (p : IsSettledState servers s) (server inc : ℕ) (is : is_up_as s server inc ≡ true) where
   abbrev t : State
   t = left_by s server
 

@@ -10,8 +10,8 @@ use Rattle.law_state.proofs.Imports.{slice_get_within, slice_set, some_or_none, 
 use Rattle.law_state.proofs.Imports.{unwrap_or, with_disk, with_fence, with_link, with_move, zero, ℕ}
 use Rattle.law_state.specs.Homes.{new_stage, old_stage, stage_at, stage_of}
 use Rattle.law_state.specs.NotedLinks.{HasMovedIn}
-use Rattle.law_state.specs.Plain.{IsPlain, IsPlainLog}
-use Rattle.law_state.specs.Tables.{IsPlainState, Of_disk, Of_region}
+use Rattle.law_state.specs.Plain.{HasProperTuple, HasProperTuples}
+use Rattle.law_state.specs.Tables.{IsSettledState, Of_disk, Of_region}
 use Rattle.law_state.proofs.Caughts.{act_caught}
 use Rattle.law_state.proofs.EntriesOnlyAdd.{acting, entering, log_plain, start_plain}
 use Rattle.law_state.proofs.Eras.{fenced_apart}
@@ -110,7 +110,7 @@ three_left cell row e = by_bool (row.map == cell.map)
 
 -- ### A link is noted
 
-module _ (servers : ℕ) (s : State) (p : IsPlainState servers s) (of region last : ℕ) (h : IsNoting s of region last) (cell : Cell) where
+module _ (servers : ℕ) (s : State) (p : IsSettledState servers s) (of region last : ℕ) (h : IsNoting s of region last) (cell : Cell) where
   abbrev then_row : DiskRow
   then_row = row_noted region last (links_of s of) h.row
 
@@ -346,7 +346,7 @@ settled_filled servers s p cell link f =
 
 -- ### An entry
 
-module _ (servers : ℕ) (s : State) (p : IsPlainState servers s) (cell : Cell) (link : ℕ) where
+module _ (servers : ℕ) (s : State) (p : IsSettledState servers s) (cell : Cell) (link : ℕ) where
   abbrev Enters : Command → State → Type 0
   Enters entry t = IsFilledAt t cell link → IsFilledAt s cell link ⊎ IsMovedBy s entry cell link
 
@@ -469,7 +469,7 @@ module _ (servers : ℕ) (s : State) (p : IsPlainState servers s) (cell : Cell) 
             ])
       ]
 
-  acts : (entry : Command) → IsPlain servers entry → Enters entry (act entry s)
+  acts : (entry : Command) → HasProperTuple servers entry → Enters entry (act entry s)
   acts (Join server inc blank) plain = by_test (Enters (Join server inc blank)) (may_join (slice_get s.view.members server) inc)
       (joined_by s server inc blank) s
       (λ may. same_tables _ _ refl refl) (λ no. same_tables _ _ refl refl)
@@ -502,7 +502,7 @@ module _ (servers : ℕ) (s : State) (p : IsPlainState servers s) (cell : Cell) 
       (λ every end. notes of region last h (moved_state servers s p of region last h every end) (over servers s p of region last h every end) refl refl))
   acts (Witness client seq turn) plain = same_tables _ _ refl refl
 
-  enters : (entry : Command) → IsPlain servers entry → Enters entry (after s entry)
+  enters : (entry : Command) → HasProperTuple servers entry → Enters entry (after s entry)
   enters entry plain f = acts entry plain
       (settled_filled servers (act entry s) (acting servers s entry p plain).plain cell link (record { row = f.row; is = f.is; so = f.so }))
 
@@ -514,7 +514,7 @@ record IsMovedAmong (s : State) (entries : List Command) (cell : Cell) (link : �
   lies : entries ≡ before ++ Moved cell.map (region_of cell.block) link ∷ rest
   leaves : stage_at (fold after s before) cell ≡ 3
 
-moved_among : (servers : ℕ) (entries : List Command) (s : State) → IsPlainState servers s → IsPlainLog servers entries → (cell : Cell) (link : ℕ)
+moved_among : (servers : ℕ) (entries : List Command) (s : State) → IsSettledState servers s → HasProperTuples servers entries → (cell : Cell) (link : ℕ)
     → IsFilledAt (fold after s entries) cell link → IsFilledAt s cell link ⊎ IsMovedAmong s entries cell link
 unfolding In
 moved_among servers [] s p all cell link f = inl f
@@ -530,7 +530,7 @@ moved_among servers (entry ∷ rest) s p all cell link f =
       ]
     ]
 
-log_filled : (servers : ℕ) (whole : List Command) → IsPlainLog servers whole → (cell : Cell) (link : ℕ) → IsFilledAt (state_after servers whole) cell link
+log_filled : (servers : ℕ) (whole : List Command) → HasProperTuples servers whole → (cell : Cell) (link : ℕ) → IsFilledAt (state_after servers whole) cell link
     → HasMovedIn servers whole cell link
 log_filled servers whole all cell link f = elim (moved_among servers whole (start servers) (start_plain servers) all cell link f) [
   | inl h ↦ none_some refl h.is
@@ -542,7 +542,7 @@ log_filled servers whole all cell link f = elim (moved_among servers whole (star
 ]
 
 -- a cell that has a stage has a disk
-has_row : (servers : ℕ) (s : State) (p : IsPlainState servers s) (cell : Cell) → 1 ≤ stage_at s cell → HasRow s p.rows p.homes cell
+has_row : (servers : ℕ) (s : State) (p : IsSettledState servers s) (cell : Cell) → 1 ≤ stage_at s cell → HasRow s p.rows p.homes cell
 has_row servers s p cell some = elim (row_or_none s p.rows p.homes cell) [
   | inr none ↦
       let zero : stage_at s cell ≡ 0 = stage_is s p.rows p.homes cell ∙ ap (stage_in cell) (no_home s p.rows p.homes cell.map none) in
@@ -550,7 +550,7 @@ has_row servers s p cell some = elim (row_or_none s p.rows p.homes cell) [
   | inl h ↦ h
 ]
 
-pub log_noted : (servers : ℕ) (whole : List Command) (cell : Cell) (link : ℕ) → IsPlainLog servers whole → stage_at (state_after servers whole) cell ≡ 3
+pub log_noted : (servers : ℕ) (whole : List Command) (cell : Cell) (link : ℕ) → HasProperTuples servers whole → stage_at (state_after servers whole) cell ≡ 3
     → is_noted (state_after servers whole) cell.map (region_of cell.block) link ≡ true → HasMovedIn servers whole cell link
 log_noted servers whole cell link all three noted =
     let s = state_after servers whole in
@@ -566,7 +566,7 @@ log_noted servers whole cell link all three noted =
       so = inl (is, sym (ap (λ o. option_map_or (λ (r : DiskRow). noted_in (region_of cell.block) link r.moving) o false) mover) ∙ noted);
     })
 
-pub log_dead : (servers : ℕ) (whole : List Command) (cell : Cell) (link : ℕ) → IsPlainLog servers whole → stage_at (state_after servers whole) cell ≡ 4
+pub log_dead : (servers : ℕ) (whole : List Command) (cell : Cell) (link : ℕ) → HasProperTuples servers whole → stage_at (state_after servers whole) cell ≡ 4
     → link < links_of (state_after servers whole) cell.map → HasMovedIn servers whole cell link
 log_dead servers whole cell link all four lt =
     let s = state_after servers whole in
@@ -581,7 +581,7 @@ log_dead servers whole cell link all four lt =
 -- ### The two cells of a move
 
 -- once the cell that comes is there, the one that it came from is dead
-pub log_twins : (servers : ℕ) (front whole : List Command) (cell old : Cell) → IsPlainLog servers whole → IsPrefix front whole
+pub log_twins : (servers : ℕ) (front whole : List Command) (cell old : Cell) → HasProperTuples servers whole → IsPrefix front whole
     → source (state_after servers front) cell ≡ Some old → stage_at (state_after servers front) cell ≡ 1 → 2 ≤ stage_at (state_after servers whole) cell
     → stage_at (state_after servers whole) old ≡ 4
 log_twins servers front whole cell old all prefix from one two =

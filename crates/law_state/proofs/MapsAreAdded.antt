@@ -4,7 +4,7 @@ use Rattle.law_state.proofs.Imports.{Option, Some, State, added, ap, arith, disk
 use Rattle.law_state.proofs.Imports.{length-append, link_at, named, new_row, new_rows, none_some, number_itself, option_and_then, option_map, owner, refl}
 use Rattle.law_state.proofs.Imports.{same_name, same_some, slice_get, slice_get_past, slice_get_within, some_or_none, subst, sym, true, true_false, tuple_of}
 use Rattle.law_state.proofs.Imports.{ups, with_disk, ℕ}
-use Rattle.law_state.specs.Tables.{HasHome, HasLaterDisk, HasLinkOf, IsFence, IsPlainState, IsRowAt, Of_disk, Of_region}
+use Rattle.law_state.specs.Tables.{HasHome, HasLaterDisk, HasLinkOf, IsFence, IsSettledState, IsRowAt, Of_disk, Of_region}
 use Rattle.law_state.specs.Ages.{age_of}
 use Rattle.law_state.proofs.Ages.{no_less}
 use Rattle.law_state.proofs.Fences.{Acted, AreQueued, asked_on, snapshot_on, region_on}
@@ -54,7 +54,7 @@ disk_last maps tuple disk of d e = by (slice_get (added maps tuple disk) of) ref
 
 -- ### A map more
 
-module _ (servers : ℕ) (s : State) (p : IsPlainState servers s) (tuple : List ℕ) (disk : ℕ) (proper : is_tuple servers tuple ≡ true) where
+module _ (servers : ℕ) (s : State) (p : IsSettledState servers s) (tuple : List ℕ) (disk : ℕ) (proper : is_tuple servers tuple ≡ true) where
   abbrev late : List LinkRow
   late = new_rows (length s.maps) tuple (ups s)
 
@@ -166,7 +166,7 @@ module _ (servers : ℕ) (s : State) (p : IsPlainState servers s) (tuple : List 
 
 -- ### A disk more
 
-module _ (servers : ℕ) (s : State) (p : IsPlainState servers s) (name tuple : List ℕ) (fresh : named s.disks.rows name ≡ None)
+module _ (servers : ℕ) (s : State) (p : IsSettledState servers s) (name tuple : List ℕ) (fresh : named s.disks.rows name ≡ None)
     (proper : is_tuple servers tuple ≡ true) where
   abbrev pub made_row : DiskRow
   made_row = record { id = s.disks.made; name = name; map = length s.maps; epoch = 0; snaps = []; moving = None }

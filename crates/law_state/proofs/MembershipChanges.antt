@@ -4,7 +4,7 @@ use Rattle.law_state.proofs.Imports.{option_map, same_numbers, slice_get, subst,
 use Rattle.law_state.specs.Ages.{age_of}
 use Rattle.law_state.specs.Homes.{stage_at}
 use Rattle.law_state.specs.LinkRows.{IsHeldOn, IsLater, IsLostOn, IsServed, IsServedOn}
-use Rattle.law_state.specs.Tables.{IsPlainState}
+use Rattle.law_state.specs.Tables.{IsSettledState}
 use Rattle.law_state.proofs.Ages.{no_less}
 use Rattle.law_state.proofs.Fences.{Acted, AreQueued}
 use Rattle.law_state.proofs.GrownStates.{grown_itself}
@@ -33,7 +33,7 @@ pub record IsChange (servers : ℕ) (s t : State) (f : LinkRow → LinkRow) : Ty
   pub held : (row : LinkRow) → link_at s.links row.map row.link ≡ Some row → IsHeldOn s t row (f row)
   pub lost : (row : LinkRow) → link_at s.links row.map row.link ≡ Some row → IsLostOn row (f row)
 
-module _ (servers : ℕ) (s : State) (p : IsPlainState servers s) (view : View) (f : LinkRow → LinkRow) (later : (row : LinkRow) → IsLater row (f row)) where
+module _ (servers : ℕ) (s : State) (p : IsSettledState servers s) (view : View) (f : LinkRow → LinkRow) (later : (row : LinkRow) → IsLater row (f row)) where
   abbrev t : State
   t = changed_by s view f
 

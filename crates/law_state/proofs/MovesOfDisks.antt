@@ -10,7 +10,7 @@ use Rattle.law_state.proofs.Imports.{row_moving, row_noted, same_name, same_numb
 use Rattle.law_state.proofs.Imports.{snapshot_named, some_or_none, subst, sym, told, true, true_false, tuple_of, with_fence, with_link, with_move, ℕ}
 use Rattle.law_state.specs.Ages.{age_of}
 use Rattle.law_state.specs.Homes.{new_stage, stage_under}
-use Rattle.law_state.specs.Tables.{HasHome, HasLaterDisk, HasLinkOf, IsGone, IsLaterDisk, IsMove, IsPlainState, IsRowAt, IsShape, Of_disk, Of_region}
+use Rattle.law_state.specs.Tables.{HasHome, HasLaterDisk, HasLinkOf, IsGone, IsLaterDisk, IsMove, IsSettledState, IsRowAt, IsShape, Of_disk, Of_region}
 use Rattle.law_state.proofs.Ages.{no_less}
 use Rattle.law_state.proofs.Fences.{Acted, AreQueued, IsUnsettled, fence_kept, region_queued, requeued, same_region, asked_on}
 use Rattle.law_state.proofs.GrownStates.{grown_on, same_row}
@@ -46,7 +46,7 @@ act_start P s client seq disk tuple old unknown busy begins =
 
 -- ### The move begins
 
-module _ (servers : ℕ) (s : State) (p : IsPlainState servers s) (disk tuple : List ℕ) (row : DiskRow) (found : named s.disks.rows disk ≡ Some row)
+module _ (servers : ℕ) (s : State) (p : IsSettledState servers s) (disk tuple : List ℕ) (row : DiskRow) (found : named s.disks.rows disk ≡ Some row)
     (still : row.moving ≡ None) (proper : is_tuple servers tuple ≡ true) where
   abbrev new : ℕ
   new = length s.maps
@@ -223,7 +223,7 @@ pub record IsNoting (s : State) (of region link : ℕ) : Type 0 where
   pub fenced : is_fenced (move_region region (Some move)) ≡ true
   pub low : nat_lt link (links_of s of) ≡ true
 
-pub act_moved : (P : State → Type 0) (servers : ℕ) (s : State) (p : IsPlainState servers s) (of region link : ℕ) → P s
+pub act_moved : (P : State → Type 0) (servers : ℕ) (s : State) (p : IsSettledState servers s) (of region link : ℕ) → P s
     → ((h : IsNoting s of region link) → P (note s of h.row.id region link)) → P (act (Moved of region link) s)
 act_moved P servers s p of region link none notes = by (mover s of) refl
   where
@@ -284,7 +284,7 @@ in_filter {A} q (y ∷ xs) x h = by_bool (q y)
 
 -- ### A link is noted
 
-module _ (servers : ℕ) (s : State) (p : IsPlainState servers s) (of region link : ℕ) (h : IsNoting s of region link) where
+module _ (servers : ℕ) (s : State) (p : IsSettledState servers s) (of region link : ℕ) (h : IsNoting s of region link) where
   abbrev links : ℕ
   links = links_of s of
 

@@ -5,7 +5,7 @@ use Rattle.law_state.proofs.Imports.{move_region, number_itself, option_and_then
 use Rattle.law_state.proofs.Imports.{true, true_false, view_of, ℕ}
 use Rattle.spec_rules.specs.State.{find}
 use Rattle.law_state.specs.Homes.{epoch_at, new_stage, old_stage, stage_at, stage_of, stage_under}
-use Rattle.law_state.specs.Tables.{IsPlainState}
+use Rattle.law_state.specs.Tables.{IsSettledState}
 use Rattle.law_state.proofs.Owners.{disk_at_is, epoch_in, epoch_is, home, map_made, stage_in, stage_is}
 use Rattle.law_state.proofs.Stages.{new_most}
 use Rattle.law_state.proofs.Steady.{found, viewed}
@@ -188,7 +188,7 @@ record HasRow (s : State) (disk : DiskView) : Type 0 where
   is : slice_get s.disks.rows row.id ≡ Some row
   at : disk_at s.disks.rows row.id ≡ Some row
 
-module _ (servers : ℕ) (s : State) (p : IsPlainState servers s) (name : List ℕ) (disk : DiskView) (found_it : find s name ≡ Some disk) (block : ℕ) where
+module _ (servers : ℕ) (s : State) (p : IsSettledState servers s) (name : List ℕ) (disk : DiskView) (found_it : find s name ≡ Some disk) (block : ℕ) where
   row_of : HasRow s disk
   row_of =
       let v = viewed servers s p name disk found_it in

@@ -4,7 +4,7 @@ use Rattle.law_state.proofs.Imports.{arith, by_bool, cell_link, false, has_serve
 use Rattle.law_state.proofs.Imports.{number_itself, option_and_then, row_lead, same_numbers, same_or_apart, serves, state_after, sym, true, true_false, ℕ}
 use Rattle.spec_rules.specs.State.{is_in}
 use Rattle.law_state.specs.Ages.{age_of}
-use Rattle.law_state.specs.Plain.{IsPlainLog}
+use Rattle.law_state.specs.Plain.{HasProperTuples}
 use Rattle.law_state.specs.LinkRows.{IsLater, ByBoth, ByNone, ByOne}
 use Rattle.law_state.specs.Steady.{IsSteady}
 use Rattle.law_state.specs.LaterStates.{IsBelow, HasComeSecond, KeepsRoles}
@@ -167,7 +167,7 @@ module _ (earlier later : State) (was : IsSteady earlier) (now : IsSteady later)
         ]
       ]
 
-pub log_roles : (servers : ℕ) (front whole : List Command) → IsPlainLog servers whole → IsPrefix front whole
+pub log_roles : (servers : ℕ) (front whole : List Command) → HasProperTuples servers whole → IsPrefix front whole
     → KeepsRoles (state_after servers front) (state_after servers whole)
 log_roles servers front whole all prefix =
     roles_kept (state_after servers front) (state_after servers whole) (log_steady servers front (front_plain servers front whole all prefix))

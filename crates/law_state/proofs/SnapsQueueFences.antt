@@ -4,7 +4,7 @@ use Rattle.law_state.proofs.Imports.{[], ◌&&◌, ◌+◌, ◌==◌, ◌∙◌,
 use Rattle.law_state.proofs.Imports.{Some, State, Verdict, Whole, act, ap, both_true, by_test, disk_at, false, first_waiting, inl, inr, is_disk, is_head}
 use Rattle.law_state.proofs.Imports.{is_new, is_some, is_taken, is_up_as, latest, list_any, named, none_some, number_itself, refl, same_name, same_numbers}
 use Rattle.law_state.proofs.Imports.{same_some, slice_get, snap_target, snapped, snapshot_named, suc, sym, takes, told, true, true_false, with_fence, zero, ℕ}
-use Rattle.law_state.specs.Tables.{IsPlainState, Of_disk}
+use Rattle.law_state.specs.Tables.{IsSettledState, Of_disk}
 use Rattle.law_state.proofs.Fences.{Acted, AreQueued, fence_kept, head_queued, head_reported, queued_on, requeued, requeued_reported, waits_before}
 use Rattle.law_state.proofs.Fences.{waits_present}
 use Rattle.law_state.proofs.NewMapLinks.{either_false}
@@ -74,7 +74,7 @@ act_drained P s server inc fence none acts =
 pub record NewSnapshot : Type 0 where
   pub servers : ℕ
   pub s : State
-  pub p : IsPlainState servers s
+  pub p : IsSettledState servers s
   pub client : ℕ
   pub seq : ℕ
   pub disk : List ℕ
@@ -171,7 +171,7 @@ module _ (it : NewSnapshot) where
 
 -- ### A report
 
-module _ (servers : ℕ) (s : State) (p : IsPlainState servers s) (server : ℕ) where
+module _ (servers : ℕ) (s : State) (p : IsSettledState servers s) (server : ℕ) where
   abbrev u : State
   u = record s { view = view.drained s.view server }
 

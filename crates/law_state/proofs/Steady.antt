@@ -7,11 +7,11 @@ use Rattle.law_state.proofs.Imports.{named, nat_lists_same, none_some, number_it
 use Rattle.law_state.proofs.Imports.{region_of, same_name, same_numbers, same_some, slice_get, snapshot, snapshot_named, some_or_none, start, state_after}
 use Rattle.law_state.proofs.Imports.{subst, sym, true, true_false, tuple_of, unwrap_or, view_of, ℕ}
 use Rattle.spec_rules.specs.State.{live, is_in}
-use Rattle.law_state.specs.Plain.{IsPlainLog}
+use Rattle.law_state.specs.Plain.{HasProperTuples}
 use Rattle.law_state.specs.Steady.{HasLink, IsLinked, IsSteady}
 use Rattle.law_state.specs.LaterStates.{HasLaterView, IsBelow}
 use Rattle.law_state.specs.Homes.{HasDied, epoch_at, new_stage, old_stage, stage_at, stage_by}
-use Rattle.law_state.specs.Tables.{IsGone, IsGrown, IsLaterDisk, IsPlainState}
+use Rattle.law_state.specs.Tables.{IsGone, IsGrown, IsLaterDisk, IsSettledState}
 use Rattle.law_state.proofs.Homes.{era_grows}
 use Rattle.law_state.proofs.Owners.{disk_at_is, either_of, epochs_later, no_owner, owned}
 use Rattle.law_state.proofs.Stages.{new_most}
@@ -30,7 +30,7 @@ below block many two = omega arith
 block_of : (region : ℕ) → region < 16 → (block : ℕ) × (region_of block ≡ region)
 block_of region low = (8 * region, omega arith)
 
-module _ (servers : ℕ) (s : State) (p : IsPlainState servers s) where
+module _ (servers : ℕ) (s : State) (p : IsSettledState servers s) where
   pub dead : (cell : Cell) → owner s cell.map ≡ None → live s cell ≡ false
   dead cell none = ap (λ o. option_map_or (live_under cell.map (region_of cell.block)) o false) none
 
@@ -234,14 +234,14 @@ module _ (servers : ℕ) (s : State) (p : IsPlainState servers s) where
 -- ### Later states
 
 -- a cell that is dead by its links is of a dead map
-pub all_died : (servers : ℕ) (s : State) → IsPlainState servers s → (cell : Cell) → HasDied s cell → IsGone s cell.map
+pub all_died : (servers : ℕ) (s : State) → IsSettledState servers s → (cell : Cell) → HasDied s cell → IsGone s cell.map
 all_died servers s p cell died = elim (owned_or_none servers s p cell) [
   | inl h ↦ none_some died.0 (linked_owner servers s p cell h.0 h.1).1
   | inr none ↦ λ block.
       ap (stage_by s (record { map = cell.map; block = block })) none ∙ sym (ap (stage_by s cell) none) ∙ died.1
 ]
 
-module _ (servers : ℕ) (s t : State) (p : IsPlainState servers s) (q : IsPlainState servers t) (g : IsGrown s t) where
+module _ (servers : ℕ) (s t : State) (p : IsSettledState servers s) (q : IsSettledState servers t) (g : IsGrown s t) where
   -- a disk that is found by its name is found so later
   pub named_later : (name : List ℕ) (row : DiskRow) → named s.disks.rows name ≡ Some row
       → (now : DiskRow) × (named t.disks.rows name ≡ Some now) × IsLaterDisk row now
@@ -320,21 +320,21 @@ module _ (servers : ℕ) (s t : State) (p : IsPlainState servers s) (q : IsPlain
 -- ### Logs
 
 -- a front of a plain log is plain
-pub front_plain : (servers : ℕ) (front whole : List Command) → IsPlainLog servers whole → IsPrefix front whole → IsPlainLog servers front
+pub front_plain : (servers : ℕ) (front whole : List Command) → HasProperTuples servers whole → IsPrefix front whole → HasProperTuples servers front
 front_plain servers front whole all prefix = λ command h.
     all command (subst (In command) (sym prefix.is) (in_former command front prefix.later h))
 
-pub log_grown : (servers : ℕ) (front whole : List Command) → IsPlainLog servers whole → IsPrefix front whole
+pub log_grown : (servers : ℕ) (front whole : List Command) → HasProperTuples servers whole → IsPrefix front whole
     → IsGrown (state_after servers front) (state_after servers whole)
 log_grown servers front whole all prefix =
     subst (IsGrown (state_after servers front)) (sym (ap (state_after servers) prefix.is ∙ fold-append after (start servers) front prefix.later))
     (folding servers prefix.later (state_after servers front) (log_plain servers front (front_plain servers front whole all prefix))
     (λ command h. all command (subst (In command) (sym prefix.is) (in_later command front prefix.later h)))).grown
 
-pub log_steady : (servers : ℕ) (log : List Command) → IsPlainLog servers log → IsSteady (state_after servers log)
+pub log_steady : (servers : ℕ) (log : List Command) → HasProperTuples servers log → IsSteady (state_after servers log)
 log_steady servers log all = plain_steady servers (state_after servers log) (log_plain servers log all)
 
-pub log_below : (servers : ℕ) (front whole : List Command) → IsPlainLog servers whole → IsPrefix front whole
+pub log_below : (servers : ℕ) (front whole : List Command) → HasProperTuples servers whole → IsPrefix front whole
     → IsBelow (state_after servers front) (state_after servers whole)
 log_below servers front whole all prefix =
     grown_below servers (state_after servers front) (state_after servers whole) (log_plain servers front (front_plain servers front whole all prefix))

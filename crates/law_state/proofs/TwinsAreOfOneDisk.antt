@@ -4,8 +4,8 @@ use Rattle.law_state.proofs.Imports.{Option, RegionState, Some, State, ap, arith
 use Rattle.law_state.proofs.Imports.{number_itself, option_and_then, option_map, refl, region_of, same_numbers, same_some, slice_get, source, source_in}
 use Rattle.law_state.proofs.Imports.{state_after, subst, sym, target, true, true_false, ℕ}
 use Rattle.law_state.specs.Homes.{epoch_at, new_stage, old_stage, stage_at, stage_of}
-use Rattle.law_state.specs.Plain.{IsPlainLog}
-use Rattle.law_state.specs.Tables.{HasLaterDisk, IsPlainState, IsRowAt}
+use Rattle.law_state.specs.Plain.{HasProperTuples}
+use Rattle.law_state.specs.Tables.{HasLaterDisk, IsSettledState, IsRowAt}
 use Rattle.law_state.proofs.EntriesOnlyAdd.{log_plain}
 use Rattle.law_state.proofs.Homes.{row_or_none}
 use Rattle.law_state.proofs.Owners.{disk_on, epoch_in, epoch_is, kept_by, left_by, mover_is, no_home, owner_is, stage_in, stage_is}
@@ -38,7 +38,7 @@ one_left o a b one two =
 pub cells_same : (one other : Cell) → one.map ≡ other.map → one.block ≡ other.block → one ≡ other
 cells_same one other a b = λ i. record { map = a i; block = b i }
 
-module _ (servers : ℕ) (s : State) (p : IsPlainState servers s) (old new : Cell) where
+module _ (servers : ℕ) (s : State) (p : IsSettledState servers s) (old new : Cell) where
   by_row : (place : ℕ) (row : DiskRow) → slice_get s.disks.rows place ≡ Some row → IsRowAt s.maps place row → leaves old.map row.moving ≡ true
       → row.map ≡ new.map → new.block ≡ old.block → IsMoved s old new
   by_row place row stands so left map_is block =
@@ -103,15 +103,15 @@ module _ (servers : ℕ) (s : State) (p : IsPlainState servers s) (old new : Cel
   ]
 
 -- the two cells of a move, by a log
-pub log_goes : (servers : ℕ) (log : List Command) → IsPlainLog servers log → (old new : Cell) → target (state_after servers log) old ≡ Some new
+pub log_goes : (servers : ℕ) (log : List Command) → HasProperTuples servers log → (old new : Cell) → target (state_after servers log) old ≡ Some new
     → IsMoved (state_after servers log) old new
 log_goes servers log plain old new = of_target servers (state_after servers log) (log_plain servers log plain) old new
 
-pub log_comes : (servers : ℕ) (log : List Command) → IsPlainLog servers log → (old new : Cell) → source (state_after servers log) new ≡ Some old
+pub log_comes : (servers : ℕ) (log : List Command) → HasProperTuples servers log → (old new : Cell) → source (state_after servers log) new ≡ Some old
     → IsMoved (state_after servers log) old new
 log_comes servers log plain old new = of_source servers (state_after servers log) (log_plain servers log plain) old new
 
-pub twins_epoch : (servers : ℕ) (log : List Command) → IsPlainLog servers log → (old new : Cell) → target (state_after servers log) old ≡ Some new
+pub twins_epoch : (servers : ℕ) (log : List Command) → HasProperTuples servers log → (old new : Cell) → target (state_after servers log) old ≡ Some new
     → epoch_at (state_after servers log) new ≡ epoch_at (state_after servers log) old
 twins_epoch servers log plain old new goes =
     let s = state_after servers log in
@@ -120,14 +120,14 @@ twins_epoch servers log plain old new goes =
     let there = λ (of : ℕ) (e : disk_of s.maps of ≡ Some m.place). ap epoch_in (ap (option_and_then (slice_get s.disks.rows)) e ∙ m.stands) in
     epoch_is s p.rows new ∙ there new.map m.made ∙ sym (epoch_is s p.rows old ∙ there old.map m.of)
 
-module _ (servers : ℕ) (front whole : List Command) (plain : IsPlainLog servers whole) (prefix : IsPrefix front whole) where
+module _ (servers : ℕ) (front whole : List Command) (plain : HasProperTuples servers whole) (prefix : IsPrefix front whole) where
   abbrev earlier : State
   earlier = state_after servers front
 
   abbrev later : State
   later = state_after servers whole
 
-  plain_now : IsPlainState servers later
+  plain_now : IsSettledState servers later
   plain_now = log_plain servers whole plain
 
   known_on : (of place : ℕ) → disk_of earlier.maps of ≡ Some place → disk_of later.maps of ≡ Some place
@@ -188,7 +188,7 @@ module _ (servers : ℕ) (front whole : List Command) (plain : IsPlainLog server
       old_value old now other left ∙ ap (λ k. old_stage (move_region (region_of k) now.moving)) (sym one.block) ∙ ap old_stage region)
       (λ out. gone_value old now other out)
 
-pub source_same : (servers : ℕ) (front whole : List Command) → IsPlainLog servers whole → IsPrefix front whole → (new old other : Cell)
+pub source_same : (servers : ℕ) (front whole : List Command) → HasProperTuples servers whole → IsPrefix front whole → (new old other : Cell)
     → source (state_after servers front) new ≡ Some old → source (state_after servers whole) new ≡ Some other → other ≡ old
 source_same servers front whole plain prefix new old other was now =
     start_same servers front whole plain prefix new old other (log_comes servers front (front_plain servers front whole plain prefix) old new was)

@@ -1,7 +1,7 @@
 -- What the laws of pairs, requests and the run know of the agreed log.
 use Rattle.law_state.specs.Imports.{Caught, Command, In, IsPrefix, Setting, World, chosen_log, chosen_state, is_in, state_after}
 use Rattle.std.specs.Prelude.{[], ◌++◌, ◌∷◌, ◌≡◌, ◌⊎◌, List, false, length, true, ℕ}
-use Rattle.law_state.specs.Plain.{IsPlainLog}
+use Rattle.law_state.specs.Plain.{HasProperTuples}
 use Rattle.law_state.specs.StartedBallots.{HasStarted, is_caught}
 
 -- what servers and clients have applied stands at the front of the chosen log, whose entries are plain; who runs, and is In as
@@ -10,7 +10,7 @@ use Rattle.law_state.specs.StartedBallots.{HasStarted, is_caught}
 pub record Firm (setting : Setting) (w : World) : Type 0 where
   pub servers : (n : ℕ) → IsPrefix (w.servers n).log.applied (chosen_log setting w)
   pub clients : (c : ℕ) → IsPrefix (w.clients c).applied (chosen_log setting w)
-  pub plain : IsPlainLog setting.servers (chosen_log setting w)
+  pub plain : HasProperTuples setting.servers (chosen_log setting w)
   pub runs : (n : ℕ) (front : List Command) → (w.servers n).life.running ≡ true → IsPrefix front (chosen_log setting w)
       → is_in (state_after setting.servers front) n (w.servers n).life.inc ≡ true → is_in (chosen_state setting w) n (w.servers n).life.inc ≡ true
   pub started : (front : List Command) (of link holder inc other other_inc : ℕ)

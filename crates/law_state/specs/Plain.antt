@@ -3,16 +3,16 @@ use Rattle.law_state.specs.Imports.{Caught, Command, Drained, In, Join, Leave, M
 use Rattle.std.specs.Prelude.{◌≡◌, List, true, ℕ, ⊤}
 
 -- a command that makes a disk, or begins a move, has a tuple of so many servers
-abbrev pub IsPlain : (servers : ℕ) → Command → Type 0
-IsPlain servers (Join server inc blank) = ⊤
-IsPlain servers (Leave server inc) = ⊤
-IsPlain servers (Caught of link holder holder_inc other other_inc) = ⊤
-IsPlain servers (MakeDisk client seq name tuple) = is_tuple servers tuple ≡ true
-IsPlain servers (Snap client seq disk name) = ⊤
-IsPlain servers (StartMove client seq disk tuple) = is_tuple servers tuple ≡ true
-IsPlain servers (Drained server inc fence) = ⊤
-IsPlain servers (Moved of region link) = ⊤
-IsPlain servers (Witness client seq turn) = ⊤
+abbrev pub HasProperTuple : (servers : ℕ) → Command → Type 0
+HasProperTuple servers (Join server inc blank) = ⊤
+HasProperTuple servers (Leave server inc) = ⊤
+HasProperTuple servers (Caught of link holder holder_inc other other_inc) = ⊤
+HasProperTuple servers (MakeDisk client seq name tuple) = is_tuple servers tuple ≡ true
+HasProperTuple servers (Snap client seq disk name) = ⊤
+HasProperTuple servers (StartMove client seq disk tuple) = is_tuple servers tuple ≡ true
+HasProperTuple servers (Drained server inc fence) = ⊤
+HasProperTuple servers (Moved of region link) = ⊤
+HasProperTuple servers (Witness client seq turn) = ⊤
 
-abbrev pub IsPlainLog : (servers : ℕ) → List Command → Type 0
-IsPlainLog servers log = (command : Command) → In command log → IsPlain servers command
+abbrev pub HasProperTuples : (servers : ℕ) → List Command → Type 0
+HasProperTuples servers log = (command : Command) → In command log → HasProperTuple servers command

@@ -107,7 +107,7 @@ pub record IsUnsettled (servers : ℕ) (state : State) : Type 0 where
   pub found : (row : LinkRow) → In row state.links → link_at state.links row.map row.link ≡ Some row
 
 -- a state between entries: none of its fences has all its reports, so the active one waits for somebody
-pub record IsPlainState (servers : ℕ) (state : State) : Type 0 where
+pub record IsSettledState (servers : ℕ) (state : State) : Type 0 where
   pub unsettled : IsUnsettled servers state
   pub open unsettled use {many, members, fences, made, homes, rows, names, tuples, links, unlinked, found}
   pub waits : (fence : Fence) → head state.view.queue ≡ Some fence → fence.waiting ≢ []

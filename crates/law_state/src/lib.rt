@@ -31,25 +31,25 @@ ghost use Rattle.law_state.specs.NotedLinks.{HasMovedIn};
 ghost use Rattle.law_state.specs.Disks.{AreDisks, AreInOrOut, HasJoined};
 ghost use Rattle.law_state.specs.Joins.{CountsJoins, HasJoinedSince};
 ghost use Rattle.law_state.specs.LinkChanges.{IsCaughtSince, IsCaughtStill, IsHeldStill, IsLostIn, IsTouchedBy, StaysSo};
-ghost use Rattle.law_state.specs.Plain.{IsPlain, IsPlainLog};
+ghost use Rattle.law_state.specs.Plain.{HasProperTuple, HasProperTuples};
 ghost use Rattle.law_state.specs.Steady.{IsSteady};
-ghost use Rattle.law_state.specs.Tables.{IsGrown, IsPlainState};
+ghost use Rattle.law_state.specs.Tables.{IsGrown, IsSettledState};
 
 /// The state of a plain log is steady.
 pub fn a_plain_log_is_steady()
-    ensures { (servers : ℕ) (log : List Command) → IsPlainLog servers log → IsSteady (state_after servers log) }
+    ensures { (servers : ℕ) (log : List Command) → HasProperTuples servers log → IsSteady (state_after servers log) }
 {}
 
 /// What the state of a front of a plain log says of names, that of the whole says too, and of a cell what its servers are that have stayed In.
 pub fn a_longer_log_says_the_same()
-    ensures { (servers : ℕ) (front whole : List Command) → IsPlainLog servers whole → IsPrefix front whole
+    ensures { (servers : ℕ) (front whole : List Command) → HasProperTuples servers whole → IsPrefix front whole
         → IsBelow (state_after servers front) (state_after servers whole) }
 {}
 
 /// A server that is still In as the same incarnation leads a link, follows and serves it as before, until its map is dead; only that of a
 /// link's two servers it may be left alone, and that a second server which was alone follows again.
 pub fn a_longer_log_keeps_roles()
-    ensures { (servers : ℕ) (front whole : List Command) → IsPlainLog servers whole → IsPrefix front whole
+    ensures { (servers : ℕ) (front whole : List Command) → HasProperTuples servers whole → IsPrefix front whole
         → KeepsRoles (state_after servers front) (state_after servers whole) }
 {}
 
@@ -61,36 +61,36 @@ pub fn revisions_count_entries()
 /// The tables of a plain log: fences for snapshots and for the next regions of moves, each disk with a snapshot for each epoch below its own,
 /// and each map that a disk has with the links that its tuple asks for.
 pub fn a_plain_log_makes_plain_tables()
-    ensures { (servers : ℕ) (log : List Command) → IsPlainLog servers log → IsPlainState servers (state_after servers log) }
+    ensures { (servers : ℕ) (log : List Command) → HasProperTuples servers log → IsSettledState servers (state_after servers log) }
 {}
 
 /// A longer log adds rows after those that are there, and changes none but who serves a link, and which snapshots and which maps a disk has;
 /// and it drops the links of a map that is dead.
 pub fn a_longer_log_only_adds()
-    ensures { (servers : ℕ) (front whole : List Command) → IsPlainLog servers whole → IsPrefix front whole
+    ensures { (servers : ℕ) (front whole : List Command) → HasProperTuples servers whole → IsPrefix front whole
         → IsGrown (state_after servers front) (state_after servers whole) }
 {}
 
 /// Each disk is found by its number and its name, and its snapshots by theirs, two disks have no map in common, and a cell of no disk has no link.
 pub fn disks_and_cells_belong_together()
-    ensures { (servers : ℕ) (log : List Command) → IsPlainLog servers log → AreDisks (state_after servers log) }
+    ensures { (servers : ℕ) (log : List Command) → HasProperTuples servers log → AreDisks (state_after servers log) }
 {}
 
 /// Each server is In, or Out, and no incarnation is below 1.
 pub fn servers_are_in_or_out()
-    ensures { (servers : ℕ) (log : List Command) → IsPlainLog servers log → AreInOrOut servers (state_after servers log) }
+    ensures { (servers : ℕ) (log : List Command) → HasProperTuples servers log → AreInOrOut servers (state_after servers log) }
 {}
 
 /// An incarnation that was In and no longer is has its Leave in the log. At the start each server is In as its first one.
 pub fn who_is_out_has_left()
-    ensures left { (servers : ℕ) (front whole : List Command) (n inc : ℕ) → IsPlainLog servers whole → IsPrefix front whole
+    ensures left { (servers : ℕ) (front whole : List Command) (n inc : ℕ) → HasProperTuples servers whole → IsPrefix front whole
         → is_in (state_after servers front) n inc ≡ true → is_in (state_after servers whole) n inc ≡ false → In (Leave n inc) whole }
     ensures starts { (servers n : ℕ) → n < servers → is_in (start servers) n 1 ≡ true }
 {}
 
 /// An incarnation that is In is the first, or has its Join in the log.
 pub fn who_is_in_has_joined()
-    ensures { (servers : ℕ) (log : List Command) (n inc : ℕ) → IsPlainLog servers log → is_in (state_after servers log) n inc ≡ true
+    ensures { (servers : ℕ) (log : List Command) (n inc : ℕ) → HasProperTuples servers log → is_in (state_after servers log) n inc ≡ true
         → (inc ≡ 1) ⊎ HasJoined log n inc }
 {}
 
@@ -98,15 +98,15 @@ pub fn who_is_in_has_joined()
 /// that does is the Leave of one of them, a Join, or the link's Caught. A longer log has no fewer places of a link, and where it has as many
 /// it says the same of it, or its map is dead.
 pub fn an_entry_that_does_not_touch_a_link()
-    ensures stays { (servers : ℕ) (log : List Command) (entry : Command) (cell : Cell) (row : LinkRow) → IsPlainLog servers log → IsPlain servers entry
+    ensures stays { (servers : ℕ) (log : List Command) (entry : Command) (cell : Cell) (row : LinkRow) → HasProperTuples servers log → HasProperTuple servers entry
         → cell_link (state_after servers log) cell ≡ Some row → touches (state_after servers log) entry row ≡ false
         → StaysSo cell row (state_after servers log) (after (state_after servers log) entry) ⊎ HasDied (after (state_after servers log) entry) cell }
-    ensures touched { (servers : ℕ) (log : List Command) (entry : Command) (cell : Cell) (row : LinkRow) → IsPlainLog servers log
-        → IsPlain servers entry → cell_link (state_after servers log) cell ≡ Some row → touches (state_after servers log) entry row ≡ true
+    ensures touched { (servers : ℕ) (log : List Command) (entry : Command) (cell : Cell) (row : LinkRow) → HasProperTuples servers log
+        → HasProperTuple servers entry → cell_link (state_after servers log) cell ≡ Some row → touches (state_after servers log) entry row ≡ true
         → IsTouchedBy cell row (state_after servers log) entry }
     ensures grows { (servers : ℕ) (front whole : List Command) (row : LinkRow) → IsPrefix front whole
         → places_from (start servers) front row ≤ places_from (start servers) whole row }
-    ensures place { (servers : ℕ) (front whole : List Command) (cell : Cell) (row : LinkRow) → IsPlainLog servers whole → IsPrefix front whole
+    ensures place { (servers : ℕ) (front whole : List Command) (cell : Cell) (row : LinkRow) → HasProperTuples servers whole → IsPrefix front whole
         → cell_link (state_after servers front) cell ≡ Some row → places_from (start servers) whole row ≡ places_from (start servers) front row
         → StaysSo cell row (state_after servers front) (state_after servers whole) ⊎ HasDied (state_after servers whole) cell }
 {}
@@ -115,16 +115,16 @@ pub fn an_entry_that_does_not_touch_a_link()
 /// stays so, or its first change is the holder's Caught, or the holder joins with an empty store and the link is Lost, which it stays. And
 /// while both servers of a link in Both stay In, it stays at its place.
 pub fn a_link_is_in_both_again_by_its_caught()
-    ensures caught { (servers : ℕ) (front whole : List Command) → IsPlainLog servers whole → IsPrefix front whole → (cell : Cell) (row now : LinkRow)
+    ensures caught { (servers : ℕ) (front whole : List Command) → HasProperTuples servers whole → IsPrefix front whole → (cell : Cell) (row now : LinkRow)
         → cell_link (state_after servers front) cell ≡ Some row → cell_link (state_after servers whole) cell ≡ Some now → now.state ≡ Both
         → (places_from (start servers) whole row ≡ places_from (start servers) front row) ⊎ IsCaughtSince servers front whole cell now }
-    ensures alone { (servers : ℕ) (front whole : List Command) → IsPlainLog servers whole
+    ensures alone { (servers : ℕ) (front whole : List Command) → HasProperTuples servers whole
         → IsPrefix front whole → (cell : Cell) (row now : LinkRow) (holder : ℕ) (fills : Bool) → cell_link (state_after servers front) cell ≡ Some row
         → row.state ≡ Only holder fills → cell_link (state_after servers whole) cell ≡ Some now → IsHeldStill holder fills now.state ⊎ (now.state ≡ Lost)
         × IsLostIn servers front whole holder ⊎ IsCaughtStill servers front whole cell row holder fills }
-    ensures lost { (servers : ℕ) (front whole : List Command) → IsPlainLog servers whole → IsPrefix front whole → (cell : Cell) (row now : LinkRow)
+    ensures lost { (servers : ℕ) (front whole : List Command) → HasProperTuples servers whole → IsPrefix front whole → (cell : Cell) (row now : LinkRow)
         → cell_link (state_after servers front) cell ≡ Some row → row.state ≡ Lost → cell_link (state_after servers whole) cell ≡ Some now → now.state ≡ Lost }
-    ensures both { (servers : ℕ) (front whole : List Command) → IsPlainLog servers whole → IsPrefix front whole → (cell : Cell) (row : LinkRow) (one other : ℕ)
+    ensures both { (servers : ℕ) (front whole : List Command) → HasProperTuples servers whole → IsPrefix front whole → (cell : Cell) (row : LinkRow) (one other : ℕ)
         → cell_link (state_after servers front) cell ≡ Some row → row.state ≡ Both → is_in (state_after servers front) row.primary one ≡ true
         → is_in (state_after servers front) row.secondary other ≡ true → is_in (state_after servers whole) row.primary one ≡ true
         → is_in (state_after servers whole) row.secondary other ≡ true → places_from (start servers) whole row ≡ places_from (start servers) front row }
@@ -133,12 +133,12 @@ pub fn a_link_is_in_both_again_by_its_caught()
 /// A server that is In as an incarnation was so before, or has joined as it since, and no Join of that incarnation or an earlier one
 /// acts any more.
 pub fn an_incarnation_joins_once()
-    ensures since { (servers : ℕ) (front whole : List Command) (n inc : ℕ) → IsPlainLog servers whole
+    ensures since { (servers : ℕ) (front whole : List Command) (n inc : ℕ) → HasProperTuples servers whole
         → IsPrefix front whole → is_in (state_after servers whole) n inc ≡ true → (is_in (state_after servers front) n inc ≡ true)
         ⊎ ((blank : Bool) × HasJoinedSince servers front whole n inc blank) }
-    ensures joins { (servers : ℕ) (front whole : List Command) (n inc : ℕ) (blank : Bool) → IsPlainLog servers whole
+    ensures joins { (servers : ℕ) (front whole : List Command) (n inc : ℕ) (blank : Bool) → HasProperTuples servers whole
         → (joined : HasJoinedSince servers front whole n inc blank) → is_in (state_after servers (joined.until ++ Join n inc blank ∷ [])) n inc ≡ true }
-    ensures once { (servers : ℕ) (front whole : List Command) (n inc other : ℕ) → IsPlainLog servers whole → IsPrefix front whole
+    ensures once { (servers : ℕ) (front whole : List Command) (n inc other : ℕ) → HasProperTuples servers whole → IsPrefix front whole
         → is_in (state_after servers front) n inc ≡ true → other ≤ inc → may_join (slice_get (state_after servers whole).view.members n) other ≡ false }
 {}
 
@@ -155,15 +155,15 @@ pub fn blank_joins_only_grow()
 /// report to an active fence that holds the cell's writes: from a front on whose own active fence does not hold them, and from one after
 /// which a server leaves, since the active fence then awaits all reports again.
 pub fn an_epoch_rises_after_reports()
-    ensures grows { (servers : ℕ) (front whole : List Command) (cell : Cell) → IsPlainLog servers whole → IsPrefix front whole
+    ensures grows { (servers : ℕ) (front whole : List Command) (cell : Cell) → HasProperTuples servers whole → IsPrefix front whole
         → era_at (state_after servers front) cell ≤ era_at (state_after servers whole) cell }
     ensures unheld { (servers : ℕ) (front whole : List Command) (n inc : ℕ) (cell : Cell)
-        → IsPlainLog servers whole → IsPrefix front whole → is_in (state_after servers front) n inc ≡ true → is_in (state_after servers whole) n inc ≡ true
+        → HasProperTuples servers whole → IsPrefix front whole → is_in (state_after servers front) n inc ≡ true → is_in (state_after servers whole) n inc ≡ true
         → is_writes_held (held (state_after servers front) cell) ≡ false → 1 ≤ stage_at (state_after servers front) cell
         → stage_at (state_after servers front) cell ≤ 2 → era_at (state_after servers front) cell < era_at (state_after servers whole) cell
         → HasReported servers front whole n inc cell }
     ensures left { (servers : ℕ) (front whole : List Command) (n inc other other_inc : ℕ) (cell : Cell)
-        → IsPlainLog servers whole → IsPrefix (front ++ Leave other other_inc ∷ []) whole
+        → HasProperTuples servers whole → IsPrefix (front ++ Leave other other_inc ∷ []) whole
         → is_in (state_after servers front) other other_inc ≡ true → is_in (state_after servers (front ++ Leave other other_inc ∷ [])) n inc ≡ true
         → is_in (state_after servers whole) n inc ≡ true → 1 ≤ stage_at (state_after servers front) cell
         → stage_at (state_after servers front) cell ≤ 2 → era_at (state_after servers front) cell < era_at (state_after servers whole) cell
@@ -172,23 +172,23 @@ pub fn an_epoch_rises_after_reports()
 
 /// A cell only goes forward: it is not live yet, coming, live, leaving, dead.
 pub fn stages_only_grow()
-    ensures { (servers : ℕ) (front whole : List Command) (cell : Cell) → IsPlainLog servers whole → IsPrefix front whole
+    ensures { (servers : ℕ) (front whole : List Command) (cell : Cell) → HasProperTuples servers whole → IsPrefix front whole
         → stage_at (state_after servers front) cell ≤ stage_at (state_after servers whole) cell }
 {}
 
 /// What the state says of a cell, its stage says: whether it is live, leaves or comes, and who leads it; and a cell that comes and the one that it
 /// comes from know each other.
 pub fn a_stage_says_what_a_cell_is()
-    ensures { (servers : ℕ) (log : List Command) (cell : Cell) → IsPlainLog servers log → HasStage (state_after servers log) cell }
+    ensures { (servers : ℕ) (log : List Command) (cell : Cell) → HasProperTuples servers log → HasStage (state_after servers log) cell }
 {}
 
 /// A link of an old map is noted after its Moved, and a region has moved after those of all links.
 pub fn a_region_moves_after_its_links()
-    ensures noted { (servers : ℕ) (whole : List Command) (cell : Cell) (link : ℕ) → IsPlainLog servers whole → stage_at (state_after servers whole) cell ≡ 3
+    ensures noted { (servers : ℕ) (whole : List Command) (cell : Cell) (link : ℕ) → HasProperTuples servers whole → stage_at (state_after servers whole) cell ≡ 3
         → is_noted (state_after servers whole) cell.map (region_of cell.block) link ≡ true → HasMovedIn servers whole cell link }
-    ensures dead { (servers : ℕ) (whole : List Command) (cell : Cell) (link : ℕ) → IsPlainLog servers whole → stage_at (state_after servers whole) cell ≡ 4
+    ensures dead { (servers : ℕ) (whole : List Command) (cell : Cell) (link : ℕ) → HasProperTuples servers whole → stage_at (state_after servers whole) cell ≡ 4
         → link < links_of (state_after servers whole) cell.map → HasMovedIn servers whole cell link }
-    ensures twins { (servers : ℕ) (front whole : List Command) (cell old : Cell) → IsPlainLog servers whole
+    ensures twins { (servers : ℕ) (front whole : List Command) (cell old : Cell) → HasProperTuples servers whole
         → IsPrefix front whole → source (state_after servers front) cell ≡ Some old → stage_at (state_after servers front) cell ≡ 1
         → 2 ≤ stage_at (state_after servers whole) cell → stage_at (state_after servers whole) old ≡ 4 }
 {}

@@ -14,35 +14,35 @@ pub use Rattle.law_state.proofs.Imports.{same_numbers, same_or_apart, same_some,
 pub use Rattle.law_state.proofs.Imports.{true_false, unwrap_or, zero, ℕ}
 pub use Rattle.law_log.proofs.Imports.{Accepted, Acted, Action, Actor, After, Again, Answer, AreSteps, AreStepsFrom, Arm, Ask, Asked, Before, Blank, Block}
 pub use Rattle.law_log.proofs.Imports.{Body, Boot, Call, Client, Collecting, Copies, CopyAction, Copying, Dead, Decided, Deliver, Ending, Entry, Equal, Far}
-pub use Rattle.law_log.proofs.Imports.{Firm, Glance, Grows, Heard, Idle, Inc, IsPlain, IsPlainLog, IsPlainState, IsSound, IsTotalOrder, Job, JobContext}
-pub use Rattle.law_log.proofs.Imports.{JobResult, Key, LastCopy, LastOp, Learning, Letter, Line, Log, LogDone, MayActor, MayClient, MayServer, Moving, Newer}
-pub use Rattle.law_log.proofs.Imports.{NextCopy, Older, OpKind, Pax, Pending, Phase, Post, Promise, Reaction, Refused, Request, Script, Send, Sight}
-pub use Rattle.law_log.proofs.Imports.{StateRecord, Step, Stop, StopIn, Stored, Tick, Voter, Voting, Wait, Wanted, Work, WorkEnd, about, above, all_put}
-pub use Rattle.law_log.proofs.Imports.{answered_where, answers, answers_page, applies_known, applies_then, ask_posts, asking, asks_and_sends, at_other_rev}
-pub use Rattle.law_log.proofs.Imports.{awaited, awake, ballot_posts, before_known, begins_copy, blanked, boots, called, calls, catches_up, caught_links}
-pub use Rattle.law_log.proofs.Imports.{cell_at, cell_holder, cell_of, chain_in, clears_old_marks, client_state, client_step, comes_out, command_of}
-pub use Rattle.law_log.proofs.Imports.{copies_again, copies_with, copy_acts, copy_awaited, copy_posts, copy_stage, copying_on, crossing, down_posts, draining}
-pub use Rattle.law_log.proofs.Imports.{ended, ends, entered, epoch_for, eq_by_cmp, fill_of, fill_operation, fill_posts, fills_row, first_wanted, flat_map}
-pub use Rattle.law_log.proofs.Imports.{follows_once, free_of, gives_back, glance_sender, glances, goes_for, goes_on_with, goes_out, goes_out_where}
-pub use Rattle.law_log.proofs.Imports.{goes_the_old_way, has_command, has_epoch, has_majority, has_proposed, hear, hears, hears_any, hears_entry, hears_fill}
-pub use Rattle.law_log.proofs.Imports.{hears_fill_full, hears_filled, hears_hello, hears_of, hears_of_ballot, hears_page, hears_pair_full, hears_replicate}
-pub use Rattle.law_log.proofs.Imports.{hears_replicated, hears_reserve, hears_reserved, hears_sync, hears_sync_full, hears_synced, hears_trim, hears_trim_of}
-pub use Rattle.law_log.proofs.Imports.{hears_trimmed, holds_link, id_of, idle_mark, is_caught, is_due, is_eq, is_flagged, is_from_in, is_kept_back}
-pub use Rattle.law_log.proofs.Imports.{is_log_job, is_logged, is_next, is_nothing, is_open, is_overfull, is_pending_for, is_read, is_replicating}
-pub use Rattle.law_log.proofs.Imports.{is_reserving, is_second, is_settled, is_some, is_syncing, is_under_way, is_witness, is_write, job_done, judged}
-pub use Rattle.law_log.proofs.Imports.{judged_by, keeps, key_at, known, known_at, known_front, known_inc, known_run, last_copy, last_on, learns_first}
-pub use Rattle.law_log.proofs.Imports.{link_before, link_jobs, link_named, log_plain, mends_found, moved_as, moving, nat_cmp, next_entries, next_line}
-pub use Rattle.law_log.proofs.Imports.{next_place, no_progress, only, opened, opens, opens_fill, other_in, own_join, own_leave, own_wants, page_asked}
-pub use Rattle.law_log.proofs.Imports.{page_for, page_posts, page_wanted, pending_on, post_in_turn, post_of, post_to, posts_for, progress_on, proposed}
-pub use Rattle.law_log.proofs.Imports.{proposes, put_same, puts_entry, raised, reacts, read_posts, read_posts_at, region_to_move, repair_after, repairs_row}
-pub use Rattle.law_log.proofs.Imports.{replies, reserves, rests, returning, rev_of, rounds, said, same_block, says, sees, sees_for, sees_from, sender}
-pub use Rattle.law_log.proofs.Imports.{sends_entry, sends_key, sends_moving, sends_or_proposes, sent_again, server_state, server_step, setting_of, settles}
-pub use Rattle.law_log.proofs.Imports.{silent, stage_jobs, stamped, start, starts_for, state_in, stays, stays_open, stepped, stops, subject_of, sweeps_with}
-pub use Rattle.law_log.proofs.Imports.{takes, takes_all, takes_entries, takes_entry, takes_mark, takes_newer, tells, then_goes_out, tick_jobs, tick_posts}
-pub use Rattle.law_log.proofs.Imports.{tied_itself, to_propose, trims_again, trims_first, trims_for, trims_newly, unknown_from, verdict_for, voter_of, wakes}
-pub use Rattle.law_log.proofs.Imports.{wanted, wanted_by, way_now, with_copied, with_copying, with_full, with_last_copy, with_leave, with_opened, with_page}
-pub use Rattle.law_log.proofs.Imports.{with_progress, with_sight, without_copying, without_pending, witnessed, worked, works, world_after, write_posts}
-pub use Rattle.law_log.proofs.Imports.{wrong_rev}
+pub use Rattle.law_log.proofs.Imports.{Firm, Glance, Grows, HasProperTuple, HasProperTuples, Heard, Idle, Inc, IsSettledState, IsSound, IsTotalOrder, Job}
+pub use Rattle.law_log.proofs.Imports.{JobContext, JobResult, Key, LastCopy, LastOp, Learning, Letter, Line, Log, LogDone, MayActor, MayClient, MayServer}
+pub use Rattle.law_log.proofs.Imports.{Moving, Newer, NextCopy, Older, OpKind, Pax, Pending, Phase, Post, Promise, Reaction, Refused, Request, Script, Send}
+pub use Rattle.law_log.proofs.Imports.{Sight, StateRecord, Step, Stop, StopIn, Stored, Tick, Voter, Voting, Wait, Wanted, Work, WorkEnd, about, above}
+pub use Rattle.law_log.proofs.Imports.{all_put, answered_where, answers, answers_page, applies_known, applies_then, ask_posts, asking, asks_and_sends}
+pub use Rattle.law_log.proofs.Imports.{at_other_rev, awaited, awake, ballot_posts, before_known, begins_copy, blanked, boots, called, calls, catches_up}
+pub use Rattle.law_log.proofs.Imports.{caught_links, cell_at, cell_holder, cell_of, chain_in, clears_old_marks, client_state, client_step, comes_out}
+pub use Rattle.law_log.proofs.Imports.{command_of, copies_again, copies_with, copy_acts, copy_awaited, copy_posts, copy_stage, copying_on, crossing}
+pub use Rattle.law_log.proofs.Imports.{down_posts, draining, ended, ends, entered, epoch_for, eq_by_cmp, fill_of, fill_operation, fill_posts, fills_row}
+pub use Rattle.law_log.proofs.Imports.{first_wanted, flat_map, follows_once, free_of, gives_back, glance_sender, glances, goes_for, goes_on_with, goes_out}
+pub use Rattle.law_log.proofs.Imports.{goes_out_where, goes_the_old_way, has_command, has_epoch, has_majority, has_proposed, hear, hears, hears_any}
+pub use Rattle.law_log.proofs.Imports.{hears_entry, hears_fill, hears_fill_full, hears_filled, hears_hello, hears_of, hears_of_ballot, hears_page}
+pub use Rattle.law_log.proofs.Imports.{hears_pair_full, hears_replicate, hears_replicated, hears_reserve, hears_reserved, hears_sync, hears_sync_full}
+pub use Rattle.law_log.proofs.Imports.{hears_synced, hears_trim, hears_trim_of, hears_trimmed, holds_link, id_of, idle_mark, is_caught, is_due, is_eq}
+pub use Rattle.law_log.proofs.Imports.{is_flagged, is_from_in, is_kept_back, is_log_job, is_logged, is_next, is_nothing, is_open, is_overfull, is_pending_for}
+pub use Rattle.law_log.proofs.Imports.{is_read, is_replicating, is_reserving, is_second, is_settled, is_some, is_syncing, is_under_way, is_witness, is_write}
+pub use Rattle.law_log.proofs.Imports.{job_done, judged, judged_by, keeps, key_at, known, known_at, known_front, known_inc, known_run, last_copy, last_on}
+pub use Rattle.law_log.proofs.Imports.{learns_first, link_before, link_jobs, link_named, log_plain, mends_found, moved_as, moving, nat_cmp, next_entries}
+pub use Rattle.law_log.proofs.Imports.{next_line, next_place, no_progress, only, opened, opens, opens_fill, other_in, own_join, own_leave, own_wants}
+pub use Rattle.law_log.proofs.Imports.{page_asked, page_for, page_posts, page_wanted, pending_on, post_in_turn, post_of, post_to, posts_for, progress_on}
+pub use Rattle.law_log.proofs.Imports.{proposed, proposes, put_same, puts_entry, raised, reacts, read_posts, read_posts_at, region_to_move, repair_after}
+pub use Rattle.law_log.proofs.Imports.{repairs_row, replies, reserves, rests, returning, rev_of, rounds, said, same_block, says, sees, sees_for, sees_from}
+pub use Rattle.law_log.proofs.Imports.{sender, sends_entry, sends_key, sends_moving, sends_or_proposes, sent_again, server_state, server_step, setting_of}
+pub use Rattle.law_log.proofs.Imports.{settles, silent, stage_jobs, stamped, start, starts_for, state_in, stays, stays_open, stepped, stops, subject_of}
+pub use Rattle.law_log.proofs.Imports.{sweeps_with, takes, takes_all, takes_entries, takes_entry, takes_mark, takes_newer, tells, then_goes_out, tick_jobs}
+pub use Rattle.law_log.proofs.Imports.{tick_posts, tied_itself, to_propose, trims_again, trims_first, trims_for, trims_newly, unknown_from, verdict_for}
+pub use Rattle.law_log.proofs.Imports.{voter_of, wakes, wanted, wanted_by, way_now, with_copied, with_copying, with_full, with_last_copy, with_leave}
+pub use Rattle.law_log.proofs.Imports.{with_opened, with_page, with_progress, with_sight, without_copying, without_pending, witnessed, worked, works}
+pub use Rattle.law_log.proofs.Imports.{world_after, write_posts, wrong_rev}
 unfoldable pub use Rattle.law_log.proofs.Imports.{applies, copies_on, does, goes_on, handles, heard, hears_log, learns, log_does, next_copy, next_dead}
 unfoldable pub use Rattle.law_log.proofs.Imports.{on_ask, on_down, on_fill, on_fill_full, on_filled, on_hello, on_hello_ask, on_news, on_pair_full, on_pax}
 unfoldable pub use Rattle.law_log.proofs.Imports.{on_propose, on_read, on_replicate, on_replicated, on_reserve, on_reserved, on_sync, on_sync_full, on_synced}

@@ -1,11 +1,11 @@
 -- Each step that is allowed is of one of the kinds that the relation names, and what each kind keeps holds after every history.
-use Rattle.law_steps.proofs.Imports.{[], ◌++◌, ◌<◌, ◌∙◌, ◌∷◌, ◌≡◌, Acted, Actor, AreSteps, AreStepsFrom, Blank, Cell, Client, Firm, Follows, Grows, In}
-use Rattle.law_steps.proofs.Imports.{IsBelow, IsPlainLog, IsPrefix, IsSteady, JobResult, List, Log, MayActor, MayServer, PairState, Pairs, Pending, Record}
-use Rattle.law_steps.proofs.Imports.{Script, Server, Setting, Some, State, Step, World, all_put, ap, append_assoc, arith, at, at-empty, awake, blanked}
-use Rattle.law_steps.proofs.Imports.{by_settled, cell_cmp, chosen_log, chosen_state, client_state, client_step, clock_of, crossed, false, front_plain}
-use Rattle.law_steps.proofs.Imports.{has_proposed, in_later, inl, inr, is_in, log_below, next_line, none_some, proposed, put_same, raised, reacts, received}
-use Rattle.law_steps.proofs.Imports.{refl, server_state, server_step, setting_of, settled_by, settling, start, state_after, state_in, stays, step, stepped}
-use Rattle.law_steps.proofs.Imports.{subst, sym, true, true_false, wakes, world_after, ℕ}
+use Rattle.law_steps.proofs.Imports.{[], ◌++◌, ◌<◌, ◌∙◌, ◌∷◌, ◌≡◌, Acted, Actor, AreSteps, AreStepsFrom, Blank, Cell, Client, Firm, Follows, Grows}
+use Rattle.law_steps.proofs.Imports.{HasProperTuples, In, IsBelow, IsPrefix, IsSteady, JobResult, List, Log, MayActor, MayServer, PairState, Pairs, Pending}
+use Rattle.law_steps.proofs.Imports.{Record, Script, Server, Setting, Some, State, Step, World, all_put, ap, append_assoc, arith, at, at-empty, awake}
+use Rattle.law_steps.proofs.Imports.{blanked, by_settled, cell_cmp, chosen_log, chosen_state, client_state, client_step, clock_of, crossed, false}
+use Rattle.law_steps.proofs.Imports.{front_plain, has_proposed, in_later, inl, inr, is_in, log_below, next_line, none_some, proposed, put_same, raised}
+use Rattle.law_steps.proofs.Imports.{reacts, received, refl, server_state, server_step, setting_of, settled_by, settling, start, state_after, state_in, stays}
+use Rattle.law_steps.proofs.Imports.{step, stepped, subst, sym, true, true_false, wakes, world_after, ℕ}
 use Rattle.spec_rules.specs.World.{acts}
 use Rattle.law_steps.specs.DidStep.{Handled, AreQueued, Worked, By_job, By_ballot, By_entry, Serving, Goes, Ends, Stays, Wakes, Fails, served_so, stopped_so}
 use Rattle.law_steps.specs.DidStep.{shown_so, own_place, Happens, Serves, Blanks, Turns}
@@ -97,8 +97,8 @@ module _ (setting : Setting) (w : World) (rests : Rests setting w) (firm : Firm 
       subst (λ applied. AreResting (state_after setting.servers applied) n (proposed (server_state setting w n) (w.servers n).own started)) (sym same)
       (ballot_rests (own_place setting w n) (w.servers n).own started (rests.resting n))
   worked_resting n _ _ (By_entry log entry more front) =
-      let plain : IsPlainLog setting.servers ((w.servers n).log.applied ++ entry ∷ []) =
-      subst (IsPlainLog setting.servers) more (front_plain setting.servers _ _ firm.plain front) in
+      let plain : HasProperTuples setting.servers ((w.servers n).log.applied ++ entry ∷ []) =
+      subst (HasProperTuples setting.servers) more (front_plain setting.servers _ _ firm.plain front) in
       let own = crossed (server_state setting w n) entry (w.servers n).own in
       subst (λ applied. AreResting (state_after setting.servers applied) n (settled_by (own_place setting w n) entry own)) (sym more)
       (resting_equal (state_after setting.servers ((w.servers n).log.applied ++ entry ∷ [])) n own (settled_by (own_place setting w n) entry own)

@@ -1,12 +1,12 @@
 -- Entries that move are of cells whose region is on its way: an old lead sends them by the region that leaves its map, and a new lead opens an
 -- operation at the letter's revision.
-use Rattle.law_steps.proofs.Imports.{[], ◌&&◌, ◌==◌, ◌∙◌, ◌∷◌, ◌≡◌, Bool, Cell, Chain, Command, DiskRow, HasStage, In, IsPlainLog, JobContext, Key, LinkRow}
-use Rattle.law_steps.proofs.Imports.{List, Move, None, Option, PairState, Post, Some, State, ap, at, both_true, by_test, cell_link, cell_of, comes_before}
-use Rattle.law_steps.proofs.Imports.{comes_next, coming, earlier, false, filter, first_key, found_at, has_stage, id_of, inl, inr, is_fenced, is_link, is_on}
-use Rattle.law_steps.proofs.Imports.{is_the, kept_among, key_at, keys_in, keys_of, leaving, link_cmp, log_plain, map, move_region, mover, next_fill}
-use Rattle.law_steps.proofs.Imports.{none_some, not_noted, noted, number_itself, option_and_then, option_map_or, range_with_len, refl, region_leaving}
-use Rattle.law_steps.proofs.Imports.{region_of, region_on_way, region_to_move, row_lead, same_numbers, same_some, stage_at, state_after, subst, sym, target}
-use Rattle.law_steps.proofs.Imports.{true, true_false, ℕ}
+use Rattle.law_steps.proofs.Imports.{[], ◌&&◌, ◌==◌, ◌∙◌, ◌∷◌, ◌≡◌, Bool, Cell, Chain, Command, DiskRow, HasProperTuples, HasStage, In, JobContext, Key}
+use Rattle.law_steps.proofs.Imports.{LinkRow, List, Move, None, Option, PairState, Post, Some, State, ap, at, both_true, by_test, cell_link, cell_of}
+use Rattle.law_steps.proofs.Imports.{comes_before, comes_next, coming, earlier, false, filter, first_key, found_at, has_stage, id_of, inl, inr, is_fenced}
+use Rattle.law_steps.proofs.Imports.{is_link, is_on, is_the, kept_among, key_at, keys_in, keys_of, leaving, link_cmp, log_plain, map, move_region, mover}
+use Rattle.law_steps.proofs.Imports.{next_fill, none_some, not_noted, noted, number_itself, option_and_then, option_map_or, range_with_len, refl}
+use Rattle.law_steps.proofs.Imports.{region_leaving, region_of, region_on_way, region_to_move, row_lead, same_numbers, same_some, stage_at, state_after}
+use Rattle.law_steps.proofs.Imports.{subst, sym, target, true, true_false, ℕ}
 use Rattle.law_steps.specs.DidLead.{IsNextFill}
 use Rattle.law_steps.proofs.CopiesRest.{on_row, row_named}
 use Rattle.law_steps.proofs.TicksAskAgain.{in_flat_map}
@@ -98,10 +98,10 @@ leaves_with state key map region map_is region_is = by (mover state map) refl
 
 -- ### The cell to which it goes comes
 
-pub stage_facts : (servers : ℕ) (log : List Command) → IsPlainLog servers log → (cell : Cell) → HasStage (state_after servers log) cell
+pub stage_facts : (servers : ℕ) (log : List Command) → HasProperTuples servers log → (cell : Cell) → HasStage (state_after servers log) cell
 stage_facts servers log plain cell = let p = log_plain servers log plain in has_stage (state_after servers log) p.rows p.homes cell
 
-pub next_comes : (servers : ℕ) (log : List Command) → IsPlainLog servers log → (here : JobContext) → here.state ≡ state_after servers log → (own : PairState) (post : Post)
+pub next_comes : (servers : ℕ) (log : List Command) → HasProperTuples servers log → (here : JobContext) → here.state ≡ state_after servers log → (own : PairState) (post : Post)
     → (f : IsNextFill here own post) → coming (state_after servers log) f.cell ≡ true
 next_comes servers log plain here state_is own post f =
     let state = state_after servers log in

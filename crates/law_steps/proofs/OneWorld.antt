@@ -1,9 +1,9 @@
 -- What is known of the servers' states in one world whose log is firm, and what rests at a state rests at the later ones.
-use Rattle.law_steps.proofs.Imports.{[], ◌++◌, ◌+◌, ◌<◌, ◌∙◌, ◌∷◌, ◌≡◌, ◌≤◌, Bool, Caught, Cell, Command, Firm, HasDied, HasLater, HasStarted, In, IsBelow}
-use Rattle.law_steps.proofs.Imports.{IsCaughtStill, IsHeldBy, IsPlainLog, IsPrefix, IsSteady, Job, Letter, LinkRow, List, None, Only, Option, PairState}
-use Rattle.law_steps.proofs.Imports.{Pending, Setting, Some, State, Table, World, alone_not_both, alone_row, ap, arith, at, between, by_bool, cell_cmp}
-use Rattle.law_steps.proofs.Imports.{cell_link, chosen_log, chosen_state, client_state, false, front_plain, has_proposed, holder_is_one, holds_link, id_of}
-use Rattle.law_steps.proofs.Imports.{in_both, in_once, in_up, inl, inr, is_alone_on, is_in, leads_link, length, link_named, live, log_alone, log_below}
+use Rattle.law_steps.proofs.Imports.{[], ◌++◌, ◌+◌, ◌<◌, ◌∙◌, ◌∷◌, ◌≡◌, ◌≤◌, Bool, Caught, Cell, Command, Firm, HasDied, HasLater, HasProperTuples}
+use Rattle.law_steps.proofs.Imports.{HasStarted, In, IsBelow, IsCaughtStill, IsHeldBy, IsPrefix, IsSteady, Job, Letter, LinkRow, List, None, Only, Option}
+use Rattle.law_steps.proofs.Imports.{PairState, Pending, Setting, Some, State, Table, World, alone_not_both, alone_row, ap, arith, at, between, by_bool}
+use Rattle.law_steps.proofs.Imports.{cell_cmp, cell_link, chosen_log, chosen_state, client_state, false, front_plain, has_proposed, holder_is_one, holds_link}
+use Rattle.law_steps.proofs.Imports.{id_of, in_both, in_once, in_up, inl, inr, is_alone_on, is_in, leads_link, length, link_named, live, log_alone, log_below}
 use Rattle.law_steps.proofs.Imports.{log_roles, log_steady, max, number_itself, other_of, proposed, refl, server_state, serves, so_alone, so_both, stage_at}
 use Rattle.law_steps.proofs.Imports.{state_after, subst, sym, true, true_false, ℕ}
 use Rattle.law_steps.specs.DidStep.{AreQueued}
@@ -51,7 +51,7 @@ pub record LaterPending : Type 0 where
   pub servers : ℕ
   pub front : List Command
   pub whole : List Command
-  pub plain : IsPlainLog servers whole
+  pub plain : HasProperTuples servers whole
   pub prefix : IsPrefix front whole
   pub n : ℕ
   pub inc : ℕ
@@ -147,7 +147,7 @@ module _ (it : LaterPending) where
 -- ### One world
 
 module _ (setting : Setting) (w : World) (firm : Firm setting w) where
-  pub own_plain : (n : ℕ) → IsPlainLog setting.servers (w.servers n).log.applied
+  pub own_plain : (n : ℕ) → HasProperTuples setting.servers (w.servers n).log.applied
   own_plain n = front_plain setting.servers _ _ firm.plain (firm.servers n)
 
   pub own_steady : (n : ℕ) → IsSteady (server_state setting w n)

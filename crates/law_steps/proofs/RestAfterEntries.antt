@@ -1,11 +1,11 @@
 -- What a server remembers of copies rests after an entry, which drops what it touches; and at the start it remembers nothing of them.
-use Rattle.law_steps.proofs.Imports.{[], if◌then◌else◌, ◌&&◌, ◌++◌, ◌==◌, ◌||◌, ◌∙◌, ◌∷◌, ◌≡◌, ◌≤◌, Bool, Cell, Command, Copies, In, IsPlain, IsPlainLog}
-use Rattle.law_steps.proofs.Imports.{IsPlainState, LinkRow, List, None, Option, PairState, Some, State, StaysSo, Table, after, ap, arith, at, at-empty}
-use Rattle.law_steps.proofs.Imports.{at-where, both_true, by_bool, by_test, cell_cmp, cell_cmp_same, cell_link, cond, crossed, dies, either_false, ends_cell}
-use Rattle.law_steps.proofs.Imports.{ends_link, entry_stays, false, filter, fold-append, id_of, in_former, in_later, in_up, inc_of, inl, inr, is_alone, is_eq}
-use Rattle.law_steps.proofs.Imports.{is_none, is_up, link_cmp, live, log_below, log_plain, no_copies, no_progress, none_some, not, option_map_or, other_in}
-use Rattle.law_steps.proofs.Imports.{other_of, refl, same_id, same_some, stage_at, stage_most, state_after, subst, sym, touches, touches_cell, true}
-use Rattle.law_steps.proofs.Imports.{true_false, unwrap_or, up_some, ℕ}
+use Rattle.law_steps.proofs.Imports.{[], if◌then◌else◌, ◌&&◌, ◌++◌, ◌==◌, ◌||◌, ◌∙◌, ◌∷◌, ◌≡◌, ◌≤◌, Bool, Cell, Command, Copies, HasProperTuple}
+use Rattle.law_steps.proofs.Imports.{HasProperTuples, In, IsSettledState, LinkRow, List, None, Option, PairState, Some, State, StaysSo, Table, after, ap}
+use Rattle.law_steps.proofs.Imports.{arith, at, at-empty, at-where, both_true, by_bool, by_test, cell_cmp, cell_cmp_same, cell_link, cond, crossed, dies}
+use Rattle.law_steps.proofs.Imports.{either_false, ends_cell, ends_link, entry_stays, false, filter, fold-append, id_of, in_former, in_later, in_up, inc_of}
+use Rattle.law_steps.proofs.Imports.{inl, inr, is_alone, is_eq, is_none, is_up, link_cmp, live, log_below, log_plain, no_copies, no_progress, none_some, not}
+use Rattle.law_steps.proofs.Imports.{option_map_or, other_in, other_of, refl, same_id, same_some, stage_at, stage_most, state_after, subst, sym, touches}
+use Rattle.law_steps.proofs.Imports.{touches_cell, true, true_false, unwrap_or, up_some, ℕ}
 use Rattle.spec_state.specs.State.{start}
 use Rattle.law_steps.specs.RestingCopies.{AreResting}
 use Rattle.law_steps.proofs.Fronts.{front_more}
@@ -43,7 +43,7 @@ other_so state me row other =
 up_same : (s t : State) (n : ℕ) → inc_of t n ≡ inc_of s n → is_up s n ≡ true → is_up t n ≡ true
 up_same s t n same up = let is = up_some s n up in in_up t n is.0 (ap (λ o. option_map_or (λ present. present == is.0) o false) same ∙ is.1)
 
-pub crossed_rests : (servers : ℕ) (state : State) → IsPlainState servers state → (entry : Command) → IsPlain servers entry
+pub crossed_rests : (servers : ℕ) (state : State) → IsSettledState servers state → (entry : Command) → HasProperTuple servers entry
     → ((cell : Cell) → stage_at state cell ≤ stage_at (after state entry) cell) → (me : ℕ) (own : PairState)
     → AreResting state me own → AreResting (after state entry) me (crossed state entry own)
 crossed_rests servers state plain entry plain_entry grows me own r = record {
@@ -103,7 +103,7 @@ crossed_rests servers state plain entry plain_entry grows me own r = record {
         (λ k tie. ap (λ q. not (ends_link state entry q)) (sym (same_id (id_of row) k (ap is_eq tie))))
         ∙ ap (λ b. cond (not b) (at link_cmp own.copies.progress (id_of row)) None) away
 
-pub log_rests : (servers : ℕ) (log : List Command) (entry : Command) → IsPlainLog servers (log ++ entry ∷ []) → (me : ℕ) (own : PairState)
+pub log_rests : (servers : ℕ) (log : List Command) (entry : Command) → HasProperTuples servers (log ++ entry ∷ []) → (me : ℕ) (own : PairState)
     → AreResting (state_after servers log) me own → AreResting (state_after servers (log ++ entry ∷ [])) me (crossed (state_after servers log) entry own)
 unfolding In
 log_rests servers log entry plain me own r =

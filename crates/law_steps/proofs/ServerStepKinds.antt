@@ -12,8 +12,8 @@ use Rattle.law_steps.specs.Ready.{Rests}
 use Rattle.law_steps.specs.Operations.{IsStaged}
 use Rattle.law_steps.specs.DidLead.{Asks, Asks_for, Of_the_log}
 use Rattle.law_steps.specs.Did.{Did, Ignores, By_lead}
-use Rattle.law_steps.specs.DidStep.{IsIdle, IsSeated, AreQueued, Starts, By_job, By_ballot, By_entry, Serving, Goes, Ends, Stays, Wakes, Fails, served_so}
-use Rattle.law_steps.specs.DidStep.{stopped_so}
+use Rattle.law_steps.specs.DidStep.{IsIdle, IsSeatedOrMute, AreQueued, Starts, By_job, By_ballot, By_entry, Serving, Goes, Ends, Stays, Wakes, Fails}
+use Rattle.law_steps.specs.DidStep.{served_so, stopped_so}
 use Rattle.law_steps.proofs.KnownServer.{KnownServer, parts_of}
 use Rattle.law_steps.proofs.Inversion.{IsHeard, did}
 use Rattle.law_steps.proofs.LogJobs.{LogFrame, letter_frame_of, start_frame_of, applied_entry, applied_none}
@@ -88,7 +88,7 @@ module _ (it : KnownServer) where
   -- where there is room: what the relation names, or an entry is applied
   data IsWorked : Acted → Type 0 where
     A_job : (after : Log) (done : JobResult) (queue : List Job) → after.applied ≡ log.applied → Did hears_server here own done
-        → IsSeated here own done → AreQueued w n queue
+        → IsSeatedOrMute here own done → AreQueued w n queue
         → IsWorked (served_so setting w n after done queue)
     A_ballot : (after : Log) (started : Option Command) (posts : List Post) (queue : List Job) → after.applied ≡ log.applied → Starts here own started
         → ((post : Post) → In post posts → is_logged (subject_of post.body) ≡ true) → AreQueued w n queue

@@ -8,7 +8,7 @@ use Rattle.law_steps.proofs.Imports.{pending_on, post_to, refl, second, sends_en
 use Rattle.law_steps.proofs.Imports.{true_false, voter_of, ℕ}
 use Rattle.law_steps.specs.Operations.{IsStaged, Waiting, Putting, Copying, Answering, waiting, putting, copying, answering}
 use Rattle.law_steps.specs.DidLead.{Asks, A_trim, A_copied_entry, A_page, An_entry_to_move, Of_the_log, other_on}
-use Rattle.law_steps.specs.DidStep.{IsSeated, is_between}
+use Rattle.law_steps.specs.DidStep.{IsSeatedOrMute, is_between}
 use Rattle.law_steps.specs.Ready.{IsRising}
 use Rattle.law_steps.proofs.KnownServer.{KnownServer, parts_of}
 use Rattle.law_steps.proofs.TablesOfPuts.{at_row}
@@ -208,5 +208,5 @@ module _ (it : KnownServer) where
           let row = found.0 in
           true_false (rests.seated n row.0 row.1 runs (at_row cell_cmp_total own.pairs.pending row (rests.pending n).rising found.1)) out
 
-  pub tick_seated : server.life.running ≡ true → IsSeated here own (record { own = own; posts = tick_posts here server; jobs = [] })
+  pub tick_seated : server.life.running ≡ true → IsSeatedOrMute here own (record { own = own; posts = tick_posts here server; jobs = [] })
   tick_seated runs = by_bool (is_in here.state here.me here.inc) (λ t. inl t) (λ out. inr (record { same = refl; mute = tick_mute runs out }))

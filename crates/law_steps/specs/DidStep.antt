@@ -1,5 +1,5 @@
 -- What a step of the world may have done: a relation above the step, with what the laws need to know of it.
-use Rattle.law_steps.specs.Imports.{Acted, Actor, After, Blank, Body, Boot, Caught, Command, Copied, Glanced, In, IsBelow, IsPlainLog, IsPrefix, Job}
+use Rattle.law_steps.specs.Imports.{Acted, Actor, After, Blank, Body, Boot, Caught, Command, Copied, Glanced, HasProperTuples, In, IsBelow, IsPrefix, Job}
 use Rattle.law_steps.specs.Imports.{JobContext, JobResult, Letter, LinkId, LinkRow, Log, Nothing, PairState, Paired, Post, Reaction, Sender, Server, Setting}
 use Rattle.law_steps.specs.Imports.{State, Step, Subject, Work, World, awake, before_blanks, blanked, chosen_log, crossed, down_posts, here_of, is_in}
 use Rattle.law_steps.specs.Imports.{is_logged, letters_of, next_copy, proposed, raised, reacts, rev_of, sender, server_state, servers_of, settled_by, silent}
@@ -63,8 +63,8 @@ pub record LeavesAll (own : PairState) (done : JobResult) : Type 0 where
   pub mute : (post : Post) → In post done.posts → is_between (subject_of post.body) ≡ false
 
 -- a server that is not In as itself leaves its own part as it is, and speaks neither of pairs nor of copies
-abbrev pub IsSeated : JobContext → PairState → JobResult → Type 0
-IsSeated here own done = (is_in here.state here.me here.inc ≡ true) ⊎ LeavesAll own done
+abbrev pub IsSeatedOrMute : JobContext → PairState → JobResult → Type 0
+IsSeatedOrMute here own done = (is_in here.state here.me here.inc ≡ true) ⊎ LeavesAll own done
 
 -- it starts a ballot for the link's Caught: it is In as itself and holds the link alone, the other server is In, and nothing is left to
 -- copy
@@ -85,7 +85,7 @@ Starts here own _ = Unit {0}
 -- its store waits for nobody any more
 pub data Worked (setting : Setting) (w : World) (n : ℕ) : Log → JobResult → Type 0 where
   By_job : (log : Log) (done : JobResult) → log.applied ≡ (w.servers n).log.applied → Did (Handled w n) (own_place setting w n) (w.servers n).own done
-      → IsSeated (own_place setting w n) (w.servers n).own done
+      → IsSeatedOrMute (own_place setting w n) (w.servers n).own done
       → Worked setting w n log done
   By_ballot : (log : Log) (started : Option Command) (posts : List Post) → log.applied ≡ (w.servers n).log.applied
       → Starts (own_place setting w n) (w.servers n).own started → ((post : Post) → In post posts → is_logged (subject_of post.body) ≡ true)
@@ -135,7 +135,7 @@ pub data Serving (setting : Setting) (w : World) (n : ℕ) (what : Step) : Acted
 -- a client's entries are plain and only grow, and its state is below this one
 pub record IsOnward (servers : ℕ) (state : State) (before after : List Command) : Type 0 where
   pub grows : IsPrefix before after
-  pub plain : IsPlainLog servers after
+  pub plain : HasProperTuples servers after
   pub below : IsBelow (state_after servers after) state
 
 -- ### Steps

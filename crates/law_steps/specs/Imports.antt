@@ -12,7 +12,7 @@ pub use Rattle.law_state.specs.Firm.{Firm}
 pub use Rattle.law_state.specs.Homes.{stage_at}
 pub use Rattle.law_state.specs.LaterStates.{IsBelow}
 pub use Rattle.law_state.specs.LinkChanges.{StaysSo}
-pub use Rattle.law_state.specs.Plain.{IsPlainLog}
+pub use Rattle.law_state.specs.Plain.{HasProperTuples}
 pub use Rattle.petal_base.specs.Cells.{cell_of, key_at}
 pub use Rattle.petal_base.specs.declared.cell.Key.{Key}
 pub use Rattle.petal_msg.specs.Kinds.{Copied, Glanced, Paired, Refused, Subject, is_logged, subject_of}

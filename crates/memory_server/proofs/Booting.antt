@@ -11,7 +11,8 @@ use Rattle.petal_msg.specs.declared.letter.Letter.{Letter}
 use Rattle.spec_paxos.specs.Kept.{inc_of}
 use Rattle.spec_paxos.specs.declared.record.StateRecord.{StateRecord}
 use Rattle.spec_rules.specs.Boots.{boots, raised, stays}
-use Rattle.spec_rules.specs.Jobs.{Acted, is_overfull, journal_records}
+use Rattle.spec_rules.specs.Jobs.{Acted, is_overfull}
+use Rattle.petal_base.specs.Limits.{journal_records}
 use Rattle.spec_rules.specs.Server.{Server}
 use Rattle.spec_rules.specs.Store.{Store, blank_store}
 use Rattle.spec_rules.specs.declared.step.CommitEnd.{CommitEnd}

@@ -11,7 +11,8 @@ use Rattle.petal_command.specs.declared.command.Command.{Command}
 use Rattle.petal_command.specs.declared.command.Command.TheVariants.{Caught}
 use Rattle.spec_paxos.specs.declared.record.StateRecord.{StateRecord}
 use Rattle.spec_rules.specs.Entries.{applies, applies_known}
-use Rattle.spec_rules.specs.Jobs.{Acted, does, entered, faults, is_log_job, job_done, journal_records, log_does, stops, voter_of, worked, works}
+use Rattle.spec_rules.specs.Jobs.{Acted, does, entered, faults, is_log_job, job_done, log_does, stops, voter_of, worked, works}
+use Rattle.petal_base.specs.Limits.{journal_records}
 use Rattle.spec_rules.specs.Log.{Log, Voter, first_log, known, next_place}
 use Rattle.spec_rules.specs.Returns.{holds_link, proposed}
 use Rattle.spec_rules.specs.Server.{JobContext, PairState, Server, no_copies, no_pairs, stopped}

@@ -89,7 +89,7 @@ fn unmark_one<D: Disk>(
 /// # Errors
 /// `Failed` where the device failed, and `JournalFull` only where the store's journal had all its records: the entries are as they
 /// were, and the server is to be stopped.
-#[tactic(auto, unfolding(spec_rules::specs::Sweeping::sweep_one))]
+#[tactic(auto, unfolding(spec_rules::specs::Sweeping::sweeps))]
 pub fn sweep_one<D: Disk>(
     here: &JobContext,
     side: &PairMemory,

@@ -16,7 +16,8 @@ use Rattle.spec_paxos.specs.declared.record.StateRecord.TheVariants.{Inc}
 use Rattle.spec_rules.proofs.Applied.{servers_after}
 use Rattle.spec_rules.specs.Boots.{awake, boots, known_front, raised, stays, wakes}
 use Rattle.spec_rules.specs.Entries.{known_run}
-use Rattle.spec_rules.specs.Jobs.{down_posts, is_overfull, journal_records}
+use Rattle.spec_rules.specs.Jobs.{down_posts, is_overfull}
+use Rattle.petal_base.specs.Limits.{journal_records}
 use Rattle.spec_rules.specs.Log.{Log, first_log}
 use Rattle.spec_rules.specs.World.{greatest_u32}
 use Rattle.spec_rules.specs.Server.{JobContext, Sender, Server, letters_of}

@@ -11,7 +11,8 @@ use Rattle.petal_disk.specs.Disk.{LeavesOnly}
 use Rattle.petal_disk.specs.declared.disk.Disk.{Ghosts}
 use Rattle.petal_msg.specs.declared.letter.Letter.{Letter}
 use Rattle.spec_paxos.specs.declared.record.StateRecord.{StateRecord}
-use Rattle.spec_rules.specs.Jobs.{does, journal_records, works}
+use Rattle.spec_rules.specs.Jobs.{does, works}
+use Rattle.petal_base.specs.Limits.{journal_records}
 use Rattle.spec_rules.specs.Server.{PairState}
 use Rattle.spec_rules.specs.Server.{JobResult as Rule}
 use Rattle.spec_rules.specs.Store.{Store}

@@ -14,7 +14,7 @@ use Rattle.spec_paxos.specs.Kept.{inc_of}
 use Rattle.spec_paxos.specs.declared.record.StateRecord.{StateRecord}
 use Rattle.spec_paxos.specs.declared.record.StateRecord.TheVariants.{Inc}
 use Rattle.spec_rules.specs.Boots.{boots, stays}
-use Rattle.spec_rules.specs.Jobs.{journal_records}
+use Rattle.petal_base.specs.Limits.{journal_records}
 use Rattle.spec_rules.specs.Log.{Voter}
 use Rattle.spec_rules.specs.Store.{Store}
 use Rattle.spec_rules.specs.declared.step.WorkEnd.TheVariants.{Done}

@@ -11,7 +11,8 @@ use Rattle.petal_disk.specs.declared.disk.Disk.{Ghosts}
 use Rattle.petal_disk.specs.Disk.{LeavesOnly}
 use Rattle.petal_msg.specs.declared.letter.Letter.{Letter}
 use Rattle.spec_paxos.specs.declared.record.StateRecord.{StateRecord}
-use Rattle.spec_rules.specs.Jobs.{journal_records, stops, works}
+use Rattle.spec_rules.specs.Jobs.{stops, works}
+use Rattle.petal_base.specs.Limits.{journal_records}
 use Rattle.spec_rules.specs.Store.{Store}
 use Rattle.server_core.specs.ServerView.{ServerView, acted, here_in, left_by_first, server_of}
 use Rattle.server_store.specs.Holdings.{Holdings}

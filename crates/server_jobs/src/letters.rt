@@ -61,7 +61,7 @@ pub fn at_other_rev<D: Disk>(
 }
 
 /// What is done with a letter of copies.
-#[tactic(auto, unfolding(spec_rules::specs::Jobs::handle))]
+#[tactic(auto, unfolding(spec_rules::specs::Jobs::handles))]
 fn copies<D: Disk>(
     here: &JobContext,
     side: &mut PairMemory,
@@ -108,7 +108,7 @@ fn copies<D: Disk>(
 }
 
 /// What is done with a letter's content, at a server that handles it.
-#[tactic(auto, unfolding(spec_rules::specs::Jobs::handle))]
+#[tactic(auto, unfolding(spec_rules::specs::Jobs::handles))]
 pub fn handle<D: Disk>(
     here: &JobContext,
     side: &mut PairMemory,
