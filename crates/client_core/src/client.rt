@@ -1,16 +1,18 @@
 //! A client.
 
-ghost use Rattle.std.specs.Prelude.{◌≡◌, ◌↔◌, ◌+◌, ◌<◌, length, None, Some, [], false, IfOk, OnErr, IsTrue};
+ghost use Rattle.std.specs.Prelude.{◌≡◌, ◌↔◌, ◌+◌, ◌<◌, length, None, Some, [], false, IfOk, IsErrOf, OnErr, IsTrue};
 ghost use Rattle.std.specs.Option.{option_map_or};
 ghost use Rattle.spec_state.specs.Command.{state_after};
 ghost use Rattle.spec_rules.specs.State.{servers_of};
 ghost use Rattle.spec_rules.specs.Clients.{Client, first_client, called, heard, hears_of, next_entries, sees, takes_entries};
 ghost use Rattle.spec_rules.specs.Clients.{then_goes_out, ticked, asking, goes_out_where};
-ghost use Rattle.spec_rules.specs.World.{round_of, turn_of};
+ghost use Rattle.spec_rules.specs.World.{greatest_u32, round_of, turn_of};
 ghost use Rattle.client_core.specs.ClientView.{at_core, is_spent, ordered, settle_of, state_of};
 ghost use Rattle.client_core.specs.Open.{answers_where, fresh, goes_old_where, in_round, outcome, with_send, with_witnesses};
 ghost use Rattle.client_core.specs.Learning.{learnt};
+ghost use Rattle.client_core.specs.declared.error.ClientError.TheVariants as error;
 
+use crate::ClientError;
 use crate::hearing::Heard;
 use crate::judging::Fate;
 use crate::learning::Learning;
@@ -76,7 +78,12 @@ impl ClientCore {
     }
 
     /// Calls a request as the client's next: its number is one higher than that of the last. None is open.
-    pub fn call(&mut self, alloc: Global, line: u32, request: Request) -> Result<Reaction, NoMemory>
+    pub fn call(
+        &mut self,
+        alloc: Global,
+        line: u32,
+        request: Request,
+    ) -> Result<Reaction, ClientError>
         requires { self.old.client.asked ≡ None }
         ensures ok { IfOk result (λ reaction. (self.new, reaction)
             ≡ at_core self.old (called (state_of self.old) self.old.me self.old.client line request)) }
@@ -95,7 +102,7 @@ impl ClientCore {
 
     /// Handles a letter.
     #[tactic(auto, unfolding(spec_rules::specs::Clients::heard))]
-    pub fn deliver(&mut self, alloc: Global, letter: &Letter) -> Result<Reaction, NoMemory>
+    pub fn deliver(&mut self, alloc: Global, letter: &Letter) -> Result<Reaction, ClientError>
         ensures ok { IfOk result (λ reaction. (self.new, reaction)
             ≡ at_core self.old (heard (state_of self.old) self.old.me self.old.client letter.now)) }
         ensures err { OnErr result (self.new ≡ self.old) }
@@ -129,7 +136,7 @@ impl ClientCore {
 
     /// Asks what follows, and sends the open request again.
     #[tactic(auto, unfolding(spec_rules::specs::Clients::ticked))]
-    pub fn tick(&mut self, alloc: Global) -> Result<Reaction, NoMemory>
+    pub fn tick(&mut self, alloc: Global) -> Result<Reaction, ClientError>
         ensures ok { IfOk result (λ reaction. (self.new, reaction)
             ≡ at_core self.old (ticked (state_of self.old) self.old.me self.old.client)) }
         ensures err { OnErr result (self.new ≡ self.old) }
@@ -217,7 +224,7 @@ impl ClientCore {
     }
 
     /// One of the servers, in turn, is asked what follows, and the open request goes out again.
-    fn ask_and_send(&mut self, alloc: Global) -> Result<Reaction, NoMemory>
+    fn ask_and_send(&mut self, alloc: Global) -> Result<Reaction, ClientError>
         ensures ok { IfOk result (λ reaction. (self.new, reaction)
             ≡ at_core self.old (asking (state_of self.old) self.old.client
             (goes_out_where (state_of self.old) self.old.me self.old.client self.old.client.asked))) }
@@ -238,7 +245,7 @@ impl ClientCore {
     }
 
     /// The open request goes to the old map.
-    fn go_the_old_way(&mut self, alloc: Global) -> Result<Reaction, NoMemory>
+    fn go_the_old_way(&mut self, alloc: Global) -> Result<Reaction, ClientError>
         ensures ok { IfOk result (λ reaction. (self.new, reaction)
             ≡ at_core self.old (goes_old_where (state_of self.old) self.old.me self.old.client self.old.client.asked)) }
         ensures err { OnErr result (self.new ≡ self.old) }
@@ -253,7 +260,7 @@ impl ClientCore {
     }
 
     /// Handles a reply.
-    fn hear(&mut self, alloc: Global, letter: &Letter) -> Result<Reaction, NoMemory>
+    fn hear(&mut self, alloc: Global, letter: &Letter) -> Result<Reaction, ClientError>
         ensures ok { IfOk result (λ reaction. (self.new, reaction)
             ≡ at_core self.old (hears_of (state_of self.old) self.old.me self.old.client self.old.client.asked letter.now)) }
         ensures err { OnErr result (self.new ≡ self.old) }
@@ -263,7 +270,7 @@ impl ClientCore {
     }
 
     /// A glance shows a server.
-    fn see(&mut self, alloc: Global, sight: &Sight) -> Result<Reaction, NoMemory>
+    fn see(&mut self, alloc: Global, sight: &Sight) -> Result<Reaction, ClientError>
         ensures ok { IfOk result (λ reaction. (self.new, reaction)
             ≡ at_core self.old (sees (state_of self.old) self.old.client self.old.client.asked sight.now)) }
         ensures err { OnErr result (self.new ≡ self.old) }
@@ -273,7 +280,7 @@ impl ClientCore {
     }
 
     /// What came of a letter is done.
-    fn go_on(&mut self, alloc: Global, heard: Heard) -> Result<Reaction, NoMemory>
+    fn go_on(&mut self, alloc: Global, heard: Heard) -> Result<Reaction, ClientError>
         ensures ok { IfOk result (λ reaction. (self.new, reaction)
             ≡ at_core self.old (outcome heard (state_of self.old) self.old.me self.old.client self.old.client.asked)) }
         ensures err { OnErr result (self.new ≡ self.old) }
@@ -292,7 +299,7 @@ impl ClientCore {
 
     /// What a glance means for the open request.
     #[tactic(auto, using(spec_rules::proofs::Applied::servers_after))]
-    fn seen(&self, alloc: Global, sight: &Sight) -> Result<Heard, NoMemory>
+    fn seen(&self, alloc: Global, sight: &Sight) -> Result<Heard, ClientError>
         ensures { IfOk result (λ heard. sees (state_of self.now) self.now.client self.now.client.asked sight.now
             ≡ outcome heard (state_of self.now) self.now.me self.now.client self.now.client.asked) }
     {
@@ -333,7 +340,7 @@ impl ClientCore {
         alloc: Global,
         after: Rev,
         commands: &[Command],
-    ) -> Result<Reaction, NoMemory>
+    ) -> Result<Reaction, ClientError>
         ensures ok { IfOk result (λ reaction. (self.new, reaction)
             ≡ at_core self.old (takes_entries (state_of self.old) self.old.me self.old.client
             (next_entries self.old.client after commands.now))) }
@@ -349,7 +356,7 @@ impl ClientCore {
     }
 
     /// The entries have been applied; the request, if it is still open, goes out.
-    fn come_out(&mut self, alloc: Global, learning: Learning) -> Result<Reaction, NoMemory>
+    fn come_out(&mut self, alloc: Global, learning: Learning) -> Result<Reaction, ClientError>
         requires servers { self.old.servers ≡ servers_of learning.state }
         requires state { learning.state ≡ state_after self.old.servers learning.applied.items }
         ensures ok { IfOk result (λ reaction. (self.new, reaction)
@@ -388,11 +395,12 @@ impl ClientCore {
     }
 
     /// The request under the client's next number, before it is sent.
-    fn opened(&self, alloc: Global, line: u32, request: Request) -> Result<Open, NoMemory>
-        ensures { IfOk result (λ asked. asked ≡ fresh line (self.now.client.seq + 1) request (state_of self.now).rev) }
+    fn opened(&self, alloc: Global, line: u32, request: Request) -> Result<Open, ClientError>
+        ensures exhausted { IsErrOf result error.Exhausted → self.now.client.seq ≡ greatest_u32 }
+        ensures asked { IfOk result (λ asked. asked ≡ fresh line (self.now.client.seq + 1) request (state_of self.now).rev) }
     {
-        let seq = self.seq.checked_add(1).ok_or(NoMemory)?;
-        Open::new(alloc, line, seq, request, self.state.rev())
+        let seq = self.seq.checked_add(1).ok_or(ClientError::Exhausted)?;
+        Ok(Open::new(alloc, line, seq, request, self.state.rev())?)
     }
 
     /// This is the open request, and this the server that is asked next.

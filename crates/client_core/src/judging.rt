@@ -1,15 +1,17 @@
 //! What an applied entry means for the open request.
 
-ghost use Rattle.std.specs.Prelude.{◌≡◌, IfOk};
+ghost use Rattle.std.specs.Prelude.{◌≡◌, IfOk, OnErr};
 ghost use Rattle.spec_state.specs.State.{latest};
 ghost use Rattle.spec_rules.specs.State.{servers_of};
+ghost use Rattle.spec_rules.specs.World.{greatest_u32};
 ghost use Rattle.spec_rules.specs.Clients.{Client, command_of, is_witness, judged_by, verdict_answer, verdict_for};
 ghost use Rattle.client_core.specs.Judging.{fated};
 
+use crate::ClientError;
 use crate::open::Open;
 use crate::proposing::{command_of, refusal};
 use global_state::{GlobalState, Verdict};
-use petal_base::{NoMemory, Seq};
+use petal_base::Seq;
 use petal_command::{ClientNumber, Command};
 use script_lines::Answer;
 
@@ -74,9 +76,10 @@ pub fn judged(
     asked: &Open,
     witnesses: u32,
     entry: &Command,
-) -> Result<Fate, NoMemory>
+) -> Result<Fate, ClientError>
     requires { servers ≡ servers_of state.now }
-    ensures { IfOk result (λ fate. (asker : Client)
+    ensures exhausted { OnErr result (witnesses ≡ greatest_u32) }
+    ensures fate { IfOk result (λ fate. (asker : Client)
         → judged_by client entry.now (fated state.now asker asked.now (Fate.Waits witnesses)) (record asked.now { witnesses = witnesses })
         (command_of client asked.now.seq asked.now.request)
         ≡ fated state.now asker asked.now fate) }
@@ -91,7 +94,7 @@ pub fn judged(
         return Ok(Fate::Waits(witnesses));
     }
     match refusal(servers, state, asked.way().told, &asked.request) {
-        None => Ok(Fate::Waits(witnesses.checked_add(1).ok_or(NoMemory)?)),
+        None => Ok(Fate::Waits(witnesses.checked_add(1).ok_or(ClientError::Exhausted)?)),
         Some(answer) => Ok(Fate::Answered(answer)),
     }
 }

@@ -1,14 +1,16 @@
 //! The entries of a letter, applied one after the other.
 
-ghost use Rattle.std.specs.Prelude.{◌≡◌, ◌++◌, [], ◌∷◌, None, OnOk, IfOk};
+ghost use Rattle.std.specs.Prelude.{◌≡◌, ◌++◌, [], ◌∷◌, None, OnOk, IfOk, IsErrOf};
 ghost use Rattle.spec_state.specs.Command.{after};
 ghost use Rattle.spec_rules.specs.State.{servers_of};
+ghost use Rattle.spec_rules.specs.World.{greatest_u32};
 ghost use Rattle.spec_rules.specs.Clients.{next_entries, takes_all, takes_entry};
 ghost use Rattle.client_core.specs.ClientView.{state_of};
+ghost use Rattle.client_core.specs.declared.error.ClientError.TheVariants as error;
 ghost use Rattle.client_core.specs.Learning.{learnt};
 
-use crate::ClientCore;
 use crate::judging::{Fate, judged};
+use crate::{ClientCore, ClientError};
 use global_state::GlobalState;
 use petal_base::{Change, GhostList, NoMemory, Rev};
 use petal_command::Command;
@@ -33,14 +35,15 @@ impl Change<Command> for Kept {
 impl Learning {
     /// One entry more is applied.
     #[tactic(auto, using(spec_rules::proofs::Applied::after_keeps))]
-    fn apply(&mut self, alloc: Global, entry: &Command) -> Result<(), NoMemory>
+    fn apply(&mut self, alloc: Global, entry: &Command) -> Result<(), ClientError>
         ensures servers { OnOk result (servers_of self.new.state ≡ servers_of self.old.state) }
         ensures state { OnOk result (self.new.state ≡ after self.old.state entry.now) }
         ensures applied { OnOk result (self.new.applied.items ≡ self.old.applied.items ++ entry.now ∷ []) }
         ensures fate { self.new.fate ≡ self.old.fate }
+        ensures exhausted { IsErrOf result error.Exhausted → self.old.state.rev ≡ greatest_u32 }
     {
         if self.state.rev() == Rev::MAX {
-            return Err(NoMemory);
+            return Err(ClientError::Exhausted);
         }
         self.state.apply(alloc, entry)?;
         self.applied = self.applied.with(entry);
@@ -79,7 +82,12 @@ impl ClientCore {
     }
 
     /// One entry more is applied, and may answer the open request.
-    fn take(&self, alloc: Global, learning: &mut Learning, entry: &Command) -> Result<(), NoMemory>
+    fn take(
+        &self,
+        alloc: Global,
+        learning: &mut Learning,
+        entry: &Command,
+    ) -> Result<(), ClientError>
         requires { self.now.servers ≡ servers_of learning.old.state }
         ensures taken { OnOk result (learnt self.now.client self.now.client.asked learning.new
             ≡ takes_entry self.now.me (learnt self.now.client self.now.client.asked learning.old) entry.now) }
@@ -109,7 +117,7 @@ impl ClientCore {
         alloc: Global,
         learning: &mut Learning,
         entries: &[Command],
-    ) -> Result<(), NoMemory>
+    ) -> Result<(), ClientError>
         requires { self.now.servers ≡ servers_of learning.old.state }
         ensures taken { OnOk result (learnt self.now.client self.now.client.asked learning.new
             ≡ takes_all self.now.me (learnt self.now.client self.now.client.asked learning.old) entries.now) }

@@ -7,6 +7,7 @@
 #![tactic(auto)]
 
 mod client;
+mod error;
 mod hearing;
 mod judging;
 mod learning;
@@ -19,5 +20,6 @@ mod round;
 mod sending;
 
 pub use client::ClientCore;
+pub use error::ClientError;
 pub use order::{Order, order_of};
 pub use reaction::Reaction;

@@ -1,18 +1,21 @@
 //! A settle's rounds of glances.
 
-ghost use Rattle.std.specs.Prelude.{◌≡◌, ℕ, ◌==◌, [], Some, None, IfOk, length, map, if◌then◌else◌};
+ghost use Rattle.std.specs.Prelude.{◌≡◌, ℕ, ◌==◌, [], Some, None, IfOk, IsErrOf, length, map, if◌then◌else◌};
 ghost use Rattle.std.specs.Ordering.{nat_cmp};
 ghost use Rattle.petal_table.specs.Table.{put};
 ghost use Rattle.spec_rules.specs.State.{servers_of};
 ghost use Rattle.spec_rules.specs.Clients.{Client, rounds, sees, settles, with_sight};
+ghost use Rattle.spec_rules.specs.World.{greatest_u32};
 ghost use Rattle.client_core.specs.Open.{in_round, outcome};
+ghost use Rattle.client_core.specs.declared.error.ClientError.TheVariants as error;
 
+use crate::ClientError;
 use crate::hearing::Heard;
 use crate::open::Open;
 use global_state::GlobalState;
 use petal_base::{Inc, NoMemory, Rev, ServerId};
 use script_lines::{Answer, Request};
-use std::alloc::{AllocError, Global};
+use std::alloc::Global;
 use std::collections::BTreeMap;
 use std::marker::Model;
 
@@ -95,10 +98,10 @@ impl Shown {
     }
 
     /// As which incarnation each of them runs.
-    fn running(&self, alloc: Global) -> Result<Vec<Option<Inc>>, AllocError>
+    fn running(&self, alloc: Global) -> Result<Vec<Option<Inc>>, NoMemory>
         ensures { IfOk result (λ v. v.items ≡ map (λ row. row.1) self.now) }
     {
-        self.rows.values().copied().collect(alloc)
+        Ok(self.rows.values().copied().collect(alloc)?)
     }
 }
 
@@ -118,7 +121,7 @@ impl Open {
         servers: u8,
         state: &GlobalState,
         sight: &Sight,
-    ) -> Result<Heard, NoMemory>
+    ) -> Result<Heard, ClientError>
         requires { servers ≡ servers_of state.now }
         ensures { IfOk result (λ heard. (me : ℕ) (client : Client)
             → sees state.now client (Some self.now) sight.now ≡ outcome heard state.now me client (Some self.now)) }
@@ -155,7 +158,7 @@ impl Open {
         servers: u8,
         state: &GlobalState,
         sight: &Sight,
-    ) -> Result<Heard, NoMemory>
+    ) -> Result<Heard, ClientError>
         requires { servers ≡ servers_of state.now }
         ensures { IfOk result (λ heard. (me : ℕ) (client : Client)
             → settles state.now client self.now sight.now ≡ outcome heard state.now me client (Some self.now)) }
@@ -178,9 +181,10 @@ impl Open {
         servers: u8,
         state: &GlobalState,
         shown: Shown,
-    ) -> Result<Heard, NoMemory>
+    ) -> Result<Heard, ClientError>
         requires { servers ≡ servers_of state.now }
-        ensures { IfOk result (λ heard. (me : ℕ) (client : Client)
+        ensures exhausted { IsErrOf result error.Exhausted → self.now.round ≡ greatest_u32 }
+        ensures heard { IfOk result (λ heard. (me : ℕ) (client : Client)
             → rounds state.now client (record self.now { seen = shown }) ≡ outcome heard state.now me client (Some self.now)) }
     {
         let number = self.round.number;
@@ -191,7 +195,7 @@ impl Open {
             return Ok(Heard::Answered(Answer::Ok));
         }
         Ok(Heard::Round(Round {
-            number: number.checked_add(1).ok_or(NoMemory)?,
+            number: number.checked_add(1).ok_or(ClientError::Exhausted)?,
             shown: Shown::new(alloc),
         }))
     }

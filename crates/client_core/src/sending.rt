@@ -1,21 +1,23 @@
 //! What a send of the open request does.
 
-ghost use Rattle.std.specs.Prelude.{◌≡◌, ◌+◌, ◌%◌, ℕ, List, None, IfOk};
+ghost use Rattle.std.specs.Prelude.{◌≡◌, ◌+◌, ◌%◌, ℕ, List, None, IfOk, IsErrOf, OnErr};
 ghost use Rattle.petal_command.specs.declared.command.Command.{Command as Entry};
 ghost use Rattle.petal_msg.specs.declared.body.Body.TheVariants as body;
 ghost use Rattle.petal_msg.specs.declared.letter.Actor.TheVariants as actor;
 ghost use Rattle.spec_rules.specs.State.{State, servers_of};
+ghost use Rattle.spec_rules.specs.World.{greatest_u32};
 ghost use Rattle.spec_rules.specs.Clients.{Client, asks_to_propose, goes_out, goes_out_where, sends};
 ghost use Rattle.client_core.specs.ClientView.{state_of};
+ghost use Rattle.client_core.specs.declared.error.ClientError.TheVariants as error;
 ghost use Rattle.client_core.specs.Open.{goes_old_where, on_way, with_witnesses};
 ghost use Rattle.client_core.specs.Sending.{sent_by, sent_where};
 
-use crate::ClientCore;
 use crate::open::{Last, Open, Way};
 use crate::posting::{Post, post_for};
 use crate::proposing::to_propose;
+use crate::{ClientCore, ClientError};
 use global_state::GlobalState;
-use petal_base::{NoMemory, ServerId};
+use petal_base::ServerId;
 use petal_command::Command;
 use petal_msg::{Actor, Body};
 use std::alloc::Global;
@@ -29,10 +31,11 @@ pub struct Sent {
 }
 
 /// The server after this one.
-pub fn next_server(asks: ServerId, servers: u8) -> Result<ServerId, NoMemory>
-    ensures { IfOk result (λ next. next ≡ (asks + 1) % servers) }
+pub fn next_server(asks: ServerId, servers: u8) -> Result<ServerId, ClientError>
+    ensures value { IfOk result (λ next. next ≡ (asks + 1) % servers) }
+    ensures exhausted { OnErr result (asks ≡ 255) }
 {
-    let next = asks.checked_add(1).ok_or(NoMemory)?;
+    let next = asks.checked_add(1).ok_or(ClientError::Exhausted)?;
     Ok(next.checked_rem(servers).unwrap_or(next))
 }
 
@@ -46,7 +49,7 @@ impl ClientCore {
         asked: &Open,
         witnesses: u32,
         way: Way,
-    ) -> Result<Sent, NoMemory>
+    ) -> Result<Sent, ClientError>
         requires { self.now.servers ≡ servers_of state.now }
         ensures { IfOk result (λ sent. (client : Client)
             → goes_out state.now self.now.me (record client { asks = self.now.client.asks }) (on_way asked.now witnesses way)
@@ -59,7 +62,7 @@ impl ClientCore {
     }
 
     /// The command is proposed; the request stands as after its latest send.
-    fn propose(&self, asked: &Open, way: Way, command: Command) -> Result<Sent, NoMemory>
+    fn propose(&self, asked: &Open, way: Way, command: Command) -> Result<Sent, ClientError>
         ensures { (state : State) → IfOk result (λ sent. (client : Client) (witnesses : ℕ) → self.now.servers ≡ servers_of state
             → asks_to_propose state (record client { asks = self.now.client.asks }) (on_way asked.now witnesses way) command
             ≡ sent_by client (on_way asked.now witnesses way) sent) }
@@ -85,9 +88,10 @@ impl ClientCore {
         state: &GlobalState,
         asked: &Open,
         way: Way,
-    ) -> Result<Sent, NoMemory>
+    ) -> Result<Sent, ClientError>
         requires { self.now.servers ≡ servers_of state.now }
-        ensures { IfOk result (λ sent. (client : Client) (witnesses : ℕ)
+        ensures exhausted { IsErrOf result error.Exhausted → asked.now.turn ≡ greatest_u32 }
+        ensures sent { IfOk result (λ sent. (client : Client) (witnesses : ℕ)
             → sends state.now self.now.me (record client { asks = self.now.client.asks }) (on_way asked.now witnesses way)
             ≡ sent_by client (on_way asked.now witnesses way) sent) }
     {
@@ -96,7 +100,7 @@ impl ClientCore {
             post: post_for(alloc, self.servers, state, self.id.get(), asked, old_way)?,
             asks: self.asks,
             last: Last {
-                turn: asked.turn.checked_add(1).ok_or(NoMemory)?,
+                turn: asked.turn.checked_add(1).ok_or(ClientError::Exhausted)?,
                 rev: state.rev(),
                 way: Way {
                     told: way.told,
@@ -127,7 +131,7 @@ impl ClientCore {
 
     /// A request that was just called goes out.
     #[tactic(auto, using(spec_rules::proofs::Applied::servers_after))]
-    pub(crate) fn send_first(&self, alloc: Global, asked: &Open) -> Result<Sent, NoMemory>
+    pub(crate) fn send_first(&self, alloc: Global, asked: &Open) -> Result<Sent, ClientError>
         ensures { IfOk result (λ sent. (client : Client)
             → goes_out (state_of self.now) self.now.me (record client { asks = self.now.client.asks }) asked.now
             ≡ sent_by client asked.now sent) }
@@ -142,7 +146,7 @@ impl ClientCore {
         alloc: Global,
         state: &GlobalState,
         witnesses: u32,
-    ) -> Result<Sent, NoMemory>
+    ) -> Result<Sent, ClientError>
         requires { self.now.servers ≡ servers_of state.now }
         ensures { IfOk result (λ sent. (log : List Entry)
             → let client : Client = record self.now.client { applied = log; asked = with_witnesses witnesses self.now.client.asked } in
@@ -159,7 +163,7 @@ impl ClientCore {
 
     /// The open request, where there is one, goes out.
     #[tactic(auto, using(spec_rules::proofs::Applied::servers_after))]
-    pub(crate) fn send(&self, alloc: Global) -> Result<Sent, NoMemory>
+    pub(crate) fn send(&self, alloc: Global) -> Result<Sent, ClientError>
         ensures { IfOk result (λ sent. goes_out_where (state_of self.now) self.now.me self.now.client self.now.client.asked
             ≡ sent_where self.now.client sent) }
     {
@@ -174,7 +178,7 @@ impl ClientCore {
 
     /// The open request, where there is one, goes the old way.
     #[tactic(auto, using(spec_rules::proofs::Applied::servers_after))]
-    pub(crate) fn send_old_way(&self, alloc: Global) -> Result<Sent, NoMemory>
+    pub(crate) fn send_old_way(&self, alloc: Global) -> Result<Sent, ClientError>
         ensures { IfOk result (λ sent. goes_old_where (state_of self.now) self.now.me self.now.client self.now.client.asked
             ≡ sent_where self.now.client sent) }
     {
@@ -206,7 +210,7 @@ impl ClientCore {
 
     /// The server that is asked after the next one.
     #[tactic(auto, using(spec_rules::proofs::Applied::servers_after))]
-    pub(crate) fn after_next(&self) -> Result<ServerId, NoMemory>
+    pub(crate) fn after_next(&self) -> Result<ServerId, ClientError>
         ensures { IfOk result (λ next. next ≡ (self.now.client.asks + 1) % servers_of (state_of self.now)) }
     {
         next_server(self.asks, self.servers)

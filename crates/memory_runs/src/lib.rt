@@ -33,7 +33,10 @@ impl FirstHosts<MemServer> for Memory {
         script: &Script,
         server: ServerId,
     ) -> Result<MemServer, NoMemory> {
-        MemServer::start(alloc, server, script.servers, script.slots)
+        match MemServer::start(alloc, server, script.servers, script.slots) {
+            Ok(first) => Ok(first),
+            Err(_) => Err(NoMemory),
+        }
     }
 }
 

@@ -10,10 +10,12 @@ ghost use Rattle.memory_server.specs.Booted.{Booted, BootedBlank, core_at};
 ghost use Rattle.memory_server.specs.Server.{store_at, store_on};
 
 use crate::attempt::Attempt;
+use crate::failing::of_store;
 use crate::recovery::{Counts, reopen, reread};
-use petal_base::{NoMemory, Sequence};
+use petal_base::Sequence;
 use petal_disk::Disk;
 use server_core::{ServerCore, WorkError};
+use server_host::HostError;
 use server_store::{Store, StoreError};
 use spec_rules::CommitEnd;
 use state_store::StateStore;
@@ -35,13 +37,13 @@ fn raise_at(end: CommitEnd, core: &mut ServerCore)
 /// one of which the state device fails: then both stores are opened again, and tell whether the incarnation was raised.
 ///
 /// # Errors
-/// Out of memory, or where a device fails twice while it is opened again.
+/// Out of memory; `Unexpected` where a device fails twice while it is opened again.
 fn boot_opened<D: Disk>(
     alloc: Global,
     core: &mut ServerCore,
     store: &mut Store<D>,
     state: &mut StateStore<D>,
-) -> Result<Attempt, NoMemory>
+) -> Result<Attempt, HostError>
     requires stopped { core.old.running ≡ false }
     requires raises { core.old.log.voter.inc < greatest_u32 }
     requires known { core.old.log.voter.inc ≡ inc_of state.old.records }
@@ -60,7 +62,7 @@ fn boot_opened<D: Disk>(
             raise_at(end, core);
             Ok(Attempt::failed(Sequence::new(alloc), end))
         }
-        Err(WorkError::NoMemory) => Err(NoMemory),
+        Err(WorkError::NoMemory) => Err(HostError::NoMemory),
     }
 }
 
@@ -68,13 +70,13 @@ fn boot_opened<D: Disk>(
 /// devices tell.
 ///
 /// # Errors
-/// Out of memory, where a device fails twice that is read, or where the state device tells another incarnation.
+/// Out of memory; `Unexpected` where a device fails twice that is read, or where the state device tells another incarnation.
 fn boot_again<D: Disk>(
     alloc: Global,
     core: &mut ServerCore,
     store: &mut Store<D>,
     state: &mut StateStore<D>,
-) -> Result<Attempt, NoMemory>
+) -> Result<Attempt, HostError>
     requires stopped { core.old.running ≡ false }
     requires raises { core.old.log.voter.inc < greatest_u32 }
     ensures { IfOk result (λ attempt. D.observable → HoldsAt D.Disk store.old → logs.HoldsAt D.Disk state.old
@@ -85,7 +87,7 @@ fn boot_again<D: Disk>(
     let _slots = store.slots();
     reread(alloc, store, state)?;
     if state.inc() != core.inc() {
-        return Err(NoMemory);
+        return Err(HostError::Unexpected);
     }
     let attempt = boot_opened(alloc, core, store, state)?;
     Ok(attempt)
@@ -102,7 +104,7 @@ fn boot_blank<D: Disk>(
     store: &mut Store<D>,
     state: &mut StateStore<D>,
     disk: D,
-) -> Result<(Attempt, Option<D>), NoMemory>
+) -> Result<(Attempt, Option<D>), HostError>
     requires stopped { core.old.running ≡ false }
     requires raises { core.old.log.voter.inc < greatest_u32 }
     requires room { slot_start store.old.slots ≤ D.size disk }
@@ -120,7 +122,7 @@ fn boot_blank<D: Disk>(
             let attempt = Attempt::failed(Sequence::new(alloc), CommitEnd::Before);
             Ok((attempt, Some(disk)))
         }
-        Err(_) => Err(NoMemory),
+        Err((_, error)) => Err(of_store(error)),
     }
 }
 
@@ -129,14 +131,15 @@ fn boot_blank<D: Disk>(
 /// where that fails the server stays stopped, and the device is still as good as blank.
 ///
 /// # Errors
-/// Out of memory, where a device fails twice that is read, or where the state device tells another incarnation. Then a blank device is gone.
+/// Out of memory; `Unexpected` where a device fails twice that is read, or where the state device tells another incarnation. Then a blank
+/// device is gone.
 pub fn boot_stopped<D: Disk>(
     alloc: Global,
     core: &mut ServerCore,
     store: &mut Store<D>,
     state: &mut StateStore<D>,
     blank: &mut Option<D>,
-) -> Result<Attempt, NoMemory>
+) -> Result<Attempt, HostError>
     requires stopped { core.old.running ≡ false }
     requires raises { core.old.log.voter.inc < greatest_u32 }
     requires room { IfSome blank.old (λ disk. slot_start store.old.slots ≤ D.size disk) }

@@ -10,12 +10,13 @@ ghost use Rattle.memory_server.specs.Server.{site_of};
 ghost use Rattle.spec_rules.specs.Plans.{unarmed};
 
 use crate::server::MemServer;
-use petal_base::{NoMemory, Sequence};
+use petal_base::Sequence;
 use petal_disk::{Disk, MemDisk, Planned};
 use script_lines::Script;
+use server_host::HostError;
 use std::alloc::Global;
 
-fn started(alloc: Global, servers: u8, slots: u32) -> Result<Sequence<MemServer>, NoMemory>
+fn started(alloc: Global, servers: u8, slots: u32) -> Result<Sequence<MemServer>, HostError>
     ensures sites { IfOk result (λ members. map site_of members ≡ map (first_site servers slots) (range_with_len 0 servers)) }
     ensures devices { IfOk result (λ members. All (λ server. ⟦<Planned<MemDisk> as Disk>⟧.size server.store.disk ≡ slot_start slots) members) }
     ensures unarmed { IfOk result (λ members. All (λ server. armed_of server ≡ unarmed) members) }
@@ -31,8 +32,8 @@ fn started(alloc: Global, servers: u8, slots: u32) -> Result<Sequence<MemServer>
 /// with a state device of its own.
 ///
 /// # Errors
-/// Out of memory.
-pub fn members(alloc: Global, script: &Script) -> Result<Sequence<MemServer>, NoMemory>
+/// Out of memory; `Unexpected` where a device fails.
+pub fn members(alloc: Global, script: &Script) -> Result<Sequence<MemServer>, HostError>
     ensures sites { IfOk result (λ members. map site_of members ≡ first_sites script.now) }
     ensures devices { IfOk result (λ members. All (λ server. ⟦<Planned<MemDisk> as Disk>⟧.size server.store.disk ≡ slot_start script.now.slots) members) }
     ensures unarmed { IfOk result (λ members. All (λ server. armed_of server ≡ unarmed) members) }

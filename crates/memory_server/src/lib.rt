@@ -8,6 +8,7 @@
 mod attempt;
 mod boot;
 mod cast;
+mod failing;
 mod opening;
 mod recovery;
 mod server;

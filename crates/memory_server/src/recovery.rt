@@ -8,9 +8,10 @@ ghost use Rattle.pair_memory.specs.JobResult.{HoldsAt};
 ghost use Rattle.state_store.specs.Device.{StandsForEither};
 ghost use Rattle.memory_server.specs.Recovery.{CommitsOnce, IsReread, Shown, Shows};
 
+use crate::failing::{of_state, of_store};
 use crate::opening::{reopen_state, reopen_store};
-use petal_base::NoMemory;
 use petal_disk::Disk;
+use server_host::HostError;
 use server_store::Store;
 use spec_rules::CommitEnd;
 use state_store::StateStore;
@@ -40,12 +41,12 @@ impl Counts {
 /// Opens both stores again, as after a crash in which no commit was under way. They are as before, but nothing is set apart.
 ///
 /// # Errors
-/// Out of memory, or where a device fails twice.
+/// Out of memory; `Unexpected` where a device fails twice.
 pub fn reread<D: Disk>(
     alloc: Global,
     store: &mut Store<D>,
     state: &mut StateStore<D>,
-) -> Result<(), NoMemory>
+) -> Result<(), HostError>
     ensures again { OnOk result (D.observable → store.old.slots < 2 ^ 32 → HoldsAt D.Disk store.old → logs.HoldsAt D.Disk state.old
         → IsReread D.Disk store.old store.new state.old state.new) }
     ensures later { (D.faults store.old.disk ≤ D.faults store.new.disk) × (D.faults state.old.disk ≤ D.faults state.new.disk) }
@@ -60,13 +61,13 @@ pub fn reread<D: Disk>(
 /// journal has more records than before the job.
 ///
 /// # Errors
-/// Out of memory, or where a device fails twice: how the job ended is not known then.
+/// Out of memory; `Unexpected` where a device fails twice: how the job ended is not known then.
 pub fn reopen<D: Disk>(
     alloc: Global,
     store: &mut Store<D>,
     state: &mut StateStore<D>,
     before: Counts,
-) -> Result<CommitEnd, NoMemory>
+) -> Result<CommitEnd, HostError>
     ensures ends { (was will : Shown) → IfOk result (λ end. D.observable → was.store.slots < 2 ^ 32
         → ((c : List ℕ) → D.may_leave store.old.disk c → StandsAsEither was.store will.store c)
         → ((c : List ℕ) → D.may_leave state.old.disk c → StandsForEither was.records will.records c)
@@ -82,12 +83,15 @@ pub fn reopen<D: Disk>(
     ensures later { (D.faults store.old.disk ≤ D.faults store.new.disk) × (D.faults state.old.disk ≤ D.faults state.new.disk) }
     ensures run { D.came_to store.old.disk store.new.disk × D.came_to state.old.disk state.new.disk }
 {
-    let Ok(true) = reopen_store(alloc, store) else {
-        return Err(NoMemory);
-    };
-    let Ok(()) = reopen_state(alloc, state) else {
-        return Err(NoMemory);
-    };
+    match reopen_store(alloc, store) {
+        Ok(true) => {}
+        Ok(false) => return Err(HostError::Unexpected),
+        Err(error) => return Err(of_store(error)),
+    }
+    match reopen_state(alloc, state) {
+        Ok(()) => {}
+        Err(error) => return Err(of_state(error)),
+    }
     if Counts::of(store, state) == before {
         Ok(CommitEnd::Before)
     } else {

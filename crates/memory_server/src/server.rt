@@ -16,13 +16,14 @@ ghost use Rattle.memory_server.specs.Armed.{BothCameTo, armed_of, stops_of};
 
 use crate::attempt::Attempt;
 use crate::boot::boot_stopped;
+use crate::failing::{TickError, of_state, of_store};
 use crate::taken::{Stops, done};
 use crate::work::work_first;
 use petal_base::{Inc, NoMemory, Rev, Sequence, ServerId};
-use petal_disk::{DeviceError, Disk, MemDisk, Plan, Planned, Which};
+use petal_disk::{Disk, MemDisk, Plan, Planned, Which};
 use petal_msg::Letter;
 use server_core::ServerCore;
-use server_host::{Host, HostResult};
+use server_host::{Host, HostError, HostResult};
 use server_store::{DATA_START, SLOT_BYTES, Store};
 use spec_rules::Step;
 use state_store::{DEVICE_BYTES, StateStore};
@@ -74,22 +75,22 @@ fn blank_device(alloc: Global, slots: u32) -> Result<Device, NoMemory>
 }
 
 /// The state store of a server that runs for the first time.
-fn first_state(alloc: Global) -> Result<StateStore<Device>, NoMemory>
+fn first_state(alloc: Global) -> Result<StateStore<Device>, HostError>
     ensures records { IfOk result (λ state. state.records ≡ Inc 1 ∷ []) }
     ensures holds { IfOk result (λ state. logs.HoldsAt ⟦<Planned<MemDisk> as Disk>⟧ state) }
     ensures plan { IfOk result (λ state. (plan_state state.disk).plan ≡ None) }
 {
     let Ok(disk) = MemDisk::new(alloc, DEVICE_BYTES) else {
-        return Err(NoMemory);
+        return Err(HostError::NoMemory);
     };
     match StateStore::format(alloc, Planned::new(disk), 1) {
         Ok(state) => Ok(state),
-        Err(_) => Err(NoMemory),
+        Err((_, error)) => Err(of_state(error)),
     }
 }
 
 /// The store on a blank device that has exactly the bytes that so many slots need.
-fn first_store(alloc: Global, slots: u32) -> Result<Store<Device>, NoMemory>
+fn first_store(alloc: Global, slots: u32) -> Result<Store<Device>, HostError>
     ensures blank { IfOk result (λ store. store ≡ record {
       entries = [];
       tickets = [];
@@ -105,7 +106,7 @@ fn first_store(alloc: Global, slots: u32) -> Result<Store<Device>, NoMemory>
 {
     match Store::format(alloc, blank_device(alloc, slots)?, slots, false) {
         Ok(store) => Ok(store),
-        Err(_) => Err(NoMemory),
+        Err((_, error)) => Err(of_store(error)),
     }
 }
 
@@ -114,13 +115,13 @@ impl MemServer {
     /// and a state device of its own.
     ///
     /// # Errors
-    /// Out of memory.
+    /// Out of memory; `Unexpected` where a device fails.
     pub fn start(
         alloc: Global,
         me: ServerId,
         servers: u8,
         slots: u32,
-    ) -> Result<MemServer, NoMemory>
+    ) -> Result<MemServer, HostError>
         ensures site { IfOk result (λ server. site_of server ≡ record { me = me; servers = servers; server = first_server true slots }) }
         ensures device { IfOk result (λ server. ⟦<Planned<MemDisk> as Disk>⟧.size server.store.disk ≡ slot_start slots) }
         ensures plans { IfOk result (λ server. armed_of server ≡ unarmed) }
@@ -174,13 +175,13 @@ impl MemServer {
     }
 
     /// It stops, where it runs.
-    fn stop(&mut self, alloc: Global) -> Result<Sequence<Letter>, NoMemory>
+    fn stop(&mut self, alloc: Global) -> Result<Sequence<Letter>, HostError>
         ensures site { OnOk result (whole_of self.new ≡ whole_after (whole_of self.old) Stop) }
         ensures letters { IfOk result (λ letters. letters ≡ (acted_at (whole_of self.old) Stop).letters) }
         ensures plans { armed_of self.new ≡ armed_of self.old }
     {
         if !self.core.is_running() {
-            return Err(NoMemory);
+            return Err(HostError::Unexpected);
         }
         Ok(self.core.stop(alloc))
     }
@@ -200,17 +201,17 @@ impl MemServer {
     }
 
     /// Does the first job of the queue, where it runs.
-    fn first_job(&mut self, alloc: Global) -> Result<Attempt, NoMemory>
+    fn first_job(&mut self, alloc: Global) -> Result<Attempt, HostError>
         ensures site { IfOk result (λ attempt. site_of self.new ≡ left_at (whole_after (whole_of self.old) (Work attempt.end))) }
         ensures letters { IfOk result (λ attempt. attempt.letters ≡ (acted_at (whole_of self.old) (Work attempt.end)).letters) }
         ensures cause { IfOk result (λ attempt. IsFault (as_end attempt.end) → HasFailed ⟦<Planned<MemDisk> as Disk>⟧ self.old self.new) }
         ensures run { OnOk result (BothCameTo self.old self.new) }
     {
         if self.over || self.blank.is_some() {
-            return Err(NoMemory);
+            return Err(HostError::Unexpected);
         }
         if !self.core.is_running() || self.core.spent(&self.store) {
-            return Err(NoMemory);
+            return Err(HostError::Unexpected);
         }
         self.over = true;
         let attempt = work_first(alloc, &mut self.core, &mut self.store, &mut self.state)?;
@@ -220,7 +221,7 @@ impl MemServer {
 
     /// Does the first job of the queue, where it runs. It stops the server where a plan was met that does: then a device tells so
     /// that did not before.
-    fn work(&mut self, alloc: Global) -> Result<HostResult, NoMemory>
+    fn work(&mut self, alloc: Global) -> Result<HostResult, HostError>
         ensures site { IfOk result (λ taken. site_of self.new ≡ left_at (whole_after (whole_of self.old) (job_ended taken.end))) }
         ensures letters { IfOk result (λ taken. taken.letters ≡ (acted_at (whole_of self.old) (job_ended taken.end)).letters) }
         ensures end { IfOk result (λ taken. taken.end ≡ end_in (job_ended taken.end)) }
@@ -234,44 +235,45 @@ impl MemServer {
     }
 
     /// A tick, in which the data device may fail; then all is as before.
-    fn tick_once(&mut self, alloc: Global) -> Result<HostResult, DeviceError>
+    fn tick_once(&mut self, alloc: Global) -> Result<HostResult, TickError>
         ensures site { OnOk result (whole_of self.new ≡ whole_after (whole_of self.old) Tick) }
         ensures taken { IfOk result (λ taken. taken ≡ record { letters = (acted_at (whole_of self.old) Tick).letters; end = Done }) }
         ensures err { OnErr result (whole_of self.new ≡ whole_of self.old) }
         ensures run { BothCameTo self.old self.new }
     {
         if self.blank.is_some() {
-            return Err(DeviceError::NoMemory);
+            return Err(TickError::Refused(HostError::Unexpected));
         }
         let letters = self.core.tick(alloc, &mut self.store)?;
         Ok(done(letters))
     }
 
     /// A tick. A data device that fails in it is asked once more; where it fails again no step is taken.
-    fn tick(&mut self, alloc: Global) -> Result<HostResult, NoMemory>
+    fn tick(&mut self, alloc: Global) -> Result<HostResult, HostError>
         ensures site { OnOk result (whole_of self.new ≡ whole_after (whole_of self.old) Tick) }
         ensures taken { IfOk result (λ taken. taken ≡ record { letters = (acted_at (whole_of self.old) Tick).letters; end = Done }) }
         ensures run { BothCameTo self.old self.new }
     {
         match self.tick_once(alloc) {
             Ok(taken) => return Ok(taken),
-            Err(DeviceError::NoMemory) => return Err(NoMemory),
-            Err(DeviceError::Failed) => {}
+            Err(TickError::Refused(error)) => return Err(error),
+            Err(TickError::Failed) => {}
         }
         match self.tick_once(alloc) {
             Ok(taken) => Ok(taken),
-            Err(_) => Err(NoMemory),
+            Err(TickError::Refused(error)) => Err(error),
+            Err(TickError::Failed) => Err(HostError::Unexpected),
         }
     }
 
     /// A blank device, in which as many slots fit, takes the place of the data device, where it is stopped.
-    fn blank(&mut self, alloc: Global) -> Result<(), NoMemory>
+    fn blank(&mut self, alloc: Global) -> Result<(), HostError>
         ensures site { OnOk result (whole_of self.new ≡ whole_after (whole_of self.old) Blank) }
         ensures plans { AreLeftOf (armed_of self.old) (armed_of self.new) }
         ensures err { OnErr result (self.new ≡ self.old) }
     {
         if self.over || self.core.is_running() {
-            return Err(NoMemory);
+            return Err(HostError::Unexpected);
         }
         let disk = blank_device(alloc, self.store.slots())?;
         self.blank = Some(disk);
@@ -282,14 +284,17 @@ impl MemServer {
     /// filled, both stores are opened again, and it runs as its next incarnation. Where the blank device fails it stays stopped
     /// as it was. Where the journal of the state device has no room it stays stopped, and so does one of which the state device
     /// fails: then the devices tell whether the incarnation was raised.
-    fn boot_up(&mut self, alloc: Global) -> Result<Attempt, NoMemory>
+    fn boot_up(&mut self, alloc: Global) -> Result<Attempt, HostError>
         ensures site { IfOk result (λ attempt. site_of self.new ≡ left_at (whole_after (whole_of self.old) (Boot attempt.end))) }
         ensures letters { IfOk result (λ attempt. attempt.letters ≡ (acted_at (whole_of self.old) (Boot attempt.end)).letters) }
         ensures cause { IfOk result (λ attempt. IsFault (as_end attempt.end) → HasFailed ⟦<Planned<MemDisk> as Disk>⟧ self.old self.new) }
         ensures run { OnOk result (BothCameTo self.old self.new) }
     {
-        if self.over || self.core.is_running() || self.core.inc() == Inc::MAX {
-            return Err(NoMemory);
+        if self.over || self.core.is_running() {
+            return Err(HostError::Unexpected);
+        }
+        if self.core.inc() == Inc::MAX {
+            return Err(HostError::Exhausted);
         }
         self.over = true;
         let (core, store, state) = (&mut self.core, &mut self.store, &mut self.state);
@@ -299,7 +304,7 @@ impl MemServer {
     }
 
     /// It boots, where it is stopped and its incarnation can be raised. A plan that stops the server fails the boot.
-    fn boot(&mut self, alloc: Global) -> Result<HostResult, NoMemory>
+    fn boot(&mut self, alloc: Global) -> Result<HostResult, HostError>
         ensures site { IfOk result (λ taken. site_of self.new ≡ left_at (whole_after (whole_of self.old) (Boot (boot_end taken.end)))) }
         ensures letters { IfOk result (λ taken. taken.letters ≡ (acted_at (whole_of self.old) (Boot (boot_end taken.end))).letters) }
         ensures end { IfOk result (λ taken. taken.end ≡ end_in (Boot (boot_end taken.end))) }
@@ -311,7 +316,7 @@ impl MemServer {
     }
 
     /// Takes the step, whatever it has in memory.
-    fn act(&mut self, alloc: Global, step: &Step) -> Result<HostResult, NoMemory>
+    fn act(&mut self, alloc: Global, step: &Step) -> Result<HostResult, HostError>
         ensures site { IfOk result (λ taken. site_of self.new ≡ left_at (whole_after (whole_of self.old) (ended step.now taken.end))) }
         ensures letters { IfOk result (λ taken. taken.letters ≡ (acted_at (whole_of self.old) (ended step.now taken.end)).letters) }
         ensures end { IfOk result (λ taken. taken.end ≡ end_in (ended step.now taken.end)) }
@@ -364,9 +369,9 @@ impl Host for MemServer {
 
     ghost armed = { armed_of };
 
-    fn step(&mut self, alloc: Global, step: &Step) -> Result<HostResult, NoMemory> {
+    fn step(&mut self, alloc: Global, step: &Step) -> Result<HostResult, HostError> {
         if !self.may_take(step) {
-            return Err(NoMemory);
+            return Err(HostError::Unexpected);
         }
         self.act(alloc, step)
     }

@@ -8,9 +8,10 @@ ghost use Rattle.memory_server.specs.Server.{Stands};
 
 use crate::attempt::Attempt;
 use crate::recovery::{Counts, reopen};
-use petal_base::{NoMemory, Sequence};
+use petal_base::Sequence;
 use petal_disk::Disk;
 use server_core::{ServerCore, WorkError};
+use server_host::HostError;
 use server_store::Store;
 use state_store::StateStore;
 use std::alloc::Global;
@@ -19,13 +20,13 @@ use std::alloc::Global;
 /// stores are opened again, and tell whether the commit was made.
 ///
 /// # Errors
-/// Out of memory, or where a device fails twice while it is opened again.
+/// Out of memory; `Unexpected` where a device fails twice while it is opened again.
 pub fn work_first<D: Disk>(
     alloc: Global,
     core: &mut ServerCore,
     store: &mut Store<D>,
     state: &mut StateStore<D>,
-) -> Result<Attempt, NoMemory>
+) -> Result<Attempt, HostError>
     requires runs { core.old.running ≡ true }
     requires goes_on { is_spent core.old (store_of store.old) ≡ false }
     requires stands { Stands D.Disk (record { core = core.old; store = store.old; state = state.old }) }
@@ -44,6 +45,6 @@ pub fn work_first<D: Disk>(
             let end = reopen(alloc, store, state, before)?;
             Ok(Attempt::failed(letters, end))
         }
-        Err(WorkError::NoMemory) => Err(NoMemory),
+        Err(WorkError::NoMemory) => Err(HostError::NoMemory),
     }
 }

@@ -13,9 +13,9 @@ status_no_form = 1
 abbrev pub status_refused : ℕ
 status_refused = 2
 
--- out of memory
-abbrev pub status_no_memory : ℕ
-status_no_memory = 3
+-- the run was given up
+abbrev pub status_gave_up : ℕ
+status_gave_up = 3
 
 abbrev pub status_source_failed : ℕ
 status_source_failed = 4

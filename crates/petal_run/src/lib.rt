@@ -14,4 +14,5 @@ mod text;
 mod words;
 
 pub use laws::{lines_rise, nothing_is_a_part, phases_rise};
-pub use outcome::{NO_MEMORY, Outcome, petal};
+pub use outcome::{GAVE_UP, Outcome, petal};
+pub use plain_schedule::GaveUp;

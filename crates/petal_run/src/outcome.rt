@@ -1,18 +1,19 @@
 //! The top call, and how it ends.
 
-ghost use Rattle.std.specs.Prelude.{◌≡◌, ◌≤◌, ◌<◌, ◌⊎◌, [], false, map};
+ghost use Rattle.std.specs.Prelude.{◌≡◌, ◌≤◌, ◌<◌, ◌⊎◌, [], false, map, IsSome};
 ghost use Rattle.std.specs.String.{string_bytes};
 ghost use Rattle.petal_run.specs.Asked.{asked, text_read};
 ghost use Rattle.petal_run.specs.Said.{Done, DoneInPart, EndsWithPhase, WrittenByPhases, WrittenInPhase};
-ghost use Rattle.petal_run.specs.Statuses.{status_no_form, status_refused, status_no_memory, status_source_failed, status_sink_failed};
+ghost use Rattle.petal_run.specs.Statuses.{status_no_form, status_refused, status_gave_up, status_source_failed, status_sink_failed};
 ghost use Rattle.petal_run.specs.Words.{is_run};
 
 use crate::laws::nothing_is_a_part;
 use crate::reading::read_text;
-use crate::script::{run_text, say, without_history};
+use crate::script::{given_up, run_text, say, without_history};
 use crate::words::is_run;
 use byte_streams::{Sink, Source};
 use petal_disk::{DeviceError, Shelf};
+use plain_schedule::GaveUp;
 use spec_history::History;
 use std::alloc::Global;
 use std::sync::Wait;
@@ -21,8 +22,10 @@ use std::sync::Wait;
 #[derive(Drop)]
 pub struct Outcome {
     /// 0: the run ended, and all answers were written. 1: the words are no form. 2: a line of the script is refused.
-    /// 3: out of memory. 4: the source failed. 5: the sink failed.
+    /// 3: the run was given up. 4: the source failed. 5: the sink failed.
     pub status: u8,
+    /// At 3 why, and nothing at any other status.
+    pub gave_up: Option<GaveUp>,
     /// The steps of the run. At 5 they end with the phase whose answers were not written whole; at 3 they are those so far.
     pub history: History,
 }
@@ -36,8 +39,8 @@ pub(crate) const NO_FORM: u8 = 1;
 /// The status of a call that refused a line of its script.
 pub(crate) const REFUSED: u8 = 2;
 
-/// The status of a call that is out of memory.
-pub const NO_MEMORY: u8 = 3;
+/// The status of a run that was given up.
+pub const GAVE_UP: u8 = 3;
 
 /// The status of a call whose source failed.
 pub(crate) const SOURCE_FAILED: u8 = 4;
@@ -51,7 +54,7 @@ const USAGE: &str = "usage: petal run [FOLDER] | petal drill SEED COUNT\n";
 /// stores of its own, and write the answers of each phase to the sink at that phase's end. It waits for as long as that takes,
 /// and nothing promises that it returns: its clauses say what holds where it does.
 ///
-/// Statuses 0 to 2 come exactly where the words and the script say so, unless it is out of memory or a count of faults rose.
+/// Statuses 0 to 2 come exactly where the words and the script say so, unless it is given up or a count of faults rose.
 /// The first failure of the sink ends the run.
 pub fn petal<T: Wait, R: Source, W: Sink, S: Shelf>(
     rt: &T,
@@ -68,12 +71,12 @@ pub fn petal<T: Wait, R: Source, W: Sink, S: Shelf>(
         → Done (asked (map string_bytes words.now) (text_read (R.left source.old))) result.status result.history.records
         (R.left source.new) (W.taken sink.old) (W.taken sink.new) }
     ensures usage { result.status ≡ status_no_form → is_run (map string_bytes words.now) ≡ false }
-    ensures in_part { R.observable → W.observable → (result.status ≡ status_no_memory) ⊎ (result.status ≡ status_sink_failed)
+    ensures in_part { R.observable → W.observable → (result.status ≡ status_gave_up) ⊎ (result.status ≡ status_sink_failed)
         → DoneInPart (asked (map string_bytes words.now) (text_read (R.left source.old))) result.history.records
         (W.taken sink.old) (W.taken sink.new) }
     ensures whole_phase { R.observable → result.status ≡ status_sink_failed
         → EndsWithPhase (asked (map string_bytes words.now) (text_read (R.left source.old))) result.history.records }
-    ensures by_phases { R.observable → W.observable → result.status ≡ status_no_memory
+    ensures by_phases { R.observable → W.observable → result.status ≡ status_gave_up
         → WrittenByPhases (asked (map string_bytes words.now) (text_read (R.left source.old))) result.history.records
         (W.taken sink.old) (W.taken sink.new) }
     ensures last_phase { R.observable → W.observable → result.status ≡ status_sink_failed
@@ -89,6 +92,8 @@ pub fn petal<T: Wait, R: Source, W: Sink, S: Shelf>(
     ensures sink_later { W.faults sink.old ≤ W.faults sink.new }
     ensures unasked { is_run (map string_bytes words.now) ≡ false → source.new ≡ source.old }
     ensures shelf { shelf.new ≡ shelf.old }
+    ensures given_up { result.status ≡ status_gave_up → IsSome result.gave_up }
+    ensures gave_up { IsSome result.gave_up → result.status ≡ status_gave_up }
 {
     if !is_run(words) {
         return say(alloc, sink, USAGE.as_bytes(), NO_FORM);
@@ -97,7 +102,7 @@ pub fn petal<T: Wait, R: Source, W: Sink, S: Shelf>(
     let text = match read_text(alloc, source) {
         Ok(text) => text,
         Err(DeviceError::Failed) => return without_history(alloc, SOURCE_FAILED),
-        Err(DeviceError::NoMemory) => return without_history(alloc, NO_MEMORY),
+        Err(DeviceError::NoMemory) => return given_up(alloc, GaveUp::NoMemory),
     };
     run_text(rt, alloc, &text, sink)
 }

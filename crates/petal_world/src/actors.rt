@@ -8,11 +8,12 @@ ghost use Rattle.petal_world.specs.Seats.{CanTake, reacted_at};
 ghost use Rattle.petal_world.specs.Actors.{IsServed, client_letters, server_letters, with_client};
 ghost use Rattle.petal_world.specs.declared.seat.Seat.{Seat};
 
+use crate::GaveUp;
 use crate::blocks::Blocks;
 use crate::control::Control;
 use crate::seats::Seats;
 use crate::step_result::StepResult;
-use petal_base::{ClientId, NoMemory, ServerId, Stamp};
+use petal_base::{ClientId, ServerId, Stamp};
 use server_host::desks::Desks;
 use server_host::sent::Sent;
 use server_host::stamping::stamped;
@@ -49,7 +50,7 @@ impl<H: Host> Actors<H> {
         client: ClientId,
         step: &Step,
         stamp: Stamp,
-    ) -> Result<StepResult, NoMemory>
+    ) -> Result<StepResult, GaveUp>
         requires within { client < length self.old.seats }
         requires can { IfSome (slice_get self.old.seats client) (λ seat. CanTake step.now seat.core.client) }
         requires goes_on { IfSome (slice_get self.old.seats client) (λ seat. is_spent seat.core.client ≡ false) }
@@ -78,7 +79,7 @@ impl<H: Host> Actors<H> {
         server: ServerId,
         step: &Step,
         stamp: Stamp,
-    ) -> Result<StepResult, NoMemory>
+    ) -> Result<StepResult, GaveUp>
         requires { server < length self.old.desks }
         ensures step { IfOk result (λ stepped. (own : Equipped) → slice_get self.old.desks server ≡ Some own
             → (stepped

@@ -18,7 +18,7 @@ mod step_result;
 mod taking;
 mod world;
 
-pub use error::WorldError;
+pub use error::{GaveUp, WorldError};
 pub use server_host::{Host, StepEnd, are_in_order};
 pub use spec_history::{History, Record};
 pub use spec_rules::{CommitEnd, Step, WorkEnd};

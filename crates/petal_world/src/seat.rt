@@ -5,8 +5,8 @@ ghost use Rattle.client_core.specs.ClientView.{at_core, is_spent, state_of};
 ghost use Rattle.spec_rules.specs.World.{calls};
 ghost use Rattle.petal_world.specs.Seats.{CanTake, HasCalledSettle, reacted_at, settles_as};
 
-use client_core::{ClientCore, Reaction};
-use petal_base::{NoMemory, Sequence, Stamp};
+use client_core::{ClientCore, ClientError, Reaction};
+use petal_base::{Sequence, Stamp};
 use script_lines::{Line, Request};
 use server_host::copies::request_again;
 use spec_rules::Step;
@@ -44,7 +44,7 @@ impl Seat {
     }
 
     /// The client calls its next line.
-    fn call(&mut self, alloc: Global) -> Result<Reaction, NoMemory>
+    fn call(&mut self, alloc: Global) -> Result<Reaction, ClientError>
         requires free { self.old.core.client.asked ≡ None }
         requires goes_on { is_spent self.old.core.client ≡ false }
         ensures ok { IfOk result (λ reaction. (self.new.core, reaction)
@@ -61,7 +61,7 @@ impl Seat {
     }
 
     /// The client takes a step that it can take.
-    pub fn step(&mut self, alloc: Global, step: &Step) -> Result<Reaction, NoMemory>
+    pub fn step(&mut self, alloc: Global, step: &Step) -> Result<Reaction, ClientError>
         requires can { CanTake step.now self.old.core.client }
         requires goes_on { is_spent self.old.core.client ≡ false }
         ensures ok { IfOk result (λ reaction. (self.new.core, reaction)

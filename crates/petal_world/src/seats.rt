@@ -8,7 +8,7 @@ ghost use Rattle.petal_world.specs.Seats.{CanTake, reacted_at, seat_of, seats_of
 ghost use Rattle.petal_world.specs.declared.seat.Seat.{Seat};
 
 use crate::seat::Seat;
-use client_core::{ClientCore, Reaction};
+use client_core::{ClientCore, ClientError, Reaction};
 use petal_base::{CLIENTS, ClientId, NoMemory, Sequence, Stamp};
 use script_lines::{Line, Script};
 use server_host::copies::line_again;
@@ -93,7 +93,7 @@ impl Seats {
         client: ClientId,
         step: &Step,
         stamp: Stamp,
-    ) -> Result<Reaction, NoMemory>
+    ) -> Result<Reaction, ClientError>
         requires within { client < length self.old }
         requires can { IfSome (slice_get self.old client) (λ seat. CanTake step.now seat.core.client) }
         requires goes_on { IfSome (slice_get self.old client) (λ seat. is_spent seat.core.client ≡ false) }

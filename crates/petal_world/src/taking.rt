@@ -7,10 +7,11 @@ ghost use Rattle.server_host.specs.Desks.{ended};
 ghost use Rattle.petal_world.specs.Steps.{Can, LeavesIn, phase_for, phase_of, rev_of, stamp_of};
 ghost use Rattle.petal_world.specs.Actors.{LeavesPlansBy, Shows};
 
+use crate::GaveUp;
 use crate::actors::Actors;
 use crate::deciding::received;
 use crate::step_result::StepResult;
-use petal_base::{ClientId, NoMemory, Rev, Stamp};
+use petal_base::{ClientId, Rev, Stamp};
 use petal_msg::Actor;
 use server_host::Host;
 use spec_rules::Step;
@@ -106,7 +107,7 @@ impl<H: Host> Actors<H> {
         actor: Actor,
         step: &Step,
         stamp: Stamp,
-    ) -> Result<StepResult, NoMemory>
+    ) -> Result<StepResult, GaveUp>
         requires { Can self.old actor step.now }
         ensures step { IfOk result (λ stepped. LeavesIn self.old actor (ended step.now stepped.end) stamp self.new stepped) }
         ensures plans { IfOk result (λ stepped. LeavesPlansBy actor (ended step.now stepped.end) self.old.desks self.new.desks) }

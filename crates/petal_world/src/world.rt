@@ -15,15 +15,16 @@ ghost use Rattle.petal_world.specs.Actors.{LeavesPlansBy};
 ghost use Rattle.petal_world.specs.Steps.{Can, LeavesIn, rev_of};
 ghost use Rattle.server_host.specs.Desks.{ended, first_sites};
 ghost use Rattle.server_host.specs.Playable.{AreNumbered, AreOrdered};
+ghost use Rattle.petal_world.specs.declared.error.GaveUp.{GaveUp};
 ghost use Rattle.petal_world.specs.declared.error.WorldError.TheVariants as error;
 
-use crate::WorldError;
 use crate::actors::Actors;
 use crate::blocks::Blocks;
 use crate::control::Control;
 use crate::errand::Errand;
 use crate::seats::Seats;
 use crate::step_result::StepResult;
+use crate::{GaveUp, WorldError};
 use petal_base::{NoMemory, OPERATOR, Rev, Sequence, Stamp};
 use petal_msg::{Actor, SharedLetter};
 use script_lines::{Answer, Line, Script};
@@ -47,6 +48,8 @@ pub struct World<H: Host> {
     phase: u32,
     floor: Stamp,
     over: bool,
+    // Why it is over, once it is.
+    cause: GaveUp,
     // A step may have been taken that no line of the script gives.
     free: bool,
     actors: Actors<H>,
@@ -121,7 +124,7 @@ fn take<H: Host>(
     stamp: Stamp,
     phase: u32,
     step: &Step,
-) -> Result<StepResult, NoMemory>
+) -> Result<StepResult, GaveUp>
     requires { Can actors.old actor step.now }
     ensures plans { IfOk result (λ stepped. LeavesPlansBy actor (ended step.now stepped.end) actors.old.desks actors.new.desks) }
     ensures ok { IfOk result (λ stepped. (records.new
@@ -173,6 +176,7 @@ impl<H: Host> World<H> {
             phase: 0,
             floor: 0,
             over: false,
+            cause: GaveUp::NoMemory,
             free: false,
             actors,
             errand: Errand::none(),
@@ -186,13 +190,13 @@ impl<H: Host> World<H> {
         after(self.actors.seats.greatest_clock())
     }
 
-    /// A phase begins: each client's clock is the greatest of all theirs. A world that ran out of memory says so again.
-    pub fn enter(&mut self, phase: u32) -> Result<(), NoMemory>
+    /// A phase begins: each client's clock is the greatest of all theirs. A world that was given up says so again, and why.
+    pub fn enter(&mut self, phase: u32) -> Result<(), GaveUp>
         ensures ok { OnOk result (self.new ≡ entered self.old phase) }
         ensures err { OnErr result (self.new ≡ self.old) }
     {
         if self.over {
-            return Err(NoMemory);
+            return Err(self.cause);
         }
         let floor = self.above_all();
         self.floor = floor;
@@ -201,14 +205,14 @@ impl<H: Host> World<H> {
     }
 
     /// The revision of a client or of a running server; None exactly where the world has no such actor, or the server is
-    /// stopped. Nothing is said of it once a step ran out of memory.
+    /// stopped. Nothing is said of it once the world is given up.
     pub fn rev(&self, actor: Actor) -> Option<Rev>
         ensures { self.now.over ≡ false → result ≡ rev_of (setting_of self.now.script) (world_of self.now) actor }
     {
         self.actors.rev(actor)
     }
 
-    /// The operator's open line and its round, where it is a settle. Nothing is said of it once a step ran out of memory.
+    /// The operator's open line and its round, where it is a settle. Nothing is said of it once the world is given up.
     pub fn settling(&self) -> Option<(u32, u32)>
         ensures { self.now.over ≡ false → result ≡ settle_of ((world_of self.now).clients operator).asked }
     {
@@ -248,13 +252,13 @@ impl<H: Host> World<H> {
         alloc: Global,
         actor: Actor,
         step: &Step,
-    ) -> Result<StepResult, NoMemory>
+    ) -> Result<StepResult, GaveUp>
         requires going { self.old.over ≡ false }
         requires may { MayStep (setting_of self.old.script) (world_of self.old) actor step.now }
         requires obeys { self.old.free ≡ false → Obeys actor step.now (world_of self.old) (errand_in self.old) }
         ensures ok { IfOk result (λ stepped. self.new ≡ played self.old actor (ended step.now stepped.end)) }
         ensures told { IfOk result (λ stepped. stepped ≡ told_by self.old actor (ended step.now stepped.end)) }
-        ensures no_memory { OnErr result (self.new ≡ record self.old { over = true }) }
+        ensures gave_up { OnErr result (self.new ≡ record self.old { over = true }) }
     {
         let stamp = self.actors.stamp_of(self.floor, actor, step);
         let phase = self.actors.phase_for(self.phase, actor, step);
@@ -274,9 +278,10 @@ impl<H: Host> World<H> {
                 self.errand = errand;
                 Ok(stepped)
             }
-            Err(NoMemory) => {
+            Err(cause) => {
                 self.over = true;
-                Err(NoMemory)
+                self.cause = cause;
+                Err(cause)
             }
         }
     }
@@ -285,7 +290,7 @@ impl<H: Host> World<H> {
     /// the devices to say, whatever end the step names: the step with the end that is told is the one that was taken, and its
     /// record is kept. `NotAllowed` comes exactly where the step is not one of the world's in this state, or stops, blanks, arms, boots or
     /// glances at a server otherwise than the operator's line says; a job is allowed with each end or with none, also where the plan of a
-    /// device stops the server in it. After it ran out of memory the step did not happen, and none follows.
+    /// device stops the server in it. After `GaveUp` the step did not happen, and none follows.
     pub fn step(
         &mut self,
         alloc: Global,
@@ -297,10 +302,10 @@ impl<H: Host> World<H> {
         ensures told { IfOk result (λ stepped. stepped ≡ told_by self.old actor (ended step.now stepped.end)) }
         ensures not_allowed { IsErrOf result error.NotAllowed → MayPlay self.old actor step.now → ⊥ }
         ensures unchanged { IsErrOf result error.NotAllowed → self.new ≡ self.old }
-        ensures no_memory { IsErrOf result error.NoMemory → self.new ≡ record self.old { over = true } }
+        ensures gave_up { (cause : GaveUp) → IsErrOf result (error.GaveUp cause) → self.new ≡ record self.old { over = true } }
     {
         if self.over {
-            return Err(WorldError::NoMemory);
+            return Err(WorldError::GaveUp(self.cause));
         }
         if !self.actors.may(actor, step) {
             return Err(WorldError::NotAllowed);
@@ -310,7 +315,7 @@ impl<H: Host> World<H> {
         }
         match self.take_allowed(alloc, actor, step) {
             Ok(stepped) => Ok(stepped),
-            Err(NoMemory) => Err(WorldError::NoMemory),
+            Err(cause) => Err(WorldError::GaveUp(cause)),
         }
     }
 
@@ -327,11 +332,11 @@ impl<H: Host> World<H> {
         ensures told { IfOk result (λ stepped. stepped ≡ told_by self.old actor (ended step.now stepped.end)) }
         ensures not_allowed { IsErrOf result error.NotAllowed → MayStep (setting_of self.old.script) (world_of self.old) actor step.now → ⊥ }
         ensures unchanged { IsErrOf result error.NotAllowed → self.new ≡ self.old }
-        ensures no_memory { IsErrOf result error.NoMemory → (self.new.script ≡ self.old.script) × (self.new.records ≡ self.old.records)
-            × (self.new.over ≡ true) }
+        ensures gave_up { (cause : GaveUp) → IsErrOf result (error.GaveUp cause)
+            → (self.new.script ≡ self.old.script) × (self.new.records ≡ self.old.records) × (self.new.over ≡ true) }
     {
         if self.over {
-            return Err(WorldError::NoMemory);
+            return Err(WorldError::GaveUp(self.cause));
         }
         if !self.actors.may(actor, step) {
             return Err(WorldError::NotAllowed);
@@ -339,7 +344,7 @@ impl<H: Host> World<H> {
         self.free = true;
         match self.take_allowed(alloc, actor, step) {
             Ok(stepped) => Ok(stepped),
-            Err(NoMemory) => Err(WorldError::NoMemory),
+            Err(cause) => Err(WorldError::GaveUp(cause)),
         }
     }
 

@@ -15,4 +15,5 @@ mod rounds;
 mod schedule_state;
 
 pub use answers::Answers;
+pub use petal_world::GaveUp;
 pub use playing::Playing;

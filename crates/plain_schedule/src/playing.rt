@@ -15,6 +15,7 @@ use crate::answers::Answers;
 use crate::rounds::Rounds;
 use memory_server::{MemServer, members};
 use petal_base::NoMemory;
+use petal_world::GaveUp;
 use script_lines::{Line, Script};
 use spec_history::History;
 use std::alloc::Global;
@@ -30,8 +31,8 @@ pub struct Playing {
     place: usize,
     // How many phases have ended. The next one has this number; it has room for one more than any line's.
     phase: u64,
-    // It is out of memory, so that no step follows.
-    stopped: bool,
+    // Why it was given up, so that no step follows.
+    gave_up: Option<GaveUp>,
 }
 
 impl Model for Playing {
@@ -99,7 +100,7 @@ fn play_lines<R: Wait>(
     told: usize,
     place: usize,
     count: usize,
-) -> Result<Answers, NoMemory>
+) -> Result<Answers, GaveUp>
     requires told { told ≤ length rounds.old.world.records }
     requires lines { place + count ≤ length rounds.old.world.script.lines }
     ensures went_on { WentOn rounds.old.world rounds.new.world }
@@ -128,7 +129,7 @@ fn play_phase_lines<R: Wait>(
     told: usize,
     place: usize,
     count: usize,
-) -> Result<Answers, NoMemory>
+) -> Result<Answers, GaveUp>
     requires told { told ≤ length rounds.old.world.records }
     requires lines { place + count ≤ length rounds.old.world.script.lines }
     ensures went_on { WentOn rounds.old.world rounds.new.world }
@@ -141,7 +142,7 @@ fn play_phase_lines<R: Wait>(
 
 impl Playing {
     /// The play of a script, before its first step.
-    pub fn start(alloc: Global, script: Script) -> Result<Playing, NoMemory>
+    pub fn start(alloc: Global, script: Script) -> Result<Playing, GaveUp>
         requires sound { IsSound script }
         requires ordered { AreOrdered script.lines }
         requires rising { AreRising script.lines }
@@ -155,7 +156,7 @@ impl Playing {
             told: 0,
             place: 0,
             phase: 0,
-            stopped: false,
+            gave_up: None,
         })
     }
 
@@ -185,11 +186,11 @@ impl Playing {
     }
 
     // The next phase is played.
-    fn play_next<R: Wait>(&mut self, rt: &R, alloc: Global) -> Result<Answers, NoMemory>
+    fn play_next<R: Wait>(&mut self, rt: &R, alloc: Global) -> Result<Answers, GaveUp>
         requires next { self.old.phases < 4294967296 }
         ensures plays_on { PlaysOn self.old self.new }
         ensures ends { IfOk result (λ answers. Ends self.old self.new answers) }
-        ensures no_memory { OnErr result (self.new.ended ≡ self.old.ended) }
+        ensures gave_up { OnErr result (self.new.ended ≡ self.old.ended) }
     {
         let lines = self.rounds.world.script().lines.as_slice();
         let count = lines_of_phase(&lines[self.place..], self.phase);
@@ -210,19 +211,15 @@ impl Playing {
                 self.phase += 1;
                 Ok(answers)
             }
-            Err(NoMemory) => Err(NoMemory),
+            Err(cause) => Err(cause),
         }
     }
 
     /// Plays the next phase until each of its lines is answered, and gives the answers of the records since the phase before.
     /// None comes where no phase is left and each line is answered. It waits for as long as that takes, and nothing promises
     /// that it returns; its clauses say what holds where it does. A phase ends with the round in which its last line is
-    /// answered. Once it is out of memory no step follows, and that is told again.
-    pub fn play_phase<R: Wait>(
-        &mut self,
-        rt: &R,
-        alloc: Global,
-    ) -> Result<Option<Answers>, NoMemory>
+    /// answered. Once it is given up no step follows, and why is told again.
+    pub fn play_phase<R: Wait>(&mut self, rt: &R, alloc: Global) -> Result<Option<Answers>, GaveUp>
         // At each end.
         ensures script { self.new.script ≡ self.old.script }
         ensures by_phases { GoesByPhases self.new }
@@ -232,21 +229,26 @@ impl Playing {
         ensures ends { IfOk result (λ phase. IfSome phase (λ answers. Ends self.old self.new answers)) }
         ensures over { IfOk result (λ phase. IfNone phase (self.new ≡ self.old)) }
         ensures whole { IfOk result (λ phase. IfNone phase (all_answered (answers_of self.old.ended) self.old.script.lines ≡ true)) }
-        ensures no_memory { OnErr result (self.new.ended ≡ self.old.ended) }
+        ensures gave_up { OnErr result (self.new.ended ≡ self.old.ended) }
     {
-        if self.stopped {
-            return Err(NoMemory);
+        if let Some(cause) = self.gave_up {
+            return Err(cause);
         }
         if self.is_over() {
             return Ok(None);
         }
         match self.play_next(rt, alloc) {
             Ok(answers) => Ok(Some(answers)),
-            Err(NoMemory) => {
-                self.stopped = true;
-                Err(NoMemory)
+            Err(cause) => {
+                self.gave_up = Some(cause);
+                Err(cause)
             }
         }
+    }
+
+    /// Why it was given up, where it was.
+    pub fn gave_up(&self) -> Option<GaveUp> {
+        self.gave_up
     }
 
     /// The history of all steps.

@@ -12,7 +12,7 @@ use crate::schedule_state::ScheduleState;
 use client_core::Order;
 use petal_base::{CLIENTS, ClientId, NoMemory, OPERATOR, Sequence, ServerId};
 use petal_msg::{Actor, Body, Letter, SharedLetter};
-use petal_world::{Host, Step, StepResult, WorkEnd, World, WorldError};
+use petal_world::{GaveUp, Host, Step, StepResult, WorkEnd, World, WorldError};
 use script_lines::{Answer, Plan, Script, Which};
 use std::alloc::Global;
 use std::sync::Wait;
@@ -144,7 +144,7 @@ impl<H: Host> Rounds<H> {
     }
 
     // Takes a step. Gives how many letters it sent, and None where it is not one of the world's.
-    fn take(&mut self, alloc: Global, actor: Actor, step: &Step) -> Result<Option<usize>, NoMemory>
+    fn take(&mut self, alloc: Global, actor: Actor, step: &Step) -> Result<Option<usize>, GaveUp>
         ensures { WentOn self.old.world self.new.world }
     {
         match self.world.step(alloc, actor, step) {
@@ -153,7 +153,7 @@ impl<H: Host> Rounds<H> {
                 Ok(Some(stepped.letters.len()))
             }
             Err(WorldError::NotAllowed) => Ok(None),
-            Err(WorldError::NoMemory) => Err(NoMemory),
+            Err(WorldError::GaveUp(cause)) => Err(cause),
         }
     }
 
@@ -188,7 +188,7 @@ impl<H: Host> Rounds<H> {
         alloc: Global,
         actor: Actor,
         letter: SharedLetter,
-    ) -> Result<bool, NoMemory>
+    ) -> Result<bool, GaveUp>
         ensures { WentOn self.old.world self.new.world }
     {
         let handing = self.notes.post.next_handing(&letter.get().body);
@@ -216,7 +216,7 @@ impl<H: Host> Rounds<H> {
     }
 
     // The actor gets each letter that waits for it.
-    fn get_mail(&mut self, alloc: Global, actor: Actor) -> Result<(), NoMemory>
+    fn get_mail(&mut self, alloc: Global, actor: Actor) -> Result<(), GaveUp>
         ensures { WentOn self.old.world self.new.world }
     {
         let place = self.place_of(actor);
@@ -231,7 +231,7 @@ impl<H: Host> Rounds<H> {
 
     // The client gets the letters of its second box, until one of them has it send its request again. Were all of them handed
     // over, a request that waits for another's end would be sent again in ever more copies, where letters come twice.
-    fn get_second_mail(&mut self, alloc: Global, client: ClientId) -> Result<(), NoMemory>
+    fn get_second_mail(&mut self, alloc: Global, client: ClientId) -> Result<(), GaveUp>
         ensures { WentOn self.old.world self.new.world }
     {
         let place = self.second_place(client);
@@ -257,7 +257,7 @@ impl<H: Host> Rounds<H> {
         }
     }
 
-    fn call_next(&mut self, alloc: Global, client: ClientId) -> Result<(), NoMemory>
+    fn call_next(&mut self, alloc: Global, client: ClientId) -> Result<(), GaveUp>
         ensures { WentOn self.old.world self.new.world }
     {
         if let Some(due) = self.next_call(client) {
@@ -278,7 +278,7 @@ impl<H: Host> Rounds<H> {
         line: u32,
         order: Order,
         server: ServerId,
-    ) -> Result<(), NoMemory>
+    ) -> Result<(), GaveUp>
         ensures { WentOn self.old.world self.new.world }
     {
         match order {
@@ -293,7 +293,7 @@ impl<H: Host> Rounds<H> {
     }
 
     // The server stops, where it runs.
-    fn stop(&mut self, alloc: Global, server: ServerId) -> Result<(), NoMemory>
+    fn stop(&mut self, alloc: Global, server: ServerId) -> Result<(), GaveUp>
         ensures { WentOn self.old.world self.new.world }
     {
         self.take(alloc, Actor::Server(server), &Step::Stop)?;
@@ -307,7 +307,7 @@ impl<H: Host> Rounds<H> {
         server: ServerId,
         which: Which,
         plan: Option<Plan>,
-    ) -> Result<(), NoMemory>
+    ) -> Result<(), GaveUp>
         ensures { WentOn self.old.world self.new.world }
     {
         self.take(alloc, Actor::Server(server), &Step::Arm { which, plan })?;
@@ -315,7 +315,7 @@ impl<H: Host> Rounds<H> {
     }
 
     // Its devices lose their plans, and it boots, where it is stopped.
-    fn start(&mut self, alloc: Global, server: ServerId) -> Result<(), NoMemory>
+    fn start(&mut self, alloc: Global, server: ServerId) -> Result<(), GaveUp>
         ensures { WentOn self.old.world self.new.world }
     {
         self.arm(alloc, server, Which::Data, None)?;
@@ -324,7 +324,7 @@ impl<H: Host> Rounds<H> {
     }
 
     // It boots, where it is stopped.
-    fn boot(&mut self, alloc: Global, server: ServerId) -> Result<(), NoMemory>
+    fn boot(&mut self, alloc: Global, server: ServerId) -> Result<(), GaveUp>
         ensures { WentOn self.old.world self.new.world }
     {
         let boot = Step::Boot(WorkEnd::Done);
@@ -335,7 +335,7 @@ impl<H: Host> Rounds<H> {
     }
 
     // It stops, where it runs, and starts with a blank data device.
-    fn blank(&mut self, alloc: Global, server: ServerId) -> Result<(), NoMemory>
+    fn blank(&mut self, alloc: Global, server: ServerId) -> Result<(), GaveUp>
         ensures { WentOn self.old.world self.new.world }
     {
         self.stop(alloc, server)?;
@@ -370,7 +370,7 @@ impl<H: Host> Rounds<H> {
         }
     }
 
-    fn tick(&mut self, alloc: Global, actor: Actor, times: u32) -> Result<(), NoMemory>
+    fn tick(&mut self, alloc: Global, actor: Actor, times: u32) -> Result<(), GaveUp>
         ensures { WentOn self.old.world self.new.world }
     {
         for _ in 0..times {
@@ -379,7 +379,7 @@ impl<H: Host> Rounds<H> {
         Ok(())
     }
 
-    fn client_turn(&mut self, alloc: Global, client: ClientId) -> Result<(), NoMemory>
+    fn client_turn(&mut self, alloc: Global, client: ClientId) -> Result<(), GaveUp>
         ensures { WentOn self.old.world self.new.world }
     {
         let actor = Actor::Client(client);
@@ -399,7 +399,7 @@ impl<H: Host> Rounds<H> {
 
     // While a settle is open, each server is shown to the operator, in the settle's present round. The operator hears of all of them
     // in its next turn, in which that round ends.
-    fn glance_at_all(&mut self, alloc: Global) -> Result<(), NoMemory>
+    fn glance_at_all(&mut self, alloc: Global) -> Result<(), GaveUp>
         ensures { WentOn self.old.world self.new.world }
     {
         let Some((line, round)) = self.world.settling() else {
@@ -426,7 +426,7 @@ impl<H: Host> Rounds<H> {
     }
 
     // The server does jobs until none is left.
-    fn work_off<R: Wait>(&mut self, rt: &R, alloc: Global, server: ServerId) -> Result<(), NoMemory>
+    fn work_off<R: Wait>(&mut self, rt: &R, alloc: Global, server: ServerId) -> Result<(), GaveUp>
         ensures { WentOn self.old.world self.new.world }
     {
         for _ in rt.forever() {
@@ -443,7 +443,7 @@ impl<H: Host> Rounds<H> {
         rt: &R,
         alloc: Global,
         server: ServerId,
-    ) -> Result<(), NoMemory>
+    ) -> Result<(), GaveUp>
         ensures { WentOn self.old.world self.new.world }
     {
         let actor = Actor::Server(server);
@@ -462,7 +462,7 @@ impl<H: Host> Rounds<H> {
     /// client and one server, and each box is emptied from another letter on than in the round before, so that no loss of every K-th
     /// letter hits the same letters for ever. In the first round of a later phase a client calls nothing, and one that has a line to
     /// call asks what was chosen: so it need not find out by an entry of its own that a disk was made.
-    pub fn round<R: Wait>(&mut self, rt: &R, alloc: Global) -> Result<(), NoMemory>
+    pub fn round<R: Wait>(&mut self, rt: &R, alloc: Global) -> Result<(), GaveUp>
         ensures { WentOn self.old.world self.new.world }
     {
         self.count = self.count.wrapping_add(1);
@@ -479,7 +479,7 @@ impl<H: Host> Rounds<H> {
     }
 
     /// A phase begins, which has so many lines.
-    pub fn begin(&mut self, phase: u32, lines: usize) -> Result<(), NoMemory>
+    pub fn begin(&mut self, phase: u32, lines: usize) -> Result<(), GaveUp>
         ensures script { self.new.world.script ≡ self.old.world.script }
         ensures records { self.new.world.records ≡ self.old.world.records }
         ensures free { self.new.world.free ≡ self.old.world.free }

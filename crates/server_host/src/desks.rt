@@ -5,7 +5,7 @@ ghost use Rattle.spec_rules.specs.Plans.{LeavesPlans};
 ghost use Rattle.server_host.specs.Desks.{LeavesPlansAt, acted_at, bare, end_in, ended, first_desk, site_after};
 ghost use Rattle.server_host.specs.Desks as view;
 
-use crate::{Host, HostResult};
+use crate::{Host, HostError, HostResult};
 use petal_base::{NoMemory, Sequence, ServerId, Stamp};
 use spec_rules::Step;
 use std::alloc::Global;
@@ -43,7 +43,7 @@ impl<H: Host> Model for Desks<H> {
 
 impl<H: Host> Desk<H> {
     /// A step of the server, with its stamp. How a job or a boot ends is for the devices to say.
-    fn step(&mut self, alloc: Global, step: &Step, stamp: Stamp) -> Result<HostResult, NoMemory>
+    fn step(&mut self, alloc: Global, step: &Step, stamp: Stamp) -> Result<HostResult, HostError>
         ensures desk { IfOk result (λ taken. self.new.desk
             ≡ record { site = site_after self.old.desk.site (ended step.now taken.end); clock = stamp }) }
         ensures plans { IfOk result (λ taken. LeavesPlans (ended step.now taken.end) self.old.armed self.new.armed) }
@@ -82,7 +82,7 @@ impl<H: Host> Desks<H> {
         server: ServerId,
         step: &Step,
         stamp: Stamp,
-    ) -> Result<HostResult, NoMemory>
+    ) -> Result<HostResult, HostError>
         requires { server < length self.old }
         ensures step { IfOk result (λ taken. (own : view.Equipped) → slice_get self.old server ≡ Some own
             → (taken.letters ≡ (acted_at own.desk.site (ended step.now taken.end)).letters)

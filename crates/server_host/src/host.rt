@@ -5,8 +5,8 @@ ghost use Rattle.spec_rules.specs.Log.{rev_of};
 ghost use Rattle.server_host.specs.Desks.{IsFault, Site, acted_at, end_in, ended, is_spent_server, site_after};
 ghost use Rattle.spec_rules.specs.Plans.{Armed, LeavesPlans};
 
-use crate::StepEnd;
-use petal_base::{Inc, NoMemory, Rev, Sequence};
+use crate::{HostError, StepEnd};
+use petal_base::{Inc, Rev, Sequence};
 use petal_msg::Letter;
 use spec_rules::Step;
 use std::alloc::Global;
@@ -34,8 +34,8 @@ pub trait Host: Drop {
 
     /// Takes a step. How a job or a boot ends is for the devices to say, whatever end the step names; the server and the letters
     /// are those of the step with the end that is given, which is a fault or a stop only where a device failed, by a plan that is then
-    /// used up. After it ran out of memory nothing is said of the server.
-    fn step(&mut self, alloc: Global, step: &Step) -> Result<HostResult, NoMemory>
+    /// used up. After an error nothing is said of the server.
+    fn step(&mut self, alloc: Global, step: &Step) -> Result<HostResult, HostError>
         ensures site { IfOk result (λ taken. seen self.new ≡ site_after (seen self.old) (ended step.now taken.end)) }
         ensures letters { IfOk result (λ taken. taken.letters ≡ (acted_at (seen self.old) (ended step.now taken.end)).letters) }
         ensures end { IfOk result (λ taken. taken.end ≡ end_in (ended step.now taken.end)) }

@@ -6,6 +6,7 @@
 
 pub mod copies;
 pub mod desks;
+mod error;
 mod host;
 pub mod name;
 mod order;
@@ -14,6 +15,7 @@ pub mod stamping;
 mod step_end;
 pub mod waiting;
 
+pub use error::HostError;
 pub use host::{Host, HostResult};
 pub use order::are_in_order;
 pub use step_end::StepEnd;

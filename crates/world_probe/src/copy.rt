@@ -33,8 +33,10 @@ fn boots_in(records: &[Record]) -> Inc {
 impl<H: Host> Copy<H> {
     // It takes the step.
     fn take(&mut self, alloc: Global, step: &Step) -> Result<(), NoMemory> {
-        self.host.step(alloc, step)?;
-        Ok(())
+        match self.host.step(alloc, step) {
+            Ok(_) => Ok(()),
+            Err(_) => Err(NoMemory),
+        }
     }
 
     // It stops, where it runs, and boots.
@@ -81,7 +83,9 @@ impl<H: Host> Copy<H> {
 
     // It does a job. Gives what its letters say.
     fn work(&mut self, alloc: Global, said: &mut Vec<Body>) -> Result<(), NoMemory> {
-        let taken = self.host.step(alloc, &Step::Work(WorkEnd::Done))?;
+        let Ok(taken) = self.host.step(alloc, &Step::Work(WorkEnd::Done)) else {
+            return Err(NoMemory);
+        };
         for letter in taken.letters.into_vec() {
             said.push(letter.body)?;
         }

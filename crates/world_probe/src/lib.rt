@@ -4,6 +4,8 @@
 //! A world shows no more of a server than its letters. A copy takes the same steps, boots, is told of a log in which it serves
 //! its links alone, or its neighbours do, and is asked by the letters of clients and servers.
 //!
+//! A run that is given up ends with `NoMemory` here, whatever the cause: a test fails by each in the same way.
+//!
 //! To the layer above it promises no more than safety. It knows nothing of how a server keeps its blocks.
 #![tactic(auto)]
 

@@ -53,7 +53,7 @@ impl<H: Host> Run<H> {
                 Ok(true)
             }
             Err(WorldError::NotAllowed) => Ok(false),
-            Err(WorldError::NoMemory) => Err(NoMemory),
+            Err(WorldError::GaveUp(_)) => Err(NoMemory),
         }
     }
 
@@ -238,9 +238,13 @@ impl<H: Host> Run<H> {
         if next >= self.script().phases || !self.is_answered(self.phase) {
             return Ok(false);
         }
-        self.world.enter(next)?;
-        self.phase = next;
-        Ok(true)
+        match self.world.enter(next) {
+            Ok(()) => {
+                self.phase = next;
+                Ok(true)
+            }
+            Err(_) => Err(NoMemory),
+        }
     }
 
     // Whether each line is answered that was called.

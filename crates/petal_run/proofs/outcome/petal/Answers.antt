@@ -33,11 +33,11 @@ returns-clause-done g c = λ reads writes ended.
 pub returns-in-Err-NoMemory-clause-in_part : goal.returns-in-Err-NoMemory-clause-in_part
 returns-in-Err-NoMemory-clause-in_part g c = λ reads writes three.
     let known : is_run (map string_bytes c.args.words.now) ≡ true = sym c.is_run.ensures ∙ c.if-not-is_run.false in
-    rw (known, c.without_history-in-Err-NoMemory.ensures.history)
+    rw (known, c.given_up.ensures.history)
     (c.nothing_is_a_part.ensures.part (take (longest_script + 1) (g.R.Source.left c.args.source.now)) (g.W.Sink.taken c.args.sink.now))
 
 pub returns-in-Err-NoMemory-clause-by_phases : goal.returns-in-Err-NoMemory-clause-by_phases
 returns-in-Err-NoMemory-clause-by_phases g c = λ reads writes three.
     let known : is_run (map string_bytes c.args.words.now) ≡ true = sym c.is_run.ensures ∙ c.if-not-is_run.false in
-    rw (known, c.without_history-in-Err-NoMemory.ensures.history)
+    rw (known, c.given_up.ensures.history)
     (c.nothing_is_a_part.ensures.by_phases (take (longest_script + 1) (g.R.Source.left c.args.source.now)) (g.W.Sink.taken c.args.sink.now))

@@ -59,10 +59,10 @@ returns-in-Ok-clause-whole_phase g c = λ five.
 pub returns-in-Err-clause-by_phases : goal.returns-in-Err-clause-by_phases
 returns-in-Err-clause-by_phases g c = λ told three.
     let old = g.W.Sink.taken c.args.sink.now in
-    subst (λ (r : List Record). WrotePhases c.args.script r old old) (sym c.without_history.ensures.history) (none_wrote c.args.script old)
+    subst (λ (r : List Record). WrotePhases c.args.script r old old) (sym c.given_up.ensures.history) (none_wrote c.args.script old)
 
 pub returns-in-Err-clause-in_part : goal.returns-in-Err-clause-in_part
 returns-in-Err-clause-in_part g c = λ told which.
     let old = g.W.Sink.taken c.args.sink.now in
-    subst (λ (r : List Record). IsLegal c.args.script r × Keeps c.args.script r × Adds old (text_of r) old) (sym c.without_history.ensures.history)
+    subst (λ (r : List Record). IsLegal c.args.script r × Keeps c.args.script r × Adds old (text_of r) old) (sym c.given_up.ensures.history)
     (nothing_legal c.args.script, c.every_history_keeps_the_law.ensures c.args.script [] c.requires.sound tt, none_added old _)

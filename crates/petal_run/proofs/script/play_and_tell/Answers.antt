@@ -27,4 +27,4 @@ pub returns-in-Err-clause-phases : goal.returns-in-Err-clause-phases
 returns-in-Err-clause-phases g c = λ told base three wrote.
     let new = c.play_phase.new.self in
     wrote_so_far new c.play_phase.ensures.by_phases base (g.W.Sink.taken c.args.sink.now)
-    (subst (λ (r : List Record). Wrote base r (g.W.Sink.taken c.args.sink.now)) (sym c.in-Err.ensures.no_memory) wrote)
+    (subst (λ (r : List Record). Wrote base r (g.W.Sink.taken c.args.sink.now)) (sym c.in-Err.ensures.gave_up) wrote)

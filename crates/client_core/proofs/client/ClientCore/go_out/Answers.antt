@@ -21,4 +21,4 @@ returns-in-None c =
     rw (← c.self.view_is) (sym c.to_propose.ensures ∙ c.in-None.is) in
     IfOk-weaker c.send_to.result _ _
     (goes_by_sending c.args.state.now c.args.self.now.me c.args.self.now.client.asks c.args.witnesses c.args.asked.now c.args.way nothing)
-    c.send_to.ensures
+    c.send_to.ensures.sent

@@ -1,4 +1,4 @@
--- The next phase ends, or memory is wanting in it.
+-- The next phase ends, or the run is given up in it.
 use Rattle.std.proofs.Common.{◌<◌, ◌+◌, length, sym, ap, ◌∙◌, subst}
 use Rattle.script_lines.specs.declared.script.Script.{Script}
 use Rattle.plain_schedule.specs.Phases.{Progress}
@@ -60,8 +60,8 @@ returns-in-Err-clause-plays_on g c =
     (kept i.rounds.world c.play_phase_lines-played.new.rounds.world i.told i.place i.phase c.self.invariant.0 c.play_phase_lines-played.ensures.went_on
     legal)
 
-pub returns-in-Err-clause-no_memory : goal.returns-in-Err-clause-no_memory
-returns-in-Err-clause-no_memory g c =
+pub returns-in-Err-clause-gave_up : goal.returns-in-Err-clause-gave_up
+returns-in-Err-clause-gave_up g c =
     let i = c.self.inside in
     let strict = c.play_phase_lines-played.ensures.went_on.2 ∙ c.self.invariant.1 in
     let legal = c.records-told.ensures.legal strict in

@@ -3,8 +3,8 @@ use Rattle.plain_schedule.specs.Phases.{GoesByPhases}
 use Rattle.plain_schedule.proofs.Ended.{goes_by_phases}
 use Rattle.plain_schedule.proofs.playing.Playing.play_phase.Goals as goal
 
-pub returns-then-self-clause-by_phases : goal.returns-then-self-clause-by_phases
-returns-then-self-clause-by_phases g c =
+pub returns-in-Some-clause-by_phases : goal.returns-in-Some-clause-by_phases
+returns-in-Some-clause-by_phases g c =
     let i = c.self.inside in
     subst GoesByPhases c.self.view_is (goes_by_phases i.rounds.world.script i.rounds.world.records i.told i.place i.phase c.self.invariant.0)
 
