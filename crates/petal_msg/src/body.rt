@@ -7,7 +7,7 @@ use petal_base::{
 use petal_command::{Command, Pax, ServerNumber};
 
 /// The content of a letter, in the order of the format.
-#[derive(Drop)]
+#[derive(Drop, PartialEq, Eq)]
 pub enum Body {
     /// This incarnation of a server has stopped.
     Down {

@@ -263,14 +263,6 @@ goes_the_old_way state me client asked = goes_out state me client (record asked 
 -- Data and NotHere answer only a read, Written and Full only a write. What was refused for a while, or at another revision, is sent
 -- again, and the client asks what follows. The others are no replies
 abbrev pub hears : State → ℕ → Client → Asked → ℕ → Body → Reaction
-hears state me client asked rev (body.Down server inc) = rests client
-hears state me client asked rev (body.Seen line round running inc full) = rests client
-hears state me client asked rev (body.Propose command) = rests client
-hears state me client asked rev (body.Pax pax) = rests client
-hears state me client asked rev (body.Ask after) = rests client
-hears state me client asked rev (body.News after commands) = rests client
-hears state me client asked rev (body.Read by seq cell epoch) = rests client
-hears state me client asked rev (body.Write by seq cell epoch bytes) = rests client
 hears state me client asked rev (body.Data seq bytes) =
     if replies asked rev (about (body.Data seq bytes)) && is_read asked.request then answers client asked (answer.Data bytes) else rests client
 hears state me client asked rev (body.NotHere seq) =
@@ -285,21 +277,7 @@ hears state me client asked rev (body.Written seq) =
     if replies asked rev (about (body.Written seq)) && is_write asked.request then answers client asked answer.Ok else rests client
 hears state me client asked rev (body.Full seq) =
     if replies asked rev (about (body.Full seq)) && is_write asked.request then answers client asked answer.NoSpace else rests client
-hears state me client asked rev (body.Reserve op cell) = rests client
-hears state me client asked rev (body.Reserved op cell) = rests client
-hears state me client asked rev (body.PairFull op cell) = rests client
-hears state me client asked rev (body.Replicate op key version bytes) = rests client
-hears state me client asked rev (body.Replicated op cell) = rests client
-hears state me client asked rev (body.HelloAsk map link after) = rests client
-hears state me client asked rev (body.Hello map link after block) = rests client
-hears state me client asked rev (body.Trim op cell epochs) = rests client
-hears state me client asked rev (body.Trimmed op cell) = rests client
-hears state me client asked rev (body.Sync op key version index bytes) = rests client
-hears state me client asked rev (body.Synced op cell index) = rests client
-hears state me client asked rev (body.SyncFull op cell) = rests client
-hears state me client asked rev (body.Fill key bytes) = rests client
-hears state me client asked rev (body.Filled key) = rests client
-hears state me client asked rev (body.FillFull key) = rests client
+hears state me client asked rev said = rests client
 
 abbrev pub hears_of : State → ℕ → Client → Option Asked → Letter → Reaction
 hears_of state me client None letter = rests client
