@@ -1,6 +1,6 @@
 //! One thread posts, and another takes.
 
-use crate::letters::{next_stamp, post_asks};
+use crate::posting::letters::{next_stamp, post_asks};
 use petal_base::NoMemory;
 use petal_msg::Actor;
 use postroom::Postroom;

@@ -1,0 +1,4 @@
+//! Letters on their way between threads.
+
+mod letters;
+mod threads;

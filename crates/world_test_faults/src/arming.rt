@@ -1,0 +1,4 @@
+//! Plans that come and go: by lines, which the world keeps to, and at any time.
+
+mod devices;
+mod lines;
