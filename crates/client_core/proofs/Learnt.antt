@@ -33,7 +33,7 @@ pick b s t now hs ht = elim b as (λ v. IsJudged (cond v s t) now) [ true ↦ hs
 
 by_judged : (me : ℕ) (entry : Command) (now : Learning) (asked : Asked) (command : Option Command) → IsJudged (judged_by me entry now asked command) now
 by_judged me entry now asked None =
-    pick (is_witness me asked.seq entry) _ now now (witnessed_judged now asked (refusal now.state asked.told asked.request))
+    pick (is_witness me asked.seq entry) _ now now (witnessed_judged now asked (refusal now.state asked.saw_missing asked.request))
     (record { state = refl; applied = refl })
 by_judged me entry now asked (Some command) = answered_judged now asked (verdict_for asked.seq (latest now.state me))
 

@@ -21,7 +21,7 @@ fresh line seq asked rev = record {
   turn = 0;
   rev = rev;
   witnesses = 0;
-  told = false;
+  saw_missing = false;
   old_way = false;
   round = first_round asked;
   seen = [];
@@ -59,22 +59,22 @@ with_witnesses witnesses asked = option_map (λ (was : Asked). record was { witn
 
 -- the request, where this was its latest send
 abbrev pub sent_last : Last → Asked → Asked
-sent_last last asked = record asked { turn = last.turn; rev = last.rev; told = last.way.told; old_way = last.way.old_way }
+sent_last last asked = record asked { turn = last.turn; rev = last.rev; saw_missing = last.way.saw_missing; old_way = last.way.old_way }
 
 abbrev pub with_send : Last → Option Asked → Option Asked
 with_send last asked = option_map (sent_last last) asked
 
 -- the request, where so many of its Witnesses were applied, and it goes this way
 abbrev pub on_way : Asked → ℕ → Way → Asked
-on_way asked witnesses way = record asked { witnesses = witnesses; told = way.told; old_way = way.old_way }
+on_way asked witnesses way = record asked { witnesses = witnesses; saw_missing = way.saw_missing; old_way = way.old_way }
 
 -- the way that it goes
 abbrev pub way_of : Asked → Way
-way_of asked = record { told = asked.told; old_way = asked.old_way }
+way_of asked = record { saw_missing = asked.saw_missing; old_way = asked.old_way }
 
 -- it is told that the new map has nothing
 abbrev pub turned : Way
-turned = record { told = true; old_way = true }
+turned = record { saw_missing = true; old_way = true }
 
 -- the request's line and its round, where it is a settle
 abbrev pub settle_in : Asked → Request → Option (ℕ × ℕ)

@@ -93,7 +93,7 @@ pub fn judged(
     if !is_witness(client, asked.seq, entry) {
         return Ok(Fate::Waits(witnesses));
     }
-    match refusal(servers, state, asked.way().told, &asked.request) {
+    match refusal(servers, state, asked.way().saw_missing, &asked.request) {
         None => Ok(Fate::Waits(witnesses.checked_add(1).ok_or(ClientError::Exhausted)?)),
         Some(answer) => Ok(Fate::Answered(answer)),
     }

@@ -16,7 +16,7 @@ use std::marker::Model;
 #[derive(Clone, Copy)]
 pub struct Way {
     /// It was once told that the new map has nothing.
-    pub told: bool,
+    pub saw_missing: bool,
     /// It asks the old map, at the revision of its latest send.
     pub old_way: bool,
 }
@@ -60,7 +60,7 @@ impl Model for Open {
       turn = o.turn;
       rev = o.rev;
       witnesses = o.witnesses;
-      told = o.way.told;
+      saw_missing = o.way.saw_missing;
       old_way = o.way.old_way;
       round = o.round.number;
       seen = o.round.shown;
@@ -117,7 +117,7 @@ impl Open {
             rev,
             witnesses: 0,
             way: Way {
-                told: false,
+                saw_missing: false,
                 old_way: false,
             },
             round,

@@ -88,16 +88,16 @@ fn read_refusal(
     name: &Name,
     snap: &Option<Name>,
     block: BlockNo,
-    told: bool,
+    saw_missing: bool,
 ) -> Option<Answer>
     requires { servers ≡ servers_of state.now }
-    ensures { result ≡ read_refusal state.now (find state.now name.now) snap.now block told }
+    ensures { result ≡ read_refusal state.now (find state.now name.now) snap.now block saw_missing }
 {
     match state.find(name) {
         None => Some(Answer::NoDisk),
         Some(disk) => {
             let asked = state.asked_cell(&disk, block, false);
-            let old = state.asked_cell(&disk, block, told);
+            let old = state.asked_cell(&disk, block, saw_missing);
             read_refusal_at(servers, state, asked, old, epoch_for(state, &disk, snap))
         }
     }
@@ -105,14 +105,19 @@ fn read_refusal(
 
 /// Why a read or a write can't be served in a state; of a read also by whether it was told that the new map has nothing.
 #[tactic(auto, unfolding(spec_rules::specs::Clients::refusal))]
-pub fn refusal(servers: u8, state: &GlobalState, told: bool, request: &Request) -> Option<Answer>
+pub fn refusal(
+    servers: u8,
+    state: &GlobalState,
+    saw_missing: bool,
+    request: &Request,
+) -> Option<Answer>
     requires { servers ≡ servers_of state.now }
-    ensures { result ≡ refusal state.now told request.now }
+    ensures { result ≡ refusal state.now saw_missing request.now }
 {
     match request {
         Request::Write { name, block, .. } => write_refusal(state, name, *block),
         Request::Read { name, snap, block } => {
-            read_refusal(servers, state, name, snap, *block, told)
+            read_refusal(servers, state, name, snap, *block, saw_missing)
         }
         _ => None,
     }
@@ -134,7 +139,7 @@ pub fn to_propose(
     if let Some(command) = command_of(client, asked.seq, &asked.request) {
         return Some(command);
     }
-    match refusal(servers, state, way.told, &asked.request) {
+    match refusal(servers, state, way.saw_missing, &asked.request) {
         None => None,
         Some(_) => Some(Command::Witness {
             client,

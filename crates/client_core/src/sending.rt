@@ -103,7 +103,7 @@ impl ClientCore {
                 turn: asked.turn.checked_add(1).ok_or(ClientError::Exhausted)?,
                 rev: state.rev(),
                 way: Way {
-                    told: way.told,
+                    saw_missing: way.saw_missing,
                     old_way,
                 },
             },
@@ -122,7 +122,7 @@ impl ClientCore {
                 turn: 0,
                 rev: 0,
                 way: Way {
-                    told: false,
+                    saw_missing: false,
                     old_way: false,
                 },
             },
@@ -186,7 +186,7 @@ impl ClientCore {
             None => Ok(self.no_send()),
             Some(asked) => {
                 let way = Way {
-                    told: true,
+                    saw_missing: true,
                     old_way: true,
                 };
                 let sent = self.go_out(alloc, &self.state, asked, asked.witnesses, way)?;

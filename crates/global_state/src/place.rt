@@ -59,7 +59,10 @@ fn serves(server: ServerId, row: &LinkRow, state: LinkState) -> bool
 {
     match state {
         LinkState::Both => row.primary == server || row.secondary == server,
-        LinkState::Only { holder, whole: _ } => holder == server,
+        LinkState::Only {
+            holder,
+            full_copy_needed: _,
+        } => holder == server,
         LinkState::Lost => false,
     }
 }
@@ -135,7 +138,10 @@ impl GlobalState {
     {
         match state {
             LinkState::Both => Some(primary),
-            LinkState::Only { holder, whole: _ } => {
+            LinkState::Only {
+                holder,
+                full_copy_needed: _,
+            } => {
                 if self.tables.is_up(holder) {
                     Some(holder)
                 } else {

@@ -85,6 +85,6 @@ row_caught of link row = if is_link of link row then record row { state = Both }
 abbrev pub caught : List LinkRow → ℕ → ℕ → List LinkRow
 caught rows of link = map (row_caught of link) rows
 
--- the links after a map is dead
+-- the links after a map is retired
 abbrev pub dropped : List LinkRow → ℕ → List LinkRow
 dropped rows of = filter (λ row. not (row.map == of)) rows

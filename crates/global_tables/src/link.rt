@@ -8,7 +8,10 @@ pub enum LinkState {
     /// Both copies are kept up to date; the primary leads.
     Both,
     /// The holder alone is up to date. `whole`: it has to copy every block it has to the other server, which lost its own.
-    Only { holder: ServerId, whole: bool },
+    Only {
+        holder: ServerId,
+        full_copy_needed: bool,
+    },
     /// No server is known to be up to date.
     Lost,
 }

@@ -125,7 +125,7 @@ module _ (lines : List Line) (rise : AreRising lines) (given : List (ℕ × Answ
     }
 
     -- a read that was told that the new map has nothing is open at its line
-    told_open : (asked : Asked) → client.asked ≡ Some asked → AreOpen (Some (record asked { told = true; old_way = true }))
+    told_open : (asked : Asked) → client.asked ≡ Some asked → AreOpen (Some (record asked { saw_missing = true; old_way = true }))
     told_open asked is old e = subst (λ (x : Asked). IsOpenAt lines given c client.seq x.line) (same_some e) (a.asked asked is)
 
     begins_ahead : (line : Line) → next_line lines c client ≡ Some line → (to : Client) (asked : Asked) → to.seq ≡ client.seq + 1
@@ -150,7 +150,7 @@ module _ (lines : List Line) (rise : AreRising lines) (given : List (ℕ × Answ
     turned _ _ (Goes_on reacted seq stays only) = silent reacted only.unanswered (goes_ahead _ client.asked a.asked reacted.client seq stays)
     turned _ _ (Is_told reacted asked h is reads seq stays only) =
         silent reacted only.unanswered
-        (goes_ahead _ (Some (record asked { told = true; old_way = true })) (told_open asked is) reacted.client seq stays)
+        (goes_ahead _ (Some (record asked { saw_missing = true; old_way = true })) (told_open asked is) reacted.client seq stays)
     turned _ _ (Begins reacted line asked is free seq there called only) =
         silent reacted only.unanswered (begins_ahead line is reacted.client asked seq there called.line_is)
     turned _ _ (Reads asked bytes h is reads) = record {

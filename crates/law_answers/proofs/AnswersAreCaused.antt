@@ -146,7 +146,7 @@ module _ (setting : Setting) (last : World) (plain : HasProperTuples setting.ser
       ap (command_of c asked.seq) (o.request_is ∙ ap (λ (l : Line). l.request) line) ∙ a.own
 
   judged_cause : (c : ℕ) (before after : List Command) (asked : Asked) (given : Answer) → IsOpenFor setting.lines c asked
-      → (asked.told ≡ true → WasTold last c asked.seq) → IsPrefix after (chosen_log setting last)
+      → (asked.saw_missing ≡ true → WasTold last c asked.seq) → IsPrefix after (chosen_log setting last)
       → IsJudged setting.servers c before after asked given → HasCause asked.line given
   judged_cause c before after asked given o was_told part judged = caused_by c asked given o (by judged.reason)
     where
@@ -180,11 +180,11 @@ module _ (setting : Setting) (last : World) (plain : HasProperTuples setting.ser
           (witness_causes c asked.seq asked.request given (record {
             place = length judged.front;
             turn = w.0;
-            told = asked.told;
+            told = asked.saw_missing;
             why = was_told;
             is = there ∙ ap Some w.1;
-            so = ap (λ (s : State). refusal s asked.told asked.request) state ∙ so;
-            fits = refusal_fits (state_after setting.servers upto) asked.told asked.request given so;
+            so = ap (λ (s : State). refusal s asked.saw_missing asked.request) state ∙ so;
+            fits = refusal_fits (state_after setting.servers upto) asked.saw_missing asked.request given so;
           }))
 
   -- ### A step
@@ -192,12 +192,12 @@ module _ (setting : Setting) (last : World) (plain : HasProperTuples setting.ser
   pub record Kept (w : World) : Type 0 where
     pub answers : (number : ℕ) (given : Answer) → In (number, given) w.answers → HasCause number given
     pub open_for : (c : ℕ) (asked : Asked) → (w.clients c).asked ≡ Some asked → IsOpenFor setting.lines c asked
-    pub told : (c : ℕ) (asked : Asked) → (w.clients c).asked ≡ Some asked → asked.told ≡ true → WasTold last c asked.seq
+    pub told : (c : ℕ) (asked : Asked) → (w.clients c).asked ≡ Some asked → asked.saw_missing ≡ true → WasTold last c asked.seq
 
   -- what a client's step leaves and answers
   record Reacted (c : ℕ) (reacted : Reaction) : Type 0 where
     open_for : (asked : Asked) → reacted.client.asked ≡ Some asked → IsOpenFor setting.lines c asked
-    told : (asked : Asked) → reacted.client.asked ≡ Some asked → asked.told ≡ true → WasTold last c asked.seq
+    told : (asked : Asked) → reacted.client.asked ≡ Some asked → asked.saw_missing ≡ true → WasTold last c asked.seq
     answered : (number : ℕ) (given : Answer) → reacted.answer ≡ Some (number, given) → HasCause number given
 
   open_same : (rev c : ℕ) (old new : Asked) → IsSame rev old new → IsOpenFor setting.lines c old → IsOpenFor setting.lines c new
@@ -220,13 +220,13 @@ module _ (setting : Setting) (last : World) (plain : HasProperTuples setting.ser
 
   -- what was told of it stays so
   stays_told : (rev c : ℕ) (old new : Option Asked) → StaysOpen rev old new
-      → ((asked : Asked) → old ≡ Some asked → asked.told ≡ true → WasTold last c asked.seq) → (asked : Asked) → new ≡ Some asked → asked.told ≡ true
+      → ((asked : Asked) → old ≡ Some asked → asked.saw_missing ≡ true → WasTold last c asked.seq) → (asked : Asked) → new ≡ Some asked → asked.saw_missing ≡ true
       → WasTold last c asked.seq
   stays_told rev c None None stays before asked e told = none_some refl e
   stays_told rev c None (Some new) stays before asked e told = absurd stays
   stays_told rev c (Some old) None stays before asked e told = none_some refl e
   stays_told rev c (Some old) (Some new) stays before asked e told =
-      let was : old.told ≡ true = sym stays.told ∙ ap (λ (a : Asked). a.told) (same_some e) ∙ told in
+      let was : old.told ≡ true = sym stays.told ∙ ap (λ (a : Asked). a.saw_missing) (same_some e) ∙ told in
       subst (λ (s : ℕ). WasTold last c s) (sym stays.seq ∙ ap (λ (a : Asked). a.seq) (same_some e)) (before old refl was)
 
   answer_given : (number line : ℕ) (given told : Answer) → (let pair : Option (ℕ × Answer) = Some (line, told) in pair) ≡ Some (number, given)
@@ -283,12 +283,12 @@ module _ (setting : Setting) (last : World) (plain : HasProperTuples setting.ser
 
   module _ (heard : ℕ → Body → Type 0) (c : ℕ) (hears : (rev seq : ℕ) → heard rev (body.NotHere seq) → WasTold last c seq) where
     -- the same request, told that the new map has nothing
-    told_open : (asked : Asked) → IsOpenFor setting.lines c asked → IsOpenFor setting.lines c (record asked { told = true; old_way = true })
+    told_open : (asked : Asked) → IsOpenFor setting.lines c asked → IsOpenFor setting.lines c (record asked { saw_missing = true; old_way = true })
     told_open asked o = record { before = o.before; line = o.line; is = o.is; line_is = o.line_is; seq_is = o.seq_is; request_is = o.request_is }
 
     reacted_kept : (client : Client) (in_call : Bool) (reacted : Reaction)
         → ((asked : Asked) → client.asked ≡ Some asked → IsOpenFor setting.lines c asked)
-        → ((asked : Asked) → client.asked ≡ Some asked → asked.told ≡ true → WasTold last c asked.seq)
+        → ((asked : Asked) → client.asked ≡ Some asked → asked.saw_missing ≡ true → WasTold last c asked.seq)
         → IsPrefix reacted.client.applied (chosen_log setting last) → Turned heard setting.servers setting.lines c client in_call reacted → Reacted c reacted
     reacted_kept client _ _ before was part (Goes_on reacted seq stays says) = record {
       open_for = stays_open _ c client.asked reacted.client.asked stays before;
@@ -311,7 +311,7 @@ module _ (setting : Setting) (last : World) (plain : HasProperTuples setting.ser
             seq_is = called.seq_is;
             request_is = called.request_is;
           } in o);
-      told = λ other e t. true_false t (ap (λ (a : Asked). a.told) (same_some (sym e ∙ now)) ∙ called.untold);
+      told = λ other e t. true_false t (ap (λ (a : Asked). a.saw_missing) (same_some (sym e ∙ now)) ∙ called.untold);
       answered = λ number given e. none_some says.unanswered e;
     }
     reacted_kept client _ _ before was part (Reads asked bytes told is read) = record {
@@ -368,7 +368,7 @@ module _ (setting : Setting) (last : World) (plain : HasProperTuples setting.ser
         open_for = all_put w.clients c reacted.client
             (λ k (client : Client). (asked : Asked) → client.asked ≡ Some asked → IsOpenFor setting.lines k asked) kept.open_for r.open_for;
         told = all_put w.clients c reacted.client
-            (λ k (client : Client). (asked : Asked) → client.asked ≡ Some asked → asked.told ≡ true → WasTold last k asked.seq) kept.told r.told;
+            (λ k (client : Client). (asked : Asked) → client.asked ≡ Some asked → asked.saw_missing ≡ true → WasTold last k asked.seq) kept.told r.told;
       }
 
 -- ### Histories

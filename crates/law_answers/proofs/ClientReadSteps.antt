@@ -40,7 +40,7 @@ module _ (heard : ℕ → Body → Type 0) (lines : List Line) (c : ℕ) (client
 
   told_way : (old : Asked) (rev : ℕ) → old.rev ≤ rev → heard old.rev (body.NotHere old.seq)
       → (old.old_way ≡ true → new.rev ≡ old.rev → new.old_way ≡ true)
-      → WasSent rev (record old { told = true; old_way = true }) new → OnWay heard old new
+      → WasSent rev (record old { saw_missing = true; old_way = true }) new → OnWay heard old new
   told_way old rev low told stays (As_it_was at way) = by_bool old.old_way (λ t. As_before at (way ∙ sym t)) (λ f. Turns told f at way)
   told_way old rev low told stays (Anew at way) = anew old rev low at way stays
 
@@ -63,8 +63,8 @@ module _ (heard : ℕ → Body → Type 0) (lines : List Line) (c : ℕ) (client
       open_way (length reacted.client.applied) client.asked refl low (λ old o t same. way refl old new o is t same)
       (subst (StaysOpen (length reacted.client.applied) client.asked) is stays)
   turned_way servers _ _ (Is_told reacted asked told was reads seq stays says) way low is =
-      let same : IsSame (length reacted.client.applied) (record asked { told = true; old_way = true }) new =
-      subst (StaysOpen (length reacted.client.applied) (Some (record asked { told = true; old_way = true }))) is stays in
+      let same : IsSame (length reacted.client.applied) (record asked { saw_missing = true; old_way = true }) new =
+      subst (StaysOpen (length reacted.client.applied) (Some (record asked { saw_missing = true; old_way = true }))) is stays in
       Was_open asked was same.seq same.line
       (told_way asked (length reacted.client.applied) (low asked was) told (λ t e. way refl asked new was is t e) same.sent)
   turned_way servers _ _ (Begins reacted line asked next free seq now called says) way low is =
@@ -182,7 +182,7 @@ refused_no_data state told _ = none_given
 
 reason_no_data : (c : ℕ) (asked : Asked) (given : Answer) (state : State) (entry : Command) → IsReason c asked given state entry → is_data given ≡ false
 reason_no_data c asked given state entry (By_verdict command own so) = latest_no_data asked.seq (latest state c) given so
-reason_no_data c asked given state entry (By_witness none is so) = refused_no_data state asked.told asked.request given so
+reason_no_data c asked given state entry (By_witness none is so) = refused_no_data state asked.saw_missing asked.request given so
 
 seen_no_data : (state : State) (asked : Asked) (sight : Sight) (given : Answer) → IsSeenAs state asked sight given → is_data given ≡ false
 seen_no_data state asked sight given (Stops_it server is so) = ap is_data so

@@ -78,7 +78,7 @@ ending_not ending.Full e = absurd (cc)
 pub reason_not : (c : ℕ) (asked : Asked) (given : Answer) (state : State) (entry : Command) → given ≡ answer.Failed
     → IsReason c asked given state entry → ⊥
 reason_not c asked given state entry e (By_verdict command own so) = verdict_for_not asked.seq (latest state c) (so ∙ ap Some e)
-reason_not c asked given state entry e (By_witness none is so) = refusal_not state asked.told asked.request (so ∙ ap Some e)
+reason_not c asked given state entry e (By_witness none is so) = refusal_not state asked.saw_missing asked.request (so ∙ ap Some e)
 
 -- ### What answers a line that names a server
 
@@ -107,7 +107,7 @@ no_refusal state told _ n given named so = none_some refl so
 pub not_judged : (c : ℕ) (asked : Asked) (n : ℕ) (given : Answer) (state : State) (entry : Command) → (names asked.request).server ≡ Some n
     → IsReason c asked given state entry → ⊥
 not_judged c asked n given state entry named (By_verdict command own so) = no_command c asked.seq asked.request n command named own
-not_judged c asked n given state entry named (By_witness none is so) = no_refusal state asked.told asked.request n given named so
+not_judged c asked n given state entry named (By_witness none is so) = no_refusal state asked.saw_missing asked.request n given named so
 
 -- a glance is at the server that its line names
 pub glanced_at : (asked : Request) (n m : ℕ) (running : Bool) (before : Option (ℕ × Deed)) → IsDone asked n running before

@@ -415,7 +415,7 @@ module _ (script : Script) (records : List Record) (sound : IsSound script) (ris
       turned_goes _ _ (Is_told reacted asked told is read seq stays says) = record {
         seq = inl seq;
         newest = λ now e.
-            let o = kept_open _ (Some (record asked { told = true; old_way = true })) reacted.client.asked stays now e in
+            let o = kept_open _ (Some (record asked { saw_missing = true; old_way = true })) reacted.client.asked stays now e in
             o.2.seq ∙ ap (λ (x : Asked). x.seq) (same_some (sym o.1)) ∙ kept.newest c asked is ∙ sym seq;
         stays = λ other n there named fresh. absurd (not_read asked.request n (same_named asked other n is there named) read);
       }

@@ -27,7 +27,7 @@ pub use Rattle.law_log.proofs.Imports.{sees, sees_for, sees_from, sender, sends_
 pub use Rattle.law_log.proofs.Imports.{stamped, start, stays, stays_open, stepped, stopped, stops, subject_of, takes_all, takes_entries, takes_entry}
 pub use Rattle.law_log.proofs.Imports.{then_goes_out, tick_posts, tied_itself, to_propose, verdict_for, voter_of, wakes, wanted_by, way_now, with_sight}
 pub use Rattle.law_log.proofs.Imports.{witnessed, worked, works, world_after, wrong_rev}
-unfoldable pub use Rattle.law_log.proofs.Imports.{applies, does, goes_on, handles, heard, hears_log, learns, log_does, next_dead, nobody, number, on_ask}
+unfoldable pub use Rattle.law_log.proofs.Imports.{applies, does, goes_on, handles, heard, hears_log, learns, log_does, next_retired, nobody, number, on_ask}
 unfoldable pub use Rattle.law_log.proofs.Imports.{on_news, on_pair_full, on_pax, on_propose, on_read, on_replicate, on_replicated, on_reserve, on_reserved}
 unfoldable pub use Rattle.law_log.proofs.Imports.{on_write, put_at, refusal, repairs, starts, step, sweeps, ticked}
 pub use Rattle.law_steps.specs.Imports.{Finished, Glanced, Paired, Refused, Sender, Subject, Table, bytes_of, cell_cmp, crossed, entry_at, letters_of, live}
@@ -38,7 +38,7 @@ pub use Rattle.law_steps.proofs.Imports.{is_clients, is_none, log_below, log_rev
 unfoldable pub use Rattle.law_steps.proofs.Imports.{put, without}
 pub use Rattle.law_jobs.specs.Imports.{FoundNoSlot, IsBusy, IsHeldBack, IsNewFill, IsReadable, IsRefusal}
 pub use Rattle.law_jobs.proofs.Imports.{◌-◌, A_slot, An_entry_to_move, Asks, By_read, Did, Handled, Happens, IsMoment, Not_here, Rests, Shows, Was}
-pub use Rattle.law_jobs.proofs.Imports.{always_firm, at_apart, at_same, dead_second, front_legal, last_moment, moment_more, own_place, was_same, with_answer}
+pub use Rattle.law_jobs.proofs.Imports.{always_firm, at_apart, at_same, retired_second, front_legal, last_moment, moment_more, own_place, was_same, with_answer}
 pub use Rattle.law_jobs.proofs.Imports.{world_more}
 pub use Rattle.law_copies.specs.Imports.{IsRising, no_pairs}
 pub use Rattle.law_copies.proofs.Imports.{Asks_slot, At, Blanks, By_ballot, By_entry, By_job, Effect, Ends_fill, Fails, Goes, IsLinked, IsSeatedOrMute, May}
@@ -76,7 +76,7 @@ pub use Rattle.law_log.proofs.LogInHistories.{chosen_is_called_for, who_runs_is_
 pub use Rattle.law_log.proofs.PairJobsLeaveLog.{IsDated, dated_again}
 pub use Rattle.law_log.proofs.PairLettersLeaveLog.{calm_handles, calm_stages, calm_where_in, dated_copies_again}
 pub use Rattle.law_log.specs.ProposedCommands.{IsOfLives, NoneBoots, WasWanted}
-pub use Rattle.law_moves.proofs.JobsChangeOneChain.{NeverDead}
+pub use Rattle.law_moves.proofs.JobsChangeOneChain.{NeverRetired}
 pub use Rattle.law_requests.proofs.LeadJobsKeepRequests.{job_tells}
 pub use Rattle.law_requests.proofs.RequestsInHistories.{asking_after}
 pub use Rattle.law_requests.proofs.ServerStepsKeepRequests.{SaysOk, Scene}
@@ -84,7 +84,7 @@ pub use Rattle.law_requests.specs.AskedRequests.{IsAsked}
 pub use Rattle.law_requests.specs.KnownRequests.{Lives}
 pub use Rattle.law_run.proofs.ContentsAsked.{reader_serves, reads_old_is}
 pub use Rattle.law_run.proofs.DataLetters.{mute_data}
-pub use Rattle.law_run.proofs.GroundGives.{never_dead}
+pub use Rattle.law_run.proofs.GroundGives.{never_retired}
 pub use Rattle.law_run.proofs.GroundInHistories.{footing_after}
 pub use Rattle.law_run.proofs.Machine.{or_former}
 pub use Rattle.law_run.proofs.OldReads.{same_data, same_seq}

@@ -3,7 +3,7 @@ use Rattle.law_answers.proofs.Imports.{◌<◌, ◌∙◌, ◌≡◌, ◌≤◌,
 use Rattle.law_answers.proofs.Imports.{Finished, For_a_fill, For_a_write, FoundNoSlot, Had_no_slot, Handled, HasCome, Has_no_slot, In, IsFinishedFor}
 use Rattle.law_answers.proofs.Imports.{IsSeatedOrMute, IsSteady, Is_declined, Is_new, JobContext, JobResult, List, Moves, Moves_on, None, PairState, Pending}
 use Rattle.law_answers.proofs.Imports.{Post, Refused, Repeats, Some, Stood, Table, Was, Work, World, ap, arith, at, both_first, both_leads, both_row, by_bool}
-use Rattle.law_answers.proofs.Imports.{cell_cmp, chosen_log, dead_second, did_come, did_count, did_finish, ended, false, finished_of, first, in_both, in_once}
+use Rattle.law_answers.proofs.Imports.{cell_cmp, chosen_log, retired_second, did_come, did_count, did_finish, ended, false, finished_of, first, in_both, in_once}
 use Rattle.law_answers.proofs.Imports.{inl, inr, is_clients, is_in, is_logged, is_second, is_the_one, lead_first, leads_link, letters_of_job, live, moved_as}
 use Rattle.law_answers.proofs.Imports.{none_some, one_client, one_front, own_place, own_steady, pending_on, put, refl, same_some, second, second_both}
 use Rattle.law_answers.proofs.Imports.{state_after, subject_of, subst, sym, to_client, to_server, true, true_false, was_same, ℕ}
@@ -73,7 +73,7 @@ module _ (R S : ℕ → ℕ → Type 0) (scene : Scene R S) where
 
   -- a cell with a second server is live
   in_live : (cell : Cell) (to : ℕ) → second here.state cell ≡ Some to → live here.state cell ≡ true
-  in_live cell to e = by_bool (live here.state cell) (λ on. on) (λ off. none_some (dead_second here.state cell off) e)
+  in_live cell to e = by_bool (live here.state cell) (λ on. on) (λ off. none_some (retired_second here.state cell off) e)
 
   -- and its first server leads its link
   first_of : (cell : Cell) → leads_link here.state n cell ≡ true → live here.state cell ≡ true → in_both here.state cell ≡ true

@@ -100,7 +100,7 @@ module _ (setting : Setting) where
 
   reason_spaced : (c : ℕ) (asked : Asked) (state : State) (entry : Command) → IsReason c asked answer.NoSpace state entry → ⊥
   reason_spaced c asked state entry (By_verdict command own so) = verdict_spaced (latest state c) asked.seq so
-  reason_spaced c asked state entry (By_witness none is so) = refusal_spaced state asked.told asked.request so
+  reason_spaced c asked state entry (By_witness none is so) = refusal_spaced state asked.saw_missing asked.request so
 
   runs_spaced : (running : Bool) → answer.NoSpace ≡ (if running then answer.Ok else answer.Failed) → ⊥
   runs_spaced true e = let g : answer.NoSpace ≡ answer.Ok = e in cc

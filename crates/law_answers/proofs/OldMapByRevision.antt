@@ -72,7 +72,7 @@ module _ (state : State) (c : ℕ) where
   old_stays : (client : Client) (asked : Asked) → client.asked ≡ Some asked → S client (goes_the_old_way state c client asked)
   old_stays client asked is was new open_then there old rev =
       let same : asked ≡ was = same_some (sym is ∙ open_then) in
-      out_stays client (record asked { told = true; old_way = true }) (record asked { told = true; old_way = true }) new refl there refl
+      out_stays client (record asked { saw_missing = true; old_way = true }) (record asked { saw_missing = true; old_way = true }) new refl there refl
       (rev ∙ ap (λ (a : Asked). a.rev) (sym same))
 
   hears_stays : (client : Client) (asked : Asked) (rev : ℕ) → client.asked ≡ Some asked → (said : Body) → S client (hears state c client asked rev said)
@@ -168,7 +168,7 @@ module _ (c : ℕ) where
 
       by : (o : Option Command) → J (judged_by c entry now asked o)
       by (Some command) = where_so (verdict_for asked.seq (latest now.state c))
-      by None = by_test J (is_witness c asked.seq entry) _ _ (λ t. witnessed_so (refusal now.state asked.told asked.request)) (λ f. so_itself now.client.asked)
+      by None = by_test J (is_witness c asked.seq entry) _ _ (λ t. witnessed_so (refusal now.state asked.saw_missing asked.request)) (λ f. so_itself now.client.asked)
 
   so_on : (one two three : Option Asked) → IsSo one two → IsSo two three → IsSo one three
   so_on one two three a b new e =

@@ -1,9 +1,9 @@
 -- What a server sends to whoever reads: the reply to the one read that it handles in the step.
 use Rattle.law_answers.proofs.Imports.{[], ◌∙◌, ◌∷◌, ◌≡◌, Acted, Actor, Body, Bool, By_ballot, By_entry, By_job, By_read, Cell, Did, Fails, Glanced, Goes}
-use Rattle.law_answers.proofs.Imports.{Grounded, Handled, In, IsReadable, IsSeatedOrMute, IsSteady, JobResult, Letter, List, Lives, NeverDead, None, Not_here}
+use Rattle.law_answers.proofs.Imports.{Grounded, Handled, In, IsReadable, IsSeatedOrMute, IsSteady, JobResult, Letter, List, Lives, NeverRetired, None, Not_here}
 use Rattle.law_answers.proofs.Imports.{Option, PairState, Post, SaysOk, Scene, Sender, Serving, Setting, Shows, Some, Stays, Step, Subject, Wakes, World, ap}
 use Rattle.law_answers.proofs.Imports.{awake, bytes_of, chain_in, down_posts, entry_at, false, inl, inr, is_logged, is_looked, job_tells, letters_of, map}
-use Rattle.law_answers.proofs.Imports.{mute_data, never_dead, own_place, owns_of, post_of, raised, refl, rev_of, said, same_data, sender, server_state}
+use Rattle.law_answers.proofs.Imports.{mute_data, never_retired, own_place, owns_of, post_of, raised, refl, rev_of, said, same_data, sender, server_state}
 use Rattle.law_answers.proofs.Imports.{servers_of, stamped, subject_of, sym, true, true_false, without_rev, ℕ}
 use Rattle.law_steps.specs.DidStep.{Ends}
 use Rattle.petal_msg.specs.declared.body.Body.TheVariants as body
@@ -140,7 +140,7 @@ module _ (g : Grounded) (steady : IsSteady g.state) (n stamp : ℕ) where
   job_sends runs _ (By_read _ (Not_here client seq cell epoch readable comes none)) ok letter h =
       one_sent client seq cell epoch (body.NotHere seq) runs readable refl (λ k bytes e. absurd cc) letter h
   job_sends runs done d ok letter h =
-      let never : NeverDead (own_place setting w n) (owns_of w n) = never_dead g steady n runs in
+      let never : NeverRetired (own_place setting w n) (owns_of w n) = never_retired g steady n runs in
       all_apart mine done.posts (λ post i. neither setting w ground.lives n done.own post.to post.body
       (mute_data (Handled w n) (own_place setting w n) (owns_of w n) never done d tt post i) (ok post i)) letter h
 

@@ -98,7 +98,7 @@ module _ (w : World) (state : State) (c : ℕ) (client : Client) where
   -- the old map is asked
   old_rounds : (asked : Asked) → client.asked ≡ Some asked → R (goes_the_old_way state c client asked)
   old_rounds asked is =
-      let told : Asked = record asked { told = true; old_way = true } in
+      let told : Asked = record asked { saw_missing = true; old_way = true } in
       Quiet
       (λ new e. Keeps asked is (round_on asked told new (record { line = refl; request = refl; round = refl; seen = refl })
       (goes_same state c client told new e)))
@@ -187,7 +187,7 @@ module _ (w : World) (state : State) (c : ℕ) (client : Client) where
       (verdict_for asked.seq (latest now.state c))
   judged_learnt entry now asked l is None own =
       by_test Learnt (is_witness c asked.seq entry) _ _
-      (λ t. witnessed_learnt now asked l is (refusal now.state asked.told asked.request) (never_refused now.state asked.told asked.request)) (λ t. l)
+      (λ t. witnessed_learnt now asked l is (refusal now.state asked.saw_missing asked.request) (never_refused now.state asked.saw_missing asked.request)) (λ t. l)
 
   one_learnt : (entry : Command) (now : Learning) → Learnt now → (o : Option Asked) → now.client.asked ≡ o → Learnt (judged c entry now o)
   one_learnt entry now l None none = l

@@ -6,7 +6,7 @@ use Rattle.petal_msg.specs.declared.body.Body.TheVariants.{Data, Read}
 use Rattle.law_answers.specs.Looks.{IsCalledIn}
 use Rattle.petal_msg.specs.declared.letter.Actor.TheVariants as actor
 
--- by this state the server serves the cell's link, which so is not Lost; and where the cell has no link any more, its map is dead
+-- by this state the server serves the cell's link, which so is not Lost; and where the cell has no link any more, its map is retired
 pub record IsUnlost (state : State) (server : ℕ) (cell : Cell) : Type 0 where
   pub served : (row : LinkRow) → cell_link state cell ≡ Some row → serves server row row.state ≡ true
   pub kept : (row : LinkRow) → cell_link state cell ≡ Some row → row.state ≢ Lost

@@ -50,7 +50,7 @@ pub fn a_line_is_called_once()
 
 /// The letter that is accepted for such a line was sent by a server that handled the read of the line, with the bytes of its own entry of the cell;
 /// and by what was chosen then the server serves the cell's link. So no read of a link that is Lost is answered with data. Where the cell has no
-/// link any more, its map is dead: the last of its regions has moved.
+/// link any more, its map is retired: the last of its regions has moved.
 pub fn no_lost_link_is_read()
     ensures { (script : Script) (records : List Record) → IsSound script → AreRising script.lines → AreSteps script records
         → (answer : IsMoment records) (number : ℕ) (bytes : List ℕ) → answer.own.answer ≡ Some (number, Data bytes)

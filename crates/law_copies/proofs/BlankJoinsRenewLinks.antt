@@ -1,7 +1,7 @@
 -- An entry that counts as a Join with an empty store: of which server it is, and what becomes of the server's links.
 use Rattle.law_copies.proofs.Imports.{[], if◌then◌else◌, ◌&&◌, ◌++◌, ◌<◌, ◌==◌, ◌||◌, ◌∙◌, ◌∷◌, ◌≡◌, ◌≢◌, Bool, Both, Cell, Chain, Command, Join, LinkRow}
 use Rattle.law_copies.proofs.Imports.{LinkState, List, Lost, None, Only, Setting, State, Store, ap, append-nil, at-empty, blank_joins_in, blanked_state}
-use Rattle.law_copies.proofs.Imports.{both_true, by_bool, cell_cmp, chain_in, counts_joins, false, front_itself, has_server, inl, inr, is_whole}
+use Rattle.law_copies.proofs.Imports.{both_true, by_bool, cell_cmp, chain_in, counts_joins, false, front_itself, has_server, inl, inr, needs_full_copy}
 use Rattle.law_copies.proofs.Imports.{joined_counts, joins_blank, may_join, number_itself, refl, row_blanked, row_joined, same_numbers, slice_get}
 use Rattle.law_copies.proofs.Imports.{state_after, subst, sym, true, true_false, unwrap_or, ℕ}
 use Rattle.law_copies.specs.CopyProgress.{IsCovered, Is_equal, Is_to_be_copied}
@@ -84,7 +84,7 @@ blanked_alone row server holder whole has apart e = by row.state refl e
     by Lost is f = absurd cc
 
 -- a store is covered by an empty one, where all is to be copied
-pub filled_cover : (now : LinkRow) (cell : Cell) (a b : Store) → is_whole now.state ≡ true → chain_in b.chains cell ≡ [] → IsCovered now cell a b None
+pub filled_cover : (now : LinkRow) (cell : Cell) (a b : Store) → needs_full_copy now.state ≡ true → chain_in b.chains cell ≡ [] → IsCovered now cell a b None
 filled_cover now cell a b whole empty = by (chain_in a.chains cell) refl
   where
     by : (chain : Chain) → chain_in a.chains cell ≡ chain → IsCovered now cell a b None

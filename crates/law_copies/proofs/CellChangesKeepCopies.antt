@@ -45,15 +45,15 @@ closes pair op ok some at paired = grind arith
 
 -- the second server sets a slot apart
 pub reserves : (pair : Pair) (number : ℕ) → PairOk pair → progress pair.last ≤ number + number → number < ceiling pair
-    → Keeps pair (record pair { last = Some (record { op = number; far = Reserved }) })
+    → Keeps pair (record pair { last = Some (record { op = number; progress = Reserved }) })
 reserves pair number ok newer asked = grind arith
 
 -- the second server follows
-pub follows : (pair : Pair) (number : ℕ) (key : Key) (bytes : List ℕ) → PairOk pair → pair.last ≡ Some (record { op = number; far = Reserved })
+pub follows : (pair : Pair) (number : ℕ) (key : Key) (bytes : List ℕ) → PairOk pair → pair.last ≡ Some (record { op = number; progress = Reserved })
     → IsPutting pair.pending number key bytes
     → Keeps pair (record pair {
       second = put nat_cmp pair.second key.epoch (record { version = version_of pair.second + 1; bytes = bytes });
-      last = Some (record { op = number; far = Replicated });
+      last = Some (record { op = number; progress = Replicated });
     })
 follows pair number key bytes ok at h = grind arith
 

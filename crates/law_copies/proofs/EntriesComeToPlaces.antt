@@ -69,7 +69,7 @@ module _ (it : AtEntry) where
   pub alive_before : (cell : Cell) → AliveIn (state_after setting.servers next) cell → AliveIn earlier cell
   alive_before cell alive = let le = stages_up cell in omega arith
 
-  -- a cell that isn't dead and has no link isn't live yet
+  -- a cell that isn't retired and has no link isn't live yet
   unborn : (cell : Cell) → AliveIn earlier cell → cell_link earlier cell ≡ None → stage_at earlier cell ≡ 0
   unborn cell alive none = elim (same_or_apart (stage_at earlier cell) 0) [
     | inl zero ↦ zero
@@ -141,7 +141,7 @@ module _ (it : AtEntry) where
             | inr gone ↦ gone
           ]);
           last_copy = cell_never earlier entry old old.copies.last cell (elim (some_or_none (last_copy old cell)) [
-            | inl h ↦ elim ((rests.resting k).lasts cell h.0 h.1) [ inl rests ↦ none_some none rests.is | inr dead ↦ absurd (omega arith) ]
+            | inl h ↦ elim ((rests.resting k).lasts cell h.0 h.1) [ inl rests ↦ none_some none rests.is | inr retired ↦ absurd (omega arith) ]
             | inr gone ↦ gone
           ]);
           pages = link_never earlier entry old now (unheard.pages none now map_is);

@@ -2,7 +2,7 @@
 use Rattle.law_copies.proofs.Imports.{◌<◌, ◌∙◌, ◌≡◌, ◌⊎◌, Asks_page, Begins_copy, Body, Both, ByBoth, ByNone, ByOne, By_filler, By_holder, By_lead, By_other}
 use Rattle.law_copies.proofs.Imports.{By_read, By_second, By_sweep, Cell, Did, DidHolder, DidOther, Finds_it_full, Goes_on_copying, Ignores, IsBothRow}
 use Rattle.law_copies.proofs.Imports.{IsHeld, IsInBoth, IsLinked, IsSteady, JobContext, JobResult, LinkRow, Lost, None, Option, PairState, Refuses, Some}
-use Rattle.law_copies.proofs.Imports.{Tidies, Turns_page, ap, arith, by_bool, cell_holder, cell_link, dead_second, false, has_server, holder_of, inl, inr}
+use Rattle.law_copies.proofs.Imports.{Tidies, Turns_page, ap, arith, by_bool, cell_holder, cell_link, retired_second, false, has_server, holder_of, inl, inr}
 use Rattle.law_copies.proofs.Imports.{is_alone, is_second, is_the_one, leads_link, link_led_by, live, live_stage, none_some, of_read, option_and_then}
 use Rattle.law_copies.proofs.Imports.{other_of, primary_is_one, refl, row_lead, same_some, second, second_by, secondary_is_one, stage_at, subst, sym, true}
 use Rattle.law_copies.proofs.Imports.{true_false, ℕ}
@@ -20,7 +20,7 @@ away P q not_so (Some cell) so = λ e. not_so (subst P (sym e) so)
 -- a cell with a second server is live
 pub second_live : (here : JobContext) (cell : Cell) → is_second here.state here.me cell ≡ true → live here.state cell ≡ true
 second_live here cell e = by_bool (live here.state cell) (λ on. on)
-    (λ off. none_some (dead_second here.state cell off) (is_the_one (second here.state cell) here.me e))
+    (λ off. none_some (retired_second here.state cell off) (is_the_one (second here.state cell) here.me e))
 
 -- what a server has nothing to do with a cell for
 pub record IsIdleAt (here : JobContext) (q : Cell) : Type 0 where

@@ -115,7 +115,7 @@ module _ (it : AtStep) where
   open it use {setting, top, good, good.{visits}}
   open then_of it use {visits as later, reached, next, olds, news}
 
-  -- the cell is as before at a server of its link: its store, too, unless the cell is dead
+  -- the cell is as before at a server of its link: its store, too, unless the cell is retired
   pub record LeavesAt (front : List Command) (n place : ℕ) (cell : Cell) : Type 0 where
     pub visit : later n place cell ≡ visits n place cell
     pub store : AliveIn (state_after setting.servers top) cell → LeavesStore (olds front n) (news front n) cell

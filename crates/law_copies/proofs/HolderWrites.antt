@@ -1,6 +1,6 @@
 -- Each write of the holder of a link keeps a cell of it.
 use Rattle.law_copies.proofs.Imports.{[], ◌+◌, ◌∙◌, ◌≡◌, ◌≢◌, ◌≤◌, ◌⊎◌, Asks_for, Body, Busy, By_lead, Cell, Closes, Closes_alone, Copies, DidLead, Gives_up}
-use Rattle.law_copies.proofs.Imports.{Goes_on_dead, Has_fill, Has_no_room, IsMarked, IsRising, IsTaken, Is_full, JobContext, JobResult, LinkRow, Marks}
+use Rattle.law_copies.proofs.Imports.{Goes_on_retired, Has_fill, Has_no_room, IsMarked, IsRising, IsTaken, Is_full, JobContext, JobResult, LinkRow, Marks}
 use Rattle.law_copies.proofs.Imports.{Marks_alone, None, Opens, Opens_alone, Opens_fill, Opens_fill_alone, Option, PairState, Pending, Puts, Puts_alone}
 use Rattle.law_copies.proofs.Imports.{Repeats, Some, Stale, Store, Taken, Unmarks, Unmarks_alone, ap, arith, cell_of, chain_in, chain_put, copying_on}
 use Rattle.law_copies.proofs.Imports.{did_count, ends, false, fill_operation, gives_back, has_proposed, held_as_flag, id_of, in_both, inl, inr, is_alone}
@@ -34,7 +34,7 @@ module _ (heard : Body → Type 0) (here : JobContext) (links : ℕ) (row : Link
     taken_marks : IsMarked own.store op.cell → IsMarked now.store op.cell
     taken_marks m = subst (λ (s : Store). IsMarked s op.cell) (sym k.store) m
 
-    -- an operation of a cell that is not dead is of a live one
+    -- an operation of a cell that is not retired is of a live one
     lives : live here.state op.cell ≡ true
     lives = stage_live here.state op.cell (f.fit.ready.staged op.cell k.old k.was).born f.alive
 
@@ -189,5 +189,5 @@ module _ (heard : Body → Type 0) (here : JobContext) (links : ℕ) (row : Link
         (λ ne. lead_apart _ (Opens_fill_alone moving new room alone) ne)
     lead_step _ (Has_fill moving there) = lead_apart _ (Has_fill moving there) tt
     lead_step _ (Has_no_room moving new no_room) = lead_apart _ (Has_no_room moving new no_room) tt
-    lead_step _ (Goes_on_dead now op taken off) = either op.cell _ (λ g. true_false (lives now op taken g) off)
-        (λ ne. lead_apart _ (Goes_on_dead now op taken off) ne)
+    lead_step _ (Goes_on_retired now op taken off) = either op.cell _ (λ g. true_false (lives now op taken g) off)
+        (λ ne. lead_apart _ (Goes_on_retired now op taken off) ne)

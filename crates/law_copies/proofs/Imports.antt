@@ -11,8 +11,8 @@ pub use Rattle.law_state.proofs.Imports.{joins_blank, left_state, length, length
 pub use Rattle.law_state.proofs.Imports.{not_true, number_itself, option_and_then, option_map, option_map_or, refl, row_lead, same_numbers, same_or_apart}
 pub use Rattle.law_state.proofs.Imports.{same_some, second, secondary, slice_get, slice_get-map, slice_get_within, some_or_none, state_lead, subst, sym}
 pub use Rattle.law_state.proofs.Imports.{touches, true, true_false, unwrap_or, ℕ}
-pub use Rattle.law_log.proofs.Imports.{if◌then◌else◌, ◌||◌, Acted, Action, AreSteps, Ask, Blank, Block, Body, Copies, Copying, Dead, Ending, Entry, Equal}
-pub use Rattle.law_log.proofs.Imports.{Far, Firm, HasProperTuple, HasProperTuples, IsSettledState, IsSound, JobContext, JobResult, Key, LastCopy, LastOp}
+pub use Rattle.law_log.proofs.Imports.{if◌then◌else◌, ◌||◌, Acted, Action, AreSteps, Ask, Blank, Block, Body, Copies, Copying, Retired, Ending, Entry, Equal}
+pub use Rattle.law_log.proofs.Imports.{FollowProgress, Firm, HasProperTuple, HasProperTuples, IsSettledState, IsSound, JobContext, JobResult, Key, LastCopy, LastOp}
 pub use Rattle.law_log.proofs.Imports.{Letter, Life, Log, NextCopy, Pending, Post, Reaction, Script, Step, Stored, Wait, about, above, acts, all_put_apart}
 pub use Rattle.law_log.proofs.Imports.{awake, begins_copy, blanked, cell_at, cell_holder, cell_of, chain_in, client_sender, closes, copying_on, ended, ends}
 pub use Rattle.law_log.proofs.Imports.{eq_by_cmp, fill_operation, finishes, gives_back, has_proposed, holds_link, id_of, idle_mark, is_eq, is_flagged}
@@ -24,12 +24,12 @@ pub use Rattle.law_log.proofs.Imports.{without_copying, without_pending, world_a
 unfoldable pub use Rattle.law_log.proofs.Imports.{next_copy, put_at}
 pub use Rattle.law_steps.specs.Imports.{Busy, IsBelow, MarkKind, Nothing, Paired, Sender, Stage, Stale, StaysSo, Subject, Table, before_blanks, cell_cmp}
 pub use Rattle.law_steps.specs.Imports.{crossed, epochs_beyond, epochs_of, follows, holder_of, least, letters_of, live, marked_blocks, marks, next_stage}
-pub use Rattle.law_steps.specs.Imports.{operation, puts, settled_by, stage_at, unmarks, with_last, with_paired, with_pending, with_reserved, without_dead}
+pub use Rattle.law_steps.specs.Imports.{operation, puts, settled_by, stage_at, unmarks, with_last, with_paired, with_pending, with_reserved, without_retired}
 pub use Rattle.law_steps.specs.Imports.{without_entry, without_mark_on}
 pub use Rattle.law_steps.proofs.Imports.{ByBoth, ByNone, ByOne, Chain, Greater, HasDied, HasStarted, IsCaughtStill, IsSteady, Less, Logged, Mark, Ordering}
 pub use Rattle.law_steps.proofs.Imports.{Pairs, Store, alone_row, at-empty, at-where, blocks_left, cell_apart, cell_cmp_same, cell_cmp_total, cell_gone}
 pub use Rattle.law_steps.proofs.Imports.{cell_gone_apart, cell_same, dies, either_false, ends_cell, ends_link, found_at, front_plain, history_grows}
-pub use Rattle.law_steps.proofs.Imports.{history_is_firm, in_once, is_asked, is_at, is_clients, is_kept_on, is_link_under_way, is_none, is_on, is_whole}
+pub use Rattle.law_steps.proofs.Imports.{history_is_firm, in_once, is_asked, is_at, is_clients, is_kept_on, is_link_under_way, is_none, is_on, needs_full_copy}
 pub use Rattle.law_steps.proofs.Imports.{lesser, log_alone, log_below, log_steady, lookup, max, next_block, no_copies, out_has_stopped, progress_beside}
 pub use Rattle.law_steps.proofs.Imports.{progress_here, row_in_both, same_caught, same_id, same_place, settling, so_both, stage_most, stored_blocks}
 pub use Rattle.law_steps.proofs.Imports.{touches_cell, up_some, version_of, who_is_in_has_begun, with_entry, with_mark_at, with_mark_on, with_ticket}
@@ -38,7 +38,7 @@ pub use Rattle.law_jobs.specs.Imports.{IsHeldWith, IsOfCopy, Taken, TakenCopy, c
 pub use Rattle.law_jobs.proofs.Imports.{Asks_for, Asks_page, Asks_to_trim, Begins_copy, By_filler, By_holder, By_lead, By_other, By_read, By_second, By_sweep}
 pub use Rattle.law_jobs.proofs.Imports.{Closes, Closes_alone, Closes_copy, CopyStep, Copy_as_is, Copy_synced, Copy_trimmed, Declines, Did, DidFiller}
 pub use Rattle.law_jobs.proofs.Imports.{DidHolder, DidLead, DidOther, DidSecond, DidSweep, Drops_entry, Finds_it_full, Follows, Gives_up, Goes_on_copying}
-pub use Rattle.law_jobs.proofs.Imports.{Goes_on_dead, Goes_on_trimming, Handled, Happens, Has_entry, Has_fill, Has_no_room, Has_no_slot, Ignores}
+pub use Rattle.law_jobs.proofs.Imports.{Goes_on_retired, Goes_on_trimming, Handled, Happens, Has_entry, Has_fill, Has_no_room, Has_no_slot, Ignores}
 pub use Rattle.law_jobs.proofs.Imports.{Is_copied_to, Is_full, Is_trimmed, Marks, Marks_alone, Opens, Opens_alone, Opens_fill, Opens_fill_alone, OtherReply}
 pub use Rattle.law_jobs.proofs.Imports.{Promises, Puts, Puts_alone, Puts_entry, Refuses, Repeats, Replies, Rests, Sends, Sets_apart, Sweeps, Tidies, TrimStep}
 pub use Rattle.law_jobs.proofs.Imports.{Turns_page, Unmarks, Unmarks_alone, Unmarks_copied, always_firm, at_apart, at_same, chains_at, is_mark, is_marked}
@@ -66,7 +66,7 @@ pub use Rattle.law_log.proofs.LogInHistories.{chosen_caught_was}
 pub use Rattle.law_state.proofs.BlankJoins.{counts_joins, joined_counts, joins_grow, joins_on}
 pub use Rattle.law_state.proofs.Caughts.{alone_by}
 pub use Rattle.law_state.proofs.CaughtsMadeBoth.{left_not_both, left_row, log_both_place, log_lost, places_later, stays_row}
-pub use Rattle.law_state.proofs.CellsByLinkRows.{IsHeldBy as IsHeld, IsInBoth, dead_second, first_by, link_led_by, second_by}
+pub use Rattle.law_state.proofs.CellsByLinkRows.{IsHeldBy as IsHeld, IsInBoth, retired_second, first_by, link_led_by, second_by}
 pub use Rattle.law_state.proofs.EntriesOnlyAdd.{start_plain}
 pub use Rattle.law_state.proofs.EntriesTouchLinks.{log_entry_stays, log_touched, places_grow, places_of_both, places_on}
 pub use Rattle.law_state.proofs.GrownStates.{alone_not_both, lost_not_both, one_before}
@@ -114,7 +114,7 @@ pub use Rattle.law_steps.specs.Operations.{putting}
 pub use Rattle.law_steps.specs.ProposedCommands.{WasReturning}
 pub use Rattle.law_steps.specs.WakingServers.{AllMayWake}
 pub use Rattle.petal_msg.specs.Kinds.{Read_asked, Write_asked, is_paired}
-pub use Rattle.petal_msg.specs.declared.operation.Far.TheVariants.{Replicated, Reserved}
+pub use Rattle.petal_msg.specs.declared.operation.FollowProgress.TheVariants.{Replicated, Reserved}
 pub use Rattle.spec_history.specs.Claims.{AreCovered, Covered, MarksFirst, TwoCopies, is_at_work}
 pub use Rattle.spec_rules.proofs.Applied.{rev_after}
 pub use Rattle.spec_rules.specs.Blanked.{BeforeBlank}

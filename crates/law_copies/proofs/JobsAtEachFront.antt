@@ -2,7 +2,7 @@
 -- place a cell is kept as by its own entries.
 use Rattle.law_copies.proofs.Imports.{[], ◌<◌, ◌∙◌, ◌≡◌, ◌≢◌, ◌≤◌, ◌⊎◌, Body, Bool, Both, ByBoth, ByNone, ByOne, Cell, Command, IsLater, IsMarked, IsPrefix}
 use Rattle.law_copies.proofs.Imports.{IsToBeCopied, LinkRow, List, Lost, None, Only, Option, PairState, Some, Store, about, alone_not_both, ap, arith}
-use Rattle.law_copies.proofs.Imports.{blank_joins_in, by_bool, cell_link, chain_in, chosen_log, false, front_on, has_server, inl, inr, is_some, is_whole}
+use Rattle.law_copies.proofs.Imports.{blank_joins_in, by_bool, cell_link, chain_in, chosen_log, false, front_on, has_server, inl, inr, is_some, needs_full_copy}
 use Rattle.law_copies.proofs.Imports.{joins_grow, lost_not_both, none_some, one_before, other_of, primary_is_one, refl, said, same_or_apart, same_some}
 use Rattle.law_copies.proofs.Imports.{secondary_is_one, server_state, some_or_none, stage_at, state_after, subst, sym, true, true_false, ℕ}
 use Rattle.law_copies.specs.CopyProgress.{AreCopying, IsCovered, IsPage, IsTold, Is_marked_here, Is_to_be_copied, NotCopied, links_of}
@@ -99,7 +99,7 @@ module _ (it : AtJob) where
       → (IsLinked setting front cell row → AliveIn (server_state setting w k) cell → place_by setting front row ≡ place_by setting f row → B)
       → (IsElsewhere (place_by setting f row) cell → B) → B
   at_or_else f cell row prefix is so away = elim (at_most_or_above 4 (stage_at (server_state setting w k) cell)) [
-    | inl dead ↦ away (λ row' is' alive e. absurd (omega arith))
+    | inl retired ↦ away (λ row' is' alive e. absurd (omega arith))
     | inr alive ↦ elim (some_or_none (cell_link (server_state setting w k) cell)) [
       | inl h ↦ elim (same_or_apart (place_by setting f row) (place_by setting front h.0)) [
         | inl e ↦ (
@@ -464,7 +464,7 @@ module _ (it : AtJob) where
                 | inr so ↦ sym (one_before mine row k so) ∙ has
               ]
 
-      unfilled_kept : AliveIn (state_after setting.servers top) cell → is_whole row.state ≡ true →
+      unfilled_kept : AliveIn (state_after setting.servers top) cell → needs_full_copy row.state ≡ true →
           (chain_in (news f other_one).chains cell ≡ []) ⊎ HasFilled setting top visits f cell holder other_one
       unfilled_kept lives all = elim (same_or_apart other_one k) [
         | inr ne ↦ filled_framed (step_at it) f cell holder other_one

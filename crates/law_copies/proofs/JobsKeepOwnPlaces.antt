@@ -1,7 +1,7 @@
 -- What a job of a server that is In as itself keeps at the places of its own entries.
 use Rattle.law_copies.proofs.Imports.{[], ◌+◌, ◌<◌, ◌∙◌, ◌≡◌, ◌≢◌, ◌≤◌, ◌⊎◌, Body, Bool, Both, Cell, Command, Handled, In, IsMarked, IsToBeCopied, LinkRow}
 use Rattle.law_copies.proofs.Imports.{List, None, Only, Option, PairState, Pairs, Post, Server, Some, Store, about, ap, at, at-empty, blank_joins_in}
-use Rattle.law_copies.proofs.Imports.{cell_cmp, chain_in, chosen_log, has_server, id_of, inl, inr, is_alone, is_flagged, is_in, is_some, is_whole, nat_cmp}
+use Rattle.law_copies.proofs.Imports.{cell_cmp, chain_in, chosen_log, has_server, id_of, inl, inr, is_alone, is_flagged, is_in, is_some, needs_full_copy, nat_cmp}
 use Rattle.law_copies.proofs.Imports.{none_some, other_between, other_of, primary_is_one, refl, same_numbers, same_or_apart, same_some, secondary_is_one}
 use Rattle.law_copies.proofs.Imports.{server_state, some_or_none, state_after, state_in, subst, sym, true, ℕ}
 use Rattle.law_copies.specs.BothSteps.{LacksFill}
@@ -90,7 +90,7 @@ module _ (it : AtJob) where
     abbrev place : ℕ
     place = place_by setting front row
 
-    -- the cell is not dead by what is chosen, either
+    -- the cell is not retired by what is chosen, either
     abbrev IsAliveLast : Type 0
     IsAliveLast = AliveIn (state_after setting.servers top) cell
 
@@ -216,7 +216,7 @@ module _ (it : AtJob) where
       pub beside : IsAliveLast → good.reached cell ≤ place → AreBeside news visits place row cell holder other
       pub stays : IsAliveLast → (o : PairState) → visits holder place cell ≡ Some o → ((p : ℕ) → place < p → visits other p cell ≡ None)
           → StaysLeft row cell o (news holder)
-      pub unfilled : IsAliveLast → is_whole row.state ≡ true → (chain_in (news other).chains cell ≡ []) ⊎ HasFilled setting top visits front cell holder other
+      pub unfilled : IsAliveLast → needs_full_copy row.state ≡ true → (chain_in (news other).chains cell ≡ []) ⊎ HasFilled setting top visits front cell holder other
       pub page : IsAliveLast → (after block : Option ℕ) → IsPage cell (olds other) (good.visits other place cell) after block
           → IsPage cell (news other) (visits other place cell) after block
       pub pages : (post : Post) → In post done.posts → (after block : Option ℕ) → post.body ≡ body.Hello row.map row.link after block

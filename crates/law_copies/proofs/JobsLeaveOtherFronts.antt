@@ -2,7 +2,7 @@
 use Rattle.law_copies.proofs.Imports.{◌<◌, ◌==◌, ◌∙◌, ◌≡◌, ◌≢◌, ◌≤◌, ◌⊎◌, Bool, Both, Busy, ByBoth, ByNone, ByOne, Cell, Command, IsLater, IsMarked, IsPrefix}
 use Rattle.law_copies.proofs.Imports.{IsSteady, IsToBeCopied, LinkRow, List, Lost, MarkKind, None, Only, Option, PairState, Some, Stale, Store, above, ap}
 use Rattle.law_copies.proofs.Imports.{arith, blank_joins_in, chain_in, chosen_log, false, front_itself, front_plain, has_server, id_of, inl, inr, is_flagged}
-use Rattle.law_copies.proofs.Imports.{is_marked, is_some, is_whole, joins_grow, log_steady, none_some, number_itself, other_of, progress_on, refl}
+use Rattle.law_copies.proofs.Imports.{is_marked, is_some, needs_full_copy, joins_grow, log_steady, none_some, number_itself, other_of, progress_on, refl}
 use Rattle.law_copies.proofs.Imports.{same_or_apart, server_state, serves, some_or_none, state_after, subst, sym, true, true_false, ℕ}
 use Rattle.law_copies.specs.CopyProgress.{IsCovered, NotCopied, links_of}
 use Rattle.law_copies.specs.LoneSteps.{IsLeftBy, OtherKeeps}
@@ -89,7 +89,7 @@ module _ (it : AtJob) where
   left_so f cell same leaves = subst (λ a. LeavesStore a (news f k) cell) (sym (store_was f same))
       (subst (λ b. LeavesStore (w.servers k).own.store b cell) (sym (store_now f same)) leaves)
 
-  -- a cell that is not dead by what is chosen is not dead at any front
+  -- a cell that is not retired by what is chosen is not retired at any front
   pub alive_at : (f : List Command) (cell : Cell) → IsPrefix f top → AliveIn (state_after setting.servers top) cell
       → AliveIn (state_after setting.servers f) cell
   alive_at f cell prefix lives = alive_on setting top firm.plain f top cell prefix (front_itself top) lives
@@ -228,7 +228,7 @@ module _ (it : AtJob) where
                       (worked.alone_now it cell mine is alive k whole alone has).beside lives last_here in
                       same_covers so.0 so.1 (let up = joins_grow setting.servers front f beside_k on in omega arith)
                       (cover_again mine row cell (news front k) (news front beside_k) (visits k place cell)
-                      (λ all. ap is_whole so.1 ∙ so.2 (sym (ap is_whole alone) ∙ all)) beside.alike.covered))
+                      (λ all. ap needs_full_copy so.1 ∙ so.2 (sym (ap needs_full_copy alone) ∙ all)) beside.alike.covered))
                   | inr flagged ↦ Same_store (left_so f cell now (flagged_leaves whole alone flagged))
                 ]
                 | inr lt ↦ elim (fresh_covers since so.0 so.1 lt) [
@@ -287,7 +287,7 @@ module _ (it : AtJob) where
                   | inl marked ↦ inl (subst (λ s. IsMarked s cell) same marked)
                   | inr all ↦ inr (
                     record {
-                      whole = ap is_whole so ∙ kept (sym (ap is_whole alone) ∙ all.0.whole);
+                      whole = ap needs_full_copy so ∙ kept (sym (ap needs_full_copy alone) ∙ all.0.whole);
                       stored = λ none. all.0.stored (ap (λ (s : Store). chain_in s.chains cell) same ∙ none);
                     },
                     nothing_copied last_whole so,

@@ -3,7 +3,7 @@ use Rattle.law_copies.proofs.Imports.{[], if◌then◌else◌, ◌&&◌, ◌++�
 use Rattle.law_copies.proofs.Imports.{Cell, Command, Firm, HasJoinedSince, HasProperTuple, HasProperTuples, In, IsPrefix, Join, Leave, LinkRow, List, Lost}
 use Rattle.law_copies.proofs.Imports.{None, Only, PairState, Record, Setting, Some, State, Store, World, ap, append-nil, append_assoc, arith, blank_joins_in}
 use Rattle.law_copies.proofs.Imports.{blanked_state, by_bool, cell_link, chain_in, chosen_log, front_itself, front_more, front_on, front_plain, has_server}
-use Rattle.law_copies.proofs.Imports.{id_of, in_later, inl, inr, is_flagged, is_whole, joined_counts, joins_blank, joins_grow, log_lost, log_steady}
+use Rattle.law_copies.proofs.Imports.{id_of, in_later, inl, inr, is_flagged, needs_full_copy, joined_counts, joins_blank, joins_grow, log_lost, log_steady}
 use Rattle.law_copies.proofs.Imports.{log_touched, number_itself, one_before, other_of, refl, row_blanked, row_joined, state_after, subst, sym, true, ℕ}
 use Rattle.law_copies.specs.GoodCopies.{Good}
 use Rattle.law_copies.specs.Visits.{AliveIn, IsLinked, place_by, store_by, with_stores}
@@ -130,7 +130,7 @@ module _ (setting : Setting) (records : List Record) (w : World) (stores : ℕ �
     front = (w.servers k).log.applied
 
     pub record IsUnfilled (more : List Command) (now : LinkRow) : Type 0 where
-      pub whole : is_whole now.state ≡ true
+      pub whole : needs_full_copy now.state ≡ true
       pub empty : chain_in (store_by setting good.stores more (other_of k now)).chains cell ≡ []
 
     pub to_fill : {B : Type 0} → ((more : List Command) (now : LinkRow) → IsPrefix front more → IsPrefix more chosen → IsLinked setting more cell now
@@ -184,7 +184,7 @@ module _ (setting : Setting) (records : List Record) (w : World) (stores : ℕ �
             (other_of k row) < blank_joins_in setting more (other_of k row) → IsUnfilled more now
         unfilled more now whole all_of one two end alive alone lt =
             let so = rows_later setting chosen firm.plain front more cell row now one two is end in
-            let is_all : is_whole now.state ≡ true = ap is_whole alone ∙ all_of in
+            let is_all : needs_full_copy now.state ≡ true = ap needs_full_copy alone ∙ all_of in
             record {
               whole = is_all;
               empty = elim ((good.alone more cell now k whole two end alone).unfilled alive is_all) [

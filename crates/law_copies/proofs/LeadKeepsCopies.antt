@@ -1,5 +1,5 @@
 -- What a step of the first server of a cell in Both keeps of its two copies.
-use Rattle.law_copies.proofs.Imports.{◌+◌, ◌∙◌, ◌≡◌, ◌≢◌, ◌≤◌, Action, Body, Busy, Cell, Chain, Closes, Closes_alone, DidLead, Gives_up, Goes_on_dead}
+use Rattle.law_copies.proofs.Imports.{◌+◌, ◌∙◌, ◌≡◌, ◌≢◌, ◌≤◌, Action, Body, Busy, Cell, Chain, Closes, Closes_alone, DidLead, Gives_up, Goes_on_retired}
 use Rattle.law_copies.proofs.Imports.{IsReady, Is_full, JobContext, JobResult, Marks, Marks_alone, None, Opens, Opens_alone, Opens_fill, Opens_fill_alone}
 use Rattle.law_copies.proofs.Imports.{PairState, Pending, Puts, Puts_alone, Some, Stage, Stale, Store, Taken, Unmarks, Unmarks_alone, about, ap, arith, at}
 use Rattle.law_copies.proofs.Imports.{both_not_alone, by_test, cell_apart, cell_cmp, cell_gone, cell_gone_apart, cell_of, cell_same, chain_apart, chain_in}
@@ -182,19 +182,19 @@ module _ (it : CellInBoth) (ready : IsReady it.here.state it.here.me (has_propos
   taken_keyed now op taken =
       let t = taking own now op taken in ap (λ (o : Pending). cell_of o.key) t.is ∙ (ready.staged op.cell t.old t.was).keyed
 
-  -- one on a cell that is dead is of another cell
-  dead_apart : (now : PairState) (op : Pending) → Taken own now op → live here.state op.cell ≡ false → cell ≢ op.cell
-  dead_apart now op taken off e =
+  -- one on a cell that is retired is of another cell
+  retired_apart : (now : PairState) (op : Pending) → Taken own now op → live here.state op.cell ≡ false → cell ≢ op.cell
+  retired_apart now op taken off e =
       let t = taking own now op taken in
       let born = (ready.staged op.cell t.old t.was).born in
       true_false (stage_live here.state op.cell born (subst (λ (c : Cell). AliveIn here.state c) e alive)) off
 
-  goes_on_dead : (now : PairState) (op : Pending) → (taken : Taken own now op) → (dead : live here.state op.cell ≡ false)
+  goes_on_retired : (now : PairState) (op : Pending) → (taken : Taken own now op) → (retired : live here.state op.cell ≡ false)
       → K (acts here now op (next_stage here.state here.me op)).own
-  goes_on_dead now op taken dead =
+  goes_on_retired now op taken retired =
       let next = next_stage here.state here.me op in
-      let ne = dead_apart now op taken dead in
-      let kept = (lead_beside heard here own ready (acts here now op next) (Goes_on_dead now op taken dead) cell ne).rest in
+      let ne = retired_apart now op taken retired in
+      let kept = (lead_beside heard here own ready (acts here now op next) (Goes_on_retired now op taken retired) cell ne).rest in
       let same : (acts here now op next).own.pairs.next ≡ own.pairs.next = acts_next here now op next ∙ (taking own now op taken).next in
       off (acts here now op next).own kept.chain kept.pending (omega arith)
 
@@ -232,5 +232,5 @@ module _ (it : CellInBoth) (ready : IsReady it.here.state it.here.me (has_propos
       (λ q ne. ap (λ t. at cell_cmp t q) f.pending ∙ cell_gone_apart now.pairs.pending op.cell q ne) f.next
   lead_keeps _ (Opens_fill moving new room both) = opens_keeps (fill_operation here own.pairs.next moving) new.none refl refl refl
   lead_keeps _ (Opens_fill_alone moving new room on) = opens_alone (fill_operation here own.pairs.next moving) on
-  lead_keeps _ (Goes_on_dead now op taken dead) = goes_on_dead now op taken dead
+  lead_keeps _ (Goes_on_retired now op taken retired) = goes_on_retired now op taken retired
   lead_keeps _ _ = same_part own refl refl

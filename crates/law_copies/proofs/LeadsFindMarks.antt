@@ -2,7 +2,7 @@
 use Rattle.law_copies.proofs.Imports.{[], ◌+◌, ◌||◌, ◌∙◌, ◌∷◌, ◌≡◌, ◌≢◌, Asks_to_trim, Begins_copy, Body, Bool, Busy, By_filler, By_holder, By_lead, By_other}
 use Rattle.law_copies.proofs.Imports.{By_read, By_second, By_sweep, Cell, Chain, Closes, Closes_alone, Closes_copy, CopyStep, Copy_as_is, Copy_synced}
 use Rattle.law_copies.proofs.Imports.{Copy_trimmed, Copying, Did, DidHolder, DidLead, DidOther, DidSecond, Drops_entry, Ending, Follows, Gives_up}
-use Rattle.law_copies.proofs.Imports.{Goes_on_copying, Goes_on_dead, Goes_on_trimming, Ignores, In, IsMarked, IsReady, IsSteady, Is_copied_to, Is_full}
+use Rattle.law_copies.proofs.Imports.{Goes_on_copying, Goes_on_retired, Goes_on_trimming, Ignores, In, IsMarked, IsReady, IsSteady, Is_copied_to, Is_full}
 use Rattle.law_copies.proofs.Imports.{Is_trimmed, JobContext, JobResult, Key, LastCopy, LinkRow, List, MarkKind, Marks, Marks_alone, None, Opens, Opens_alone}
 use Rattle.law_copies.proofs.Imports.{Opens_fill, Opens_fill_alone, Option, PairState, Pending, Promises, Puts, Puts_alone, Puts_entry, Refuses, Sends, Some}
 use Rattle.law_copies.proofs.Imports.{Stage, Stale, State, Store, Table, Taken, TakenCopy, Tidies, TrimStep, Turns_page, Unmarks, Unmarks_alone}
@@ -345,8 +345,8 @@ module _ (heard : Body → Type 0) (here : JobContext) (own : PairState) (steady
   lead_marked _ (Opens_fill moving new room both) =
       same_store _ (opened_marked (fill_operation here own.pairs.next moving) refl refl (λ fill. new.lacks)).0 refl refl
   lead_marked _ (Opens_fill_alone moving new room on) = (opened_marked (fill_operation here own.pairs.next moving) refl refl (λ fill. new.lacks)).1
-  lead_marked done (Goes_on_dead now op taken off) = kept_marked _
-      (λ q on. lead_beside heard here own ready _ (Goes_on_dead now op taken off) q (λ e. true_false (ap (live here.state) (sym e) ∙ on) off))
+  lead_marked done (Goes_on_retired now op taken off) = kept_marked _
+      (λ q on. lead_beside heard here own ready _ (Goes_on_retired now op taken off) q (λ e. true_false (ap (live here.state) (sym e) ∙ on) off))
   lead_marked _ _ = same_store own have refl refl
 
   -- ### The second server's jobs

@@ -46,7 +46,7 @@ cond_none : {X : Type 0} (b : Bool) (o : Option X) → o ≡ None → cond b o N
 cond_none true o none = none
 cond_none false o none = refl
 
--- a cell that is not dead with the entry doesn't die by it
+-- a cell that is not retired with the entry doesn't die by it
 pub lives_on : (state : State) (entry : Command) (cell : Cell) → stage_at state cell ≤ stage_at (after state entry) cell
     → stage_at (after state entry) cell < 4 → dies state entry cell ≡ false
 lives_on state entry cell up alive = by_bool (live state cell)

@@ -4,7 +4,7 @@ use Rattle.law_copies.proofs.Imports.{IsMarked, IsToBeCopied, Less, LinkId, Link
 use Rattle.law_copies.proofs.Imports.{PairState, Pending, Some, Stale, State, Store, Table, Wait, above, among_least, ap, arith, at, blocks_left, both_true}
 use Rattle.law_copies.proofs.Imports.{by_bool, by_test, cell_at, cell_cmp, cell_cmp_same, cell_cmp_total, cell_left, cell_link, chain_in, cond, copying_on}
 use Rattle.law_copies.proofs.Imports.{either_false, false, filter, in-append, in_former, in_later, in_map, in_none, inl, inr, is_at, is_eq, is_kept_on}
-use Rattle.law_copies.proofs.Imports.{is_link, is_link_under_way, is_mark, is_marked, is_on, is_some, is_under_way, is_whole, least, lesser, link_named}
+use Rattle.law_copies.proofs.Imports.{is_link, is_link_under_way, is_mark, is_marked, is_on, is_some, is_under_way, needs_full_copy, least, lesser, link_named}
 use Rattle.law_copies.proofs.Imports.{list_any, live, lookup, mark_on, marked_blocks, nat_lt, nat_tests, next_block, next_copy, none_of, none_some}
 use Rattle.law_copies.proofs.Imports.{number_itself, on_row, option_map_or, pending_on, progress_on, refl, same_cell, same_itself, same_mark, same_some}
 use Rattle.law_copies.proofs.Imports.{some_or_none, stored_blocks, subst, sym, tied_itself, true, true_false, unwrap_or, ℕ}
@@ -160,7 +160,7 @@ stored_on state id row own block named i =
     ap (λ c. is_some (at cell_cmp own.store.chains c)) (sym same) ∙ in_found own.store.chains m.0 left.0
 
 -- where all is to be copied, each of them above what was copied is left
-left_stored : (state : State) (row : LinkRow) (own : PairState) (block : ℕ) → is_whole row.state ≡ true
+left_stored : (state : State) (row : LinkRow) (own : PairState) (block : ℕ) → needs_full_copy row.state ≡ true
     → above (progress_on own row).copied block ≡ true
     → In block (stored_blocks state row own) → In block (blocks_left state row own)
 left_stored state row own block whole past i = in_later block (marked_blocks state row own) _
@@ -176,7 +176,7 @@ HasAny own cell = IsMarked own.store cell ⊎ (chain_in own.store.chains cell �
 
 -- the block has a chain, all is to be copied, and it is above what was copied
 pub record IsStored (row : LinkRow) (own : PairState) (cell : Cell) : Type 0 where
-  pub whole : is_whole row.state ≡ true
+  pub whole : needs_full_copy row.state ≡ true
   pub stored : is_some (at cell_cmp own.store.chains cell) ≡ true
   pub past : above (progress_on own row).copied cell.block ≡ true
 
@@ -204,7 +204,7 @@ module _ (state : State) (id : LinkId) (row : LinkRow) (own : PairState) (named 
   left_so block i = elim (in-append block (marked_blocks state row own) _ i) [
     | inl marked ↦ inl (marked_on state id row own block named marked).marked
     | inr stored ↦ inr (by_test
-        (λ (xs : List ℕ). is_whole row.state ≡ true → In block xs → IsStored row own (cell_at row block)) (is_whole row.state)
+        (λ (xs : List ℕ). needs_full_copy row.state ≡ true → In block xs → IsStored row own (cell_at row block)) (needs_full_copy row.state)
         (filter (above (progress_on own row).copied) (stored_blocks state row own)) []
         (λ t whole j.
         let two = in_left (above (progress_on own row).copied) (stored_blocks state row own) block j in
@@ -212,9 +212,9 @@ module _ (state : State) (id : LinkId) (row : LinkRow) (own : PairState) (named 
         (λ f whole j. true_false whole f) (is_stored stored) stored)
   ]
     where
-      is_stored : In block (if is_whole row.state then filter (above (progress_on own row).copied) (stored_blocks state row own) else [])
-          → is_whole row.state ≡ true
-      is_stored = by_test (λ (xs : List ℕ). In block xs → is_whole row.state ≡ true) (is_whole row.state) _ _ (λ t j. t) (λ f j. in_none block j)
+      is_stored : In block (if needs_full_copy row.state then filter (above (progress_on own row).copied) (stored_blocks state row own) else [])
+          → needs_full_copy row.state ≡ true
+      is_stored = by_test (λ (xs : List ℕ). In block xs → needs_full_copy row.state ≡ true) (needs_full_copy row.state) _ _ (λ t j. t) (λ f j. in_none block j)
 
   next_at : (progress_on own row).paged ≡ true → (block : ℕ) → least (blocks_left state row own) ≡ Some block
       → is_under_way own (cell_at row block) ≡ false → IsNext state row own (cell_at row block)

@@ -2,7 +2,7 @@
 use Rattle.law_copies.proofs.Imports.{◌∙◌, ◌≡◌, ◌⊎◌, Asks_copy, Asks_slot, Begins, Body, Cell, Copying, Did, Effect, Ends_fill, Entry, Goes_on, Has_copy}
 use Rattle.law_copies.proofs.Imports.{Has_slot, In, IsCopiedFor, IsCopying, IsOfCopy, Is_begun, Is_copied, Is_further, Is_sync_full, Is_synced, JobContext}
 use Rattle.law_copies.proofs.Imports.{JobResult, LastCopy, May, Moves, Moves_on, PairState, Pending, Post, Says, Some, Syncs, Tells_page, Trims, about, ap}
-use Rattle.law_copies.proofs.Imports.{applied, by_bool, cell_apart, cell_of, dead_second, ended, false, follows, inl, inr, is_between, is_lead, is_second}
+use Rattle.law_copies.proofs.Imports.{applied, by_bool, cell_apart, cell_of, retired_second, ended, false, follows, inl, inr, is_between, is_lead, is_second}
 use Rattle.law_copies.proofs.Imports.{job_keeps, last_copy, lead_links, leads_link, letters_of_job, live, logged_apart, none_some, pending_on, refl}
 use Rattle.law_copies.proofs.Imports.{same_cell_or_apart, same_some, second, subject_of, subst, sym, true, true_false, ℕ}
 use Rattle.law_jobs.specs.Sayings.{Ends}
@@ -61,7 +61,7 @@ module _ (heard : Body → Type 0) (here : JobContext) (own : PairState) where
         record { lives = on; role = inl ((fit.ready.staged op.cell op is).leads on) }
       where
         by_second : (cell : Cell) (to : ℕ) → second here.state cell ≡ Some to → live here.state cell ≡ true
-        by_second cell to so = by_bool (live here.state cell) (λ on. on) (λ off. none_some (dead_second here.state cell off) so)
+        by_second cell to so = by_bool (live here.state cell) (λ on. on) (λ off. none_some (retired_second here.state cell off) so)
 
     copying_spoken : (cell : Cell) (now : PairState) (copy : Copying) → IsCopying heard here own cell now copy → IsSpoken cell
     copying_spoken cell _ _ (Begins id row other held next) = record {

@@ -5,7 +5,7 @@ use Rattle.law_copies.proofs.Imports.{[], ◌==◌, ◌∙◌, ◌∷◌, ◌≡
 use Rattle.law_copies.proofs.Imports.{Command, IsCaughtBy, IsPrefix, IsRising, Join, Leave, LinkId, LinkRow, List, None, Only, PairState, Some, Store}
 use Rattle.law_copies.proofs.Imports.{WasStarted, after, alone_not_both, ap, arith, at-empty, blank_joins_in, by_bool, cell_cmp, cell_link, chain_in, false}
 use Rattle.law_copies.proofs.Imports.{front_itself, front_long, front_more, front_on, has_mark, has_server, id_of, inl, inr, is_between, is_flagged, is_in}
-use Rattle.law_copies.proofs.Imports.{is_marked, is_whole, joins_blank, left_not_both, left_row, left_state, length, length-append, log_steady, log_touched}
+use Rattle.law_copies.proofs.Imports.{is_marked, needs_full_copy, joins_blank, left_not_both, left_row, left_state, length, length-append, log_steady, log_touched}
 use Rattle.law_copies.proofs.Imports.{mark_on, may_join, nat_cmp, none_some, one_before, other_of, primary_is_one, refl, row_blanked, row_joined, row_left}
 use Rattle.law_copies.proofs.Imports.{same_some, secondary_is_one, server_state, serves, slice_get, stage_at, state_after, stays_row, subject_of, subst, sym}
 use Rattle.law_copies.proofs.Imports.{touches, true, true_false, with_store, ℕ}
@@ -124,7 +124,7 @@ module _ (it : AtNext) where
       let beside = beside_top cell row holder whole is alive alone in
       subst (λ m. IsCovered now cell (old holder) (old m) None) (sym (other_later row now holder (later_then it cell row now is end)))
       (cover_again row now cell (old holder) (old (other_of holder row)) (good.visits holder (place_by setting top row) cell)
-      (λ all. ap is_whole (still ∙ sym alone) ∙ all) beside.alike.covered)
+      (λ all. ap needs_full_copy (still ∙ sym alone) ∙ all) beside.alike.covered)
 
   -- one of its two servers has left
   left_cover : (cell : Cell) (row now : LinkRow) (holder server : ℕ) (whole : Bool) → IsLinked setting top cell row → IsLinked setting next cell now
@@ -159,7 +159,7 @@ module _ (it : AtNext) where
   blank_cover cell row now holder server whole is end has same apart on alone =
       let kept = blanked_alone row server holder whole has apart (ap (λ (r : LinkRow). r.state) same ∙ alone) in
       subst (λ m. IsCovered now cell (new holder) (new m) None) (sym (blank_other cell row now holder server whole is end has same apart alone))
-      (filled_cover now cell (new holder) (new server) (ap is_whole alone ∙ kept.1) (no_chains (new server) cell (recounts.renewed server on).chains))
+      (filled_cover now cell (new holder) (new server) (ap needs_full_copy alone ∙ kept.1) (no_chains (new server) cell (recounts.renewed server on).chains))
 
   alone_moved : (cell : Cell) (row now : LinkRow) (holder : ℕ) (whole : Bool) → IsLinked setting top cell row → IsLinked setting next cell now
       → touches here entry row ≡ true → AliveIn here cell → now.state ≡ Only holder whole → IsCovered now cell (new holder) (new (other_of holder now)) None
@@ -203,7 +203,7 @@ module _ (it : AtNext) where
       let other = other_of holder row in
       subst (λ m. (chain_in (new m).chains cell ≡ []) ⊎ HasFilled setting next good.visits next cell holder m)
       (sym (other_later row now holder (later_then it cell row now is end)))
-      (elim ((good.alone top cell row holder whole (front_itself top) is alone).unfilled alive (ap is_whole alone ∙ all_of)) [
+      (elim ((good.alone top cell row holder whole (front_itself top) is alone).unfilled alive (ap needs_full_copy alone ∙ all_of)) [
         | inl empty ↦ inl (ap (λ (s : Store). chain_in s.chains cell) (recounts.same other off ∙ sym (good.now other)) ∙ empty)
         | inr h ↦ inr (filled_next cell holder other (counts_same setting top entry other off) h)
       ])
@@ -214,8 +214,8 @@ module _ (it : AtNext) where
       → whole ≡ true → IsUnfilled cell now holder
   left_unfilled cell row now holder server inc whole is end alive entry_is has same alone all_of = elim ((steady_top it).linked cell row is).served [
     | ByBoth so one other ↦ true_false all_of
-        (sym (ap is_whole alone) ∙ ap (λ (r : LinkRow). is_whole r.state) (sym same) ∙ ap is_whole (left_row row server has)
-        ∙ ap (λ x. is_whole (left_state (other_of server row) x)) so)
+        (sym (ap needs_full_copy alone) ∙ ap (λ (r : LinkRow). needs_full_copy r.state) (sym same) ∙ ap needs_full_copy (left_row row server has)
+        ∙ ap (λ x. needs_full_copy (left_state (other_of server row) x)) so)
     | ByOne h other kept so pair out ↦
         still_unfilled cell row now holder whole is end alive (ap (λ (r : LinkRow). r.state) (sym (stays_row row server h has so) ∙ same) ∙ alone)
         (no_blank_join here entry (λ s i e. let f : Leave server inc ≡ Join s i true = sym entry_is ∙ e in absurd cc) (other_of holder row)) all_of
@@ -299,13 +299,13 @@ module _ (it : AtNext) where
 
   made_alone : (cell : Cell) (now : LinkRow) (holder : ℕ) → ((k : ℕ) → good.visits k (place_by setting next now) cell ≡ None)
       → (AliveIn here cell → IsCovered now cell (new holder) (new (other_of holder now)) None)
-      → (AliveIn here cell → is_whole now.state ≡ true → IsUnfilled cell now holder)
+      → (AliveIn here cell → needs_full_copy now.state ≡ true → IsUnfilled cell now holder)
       → AloneOk setting next stores good.visits good.reached next cell now holder
   made_alone cell now holder unseen covered unfilled =
       let other = other_of holder now in
       new_alone setting next stores good.visits good.reached next cell now holder unseen
       (λ alive. subst (λ (s : ℕ → Store). IsCovered now cell (s holder) (s other) None) (next_stores it) (covered (alive_before it cell alive)))
-      (λ alive. subst (λ (s : ℕ → Store). is_whole now.state ≡ true → (chain_in (s other).chains cell ≡ [])
+      (λ alive. subst (λ (s : ℕ → Store). needs_full_copy now.state ≡ true → (chain_in (s other).chains cell ≡ [])
       ⊎ HasFilled setting next good.visits next cell holder other)
       (next_stores it) (unfilled (alive_before it cell alive)))
 
@@ -315,7 +315,7 @@ module _ (it : AtNext) where
       (λ is same. same_alone cell now holder whole is end alone same
       (alone_on top cell now holder (front_itself top) (good.alone top cell now holder whole (front_itself top) is alone)))
       (λ row is on unseen. made_alone cell now holder unseen (λ alive. alone_moved cell row now holder whole is end on alive alone)
-      (λ alive all_of. unfilled_moved cell row now holder whole is end on alive alone (sym (ap is_whole alone) ∙ all_of)))
+      (λ alive all_of. unfilled_moved cell row now holder whole is end on alive alone (sym (ap needs_full_copy alone) ∙ all_of)))
       (λ none unseen. made_alone cell now holder unseen (λ alive. Is_equal (still_empty it cell none holder (other_of holder now)))
       (λ alive all_of. inl (born_then it cell none (other_of holder now))))
 

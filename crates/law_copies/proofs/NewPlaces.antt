@@ -1,6 +1,6 @@
 -- Two copies at a new place of their link, and by other stores that have the same of the cell.
 use Rattle.law_copies.proofs.Imports.{[], ◌+◌, ◌∙◌, ◌≡◌, ◌≤◌, ◌⊎◌, Cell, Command, LinkRow, List, None, Option, PairState, Pending, Setting, Some, Store, ap}
-use Rattle.law_copies.proofs.Imports.{arith, at, at-empty, cell_cmp, chain_in, has_server, inl, inr, is_whole, nat_cmp, none_some, other_between, other_of}
+use Rattle.law_copies.proofs.Imports.{arith, at, at-empty, cell_cmp, chain_in, has_server, inl, inr, needs_full_copy, nat_cmp, none_some, other_between, other_of}
 use Rattle.law_copies.proofs.Imports.{refl, state_after, subst, sym, true, ℕ}
 use Rattle.law_copies.specs.CopyProgress.{AreAlike, IsCovered, Is_equal, Is_marked_here, Is_marked_there, Is_to_be_copied}
 use Rattle.law_copies.specs.GoodCopies.{AloneOk, AreBeside, AreTwins}
@@ -64,7 +64,7 @@ module _ (stores : ℕ → Store) (visits : Visits) (place : ℕ) (row now : Lin
   ]
 
 -- what covers the copies at one place covers them at the next one, at which the holder has heard of no block
-pub cover_again : (row now : LinkRow) (cell : Cell) (a b : Store) (visit : Option PairState) → (is_whole row.state ≡ true → is_whole now.state ≡ true)
+pub cover_again : (row now : LinkRow) (cell : Cell) (a b : Store) (visit : Option PairState) → (needs_full_copy row.state ≡ true → needs_full_copy now.state ≡ true)
     → IsCovered row cell a b visit → IsCovered now cell a b None
 cover_again row now cell a b visit whole (Is_equal same) = Is_equal same
 cover_again row now cell a b visit whole (Is_marked_here marked) = Is_marked_here marked
@@ -90,7 +90,7 @@ pub new_alone : (setting : Setting) (top : List Command) (stores : ℕ → ℕ �
     (row : LinkRow) (holder : ℕ) → ((k : ℕ) → visits k (place_by setting front row) cell ≡ None)
     → (AliveIn (state_after setting.servers top) cell
     → IsCovered row cell (store_by setting stores front holder) (store_by setting stores front (other_of holder row)) None)
-    → (AliveIn (state_after setting.servers top) cell → is_whole row.state ≡ true →
+    → (AliveIn (state_after setting.servers top) cell → needs_full_copy row.state ≡ true →
     (chain_in (store_by setting stores front (other_of holder row)).chains cell ≡ [])
     ⊎ HasFilled setting top visits front cell holder (other_of holder row))
     → AloneOk setting top stores visits reached front cell row holder

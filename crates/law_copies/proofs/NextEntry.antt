@@ -50,7 +50,7 @@ module _ (it : AtNext) where
 
   -- ### How far a cell is
 
-  -- a cell that isn't dead then was not before
+  -- a cell that isn't retired then was not before
   pub alive_before : (cell : Cell) → AliveIn then_state cell → AliveIn here cell
   alive_before cell alive = alive_on setting next all top next cell (front_more top entry) (front_itself next) alive
 

@@ -1,5 +1,5 @@
 -- Small changes of a server's own part, and what each leaves of other cells.
-use Rattle.law_copies.proofs.Imports.{◌∙◌, ◌≡◌, ◌≢◌, Cell, Copying, Far, Key, LastCopy, LinkRow, List, Mark, MarkKind, None, Option, PairState, Pending, Some}
+use Rattle.law_copies.proofs.Imports.{◌∙◌, ◌≡◌, ◌≢◌, Cell, Copying, FollowProgress, Key, LastCopy, LinkRow, List, Mark, MarkKind, None, Option, PairState, Pending, Some}
 use Rattle.law_copies.proofs.Imports.{Stored, above, ap, at, by_test, cell_apart, cell_cmp, cell_gone_apart, cell_of, chain_apart, chain_in, drop_apart}
 use Rattle.law_copies.proofs.Imports.{has_mark, mark_beside, mark_on, progress_on, refl, unmark_beside, with_copied, with_copying, with_entry, with_last}
 use Rattle.law_copies.proofs.Imports.{with_last_copy, with_mark_on, with_pending, with_progress, without_copying, without_entry, without_mark_on}
@@ -62,14 +62,14 @@ module _ (own : PairState) (cell q : Cell) (ne : q ≢ cell) where
     marks = λ kind. refl;
   }
 
-  pub followed_beside : (number : ℕ) (far : Far) → KeepsCell q own (with_last own cell number far)
+  pub followed_beside : (number : ℕ) (far : FollowProgress) → KeepsCell q own (with_last own cell number far)
   followed_beside number far = record {
     rest = record {
       chain = refl;
       pending = refl;
       copying = refl;
       last = refl;
-      followed = cell_apart own.pairs.last cell (record { op = number; far = far }) q ne;
+      followed = cell_apart own.pairs.last cell (record { op = number; progress = far }) q ne;
     };
     marks = λ kind. refl;
   }

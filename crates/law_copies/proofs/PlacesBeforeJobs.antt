@@ -103,7 +103,7 @@ module _ (it : AtSeat) where
     abbrev place : ℕ
     place = place_by setting front row
 
-    -- the cell is not dead by what is chosen, either
+    -- the cell is not retired by what is chosen, either
     abbrev IsAliveLast : Type 0
     IsAliveLast = AliveIn (state_after setting.servers (chosen_log setting w)) cell
 

@@ -34,9 +34,9 @@ front_or_all front log entry p = elim (at_most_or_above (length front) (length l
 pub other_later : (row now : LinkRow) (holder : ℕ) → IsLater row now → other_of holder now ≡ other_of holder row
 other_later row now holder so = λ i. if so.primary i == holder then so.secondary i else so.primary i
 
--- a cell that has died is dead
-pub dead_not : (state : State) (cell : Cell) → HasDied state cell → AliveIn state cell → ⊥
-dead_not state cell died alive = let dead = died.1 in omega arith
+-- a cell that has died is retired
+pub retired_not : (state : State) (cell : Cell) → HasDied state cell → AliveIn state cell → ⊥
+retired_not state cell died alive = let retired = died.1 in omega arith
 
 -- ### Places
 
@@ -67,7 +67,7 @@ module _ (setting : Setting) where
         → IsBelow (state_after setting.servers front) (state_after setting.servers more)
     below_at front more one two = log_below setting.servers front more (front_plain setting.servers more whole all two) one
 
-    -- a cell that has a link has it later, until it is dead
+    -- a cell that has a link has it later, until it is retired
     pub linked_on : (front more : List Command) (cell : Cell) (row : LinkRow) → IsPrefix front more → IsPrefix more whole → IsLinked setting front cell row
         → ((now : LinkRow) × IsLinked setting more cell now) ⊎ HasDied (state_after setting.servers more) cell
     linked_on front more cell row one two is = elim ((below_at front more one two).rows cell row is) [ inl h ↦ inl (h.now, h.is) | inr died ↦ inr died ]
@@ -81,7 +81,7 @@ module _ (setting : Setting) where
         → AliveIn (state_after setting.servers more) cell → (now : LinkRow) × IsLinked setting more cell now
     linked_alive front more cell row one two is alive = elim (linked_on front more cell row one two is) [
       | inl h ↦ h
-      | inr died ↦ absurd (dead_not (state_after setting.servers more) cell died alive)
+      | inr died ↦ absurd (retired_not (state_after setting.servers more) cell died alive)
     ]
 
     -- where it has a link later, it has it on the way
@@ -101,11 +101,11 @@ module _ (setting : Setting) where
         elim (at_most_or_above (stage_at here cell) 0) [
           | inl le ↦ omega arith
           | inr low ↦ elim (at_most_or_above 4 (stage_at here cell)) [
-            | inl dead ↦ (
+            | inl retired ↦ (
                 let most = stage_most here cell in
                 let is : stage_at here cell ≡ 4 = omega arith in
                 none_some ((below_at front more one two).died cell (none, is)).0 end)
-            | inr lt ↦ true_false (stage_live here cell low lt) (steady.dead cell none)
+            | inr lt ↦ true_false (stage_live here cell low lt) (steady.retired cell none)
           ]
         ]
 

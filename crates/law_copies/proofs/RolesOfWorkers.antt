@@ -117,7 +117,7 @@ module _ (heard : Body → Type 0) (here : JobContext) (own : PairState) (fit : 
       (λ i. record { map = map_is i; link = of_link.link_is i }) in
       of_link.is ∙ ap Some same
 
-  -- of a cell that is not dead the server has something only where it is live
+  -- of a cell that is not retired the server has something only where it is live
   pub kept_lives : (cell : Cell) → stage_at here.state cell < 4 → HasAny own cell → live here.state cell ≡ true
   kept_lives cell alive any = elim (same_or_apart (stage_at here.state cell) 0) [
     | inl zero ↦ absurd (elim any [

@@ -5,11 +5,11 @@ use Rattle.law_copies.proofs.Imports.{chain_in, chain_put, follows, inl, inr, na
 use Rattle.law_copies.proofs.Imports.{version_of, with_last, with_tickets, ℕ}
 use Rattle.law_copies.specs.Pair.{Pair, pair_of, far, PairOk, IsPutting, Keeps, Known}
 use Rattle.petal_msg.specs.declared.body.Body.TheVariants as body
-use Rattle.petal_msg.specs.declared.operation.Far.TheVariants as far_is
+use Rattle.petal_msg.specs.declared.operation.FollowProgress.TheVariants as follow_progress
 use Rattle.law_copies.proofs.CellChangesKeepCopies as moves
 
 -- a second server that has not followed was asked to by an operation that is pending
-pub asked : (number : ℕ) (key : Key) (bytes : List ℕ) (pair : Pair) → pair.last ≡ Some (record { op = number; far = far_is.Reserved })
+pub asked : (number : ℕ) (key : Key) (bytes : List ℕ) (pair : Pair) → pair.last ≡ Some (record { op = number; progress = follow_progress.Reserved })
     → IsPutting pair.pending number key bytes ⊎ (number + number + 1 ≤ far pair) → IsPutting pair.pending number key bytes
 asked number key bytes pair last (inl putting) = putting
 asked number key bytes pair last (inr past) = let e : far pair ≡ number + number = ap progress last in absurd (omega arith)
@@ -49,23 +49,23 @@ module _ (heard : Body → Type 0) (here : JobContext) (first own : PairState) (
   ]
 
   reserves_keeps : (number : ℕ) (q : Cell) (tickets : ℕ) → heard (body.Reserve number q) → progress (at cell_cmp own.pairs.last q) ≤ number + number
-      → F (with_last (with_tickets own tickets) q number far_is.Reserved)
+      → F (with_last (with_tickets own tickets) q number follow_progress.Reserved)
   reserves_keeps number q tickets h le =
-      let now : LastOp = record { op = number; far = far_is.Reserved } in
-      let new = with_last (with_tickets own tickets) q number far_is.Reserved in
+      let now : LastOp = record { op = number; progress = follow_progress.Reserved } in
+      let new = with_last (with_tickets own tickets) q number follow_progress.Reserved in
       let there : at cell_cmp new.pairs.last q ≡ Some now = cell_same own.pairs.last q now in
       at_cell q new (λ c ne. refl) (λ c ne. cell_apart own.pairs.last q now c ne)
       (λ e. subst (Keeps (pair_of first own q)) (λ i. record (pair_of first new q) { last = sym there i })
       (moves.reserves (pair_of first own q) number (ok_at q e) le (known_at _ h q refl e)))
 
   follows_keeps : (number : ℕ) (key : Key) (version : ℕ) (bytes : List ℕ) → heard (body.Replicate number key version bytes)
-      → at cell_cmp own.pairs.last (cell_of key) ≡ Some (record { op = number; far = far_is.Reserved })
+      → at cell_cmp own.pairs.last (cell_of key) ≡ Some (record { op = number; progress = follow_progress.Reserved })
       → F (follows here own number key bytes).own
   follows_keeps number key version bytes h is =
       let q = cell_of key in
       let chains = own.store.chains in
       let new = (follows here own number key bytes).own in
-      let now : LastOp = record { op = number; far = far_is.Replicated } in
+      let now : LastOp = record { op = number; progress = follow_progress.Replicated } in
       let there : at cell_cmp new.pairs.last q ≡ Some now = cell_same own.pairs.last q now in
       let chain : Chain = put nat_cmp (chain_in chains q) key.epoch (record { version = version_of (chain_in chains q) + 1; bytes = bytes }) in
       at_cell q new (λ c ne. chain_apart chains q chain c ne) (λ c ne. cell_apart own.pairs.last q now c ne)

@@ -17,7 +17,7 @@ use Rattle.law_copies.proofs.LeadsFindMarks.{job_marked}
 use Rattle.law_copies.proofs.EpochsRise.{AreRising, did_rising}
 use Rattle.law_copies.proofs.WorkedCell.{IsLedHere, lead_beside, lead_cell, lead_leads, sweep_beside}
 use Rattle.petal_msg.specs.declared.body.Body.TheVariants as body
-use Rattle.petal_msg.specs.declared.operation.Far.TheVariants as far
+use Rattle.petal_msg.specs.declared.operation.FollowProgress.TheVariants as follow_progress
 use Rattle.law_copies.specs.Pair as pair
 use Rattle.law_jobs.specs.Sayings as says
 use Rattle.law_copies.proofs.LeadKeepsCopies as lead
@@ -229,7 +229,7 @@ module _ (it : CellInBoth) where
 
       -- and where it puts its copy, it has followed the operation
       follows_lacks : (number : ℕ) (key : Key) (version : ℕ) (bytes : List ℕ) → heard (body.Replicate number key version bytes)
-          → at cell_cmp own.pairs.last (cell_of key) ≡ Some (record { op = number; far = far.Reserved }) → Lacks (follows here own number key bytes).own
+          → at cell_cmp own.pairs.last (cell_of key) ≡ Some (record { op = number; progress = follow_progress.Reserved }) → Lacks (follows here own number key bytes).own
       follows_lacks number key version bytes h is = elim (same_cell_or_apart cell (cell_of key)) [
         | inr ne ↦ chain_lacks (follows here own number key bytes).own (chain_apart own.store.chains (cell_of key) _ cell ne)
         | inl e ↦ λ up old op there fill le.
@@ -239,13 +239,13 @@ module _ (it : CellInBoth) where
             let number_is : op.op ≡ number = ap (λ (o : Pending). o.op) same ∙ putting.number_is in
             let past : pair.far (pair_of first (follows here own number key bytes).own cell) ≡ number + number + 1 =
             ap progress (ap (at cell_cmp (follows here own number key bytes).own.pairs.last) e
-            ∙ cell_same own.pairs.last (cell_of key) (record { op = number; far = far.Replicated })) in
+            ∙ cell_same own.pairs.last (cell_of key) (record { op = number; progress = follow_progress.Replicated })) in
             absurd (omega arith)
       ]
 
       second_lacks : (done : JobResult) → DidSecond heard here own done → Lacks done.own
       second_lacks _ (Sets_apart number q tickets h s le) =
-          chain_lacks (tells here (with_last (with_tickets own tickets) q number far.Reserved) q number far.Reserved).own refl
+          chain_lacks (tells here (with_last (with_tickets own tickets) q number follow_progress.Reserved) q number follow_progress.Reserved).own refl
       second_lacks _ (Promises number q how s is) =
           chain_lacks (tells here own q number how).own (ap (λ (o : PairState). chain_in o.store.chains cell) (told_own here own q number how))
       second_lacks _ (Declines number q h s no_room) = chain_lacks own refl

@@ -18,7 +18,7 @@ alive_so state cell alive = grind arith
 so_alive : (state : State) (cell : Cell) → is_alive state cell ≡ true → AliveIn state cell
 so_alive state cell e = grind arith
 
--- the server is In as itself, at this place of the cell's link, and the cell is not dead
+-- the server is In as itself, at this place of the cell's link, and the cell is not retired
 pub record IsAt (setting : Setting) (n : ℕ) (server : Server) (place : ℕ) (cell : Cell) : Type 0 where
   pub row : LinkRow
   pub linked : IsLinked setting server.log.applied cell row

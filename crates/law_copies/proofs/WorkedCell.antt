@@ -1,7 +1,7 @@
 -- The cell that a job works on, if there is one, and why; each other cell it leaves as it is.
 use Rattle.law_copies.proofs.Imports.{◌+◌, ◌<◌, ◌∙◌, ◌≡◌, ◌≢◌, ◌≤◌, Action, Asks_page, Begins_copy, Body, Busy, Cell, Closes, Closes_alone, Closes_copy}
-use Rattle.law_copies.proofs.Imports.{CopyStep, Copy_as_is, Copy_synced, Copy_trimmed, Copying, Dead, Declines, DidFiller, DidHolder, DidLead, DidOther}
-use Rattle.law_copies.proofs.Imports.{DidSecond, DidSweep, Drops_entry, Ending, Far, Finds_it_full, Follows, Gives_up, Goes_on_copying, Goes_on_dead}
+use Rattle.law_copies.proofs.Imports.{CopyStep, Copy_as_is, Copy_synced, Copy_trimmed, Copying, Retired, Declines, DidFiller, DidHolder, DidLead, DidOther}
+use Rattle.law_copies.proofs.Imports.{DidSecond, DidSweep, Drops_entry, Ending, FollowProgress, Finds_it_full, Follows, Gives_up, Goes_on_copying, Goes_on_retired}
 use Rattle.law_copies.proofs.Imports.{Goes_on_trimming, Has_entry, Has_no_slot, IsReady, Is_copied_to, Is_full, Is_trimmed, JobContext, JobResult, Key}
 use Rattle.law_copies.proofs.Imports.{LastCopy, LinkRow, MarkKind, Marks, Marks_alone, None, Opens, Opens_alone, Opens_fill, Opens_fill_alone, Option}
 use Rattle.law_copies.proofs.Imports.{OtherReply, PairState, Pending, Promises, Puts, Puts_alone, Puts_entry, Replies, Sets_apart, Some, Stale, Stored}
@@ -11,16 +11,16 @@ use Rattle.law_copies.proofs.Imports.{fill_operation, first_copy, first_last, gi
 use Rattle.law_copies.proofs.Imports.{leads_link, live, live_stage, marks, nat_tests, next_stage, of_ending, of_filler, opened, operation, pending_on}
 use Rattle.law_copies.proofs.Imports.{progress_on, puts, refl, same_cell_or_apart, same_or_apart, stage_at, stage_live, sym, taking, tells, true, true_false}
 use Rattle.law_copies.proofs.Imports.{unmark_none, unmarks, version_of, with_entry, with_last_copy, with_mark_at, with_mark_on, with_opened, with_page}
-use Rattle.law_copies.proofs.Imports.{with_paired, with_pending, with_reserved, with_ticket, with_tickets, without_copying, without_dead, without_entry}
+use Rattle.law_copies.proofs.Imports.{with_paired, with_pending, with_reserved, with_ticket, with_tickets, without_copying, without_retired, without_entry}
 use Rattle.law_copies.proofs.Imports.{without_mark_on, without_pending, ℕ}
 use Rattle.spec_rules.specs.Writes.{acts}
 use Rattle.law_copies.specs.LoneSteps.{IsBare, KeepsCell}
 use Rattle.law_copies.proofs.OwnPartFrames.{copied_alike, copied_beside, copying_beside, dropped_beside, ended_beside, entry_beside, followed_beside}
 use Rattle.law_copies.proofs.OwnPartFrames.{keeps_alike, keeps_itself, keeps_on, last_beside, marked_beside, pending_beside, unmarked_beside}
-use Rattle.petal_msg.specs.declared.dead.Dead.TheVariants as dead
+use Rattle.petal_msg.specs.declared.retired.Retired.TheVariants as retired
 use Rattle.petal_msg.specs.declared.operation.Ending.TheVariants as ending
 use Rattle.petal_msg.specs.declared.operation.Action.TheVariants as action
-use Rattle.petal_msg.specs.declared.operation.Far.TheVariants as far
+use Rattle.petal_msg.specs.declared.operation.FollowProgress.TheVariants as follow_progress
 
 -- the cell is another one
 abbrev pub Away : Cell → Option Cell → Type 0
@@ -57,7 +57,7 @@ module _ (heard : Body → Type 0) (here : JobContext) (own : PairState) where
   lead_cell _ (Closes_alone now op taken alone stale put free) = Some op.cell
   lead_cell _ (Opens_fill moving new room both) = Some (cell_of moving.key)
   lead_cell _ (Opens_fill_alone moving new room alone) = Some (cell_of moving.key)
-  lead_cell _ (Goes_on_dead now op taken off) = Some op.cell
+  lead_cell _ (Goes_on_retired now op taken off) = Some op.cell
   lead_cell _ _ = None
 
   -- the cell has been live, and while it is, the server leads its link
@@ -70,7 +70,7 @@ module _ (heard : Body → Type 0) (here : JobContext) (own : PairState) where
       let led = lead_links here.state here.me cell lead in
       record { born = (live_stage here.state cell led.0).0; leads = λ on. led.1 }
 
-  -- of one that is not dead the server leads the link
+  -- of one that is not retired the server leads the link
   pub led_alive : (cell : Cell) → stage_at here.state cell < 4 → IsLedHere cell → leads_link here.state here.me cell ≡ true
   led_alive cell alive led = led.leads (stage_live here.state cell led.born alive)
 
@@ -99,7 +99,7 @@ module _ (heard : Body → Type 0) (here : JobContext) (own : PairState) where
     lead_leads _ (Closes_alone now op taken alone stale put free) = taken_leads now op taken
     lead_leads _ (Opens_fill moving new room both) = led_here (cell_of moving.key) new.lead
     lead_leads _ (Opens_fill_alone moving new room alone) = led_here (cell_of moving.key) new.lead
-    lead_leads _ (Goes_on_dead now op taken off) = taken_leads now op taken
+    lead_leads _ (Goes_on_retired now op taken off) = taken_leads now op taken
     lead_leads _ _ = tt
 
     taken_beside : (now : PairState) (op : Pending) (q : Cell) → q ≢ op.cell → Taken own now op → KeepsCell q own now
@@ -225,7 +225,7 @@ module _ (heard : Body → Type 0) (here : JobContext) (own : PairState) where
     lead_beside _ (Opens_fill_alone moving new room alone) q ne =
         let op = fill_operation here own.pairs.next moving in
         keeps_on q own (with_opened own op) _ (opened_beside op q ne) (marks_beside (with_opened own op) op q ne Stale)
-    lead_beside _ (Goes_on_dead now op taken off) q ne =
+    lead_beside _ (Goes_on_retired now op taken off) q ne =
         keeps_on q own now _ (taken_beside now op q ne taken) (acts_beside now op q ne (taken_key now op taken) (next_stage here.state here.me op))
     lead_beside _ _ q ne = keeps_itself q own
 
@@ -243,23 +243,23 @@ module _ (heard : Body → Type 0) (here : JobContext) (own : PairState) where
   second_follows _ (Declines number cell h s no_room) = s
   second_follows _ (Follows number key version bytes h s is) = s
 
-  tells_beside : (new : PairState) (q cell : Cell) (number : ℕ) (how : Far) → KeepsCell q new (tells here new cell number how).own
-  tells_beside new q cell number far.Reserved = keeps_itself q new
-  tells_beside new q cell number far.Replicated = keeps_itself q new
+  tells_beside : (new : PairState) (q cell : Cell) (number : ℕ) (how : FollowProgress) → KeepsCell q new (tells here new cell number how).own
+  tells_beside new q cell number follow_progress.Reserved = keeps_itself q new
+  tells_beside new q cell number follow_progress.Replicated = keeps_itself q new
 
   pub second_beside : (done : JobResult) (d : DidSecond heard here own done) (q : Cell) → q ≢ second_cell done d → KeepsCell q own done.own
   second_beside _ (Sets_apart number cell tickets h s le) q ne =
       let set : PairState = with_tickets own tickets in
       keeps_on q own set _ (keeps_alike q own set
       (record { pending = refl; followed = refl; copying = refl; last = refl; chains = refl; marks = refl }))
-      (followed_beside set cell q ne number far.Reserved)
+      (followed_beside set cell q ne number follow_progress.Reserved)
   second_beside _ (Promises number cell how s is) q ne = tells_beside own q cell number how
   second_beside _ (Declines number cell h s no_room) q ne = keeps_itself q own
   second_beside _ (Follows number key version bytes h s is) q ne =
       let stored : Stored = record { version = version_of (chain_in own.store.chains (cell_of key)) + 1; bytes = bytes } in
       let put : PairState = record own { store = with_entry own.store key stored } in
       keeps_on q own put _ (entry_beside own (cell_of key) q ne key stored refl)
-      (followed_beside put (cell_of key) q ne number far.Replicated)
+      (followed_beside put (cell_of key) q ne number follow_progress.Replicated)
 
   -- ### Holders
 
@@ -402,15 +402,15 @@ module _ (heard : Body → Type 0) (here : JobContext) (own : PairState) where
     marks = λ other. unmark_none own.store kind other cell q (bare.marks other) ∙ sym (bare.marks other);
   }
 
-  swept_beside : (what : Dead) (q : Cell) → q ≢ cell_swept what → KeepsCell q own (record own { store = without_dead own.store what })
-  swept_beside (dead.Key key) q ne = dropped_beside own (cell_of key) q ne key refl
-  swept_beside (dead.Mark kind cell) q ne = unmarked_beside own cell q ne kind
+  swept_beside : (what : Retired) (q : Cell) → q ≢ cell_swept what → KeepsCell q own (record own { store = without_retired own.store what })
+  swept_beside (retired.Key key) q ne = dropped_beside own (cell_of key) q ne key refl
+  swept_beside (retired.Mark kind cell) q ne = unmarked_beside own cell q ne kind
 
   -- a live cell keeps what it has
   pub live_beside : (done : JobResult) → DidSweep here own done → (q : Cell) → live here.state q ≡ true → KeepsCell q own done.own
   live_beside _ (Sweeps what seated next off) q on = swept_beside what q (λ e. true_false (ap (live here.state) (sym e) ∙ on) off)
 
-  -- and so does one that is not dead, and of which nothing is here before it is live
+  -- and so does one that is not retired, and of which nothing is here before it is live
   pub sweep_beside : (done : JobResult) → DidSweep here own done → (q : Cell) → stage_at here.state q < 4 → (stage_at here.state q ≡ 0 → IsBare own q)
       → KeepsCell q own done.own
   sweep_beside _ (Sweeps what seated next off) q alive bare = by what off
@@ -421,12 +421,12 @@ module _ (heard : Body → Type 0) (here : JobContext) (own : PairState) where
         | inr ne ↦ true_false (stage_live here.state q (above_none (stage_at here.state q) ne) alive) (ap (live here.state) e ∙ off)
       ]
 
-      by : (what : Dead) → live here.state (cell_swept what) ≡ false → KeepsCell q own (record own { store = without_dead own.store what })
-      by (dead.Key key) off = elim (same_cell_or_apart q (cell_of key)) [
+      by : (what : Retired) → live here.state (cell_swept what) ≡ false → KeepsCell q own (record own { store = without_retired own.store what })
+      by (retired.Key key) off = elim (same_cell_or_apart q (cell_of key)) [
         | inl e ↦ dropped_none key q (bare (unborn (cell_of key) e off))
-        | inr ne ↦ swept_beside (dead.Key key) q ne
+        | inr ne ↦ swept_beside (retired.Key key) q ne
       ]
-      by (dead.Mark kind cell) off = elim (same_cell_or_apart q cell) [
+      by (retired.Mark kind cell) off = elim (same_cell_or_apart q cell) [
         | inl e ↦ unmarked_none kind cell q (bare (unborn cell e off))
-        | inr ne ↦ swept_beside (dead.Mark kind cell) q ne
+        | inr ne ↦ swept_beside (retired.Mark kind cell) q ne
       ]

@@ -1,7 +1,7 @@
 -- What is kept of the two copies of each cell: at each place of its link, and at the stores as they are now.
 use Rattle.law_copies.specs.Imports.{Body, Both, Cell, Command, In, IsMarked, IsPrefix, IsRising, IsToBeCopied, LastCopy, Letter, LinkRow, Only, PairState}
 use Rattle.law_copies.specs.Imports.{Pending, Record, Setting, State, Store, WasStarted, World, about, at, blank_joins_in, cell_cmp, cell_link, chain_in}
-use Rattle.law_copies.specs.Imports.{id_of, is_between, is_clients, is_flagged, is_in, is_whole, last_copy, live, no_progress, other_of, progress_on}
+use Rattle.law_copies.specs.Imports.{id_of, is_between, is_clients, is_flagged, is_in, needs_full_copy, last_copy, live, no_progress, other_of, progress_on}
 use Rattle.law_copies.specs.Imports.{server_state, stage_at, state_after, subject_of}
 use Rattle.std.specs.Prelude.{[], ◌+◌, ◌<◌, ◌≡◌, ◌≤◌, ◌⊎◌, Bool, List, None, Option, Some, false, is_some, length, true, ℕ}
 use Rattle.std.specs.Ordering.{nat_cmp}
@@ -43,7 +43,7 @@ module _ (setting : Setting) (top : List Command) (stores : ℕ → ℕ → Stor
   abbrev by : List Command → ℕ → Store
   by = store_by setting stores
 
-  -- the cell is not dead by what is chosen last: what is dead is swept, so nothing is said of its stores. What its servers had in memory at the
+  -- the cell is not retired by what is chosen last: what is retired is swept, so nothing is said of its stores. What its servers had in memory at the
   -- places of its link stays so
   abbrev IsAlive : Cell → Type 0
   IsAlive cell = AliveIn (state_after setting.servers top) cell
@@ -63,7 +63,7 @@ module _ (setting : Setting) (top : List Command) (stores : ℕ → ℕ → Stor
         → ((place : ℕ) → place_by setting front row < place → visits (other_of holder row) place cell ≡ None)
         → StaysLeft row cell own (by front holder)
     -- where all is to be copied to the other server, it has nothing until the holder has been at such a place
-    pub unfilled : IsAlive cell → is_whole row.state ≡ true → (chain_in (by front (other_of holder row)).chains cell ≡ [])
+    pub unfilled : IsAlive cell → needs_full_copy row.state ≡ true → (chain_in (by front (other_of holder row)).chains cell ≡ [])
         ⊎ HasFilled setting top visits front cell holder (other_of holder row)
 
   -- what is known of a letter by the link at the front of its sender

@@ -21,7 +21,7 @@ pub use Rattle.spec_rules.specs.Blanked.{kept_store}
 pub use Rattle.spec_rules.specs.Log.{state_in}
 pub use Rattle.spec_rules.specs.Progress.{no_progress}
 pub use Rattle.spec_rules.specs.Server.{Pairs, no_copies, no_pairs}
-pub use Rattle.spec_rules.specs.State.{is_whole, primary, secondary}
+pub use Rattle.spec_rules.specs.State.{needs_full_copy, primary, secondary}
 pub use Rattle.spec_rules.specs.Store.{Chain, Store, is_marked}
 pub use Rattle.spec_rules.specs.World.{blank_joins_in, start as start_world, with_store}
 pub use Rattle.spec_rules.specs.Writes.{is_clients}

@@ -113,7 +113,7 @@ pub record HasMarks (op : Pending) (store : Store) (cell : Cell) : Type 0 where
   pub stale : op.stage.stale ≡ true → is_marked store Stale cell ≡ true
   pub lacks : is_clients op.kind ≡ false → op.stage.put ≡ false → at nat_cmp (chain_in store.chains cell) op.key.epoch ≡ None
 
--- each operation of a table does that is of a cell which is live by this state: what is left of dead ones is swept
+-- each operation of a table does that is of a cell which is live by this state: what is left of retired ones is swept
 abbrev pub HaveMarks : State → Table Cell Pending → Store → Type 0
 HaveMarks state pending store = (cell : Cell) (op : Pending) → live state cell ≡ true → at cell_cmp pending cell ≡ Some op → HasMarks op store cell
 

@@ -7,7 +7,7 @@ use Rattle.std.specs.Prelude.{[], if◌then◌else◌, ◌&&◌, ◌++◌, ◌<�
 use Rattle.std.specs.Prelude.{true, ℕ}
 use Rattle.std.specs.Option.{option_map_or}
 
--- the cell is not dead by this state
+-- the cell is not retired by this state
 abbrev pub AliveIn : State → Cell → Type 0
 AliveIn state cell = stage_at state cell < 4
 
@@ -15,7 +15,7 @@ abbrev pub is_alive : State → Cell → Bool
 is_alive state cell = nat_lt (stage_at state cell) 4
 
 -- of each server and each place of a cell's link, the server's own part as it last was while the server was there and was In as itself, and
--- the cell was not dead by its own entries: what is left of a dead cell is dropped, and nobody speaks of it any more
+-- the cell was not retired by its own entries: what is left of a retired cell is dropped, and nobody speaks of it any more
 abbrev pub Visits : Type 0
 Visits = (server place : ℕ) → Cell → Option PairState
 
@@ -44,7 +44,7 @@ half (Some own) store = record { pairs = own.pairs; copies = own.copies; filled 
 abbrev pub place_on : Setting → Server → Cell → Option ℕ
 place_on setting server cell = option_map (λ row. place_by setting server.log.applied row) (cell_link (state_in setting.servers server.log) cell)
 
--- the server is at this place, and In as itself, and the cell is not dead
+-- the server is at this place, and In as itself, and the cell is not retired
 abbrev pub is_at : Setting → ℕ → Server → (place : ℕ) → Cell → Bool
 is_at setting n server place cell =
     is_in (state_in setting.servers server.log) n server.life.inc
@@ -72,14 +72,14 @@ pub record IsHere (setting : Setting) (w : World) (visits : Visits) (n : ℕ) (c
   pub is : visits n (place_by setting (w.servers n).log.applied row) cell ≡ Some own
   pub same : own ≡ (w.servers n).own
 
--- by these entries the cell's link is at this place, and the cell is not dead
+-- by these entries the cell's link is at this place, and the cell is not retired
 pub record IsPlaced (setting : Setting) (front : List Command) (cell : Cell) (place : ℕ) : Type 0 where
   pub row : LinkRow
   pub linked : IsLinked setting front cell row
   pub alive : AliveIn (state_after setting.servers front) cell
   pub at : place_by setting front row ≡ place
 
--- a server has been only at places of its own entries, with the cell not dead there
+-- a server has been only at places of its own entries, with the cell not retired there
 pub record HasBeen (setting : Setting) (w : World) (n place : ℕ) (cell : Cell) : Type 0 where
   pub front : List Command
   pub within : IsPrefix front (w.servers n).log.applied

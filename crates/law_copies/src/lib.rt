@@ -43,8 +43,8 @@ pub fn an_unequal_block_is_marked()
 /// holds the link alone, a block that is not equal is marked at the holder, or at the other server before the holder's pages have passed it,
 /// or is one of all that the holder is to copy and has not copied, and none is once the holder has started a ballot for the link's Caught;
 /// and each letter that was ever sent between the two tells what is so, or what is past. What a server had pending when it last was at a
-/// place it had after some of the records, and whenever it was there since. A server is counted at a place only while the cell is not dead by
-/// its own entries, and stays as it then was; of a letter, or of a ballot that was started, this is told where the cell is not dead at the
+/// place it had after some of the records, and whenever it was there since. A server is counted at a place only while the cell is not retired by
+/// its own entries, and stays as it then was; of a letter, or of a ballot that was started, this is told where the cell is not retired at the
 /// front of its sender; and what a server has pending finds its marks where the cell is live by the server's own entries.
 pub fn letters_between_two_servers()
     ensures { (script : Script) (records : List Record) → IsSound script → AreSteps script records

@@ -43,7 +43,7 @@ pub use Rattle.law_requests.proofs.PendingHoldsReports.{held_write}
 pub use Rattle.law_requests.proofs.RequestsInHistories.{AskingAlong, asking_along}
 pub use Rattle.law_requests.proofs.RequestsKnownLater.{either_front}
 pub use Rattle.law_state.proofs.ErasRiseAfterReports.{log_epochs, log_left}
-pub use Rattle.law_state.proofs.LinksAreNoted.{log_dead}
+pub use Rattle.law_state.proofs.LinksAreNoted.{log_retired}
 pub use Rattle.law_state.proofs.NewMapLinks.{proper}
 pub use Rattle.law_state.proofs.TwinsAreOfOneDisk.{twins_epoch}
 pub use Rattle.law_state.specs.Epochs.{era_at}

@@ -1,7 +1,7 @@
 -- What is in time stays so while the era of its cell does not rise; and a cell that has died was leaving before.
 use Rattle.law_epochs.proofs.Imports.{if◌then◌else◌, ◌+◌, ◌∙◌, ◌≡◌, ◌≤◌, Cell, Command, HasProperTuples, IsPrefix, LinkRow, List, Moved, Pending, Some, State}
 use Rattle.law_epochs.proofs.Imports.{ap, arith, at_most_or_above, cell_link, epoch_at, era_by, era_low, front_more, front_on, front_plain, inl, inr, length}
-use Rattle.law_epochs.proofs.Imports.{link_at, link_of, links_of, log_below, log_dead, log_grown, log_plain, nat_le, nat_tests, none_some, option_and_then}
+use Rattle.law_epochs.proofs.Imports.{link_at, link_of, links_of, log_below, log_retired, log_grown, log_plain, nat_le, nat_tests, none_some, option_and_then}
 use Rattle.law_epochs.proofs.Imports.{option_map_or, proper, region_of, some_or_none, stage_at, state_after, sym, true, tuple_of, tuple_on, ℕ}
 use Rattle.law_state.specs.Homes.{era_at}
 use Rattle.law_epochs.specs.InTime.{IsTimely}
@@ -35,14 +35,14 @@ module _ (servers : ℕ) (front whole : List Command) (cell : Cell) (plain : Has
         | inr leaves ↦ let high = era_high (epoch_at now cell) (stage_at now cell) leaves in absurd (omega arith)
       ]
 
-  -- a cell that had a link, and is dead, was leaving
+  -- a cell that had a link, and is retired, was leaving
   pub record WasLeaving : Type 0 where
     pub until : List Command
     pub lies : IsPrefix until whole
     pub leaves : stage_at (state_after servers until) cell ≡ 3
 
   pub was_leaving : (row : LinkRow) → cell_link was cell ≡ Some row → stage_at now cell ≡ 4 → WasLeaving
-  was_leaving row linked dead = elim (some_or_none (tuple_of was.maps cell.map)) [
+  was_leaving row linked retired = elim (some_or_none (tuple_of was.maps cell.map)) [
     | inl h ↦
         let p = log_plain servers whole plain in
         let later : tuple_of now.maps cell.map ≡ Some h.0 =
@@ -50,7 +50,7 @@ module _ (servers : ℕ) (front whole : List Command) (cell : Cell) (plain : Has
         cell.map h.0 h.1 in
         let ids = proper servers h.0 (p.tuples cell.map h.0 later) in
         let many : links_of now cell.map ≡ length h.0 = ap (λ o. option_map_or length o 0) later in
-        let moved = log_dead servers whole cell 0 plain dead (let two = ids.two in omega arith) in
+        let moved = log_retired servers whole cell 0 plain retired (let two = ids.two in omega arith) in
         record {
           until = moved.until;
           lies = front_on moved.until _ whole (front_more moved.until (Moved cell.map (region_of cell.block) 0)) moved.stands;

@@ -90,7 +90,7 @@ module _ (it : Run) (had : HadWrite (end_of it).setting it.records) where
         | inl stays ↦
             let has = led_has servers o.opened entries n cell here.row (plain entries entries_chosen) opened_first o.leads here.linked in
             seat_stays (state_after servers entries) (state_after servers front) cell here.row stays n inc has seated
-        | inr died ↦ let dead = died.1 in let low = alive in absurd (omega arith)
+        | inr died ↦ let retired = died.1 in let low = alive in absurd (omega arith)
       ]
       | inr back ↦
           in_between setting (At script records) (firm script sound records legal) o.opened front entries more back entries_chosen n inc o.seated seated
@@ -140,7 +140,7 @@ module _ (it : Run) (had : HadWrite (end_of it).setting it.records) where
             let until_plain = plain r.until (front_on r.until front chosen r.before lies) in
             elim (same_place servers entries r.until cell here.row until_plain onward here.linked place_then) [
               | inl stays ↦ stays.same
-              | inr died ↦ let dead = died.1 in let low = alive_then in absurd (omega arith)
+              | inr died ↦ let retired = died.1 in let low = alive_then in absurd (omega arith)
             ]
 
         stood : is_at setting n ((At script r.made.before).servers n) place cell ≡ true
@@ -174,7 +174,7 @@ module _ (it : Run) (had : HadWrite (end_of it).setting it.records) where
       | inr reported ↦ absurd (never reported)
     ]
 
-  -- at a front at the place the cell is not dead: it would have been leaving at the place, or before
+  -- at a front at the place the cell is not retired: it would have been leaving at the place, or before
   entries_long : op.rev ≤ length entries
   entries_long = let long = o.long in let up = front_long o.opened entries opened_first in omega arith
 

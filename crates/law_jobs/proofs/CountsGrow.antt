@@ -19,7 +19,7 @@ module _ (heard : Body → Type 0) (here : JobContext) (own : PairState) where
     follows : (now : PairState) (e : Effect) → May heard here own now e → far_on own ≤ far_on now → far_on own ≤ far_on (applied now e)
     follows now (Follows of last) may le = elim (same_cell_or_apart cell of) [
       | inl e ↦
-          let then : far_on (applied now (Follows of last)) ≡ far_of last.op last.far =
+          let then : far_on (applied now (Follows of last)) ≡ far_of last.op last.progress =
           ap (λ c. progress (last_on (applied now (Follows of last)) c)) e ∙ ap progress (cell_same now.pairs.last of last) in
           let was : far_on now ≡ progress (last_on now of) = ap (λ c. progress (last_on now c)) e in
           omega arith

@@ -4,7 +4,7 @@ unfoldable pub use Rattle.law_state.specs.Imports.{In, at}
 pub use Rattle.law_state.proofs.Imports.{[], ◌++◌, ◌∙◌, ◌∷◌, ◌≡◌, ◌≢◌, ◌≤◌, ◌⊎◌, Bool, List, None, Option, Some, ap, append-nil, append_assoc, arith, by_bool}
 pub use Rattle.law_state.proofs.Imports.{by_test, false, in-append, in_former, in_later, inl, inr, none_some, refl, same_or_apart, same_some, subst, sym}
 pub use Rattle.law_state.proofs.Imports.{true, true_false, unwrap_or, ℕ}
-pub use Rattle.law_log.proofs.Imports.{Action, Actor, Body, Copying, Ending, Far, Firm, JobContext, JobResult, Key, LastCopy, Letter, OpKind, Pending, Post}
+pub use Rattle.law_log.proofs.Imports.{Action, Actor, Body, Copying, Ending, FollowProgress, Firm, JobContext, JobResult, Key, LastCopy, Letter, OpKind, Pending, Post}
 pub use Rattle.law_log.proofs.Imports.{Step, Stored, above, begins_copy, cell_at, cell_holder, cell_of, chain_in, closes, ends, fill_operation, gives_back}
 pub use Rattle.law_log.proofs.Imports.{gives_up, id_of, is_second, is_some, key_at, last_copy, last_on, link_named, nat_cmp, pending_on, post_to, progress_on}
 pub use Rattle.law_log.proofs.Imports.{stepped, tells, with_copied, with_opened, with_page, with_progress, without_copying, without_pending}
@@ -28,14 +28,14 @@ pub use Rattle.law_steps.proofs.OperationsRest.{same_cell_or_apart}
 pub use Rattle.law_steps.proofs.Restages.{IsSame, Was, same_itself, same_on, stood, was_same}
 pub use Rattle.law_steps.proofs.Subjects.{of_read, of_sweep}
 pub use Rattle.law_steps.proofs.TakenUpAlone.{taking}
-pub use Rattle.law_steps.proofs.WhoLeads.{dead_second}
+pub use Rattle.law_steps.proofs.WhoLeads.{retired_second}
 pub use Rattle.law_steps.proofs.WorldsAreFirm.{always_firm}
 pub use Rattle.law_steps.specs.Did.{By_filler, By_holder, By_lead, By_other, By_read, By_second, By_sweep, Did, Ignores, Refuses}
 pub use Rattle.law_steps.specs.DidFiller.{DidFiller, Is_filled, Is_out_of_slots}
 pub use Rattle.law_steps.specs.DidHolder.{Asks_page, Asks_to_trim, Begins_copy, Closes_copy, CopyStep, Copy_as_is, Copy_synced, Copy_trimmed, DidHolder}
 pub use Rattle.law_steps.specs.DidHolder.{Finds_it_full, Goes_on_copying, Sends, Tidies, Turns_page, Unmarks_copied}
 pub use Rattle.law_steps.specs.DidLead.{A_copied_entry, A_copy, A_page, A_slot, A_trim, An_entry_to_move, As_it_is, As_told, Asks, Asks_for, Closes}
-pub use Rattle.law_steps.specs.DidLead.{Closes_alone, DidLead, Gives_up, Goes_on_dead, Has_fill, Has_no_room, Is_full, Marks, Marks_alone, Of_the_log, Opens}
+pub use Rattle.law_steps.specs.DidLead.{Closes_alone, DidLead, Gives_up, Goes_on_retired, Has_fill, Has_no_room, Is_full, Marks, Marks_alone, Of_the_log, Opens}
 pub use Rattle.law_steps.specs.DidLead.{Opens_alone, Opens_fill, Opens_fill_alone, Puts, Puts_alone, Repeats, Unmarks, Unmarks_alone, told}
 pub use Rattle.law_steps.specs.DidOther.{Answers_page, DidOther, Drops_entry, Goes_on_trimming, Has_entry, Has_no_slot, Is_copied_to, Is_trimmed, OtherReply}
 pub use Rattle.law_steps.specs.DidOther.{Puts_entry, Replies, TrimStep}

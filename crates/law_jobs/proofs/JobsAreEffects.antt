@@ -1,8 +1,8 @@
 -- Each job of a server is a list of effects.
 use Rattle.law_jobs.proofs.Imports.{◌+◌, ◌-◌, ◌≡◌, Action, As_it_is, As_told, Begins_copy, Body, Bool, By_filler, By_holder, By_lead, By_other, By_read}
 use Rattle.law_jobs.proofs.Imports.{By_second, By_sweep, Cell, Closes, Closes_alone, Closes_copy, CopyStep, Copy_as_is, Copy_synced, Copy_trimmed, Copying}
-use Rattle.law_jobs.proofs.Imports.{Did, DidFiller, DidHolder, DidLead, DidOther, DidSecond, DidSweep, Drops_entry, Ending, Far, Finds_it_full, Follows}
-use Rattle.law_jobs.proofs.Imports.{Gives_up, Goes_on_copying, Goes_on_dead, Goes_on_trimming, Ignores, Is_copied_to, Is_filled, Is_full, Is_out_of_slots}
+use Rattle.law_jobs.proofs.Imports.{Did, DidFiller, DidHolder, DidLead, DidOther, DidSecond, DidSweep, Drops_entry, Ending, FollowProgress, Finds_it_full, Follows}
+use Rattle.law_jobs.proofs.Imports.{Gives_up, Goes_on_copying, Goes_on_retired, Goes_on_trimming, Ignores, Is_copied_to, Is_filled, Is_full, Is_out_of_slots}
 use Rattle.law_jobs.proofs.Imports.{Is_trimmed, JobContext, JobResult, Key, LastCopy, LinkId, LinkRow, MarkKind, Marks, Marks_alone, None, OpKind, Opens}
 use Rattle.law_jobs.proofs.Imports.{Opens_alone, Opens_fill, Opens_fill_alone, Option, PairState, Pending, Promises, Puts, Puts_alone, Puts_entry, Refuses}
 use Rattle.law_jobs.proofs.Imports.{Sets_apart, Some, Stage, Stored, Sweeps, Taken, TakenCopy, Tidies, TrimStep, Turns_page, Unmarks, Unmarks_alone}
@@ -13,13 +13,13 @@ use Rattle.law_jobs.proofs.Imports.{tells, told, true, true_false, version_of, w
 use Rattle.law_jobs.proofs.Imports.{with_pending, with_progress, with_reserved, without_copying, without_pending, ℕ}
 use Rattle.law_jobs.proofs.ChainsApart.{entry_put}
 use Rattle.law_jobs.specs.Effects.{Effect, applied, May, Becomes, As_it_was, Then, Alone_has, Both_have, By_operation, For_a_fill, For_a_write, Had_no_slot}
-use Rattle.law_jobs.specs.Effects.{HasEnded, Is_dead, Is_declined, IsFilledAs, IsOpening, IsPutFor, IsSetFor, Is_begun, Is_further, Is_opened, Goes_on}
+use Rattle.law_jobs.specs.Effects.{HasEnded, Is_retired, Is_declined, IsFilledAs, IsOpening, IsPutFor, IsSetFor, Is_begun, Is_further, Is_opened, Goes_on}
 use Rattle.law_jobs.specs.Effects.{Has_put, An_operation, A_lead, A_copy}
 use Rattle.busy_marks.specs.declared.marks.MarkKind.TheVariants as mark
-use Rattle.petal_msg.specs.declared.dead.Dead.TheVariants as dead
+use Rattle.petal_msg.specs.declared.retired.Retired.TheVariants as retired
 use Rattle.petal_msg.specs.declared.operation.Action.TheVariants as action
 use Rattle.petal_msg.specs.declared.operation.Ending.TheVariants as ending
-use Rattle.petal_msg.specs.declared.operation.Far.TheVariants as far
+use Rattle.petal_msg.specs.declared.operation.FollowProgress.TheVariants as follow_progress
 use Rattle.petal_msg.specs.declared.operation.OpKind.TheVariants as kind
 use Rattle.law_jobs.specs.Effects as effect
 
@@ -120,7 +120,7 @@ module _ (heard : Body → Type 0) (here : JobContext) (own : PairState) where
   acts_to now op taken off action.Put = puts_to now op taken
   acts_to now op taken off action.Replicate = taken_to now op taken
   acts_to now op taken off (action.Unmark which) = unmarks_taken now op taken which
-  acts_to now op taken off action.Answer = closes_taken now op taken (Is_dead now op taken off)
+  acts_to now op taken off action.Answer = closes_taken now op taken (Is_retired now op taken off)
   acts_to now op taken off action.Drop = drops_to now op (taken_to now op taken)
 
   opens_alone_to : (op : Pending) → IsOpening heard here own op → To (marks (with_opened own op) op mark.Stale).own
@@ -150,23 +150,23 @@ module _ (heard : Body → Type 0) (here : JobContext) (own : PairState) where
   lead_to _ (Closes_alone now op taken alone stale put free) = closes_taken now op taken (Alone_has now op taken alone stale put free)
   lead_to _ (Opens_fill moving new room both) = opened_to (fill_operation here own.pairs.next moving) (For_a_fill moving new)
   lead_to _ (Opens_fill_alone moving new room alone) = opens_alone_to (fill_operation here own.pairs.next moving) (For_a_fill moving new)
-  lead_to _ (Goes_on_dead now op taken off) = acts_to now op taken off (next_stage here.state here.me op)
+  lead_to _ (Goes_on_retired now op taken off) = acts_to now op taken off (next_stage here.state here.me op)
   lead_to _ _ = As_it_was
 
   -- ### The second server
 
-  tells_to : (now : PairState) (cell : Cell) (number : ℕ) (how : Far) → To now → To (tells here now cell number how).own
-  tells_to now cell number far.Reserved so = so
-  tells_to now cell number far.Replicated so = so
+  tells_to : (now : PairState) (cell : Cell) (number : ℕ) (how : FollowProgress) → To now → To (tells here now cell number how).own
+  tells_to now cell number follow_progress.Reserved so = so
+  tells_to now cell number follow_progress.Replicated so = so
 
   second_to : (done : JobResult) → DidSecond heard here own done → To done.own
   second_to _ (Sets_apart number cell tickets h is le) =
-      Then (applied own (effect.Holds_slots tickets)) (effect.Follows cell (record { op = number; far = far.Reserved }))
+      Then (applied own (effect.Holds_slots tickets)) (effect.Follows cell (record { op = number; progress = follow_progress.Reserved }))
       (Then own (effect.Holds_slots tickets) As_it_was tt) le
   second_to _ (Promises number cell how s is) = tells_to own cell number how As_it_was
   second_to _ (Follows number key version bytes h s is) =
       let stored : Stored = record { version = version_of (chain_in own.store.chains (cell_of key)) + 1; bytes = bytes } in
-      Then (applied own (effect.Puts key stored)) (effect.Follows (cell_of key) (record { op = number; far = far.Replicated }))
+      Then (applied own (effect.Puts key stored)) (effect.Follows (cell_of key) (record { op = number; progress = follow_progress.Replicated }))
       (Then own (effect.Puts key stored) As_it_was (A_lead number key version stored.version bytes h, refl))
       (let was : progress (last_on own (cell_of key)) ≡ number + number = ap progress is in omega arith)
   second_to _ _ = As_it_was
@@ -242,8 +242,8 @@ module _ (heard : Body → Type 0) (here : JobContext) (own : PairState) where
       Then own (effect.Is_full true) As_it_was (λ e. inr (record { key = key; row = row; said = h; next = next }))
 
   sweep_to : (done : JobResult) → DidSweep here own done → To done.own
-  sweep_to _ (Sweeps (dead.Key key) seated next off) = Then own (effect.Drops key) As_it_was (refl, refl)
-  sweep_to _ (Sweeps (dead.Mark which cell) seated next off) = Then own (effect.Unmarks which cell) As_it_was tt
+  sweep_to _ (Sweeps (retired.Key key) seated next off) = Then own (effect.Drops key) As_it_was (refl, refl)
+  sweep_to _ (Sweeps (retired.Mark which cell) seated next off) = Then own (effect.Unmarks which cell) As_it_was tt
 
   pub effects_of : (done : JobResult) → Did heard here own done → Becomes heard here own done.own
   effects_of _ Ignores = As_it_was

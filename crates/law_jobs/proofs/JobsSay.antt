@@ -2,18 +2,18 @@
 use Rattle.law_jobs.proofs.Imports.{[], ◌+◌, ◌∷◌, ◌≡◌, A_copied_entry, A_copy, A_page, A_slot, A_trim, Action, An_entry_to_move, Answers_page, Asks, Asks_for}
 use Rattle.law_jobs.proofs.Imports.{Asks_page, Asks_to_trim, Begins_copy, Body, By_filler, By_holder, By_lead, By_other, By_read, By_second, By_sweep, Cell}
 use Rattle.law_jobs.proofs.Imports.{Closes, Closes_alone, CopyStep, Copy_as_is, Copying, Declines, Did, DidHolder, DidLead, DidOther, DidRead, DidSecond}
-use Rattle.law_jobs.proofs.Imports.{Drops_entry, Ending, Far, Finished, Follows, Gives_up, Goes_on_copying, Goes_on_dead, Goes_on_trimming, Has_entry}
+use Rattle.law_jobs.proofs.Imports.{Drops_entry, Ending, FollowProgress, Finished, Follows, Gives_up, Goes_on_copying, Goes_on_retired, Goes_on_trimming, Has_entry}
 use Rattle.law_jobs.proofs.Imports.{Has_fill, Has_no_room, Has_no_slot, Ignores, In, Is_copied_to, Is_filled, Is_full, Is_out_of_slots, Is_trimmed}
 use Rattle.law_jobs.proofs.Imports.{JobContext, JobResult, LastCopy, List, None, Not_here, Of_the_log, OpKind, Opens, Opens_fill, Option, OtherReply}
 use Rattle.law_jobs.proofs.Imports.{PairState, Pending, Post, Promises, Puts_entry, Refuses, Repeats, Replies, Sends, Sets_apart, Shows, Some, Taken}
-use Rattle.law_jobs.proofs.Imports.{TrimStep, acts, ap, arith, cell_gone, cell_holder, cell_of, cell_same, dead_second, ends, false, fill_operation}
+use Rattle.law_jobs.proofs.Imports.{TrimStep, acts, ap, arith, cell_gone, cell_holder, cell_of, cell_same, retired_second, ends, false, fill_operation}
 use Rattle.law_jobs.proofs.Imports.{first_last, gives_back, inl, inr, is_second, last_copy, last_on, live, nat_cmp, next_stage, none_some, of_sweep}
 use Rattle.law_jobs.proofs.Imports.{operation, pending_on, post_to, put, refl, subst, sym, taking, tells, true, without_pending, ℕ}
-use Rattle.law_jobs.specs.Effects.{Alone_has, Both_have, By_operation, Had_no_slot, HasEnded, Is_dead, Is_declined}
+use Rattle.law_jobs.specs.Effects.{Alone_has, Both_have, By_operation, Had_no_slot, HasEnded, Is_retired, Is_declined}
 use Rattle.law_jobs.specs.Sayings.{IsCopying, Says, to_server}
 use Rattle.petal_msg.specs.declared.operation.Action.TheVariants as action
 use Rattle.petal_msg.specs.declared.operation.Ending.TheVariants as ending
-use Rattle.petal_msg.specs.declared.operation.Far.TheVariants as far
+use Rattle.petal_msg.specs.declared.operation.FollowProgress.TheVariants as follow_progress
 use Rattle.petal_msg.specs.declared.operation.OpKind.TheVariants as kind
 use Rattle.law_jobs.specs.Sayings as says
 
@@ -57,13 +57,13 @@ module _ (heard : Body → Type 0) (here : JobContext) (own : PairState) where
   -- a cell that is not live has no second server
   acts_said : (now : PairState) (op : Pending) → Taken own now op → live here.state op.cell ≡ false → (next : Action)
       → AreSaid (acts here now op next).own (acts here now op next).posts
-  acts_said now op taken off action.Reserve = one _ _ _ (λ to so. none_some (dead_second here.state op.cell off) so)
+  acts_said now op taken off action.Reserve = one _ _ _ (λ to so. none_some (retired_second here.state op.cell off) so)
   acts_said now op taken off (action.Mark which) = λ post i. none_in post i
   acts_said now op taken off action.Put = λ post i. none_in post i
-  acts_said now op taken off action.Replicate = one _ _ _ (λ to so. none_some (dead_second here.state op.cell off) so)
+  acts_said now op taken off action.Replicate = one _ _ _ (λ to so. none_some (retired_second here.state op.cell off) so)
   acts_said now op taken off (action.Unmark which) = λ post i. none_in post i
   acts_said now op taken off action.Answer =
-      ends_said (without_pending now op.cell) op op.kind ending.Written refl (Is_dead now op taken off) (cell_gone now.pairs.pending op.cell)
+      ends_said (without_pending now op.cell) op op.kind ending.Written refl (Is_retired now op taken off) (cell_gone now.pairs.pending op.cell)
       (taking own now op taken).finished
   acts_said now op taken off action.Drop = λ post i. none_in post i
 
@@ -87,21 +87,21 @@ module _ (heard : Body → Type 0) (here : JobContext) (own : PairState) where
       one _ _ _ (λ to so. says.Opens op to new.lead both new.none (cell_same own.pairs.pending (cell_of moving.key) op) refl refl so)
   lead_said _ (Has_fill moving filled) = one _ _ _ (λ to so. says.Has_fill moving to refl filled so)
   lead_said _ (Has_no_room moving new no_room) = one _ _ _ (λ to so. says.Has_no_room moving to refl new no_room so)
-  lead_said _ (Goes_on_dead now op taken off) = acts_said now op taken off (next_stage here.state here.me op)
+  lead_said _ (Goes_on_retired now op taken off) = acts_said now op taken off (next_stage here.state here.me op)
   lead_said _ _ = λ post i. none_in post i
 
-  tells_said : (now : PairState) (cell : Cell) (number : ℕ) (how : Far) → is_second here.state here.me cell ≡ true
-      → last_on now cell ≡ Some (record { op = number; far = how }) → AreSaid (tells here now cell number how).own (tells here now cell number how).posts
-  tells_said now cell number far.Reserved follows is = one _ _ _ (λ to so. says.Has_slot number cell to follows is so)
-  tells_said now cell number far.Replicated follows is = one _ _ _ (λ to so. says.Has_copy number cell to follows is so)
+  tells_said : (now : PairState) (cell : Cell) (number : ℕ) (how : FollowProgress) → is_second here.state here.me cell ≡ true
+      → last_on now cell ≡ Some (record { op = number; progress = how }) → AreSaid (tells here now cell number how).own (tells here now cell number how).posts
+  tells_said now cell number follow_progress.Reserved follows is = one _ _ _ (λ to so. says.Has_slot number cell to follows is so)
+  tells_said now cell number follow_progress.Replicated follows is = one _ _ _ (λ to so. says.Has_copy number cell to follows is so)
 
   second_said : (done : JobResult) → DidSecond heard here own done → AreSaid done.own done.posts
   second_said _ (Sets_apart number cell tickets h so le) =
-      tells_said _ cell number far.Reserved so (cell_same own.pairs.last cell (record { op = number; far = far.Reserved }))
+      tells_said _ cell number follow_progress.Reserved so (cell_same own.pairs.last cell (record { op = number; progress = follow_progress.Reserved }))
   second_said _ (Promises number cell how so is) = tells_said own cell number how so is
   second_said _ (Declines number cell h follows found) = one _ _ _ (λ to so. says.Has_no_slot number cell to refl h follows found so)
   second_said _ (Follows number key version bytes h so is) =
-      tells_said _ (cell_of key) number far.Replicated so (cell_same own.pairs.last (cell_of key) (record { op = number; far = far.Replicated }))
+      tells_said _ (cell_of key) number follow_progress.Replicated so (cell_same own.pairs.last (cell_of key) (record { op = number; progress = follow_progress.Replicated }))
 
   step_said : (now : PairState) (cell : Cell) (copy : Copying) (done : JobResult) → IsCopying heard here own cell now copy → CopyStep here now cell copy done
       → AreSaid done.own done.posts

@@ -81,7 +81,7 @@ pub data HasEnded (heard : Body → Type 0) (here : JobContext) (own : PairState
       → HasEnded heard here own op Written
   Alone_has : (now : PairState) (op : Pending) → Taken own now op → is_alone_on here.state here.me op.cell ≡ true → op.stage.stale ≡ true
       → op.stage.put ≡ true → op.stage.busy ≡ false → HasEnded heard here own op Written
-  Is_dead : (now : PairState) (op : Pending) → Taken own now op → live here.state op.cell ≡ false → HasEnded heard here own op Written
+  Is_retired : (now : PairState) (op : Pending) → Taken own now op → live here.state op.cell ≡ false → HasEnded heard here own op Written
 
 -- with which request of a client a lead is done: a new one for which it has no slot, or that of an operation that has ended. Nothing is pending
 -- then on its cell
@@ -129,7 +129,7 @@ May heard here own now (Sets op) = IsSetFor heard here own now op × (now.pairs.
 May heard here own now (Finishes client last) = IsFinishedFor heard here own now.pairs.pending client last × (now.pairs.finished ≡ own.pairs.finished)
 May heard here own now (Puts key stored) = IsPutFor heard own key stored × (now.store.chains ≡ own.store.chains)
 May heard here own now (Drops key) = (now.store.chains ≡ own.store.chains) × (now.pairs.pending ≡ own.pairs.pending)
-May heard here own now (Follows cell last) = progress (last_on now cell) ≤ far_of last.op last.far
+May heard here own now (Follows cell last) = progress (last_on now cell) ≤ far_of last.op last.progress
 May heard here own now (Is_copied cell last) = IsCopiedFor heard own cell last
 May heard here own now (Is_full full) = full ≡ true → HearsNone heard here own
 May heard here own now (Moves_on row moved) = (id : LinkId) × (link_named here.state id ≡ Some row)

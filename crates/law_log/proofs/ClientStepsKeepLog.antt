@@ -60,7 +60,7 @@ newly_asked state line seq = record {
   turn = 0;
   rev = state.rev;
   witnesses = 0;
-  told = false;
+  saw_missing = false;
   old_way = false;
   round = first_round line.request;
   seen = [];
@@ -129,7 +129,7 @@ module _ (Told : ℕ → Command → Type 0) (lines : List Line) (me : ℕ) (sta
   open_now called asked other e o = subst (IsOpen lines me called) (same_some e) o
 
   own_command : (called : ℕ) (asked : Asked) (c : Command) → IsOpen lines me called asked → to_propose state me asked ≡ Some c → IsOf lines me called c
-  own_command called asked c o e = by (command_of me asked.seq asked.request) refl (refusal state asked.told asked.request) e
+  own_command called asked c o e = by (command_of me asked.seq asked.request) refl (refusal state asked.saw_missing asked.request) e
     where
       by : (first : Option Command) → command_of me asked.seq asked.request ≡ first → (cause : Option Answer)
           → or_command first (witness_where cause me asked) ≡ Some c → IsOf lines me called c
@@ -211,7 +211,7 @@ module _ (Told : ℕ → Command → Type 0) (lines : List Line) (me : ℕ) (sta
   the_old_way : (client : Client) (asked : Asked) → Fine client → client.asked ≡ Some asked
       → Reacts Told lines me client.seq (goes_the_old_way state me client asked)
   the_old_way client asked f e =
-      goes client (record asked { told = true; old_way = true }) f.applied (open_as client.seq asked _ refl refl (f.asked asked e))
+      goes client (record asked { saw_missing = true; old_way = true }) f.applied (open_as client.seq asked _ refl refl (f.asked asked e))
 
   -- a settle goes on, with its round as it is then
   staying : (client : Client) (asked other : Asked) → Fine client → IsOpen lines me client.seq asked → other.seq ≡ asked.seq → other.request ≡ asked.request
@@ -314,7 +314,7 @@ module _ (Told : ℕ → Command → Type 0) (lines : List Line) (me : ℕ) (sta
       → Kept now (judged_by me entry now asked o)
   kept_by entry now asked (Some command) f e = kept_answer now asked (verdict_for asked.seq (latest now.state me)) f
   kept_by entry now asked None f e =
-      by_test (Kept now) (is_witness me asked.seq entry) _ _ (λ _. kept_witness now asked (refusal now.state asked.told asked.request) f e)
+      by_test (Kept now) (is_witness me asked.seq entry) _ _ (λ _. kept_witness now asked (refusal now.state asked.saw_missing asked.request) f e)
       (λ _. record { applied = refl; seq = refl; fine = f })
 
   kept_judged : (entry : Command) (now : Learning) (asked : Option Asked) → IsFine Told lines me now.client → now.client.asked ≡ asked

@@ -1,9 +1,9 @@
 -- Jobs of fills and sweeps: they say nothing of the log, put no letter into the queue, and forget no Caught for which a ballot was started.
-use Rattle.law_log.proofs.Imports.{[], ◌∙◌, ◌∷◌, ◌≡◌, Among, Bool, Cell, Dead, Job, JobContext, Key, Letter, LinkId, LinkRow, List, Moving, None, Option}
+use Rattle.law_log.proofs.Imports.{[], ◌∙◌, ◌∷◌, ◌≡◌, Among, Bool, Cell, Retired, Job, JobContext, Key, Letter, LinkId, LinkRow, List, Moving, None, Option}
 use Rattle.law_log.proofs.Imports.{PairState, Post, Some, State, Stored, ap, at, at-put, by_test, cell_of, chain_in, cond, eq_by_cmp, false, fill_of}
 use Rattle.law_log.proofs.Imports.{fill_operation, fill_posts, fills_row, flat_map, free_of, goes_after, has_epoch, has_proposed, hears_fill, hears_fill_full}
 use Rattle.law_log.proofs.Imports.{hears_filled, id_of, in-append, inl, inr, is_eq, is_lead, is_next, is_some, is_under_way, key_at, lead, link_before}
-use Rattle.law_log.proofs.Imports.{link_cmp, nat_cmp, nat_lt, next_dead, on_fill, on_fill_full, on_filled, opens_fill, refl, sends_key, sends_moving}
+use Rattle.law_log.proofs.Imports.{link_cmp, nat_cmp, nat_lt, next_retired, on_fill, on_fill_full, on_filled, opens_fill, refl, sends_key, sends_moving}
 use Rattle.law_log.proofs.Imports.{sweep_jobs, sweeps, sweeps_with, target, tied_itself, true, with_filled, with_full, with_opened}
 use Rattle.law_log.proofs.CopyJobsLeaveLog.{IsCalm, IsKept, calm_silent}
 use Rattle.law_log.proofs.BallotFlags.{link_cmp_total}
@@ -104,7 +104,7 @@ unfolding Among
 only_sweep letter (inl e) = let f : job.Letter letter ≡ job.Sweep = e in absurd cc
 only_sweep letter (inr h) = absurd h
 
-calm_swept : (own : PairState) (o : Option Dead) → IsCalm own (sweeps_with own o)
+calm_swept : (own : PairState) (o : Option Retired) → IsCalm own (sweeps_with own o)
 calm_swept own None = calm_silent own
 calm_swept own (Some what) = record {
   quiet = record { posts = λ post i. no_posts post i; jobs = λ letter i. only_sweep letter i };
@@ -113,10 +113,10 @@ calm_swept own (Some what) = record {
 
 pub calm_sweeps : (here : JobContext) (own : PairState) → IsCalm own (sweeps here own)
 unfolding sweeps
-calm_sweeps here own = calm_swept own (next_dead here.state own.store)
+calm_sweeps here own = calm_swept own (next_retired here.state own.store)
 
 -- a tick's sweep is no letter
 pub no_sweep : {A : Type 0} (here : JobContext) (own : PairState) (letter : Letter) → Among (job.Letter letter) (sweep_jobs here own) → A
 no_sweep {A} here own letter h =
-    by_test (λ (xs : List Job). Among (job.Letter letter) xs → A) (is_some (next_dead here.state own.store)) (job.Sweep ∷ []) []
+    by_test (λ (xs : List Job). Among (job.Letter letter) xs → A) (is_some (next_retired here.state own.store)) (job.Sweep ∷ []) []
     (λ e i. only_sweep letter i) (λ e i. absurd (no_letter letter i)) h

@@ -45,12 +45,12 @@ pub use Rattle.petal_msg.specs.declared.copying.Copying.{Copying}
 pub use Rattle.petal_msg.specs.declared.copying.LastCopy.{LastCopy}
 pub use Rattle.petal_msg.specs.declared.copying.NextCopy.{NextCopy}
 pub use Rattle.petal_msg.specs.declared.copying.NextCopy.TheVariants.{Ask, Block, Wait}
-pub use Rattle.petal_msg.specs.declared.dead.Dead.{Dead}
+pub use Rattle.petal_msg.specs.declared.retired.Retired.{Retired}
 pub use Rattle.petal_msg.specs.declared.letter.Actor.{Actor}
 pub use Rattle.petal_msg.specs.declared.letter.Letter.{Letter}
 pub use Rattle.petal_msg.specs.declared.operation.Action.{Action}
 pub use Rattle.petal_msg.specs.declared.operation.Ending.{Ending}
-pub use Rattle.petal_msg.specs.declared.operation.Far.{Far}
+pub use Rattle.petal_msg.specs.declared.operation.FollowProgress.{FollowProgress}
 pub use Rattle.petal_msg.specs.declared.operation.LastOp.{LastOp}
 pub use Rattle.petal_msg.specs.declared.operation.OpKind.{OpKind}
 pub use Rattle.petal_msg.specs.declared.operation.Pending.{Pending}
@@ -117,7 +117,7 @@ pub use Rattle.spec_rules.specs.Server.{Copies, JobContext, JobResult, Life, Pos
 pub use Rattle.spec_rules.specs.State.{id_of, is_second, link_named, other_in, is_in as seated}
 pub use Rattle.spec_rules.specs.Store.{Stored, chain_in, free_of}
 pub use Rattle.spec_rules.specs.Sweeping.{sweep_jobs, sweeps_with}
-unfoldable pub use Rattle.spec_rules.specs.Sweeping.{next_dead, sweeps}
+unfoldable pub use Rattle.spec_rules.specs.Sweeping.{next_retired, sweeps}
 pub use Rattle.spec_rules.specs.World.{MayActor, MayClient, MayServer, acts, calls, client_state, client_step, devices, lines_of, next_line, reacts}
 pub use Rattle.spec_rules.specs.World.{server_state, server_step, setting_of, stamped, start}
 unfoldable pub use Rattle.spec_rules.specs.World.{step}

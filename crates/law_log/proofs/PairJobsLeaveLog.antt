@@ -1,6 +1,6 @@
 -- Operations of the pairs say nothing of the log, put no letter into the queue, and leave all copies as they are; neither does what a tick sends
 -- for them say anything of the log.
-use Rattle.law_log.proofs.Imports.{[], ◌&&◌, ◌==◌, ◌∷◌, ◌≡◌, Action, Actor, Again, Among, Body, Bool, Cell, Command, Copies, Ending, Far, JobContext}
+use Rattle.law_log.proofs.Imports.{[], ◌&&◌, ◌==◌, ◌∷◌, ◌≡◌, Action, Actor, Again, Among, Body, Bool, Cell, Command, Copies, Ending, FollowProgress, JobContext}
 use Rattle.law_log.proofs.Imports.{JobResult, Key, LastOp, Letter, List, Newer, None, Older, OpKind, Option, PairState, Pax, Pending, Post, Reply, Some}
 use Rattle.law_log.proofs.Imports.{Standing, Wanted, World, about, awaited, by_test, cell_of, ended, ends, false, finishes, flat_map, follows_once}
 use Rattle.law_log.proofs.Imports.{gives_back, gives_up, goes_on, goes_on_with, hears_pair_full, hears_replicate, hears_replicated, hears_reserve}
@@ -15,7 +15,7 @@ use Rattle.petal_msg.specs.declared.body.Body.TheVariants as body
 use Rattle.petal_msg.specs.declared.letter.Actor.TheVariants as actor
 use Rattle.petal_msg.specs.declared.operation.Action.TheVariants as action
 use Rattle.petal_msg.specs.declared.operation.Ending.TheVariants as ending
-use Rattle.petal_msg.specs.declared.operation.Far.TheVariants as far
+use Rattle.petal_msg.specs.declared.operation.FollowProgress.TheVariants as follow_progress
 use Rattle.petal_msg.specs.declared.operation.OpKind.TheVariants as kind
 use Rattle.petal_msg.specs.declared.operation.Reply.TheVariants as reply
 use Rattle.spec_rules.specs.declared.job.Job.TheVariants as job
@@ -189,36 +189,36 @@ unfolding on_replicated
 pair_replicated here own number cell = pair_found own (hears_replicated here own number) (pair_silent own)
     (λ op. by_test (Leaves own) (is_replicating op number) _ _ (λ e. pair_goes here _ op.cell) (λ e. pair_silent own)) (pending_on own cell)
 
-pair_tells : (here : JobContext) (own : PairState) (cell : Cell) (number : ℕ) (how : Far) → Leaves own (tells here own cell number how)
-pair_tells here own cell number far.Reserved = pair_says_to own _ _ refl
-pair_tells here own cell number far.Replicated = pair_says_to own _ _ refl
+pair_tells : (here : JobContext) (own : PairState) (cell : Cell) (number : ℕ) (how : FollowProgress) → Leaves own (tells here own cell number how)
+pair_tells here own cell number follow_progress.Reserved = pair_says_to own _ _ refl
+pair_tells here own cell number follow_progress.Replicated = pair_says_to own _ _ refl
 
 pair_reserves : (here : JobContext) (own : PairState) (cell : Cell) (number : ℕ) (has room : Bool) → Leaves own (reserves here own cell number has room)
-pair_reserves here own cell number true room = pair_tells here _ cell number far.Reserved
-pair_reserves here own cell number false true = pair_tells here _ cell number far.Reserved
+pair_reserves here own cell number true room = pair_tells here _ cell number follow_progress.Reserved
+pair_reserves here own cell number false true = pair_tells here _ cell number follow_progress.Reserved
 pair_reserves here own cell number false false = pair_says_to own _ _ refl
 
 pair_hears_reserve : (here : JobContext) (own : PairState) (cell : Cell) (number : ℕ) (o : Option LastOp) → Leaves own (hears_reserve here own cell number o)
 pair_hears_reserve here own cell number None = pair_reserves here own cell number false _
 pair_hears_reserve here own cell number (Some last) =
     by_test (Leaves own) (nat_lt number last.op) _ _ (λ e. pair_silent own)
-    (λ e. by_test (Leaves own) (number == last.op) _ _ (λ f. pair_tells here own cell number last.far) (λ f. pair_reserves here own cell number _ _))
+    (λ e. by_test (Leaves own) (number == last.op) _ _ (λ f. pair_tells here own cell number last.progress) (λ f. pair_reserves here own cell number _ _))
 
 pub pair_reserve : (here : JobContext) (own : PairState) (number : ℕ) (cell : Cell) → Leaves own (on_reserve here own number cell)
 unfolding on_reserve
 pair_reserve here own number cell =
     by_test (Leaves own) (is_second here.state here.me cell) _ _ (λ e. pair_hears_reserve here own cell number (last_on own cell)) (λ e. pair_silent own)
 
-pair_once : (here : JobContext) (own : PairState) (number : ℕ) (key : Key) (bytes : List ℕ) (how : Far)
+pair_once : (here : JobContext) (own : PairState) (number : ℕ) (key : Key) (bytes : List ℕ) (how : FollowProgress)
     → Leaves own (follows_once here own number key bytes how)
-pair_once here own number key bytes far.Reserved = pair_tells here _ (cell_of key) number far.Replicated
-pair_once here own number key bytes far.Replicated = pair_tells here own (cell_of key) number far.Replicated
+pair_once here own number key bytes follow_progress.Reserved = pair_tells here _ (cell_of key) number follow_progress.Replicated
+pair_once here own number key bytes follow_progress.Replicated = pair_tells here own (cell_of key) number follow_progress.Replicated
 
 pair_hears_replicate : (here : JobContext) (own : PairState) (number : ℕ) (key : Key) (bytes : List ℕ) (o : Option LastOp)
     → Leaves own (hears_replicate here own number key bytes o)
 pair_hears_replicate here own number key bytes None = pair_silent own
 pair_hears_replicate here own number key bytes (Some last) =
-    by_test (Leaves own) (number == last.op) _ _ (λ e. pair_once here own number key bytes last.far) (λ e. pair_silent own)
+    by_test (Leaves own) (number == last.op) _ _ (λ e. pair_once here own number key bytes last.progress) (λ e. pair_silent own)
 
 pub pair_replicate : (here : JobContext) (own : PairState) (number : ℕ) (key : Key) (bytes : List ℕ) → Leaves own (on_replicate here own number key bytes)
 unfolding on_replicate

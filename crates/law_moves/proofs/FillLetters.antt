@@ -1,9 +1,9 @@
 -- Who says that an entry is there, and who asks a second server to put: what a job sends of either.
-use Rattle.law_moves.proofs.Imports.{◌∙◌, ◌≡◌, Alone_has, Body, Bool, Both_have, Did, Ending, Filling, Full, HasEnded, In, IsFilled, Is_dead, JobContext}
+use Rattle.law_moves.proofs.Imports.{◌∙◌, ◌≡◌, Alone_has, Body, Bool, Both_have, Did, Ending, Filling, Full, HasEnded, In, IsFilled, Is_retired, JobContext}
 use Rattle.law_moves.proofs.Imports.{JobResult, Logged, Moving, None, PairState, Paired, Pending, Post, Some, Subject, Taken, Written, answering, ap, at}
 use Rattle.law_moves.proofs.Imports.{by_bool, cell_cmp, copying, ended, false, in_both, is_alone_on, is_logged, letters_of_job, pending_on, refl, subject_of}
 use Rattle.law_moves.proofs.Imports.{to_server, true, true_false, ℕ}
-use Rattle.law_moves.proofs.JobsChangeOneChain.{NeverDead}
+use Rattle.law_moves.proofs.JobsChangeOneChain.{NeverRetired}
 use Rattle.petal_msg.specs.declared.body.Body.TheVariants as body
 use Rattle.petal_msg.specs.declared.operation.OpKind.TheVariants as kind
 use Rattle.law_jobs.specs.Sayings as says
@@ -64,7 +64,7 @@ pub data Says (heard : Body → Type 0) (here : JobContext) (own : PairState) (d
   Asks_copy : (op : Pending) → pending_on own op.cell ≡ Some op → op.stage ≡ copying → post.body ≡ body.Replicate op.op op.key op.version op.bytes
       → Says heard here own done post
 
-module _ (heard : Body → Type 0) (here : JobContext) (own : PairState) (never : NeverDead here own) where
+module _ (heard : Body → Type 0) (here : JobContext) (own : PairState) (never : NeverRetired here own) where
   abbrev S : JobResult → Post → Type 0
   S done post = Says heard here own done post
 
@@ -72,7 +72,7 @@ module _ (heard : Body → Type 0) (here : JobContext) (own : PairState) (never 
       → at cell_cmp done.own.pairs.pending op.cell ≡ None → S done (to_server to (body.Filled op.key))
   written_says done _ to (Both_have op is both stage) fill none = Is_done op is both stage fill refl none
   written_says done _ to (Alone_has now op taken alone stale put free) fill none = Is_done_alone now op taken alone put fill refl none
-  written_says done _ to (Is_dead now op taken off) fill none = absurd (never now op taken off)
+  written_says done _ to (Is_retired now op taken off) fill none = absurd (never now op taken off)
 
   says_so : (done : JobResult) (post : Post) → says.Says heard here own done.own post → S done post
   says_so done _ (says.Refuses to said is busy held) = Is_neither (other_subject said (ap is_told is.refused))

@@ -10,7 +10,7 @@ pub use Rattle.law_state.proofs.Imports.{fold, in-append, in_both, in_former, in
 pub use Rattle.law_state.proofs.Imports.{length-append, link_of, links_of, map, nat_lt, nat_tests, none_some, not, number_itself, option_and_then, option_map}
 pub use Rattle.law_state.proofs.Imports.{option_map_or, range_with_len, refl, row_authority, row_lead, same_numbers, same_or_apart, same_some, second}
 pub use Rattle.law_state.proofs.Imports.{some_or_none, subst, sym, touches, true, true_false, unwrap_or, ℕ}
-pub use Rattle.law_log.proofs.Imports.{◌||◌, Acted, AreSteps, Body, Copies, Copying, Dead, Ending, Entry, Equal, Firm, HasProperTuples, IsSound, JobContext}
+pub use Rattle.law_log.proofs.Imports.{◌||◌, Acted, AreSteps, Body, Copies, Copying, Retired, Ending, Entry, Equal, Firm, HasProperTuples, IsSound, JobContext}
 pub use Rattle.law_log.proofs.Imports.{JobResult, Key, LastCopy, Letter, Log, Moving, Pending, Post, Script, Step, Stored, about, all_put, awake, blanked}
 pub use Rattle.law_log.proofs.Imports.{cell_holder, cell_of, chain_in, client_sender, copying_on, devices, down_posts, ended, eq_by_cmp, fill_of, flat_map}
 pub use Rattle.law_log.proofs.Imports.{gives_back, has_proposed, holds_link, id_of, is_eq, is_flagged, is_logged, is_second, key_at, last_copy, last_on}
@@ -18,7 +18,7 @@ pub use Rattle.law_log.proofs.Imports.{link_named, log_plain, nat_cmp, pending_o
 pub use Rattle.law_log.proofs.Imports.{server_state, setting_of, stamped, start, subject_of, touches_cell, who_is_in, with_last_copy, without_pending}
 unfoldable pub use Rattle.law_log.proofs.Imports.{put_at}
 pub use Rattle.law_steps.specs.Imports.{IsBelow, Paired, Sender, Stage, StaysSo, Subject, Table, cell_cmp, coming, crossed, epochs_beyond, letters_of, live}
-pub use Rattle.law_steps.specs.Imports.{settled_by, stage_at, without_dead, without_entry}
+pub use Rattle.law_steps.specs.Imports.{settled_by, stage_at, without_retired, without_entry}
 unfoldable pub use Rattle.law_steps.specs.Imports.{next_fill}
 pub use Rattle.law_steps.proofs.Imports.{ByBoth, ByNone, ByOne, Chain, Filling, Full, Greater, HasStage, IsCaughtIn, IsCaughtStill, IsHeldBy, IsSteady, Less}
 pub use Rattle.law_steps.proofs.Imports.{Logged, Ordering, Pairs, Store, Written, alone_not_both, alone_row, at-empty, at-where, by_settled, cell_apart}
@@ -30,7 +30,7 @@ unfoldable pub use Rattle.law_steps.proofs.Imports.{put}
 pub use Rattle.law_jobs.specs.Imports.{IsFilled, IsNextFill, IsNextKey, Taken, TakenCopy, answering, copying, first_last, progress}
 pub use Rattle.law_jobs.proofs.Imports.{Begins_copy, By_filler, By_holder, By_lead, By_other, By_read, By_second, By_sweep, Closes, Closes_alone, Closes_copy}
 pub use Rattle.law_jobs.proofs.Imports.{CopyStep, Copy_as_is, Copy_synced, Copy_trimmed, Did, DidHolder, DidLead, DidOther, DidSecond, Drops_entry, Follows}
-pub use Rattle.law_jobs.proofs.Imports.{Gives_up, Goes_on_copying, Goes_on_dead, Goes_on_trimming, Handled, Happens, Ignores, IsSame, Is_copied_to}
+pub use Rattle.law_jobs.proofs.Imports.{Gives_up, Goes_on_copying, Goes_on_retired, Goes_on_trimming, Handled, Happens, Ignores, IsSame, Is_copied_to}
 pub use Rattle.law_jobs.proofs.Imports.{Is_trimmed, Marks_alone, Promises, Puts, Puts_alone, Puts_entry, Refuses, Rests, Sweeps, TrimStep, Turns_page}
 pub use Rattle.law_jobs.proofs.Imports.{Unmarks_alone, always_firm, at_apart, at_same, chains_with, last_happens, of_read, own_place, rests_after, row_named}
 pub use Rattle.law_jobs.proofs.Imports.{same_cell_or_apart, same_itself, same_on, start_rests, stood, taking}
@@ -45,7 +45,7 @@ pub use Rattle.law_copies.proofs.Imports.{log_lost, log_touched, longer, lost_no
 pub use Rattle.law_copies.proofs.Imports.{page_chains, past_link, places_grow, primary_is_one, row_joined, run_of, running_fronts, said, second_by}
 pub use Rattle.law_copies.proofs.Imports.{secondary_is_one, setting_in, since, split_last, stage_live, start_plain, stays_alone, stays_both, told_own}
 pub use Rattle.law_copies.proofs.Imports.{tuple_on, turned_asks, without_rev}
-pub use Rattle.law_epochs.proofs.Imports.{AliveIn, IsAt, IsLinked, IsTouchedBy, WasThere, at_by, at_most_or_above, ballot_store, is_at, is_at_so, log_dead}
+pub use Rattle.law_epochs.proofs.Imports.{AliveIn, IsAt, IsLinked, IsTouchedBy, WasThere, at_by, at_most_or_above, ballot_store, is_at, is_at_so, log_retired}
 pub use Rattle.law_epochs.proofs.Imports.{next_comes, own_plain, place_by, place_of_later, place_touched, proper, proposed_pairs, runs_at, stage_facts}
 pub use Rattle.law_epochs.proofs.Imports.{stands_in}
 pub use Rattle.law_moves.specs.Imports.{HasNewer, IsFilledFrom, IsServing}
@@ -77,7 +77,7 @@ pub use Rattle.law_jobs.proofs.CountsGrow.{did_follow}
 pub use Rattle.law_jobs.proofs.FilledAsTold.{As_before, Told_of, did_remember}
 pub use Rattle.law_jobs.proofs.OperationsCome.{restaged}
 pub use Rattle.law_jobs.proofs.Runs.{after}
-pub use Rattle.law_jobs.specs.Effects.{Alone_has, Both_have, Drops, For_a_fill, For_a_write, Goes_on, HasEnded, Has_put, IsSetFor, Is_dead, Is_opened, Sets}
+pub use Rattle.law_jobs.specs.Effects.{Alone_has, Both_have, Drops, For_a_fill, For_a_write, Goes_on, HasEnded, Has_put, IsSetFor, Is_retired, Is_opened, Sets}
 pub use Rattle.law_jobs.specs.Sayings.{to_server}
 pub use Rattle.law_log.proofs.FillJobsLeaveLog.{filled_beside, filled_here}
 pub use Rattle.law_log.proofs.LogInHistories.{first_incs, join_was_wanted, moved_was_wanted}

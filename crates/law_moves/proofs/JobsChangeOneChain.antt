@@ -1,17 +1,17 @@
 -- A job changes at most one chain: that of an operation that is pending here, of one whose lead asked to follow, or of a cell whose
 -- link the other server holds alone, and copies to this one.
 use Rattle.law_moves.proofs.Imports.{[], ◌+◌, ◌<◌, ◌∙◌, ◌∷◌, ◌≡◌, ◌≢◌, ◌⊎◌, Begins_copy, Body, By_filler, By_holder, By_lead, By_other, By_read, By_second}
-use Rattle.law_moves.proofs.Imports.{By_sweep, Cell, Chain, Closes, Closes_alone, Closes_copy, CopyStep, Copy_as_is, Copy_synced, Copy_trimmed, Copying, Dead}
-use Rattle.law_moves.proofs.Imports.{Did, DidHolder, DidLead, DidOther, DidSecond, Drops_entry, Entry, Follows, Full, Gives_up, Goes_on_copying, Goes_on_dead}
+use Rattle.law_moves.proofs.Imports.{By_sweep, Cell, Chain, Closes, Closes_alone, Closes_copy, CopyStep, Copy_as_is, Copy_synced, Copy_trimmed, Copying, Retired}
+use Rattle.law_moves.proofs.Imports.{Did, DidHolder, DidLead, DidOther, DidSecond, Drops_entry, Entry, Follows, Full, Gives_up, Goes_on_copying, Goes_on_retired}
 use Rattle.law_moves.proofs.Imports.{Goes_on_trimming, Ignores, IsSeatedOrMute, Is_copied_to, Is_trimmed, JobContext, JobResult, Key, LastCopy, List}
 use Rattle.law_moves.proofs.Imports.{Marks_alone, PairState, Pending, Promises, Puts, Puts_alone, Puts_entry, Refuses, Some, Stage, Store, Stored, Sweeps}
 use Rattle.law_moves.proofs.Imports.{Table, Taken, TakenCopy, TrimStep, Turns_page, Unmarks_alone, Written, ap, cell_holder, cell_of, cell_swept, chain_apart}
 use Rattle.law_moves.proofs.Imports.{chain_in, chains_with, copied_chains, drop_apart, drop_none, epochs_beyond, false, first_last, gives_back, inl, inr}
 use Rattle.law_moves.proofs.Imports.{is_in, is_second, key_at, last_copy, last_on, live, of_ending, of_filler, of_read, page_chains, pending_on, refl, sym}
-use Rattle.law_moves.proofs.Imports.{taking, told_own, true, version_of, with_last_copy, without_dead, without_entry, without_pending, ℕ}
+use Rattle.law_moves.proofs.Imports.{taking, told_own, true, version_of, with_last_copy, without_retired, without_entry, without_pending, ℕ}
 use Rattle.petal_msg.specs.declared.body.Body.TheVariants as body
-use Rattle.petal_msg.specs.declared.dead.Dead.TheVariants as dead
-use Rattle.petal_msg.specs.declared.operation.Far.TheVariants as far
+use Rattle.petal_msg.specs.declared.retired.Retired.TheVariants as retired
+use Rattle.petal_msg.specs.declared.operation.FollowProgress.TheVariants as follow_progress
 
 -- an operation that is pending here was put
 pub record PutsOwn (own new : PairState) : Type 0 where
@@ -31,7 +31,7 @@ pub record PutsAsked (heard : Body → Type 0) (here : JobContext) (own new : Pa
   pub asked : heard (body.Replicate number key version bytes)
   pub seat : is_in here.state here.me here.inc ≡ true
   pub seconds : is_second here.state here.me (cell_of key) ≡ true
-  pub last : last_on own (cell_of key) ≡ Some (record { op = number; far = far.Reserved })
+  pub last : last_on own (cell_of key) ≡ Some (record { op = number; progress = follow_progress.Reserved })
   pub entry : Stored
   pub put : entry.bytes ≡ bytes
   pub chains : new.store.chains ≡ chains_with own.store.chains key entry
@@ -82,13 +82,13 @@ pub data StoresSo (heard : Body → Type 0) (here : JobContext) (own new : PairS
   An_own : PutsOwn own new → StoresSo heard here own new
   An_asked : PutsAsked heard here own new → StoresSo heard here own new
   A_copy : PutsCopy heard here own new → StoresSo heard here own new
-  Of_the_dead : Drops here own new → StoresSo heard here own new
+  Of_the_retired : Drops here own new → StoresSo heard here own new
 
 -- no operation of a cell that is not live goes on
-abbrev pub NeverDead : JobContext → PairState → Type 0
-NeverDead here own = (now : PairState) (op : Pending) → Taken own now op → live here.state op.cell ≡ false → ⊥
+abbrev pub NeverRetired : JobContext → PairState → Type 0
+NeverRetired here own = (now : PairState) (op : Pending) → Taken own now op → live here.state op.cell ≡ false → ⊥
 
-module _ (heard : Body → Type 0) (here : JobContext) (own : PairState) (never : NeverDead here own) where
+module _ (heard : Body → Type 0) (here : JobContext) (own : PairState) (never : NeverRetired here own) where
   abbrev S : PairState → Type 0
   S new = StoresSo heard here own new
 
@@ -120,7 +120,7 @@ module _ (heard : Body → Type 0) (here : JobContext) (own : PairState) (never 
   lead_stores _ (Closes_alone now op taken alone stale put free) =
       Nothing_new (ap (λ (x : Store). x.chains) (of_ending here (without_pending now op.cell) op op.kind Written).store
       ∙ λ i. ((taking own now op taken).store i).chains)
-  lead_stores _ (Goes_on_dead now op taken off) = absurd (never now op taken off)
+  lead_stores _ (Goes_on_retired now op taken off) = absurd (never now op taken off)
   lead_stores _ _ = Nothing_new refl
 
   abbrev pub second_stores : (done : JobResult) → IsSeatedOrMute here own done → DidSecond heard here own done → S done.own
@@ -207,16 +207,16 @@ module _ (heard : Body → Type 0) (here : JobContext) (own : PairState) (never 
   as_stores (inr copy) = A_copy copy
 
   -- a sweep drops an entry, or a mark
-  pub swept : (what : Dead) → is_in here.state here.me here.inc ≡ true → live here.state (cell_swept what) ≡ false
-      → Drops here own (record own { store = without_dead own.store what })
-  swept (dead.Key key) seat off = record {
+  pub swept : (what : Retired) → is_in here.state here.me here.inc ≡ true → live here.state (cell_swept what) ≡ false
+      → Drops here own (record own { store = without_retired own.store what })
+  swept (retired.Key key) seat off = record {
     cell = cell_of key;
     seat = seat;
     off = off;
     others = λ q ne. drop_apart own.store key q ne;
     none = λ q empty. drop_none own.store key q empty;
   }
-  swept (dead.Mark kind cell) seat off = record { cell = cell; seat = seat; off = off; others = λ q ne. refl; none = λ q empty. empty }
+  swept (retired.Mark kind cell) seat off = record { cell = cell; seat = seat; off = off; others = λ q ne. refl; none = λ q empty. empty }
 
   abbrev pub did_stores : (done : JobResult) → IsSeatedOrMute here own done → Did heard here own done → S done.own
   did_stores _ seated Ignores = Nothing_new refl
@@ -227,4 +227,4 @@ module _ (heard : Body → Type 0) (here : JobContext) (own : PairState) (never 
   did_stores _ seated (By_holder done d) = Nothing_new (holder_chains done d)
   did_stores _ seated (By_other done d) = as_stores (other_changes done seated d)
   did_stores _ seated (By_filler done d) = Nothing_new (ap (λ (x : Store). x.chains) (of_filler heard here own done d).store)
-  did_stores _ seated (By_sweep _ (Sweeps what seat next off)) = Of_the_dead (swept what seat off)
+  did_stores _ seated (By_sweep _ (Sweeps what seat next off)) = Of_the_retired (swept what seat off)

@@ -7,7 +7,7 @@ use Rattle.law_moves.specs.Fills.{HaveComeOver, IsFrozen}
 use Rattle.law_moves.proofs.MovesInHistories.{all_known, known_after}
 use Rattle.law_moves.proofs.AllKeptOfMoves.{Known}
 use Rattle.law_moves.proofs.MovedsHadNothingLeft.{had_now}
-use Rattle.law_moves.proofs.MovedRegionsHaveAll.{come_over, dead_moved, facts, until_lies}
+use Rattle.law_moves.proofs.MovedRegionsHaveAll.{come_over, retired_moved, facts, until_lies}
 use Rattle.law_moves.proofs.TwoCopyRuleInMoves.{rule_kept}
 use Rattle.law_moves.proofs.EqualCopies.{frozen_on}
 use Rattle.law_moves.proofs.ToldEntriesAreThere.{told_already}
@@ -29,10 +29,10 @@ module _ (script : Script) (records : List Record) (sound : IsSound script) (leg
   rule_after = rule_kept h known.still known.filled
 
   -- a cell that has left was frozen
-  pub dead_frozen : (cell : Cell) → stage_at (chosen_state setting w) cell ≡ 4
+  pub retired_frozen : (cell : Cell) → stage_at (chosen_state setting w) cell ≡ 4
       → (before : Chain) × (w.frozen cell ≡ Some before)
-  dead_frozen cell four =
-      let m = dead_moved h cell four in
+  retired_frozen cell four =
+      let m = retired_moved h cell four in
       let lies = until_lies h m.until (Moved cell.map (region_of cell.block) m.row.link) m.stands in
       let goes = (facts h m.until lies cell).targets m.leaves in
       let earlier = λ (before : List Record) (own : Record) (later : List Record) (e : records ≡ before ++ own ∷ later).

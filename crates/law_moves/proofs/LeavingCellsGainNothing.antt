@@ -13,7 +13,7 @@ use Rattle.law_moves.proofs.StepsTellEntries.{knows, stored}
 use Rattle.law_moves.proofs.MoveWorlds.{steady_at, up}
 use Rattle.law_moves.proofs.MoveScenes.{IsSecondAt}
 use Rattle.petal_msg.specs.declared.body.Body.TheVariants as body
-use Rattle.petal_msg.specs.declared.operation.Far.TheVariants as far
+use Rattle.petal_msg.specs.declared.operation.FollowProgress.TheVariants as follow_progress
 
 -- what an entry leaves of a chain
 pub has_put : (old new : Chain) (epoch e : ℕ) (bytes : List ℕ) → IsPutOn old new epoch bytes → Has old e → Has new e
@@ -57,7 +57,7 @@ module _ (it : OneMore) (all : WereKnown it) where
       Put_asked : (number : ℕ) (key : Key) (version : ℕ) (bytes : List ℕ) → (w.servers n).life.running ≡ true
           → is_in (server_state setting w n) n (w.servers n).life.inc ≡ true → Handled w n (body.Replicate number key version bytes) → cell_of key ≡ cell
           → is_second (server_state setting w n) n cell ≡ true
-          → last_on (w.servers n).own cell ≡ Some (record { op = number; far = far.Reserved })
+          → last_on (w.servers n).own cell ≡ Some (record { op = number; progress = follow_progress.Reserved })
           → IsPutOn (chain_of (w.servers n) cell) new key.epoch bytes → HasChanged new
 
     changed_by : (to : Server) (g : Gone n to) → is_off it g ≡ false → HasChanged (chain_of to cell)
@@ -102,7 +102,7 @@ module _ (it : OneMore) (all : WereKnown it) where
       not_asked : (number : ℕ) (key : Key) (version : ℕ) (bytes : List ℕ) → (w.servers n).life.running ≡ true
           → is_in (server_state setting w n) n (w.servers n).life.inc ≡ true → Handled w n (body.Replicate number key version bytes) → cell_of key ≡ cell
           → is_second (server_state setting w n) n cell ≡ true
-          → last_on (w.servers n).own cell ≡ Some (record { op = number; far = far.Reserved }) → ⊥
+          → last_on (w.servers n).own cell ≡ Some (record { op = number; progress = follow_progress.Reserved }) → ⊥
       not_asked number key version bytes runs seat hears of seconds last =
           let mine = (w.servers n).log.applied in
           let mine_top = (knows it).servers n in

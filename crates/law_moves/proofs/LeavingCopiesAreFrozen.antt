@@ -10,7 +10,7 @@ use Rattle.law_moves.proofs.FrozenIsWhatCounted.{frozen_at, frozen_same, none_ea
 use Rattle.law_moves.proofs.ServersOfGrownLog.{It_came, It_did, same_joins, served_before}
 use Rattle.law_moves.proofs.LeavingCellsGainNothing.{before, kept_same, same_on}
 use Rattle.law_moves.proofs.AllKeptOfMoves.{Known, WereKnown}
-use Rattle.law_moves.proofs.MovedRegionsHaveAll.{dead_moved}
+use Rattle.law_moves.proofs.MovedRegionsHaveAll.{retired_moved}
 use Rattle.law_moves.proofs.StepsTellEntries.{Goes_on, HasStore, Is_bare, here, stored}
 use Rattle.law_moves.proofs.MoveWorlds.{facts_at, own_counts, serving_on, steady_at, up}
 use Rattle.law_moves.proofs.EqualCopies.{equal_now}
@@ -29,7 +29,7 @@ module _ (it : OneMore) (all : WereKnown it) where
     | inl three ↦ three
     | inr more ↦
         let most = stage_most (By whole) cell in
-        let m = dead_moved present cell (omega arith) in
+        let m = retired_moved present cell (omega arith) in
         let was = moved_was_wanted script records sound legal m.until cell.map (region_of cell.block) m.row.link m.stands in
         let rest = before_last front own was.before was.own was.later was.is in
         let legal_there = before_part script was.before rest.0 (subst (AreSteps script) rest.1 prior.legal) in

@@ -7,7 +7,7 @@ use Rattle.petal_msg.specs.declared.body.Body.TheVariants as body
 
 -- ### Servers
 
--- a server that runs, and by its own state is In and leads the link of a cell, which is not dead by what is chosen
+-- a server that runs, and by its own state is In and leads the link of a cell, which is not retired by what is chosen
 pub record LeadsAt (setting : Setting) (w : World) (cell : Cell) (n : ℕ) : Type 0 where
   pub runs : (w.servers n).life.running ≡ true
   pub seat : is_in (server_state setting w n) n (w.servers n).life.inc ≡ true
@@ -36,7 +36,7 @@ pub record IsMover (setting : Setting) (w : World) (y : ℕ) : Type 0 where
   pub region : ℕ
   pub moves : region_to_move (server_state setting w y) y row ≡ Some region
 
--- a server that runs, and is In by a front by which it is the second one of a link in Both, of a cell that is not dead
+-- a server that runs, and is In by a front by which it is the second one of a link in Both, of a cell that is not retired
 pub record IsSecondAt (setting : Setting) (w : World) : Type 0 where
   pub m : ℕ
   pub f : List Command

@@ -62,13 +62,13 @@ module _ (it : Run) where
       → is_in (By front) n (inc_of n) ≡ true → is_in (By more) n (inc_of n) ≡ true
   runs_on n runs front more on lies seat = runs_at setting w firm front more on lies n runs seat
 
-  -- one that serves a link goes on to, until the cell is dead
+  -- one that serves a link goes on to, until the cell is retired
   pub serving_on : (n : ℕ) → (w.servers n).life.running ≡ true → (front more : List Command) → IsPrefix front more → IsPrefix more chosen
       → is_in (By front) n (inc_of n) ≡ true → (cell : Cell) → stage_at (By more) cell ≤ 3 → IsServing (By front) n cell → IsServing (By more) n cell
   serving_on n runs front more on lies seat cell low s =
       elim ((roles_at front more on lies).reads n (inc_of n) cell seat (runs_on n runs front more on lies seat) s) [
         | inl still ↦ still
-        | inr died ↦ let dead = died.1 in absurd (omega arith)
+        | inr died ↦ let retired = died.1 in absurd (omega arith)
       ]
 
   -- its store is the one that counts

@@ -3,7 +3,7 @@
 use Rattle.law_moves.proofs.Imports.{[], ◌++◌, ◌==◌, ◌∙◌, ◌∷◌, ◌≡◌, ◌≤◌, Cell, Chain, Command, HasMovedIn, HasProperTuples, HasStage, IsMoved, IsPrefix}
 use Rattle.law_moves.proofs.Imports.{LinkRow, List, MapRow, Moved, Run, Setting, Some, World, ap, arith, below, both_true, cell_link, chosen_log, end_of}
 use Rattle.law_moves.proofs.Imports.{found_at, front_more, front_on, front_plain, fronts_meet, goal_same, gone_twin, history_is_firm, inl, inr, is_link}
-use Rattle.law_moves.proofs.Imports.{key_at, length, link_at, link_of, links_of, log_comes, log_dead, log_goes, log_grown, log_plain, log_steady, no_home}
+use Rattle.law_moves.proofs.Imports.{key_at, length, link_at, link_of, links_of, log_comes, log_retired, log_goes, log_grown, log_plain, log_steady, no_home}
 use Rattle.law_moves.proofs.Imports.{none_some, option_and_then, option_map, option_map_or, proper, refl, region_of, row_or_none, same_numbers, some_or_none}
 use Rattle.law_moves.proofs.Imports.{source, stage_at, stage_facts, stage_in, stage_is, subst, sym, tuple_of, tuple_on, ℕ}
 use Rattle.law_moves.specs.Fills.{AllFilled, AreFilled, Has, HaveComeOver, IsOnWay, WasFilled}
@@ -70,9 +70,9 @@ module _ (it : Run) where
         linked = h.is;
       }
 
-  -- there was one of each cell that is dead
-  pub dead_moved : (old : Cell) → stage_at (By chosen) old ≡ 4 → HasMovedOwn old
-  dead_moved old four =
+  -- there was one of each cell that is retired
+  pub retired_moved : (old : Cell) → stage_at (By chosen) old ≡ 4 → HasMovedOwn old
+  retired_moved old four =
       let p = log_plain script.servers chosen all_plain in
       elim (row_or_none (By chosen) p.rows p.homes old) [
         | inr none ↦
@@ -83,7 +83,7 @@ module _ (it : Run) where
             let tuple : tuple_of (By chosen).maps old.map ≡ Some h.m.tuple = ap (option_map (λ (m : MapRow). m.tuple)) h.known in
             let many : links_of (By chosen) old.map ≡ length h.m.tuple = ap (λ o. option_map_or length o 0) tuple in
             let two = (proper script.servers h.m.tuple (p.tuples old.map h.m.tuple tuple)).two in
-            on_own_link old (slot old) (log_dead script.servers chosen old (slot old) all_plain four
+            on_own_link old (slot old) (log_retired script.servers chosen old (slot old) all_plain four
             (below old.block (links_of (By chosen) old.map) (omega arith))) refl
       ]
 
@@ -114,7 +114,7 @@ module _ (it : Run) where
         → (before : Chain) (epoch : ℕ) → w.frozen old ≡ Some before → Has before epoch → WasFilled w (key_at new epoch)
     over_told old new front lies comes two before epoch frozen has =
         let m = log_comes script.servers front (plain front lies) old new comes in
-        moved_filled old new (dead_moved old (gone_twin script.servers front chosen all_plain lies old new m two)) front lies m before epoch frozen has
+        moved_filled old new (retired_moved old (gone_twin script.servers front chosen all_plain lies old new m two)) front lies m before epoch frozen has
 
   pub come_over : AreFilled setting w → HaveComeOver setting w
   come_over filled cell two three = record {

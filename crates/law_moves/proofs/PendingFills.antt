@@ -7,7 +7,7 @@ use Rattle.law_moves.proofs.Imports.{inr, is_clients, is_in, is_some, is_the_one
 use Rattle.law_moves.proofs.Imports.{proposed_pairs, row_lead, same_or_apart, server_state, settling, stage_at, stage_live, subst, sym, taking, true}
 use Rattle.law_moves.proofs.Imports.{true_false, ℕ}
 use Rattle.law_moves.specs.Fills.{Has, IsFrozen, WasFilled}
-use Rattle.law_moves.proofs.ServedCellChanges.{never_dead}
+use Rattle.law_moves.proofs.ServedCellChanges.{never_retired}
 use Rattle.law_moves.proofs.LeavingCellsGainNothing.{before}
 use Rattle.law_moves.proofs.AllKeptOfMoves.{Known, WereKnown}
 use Rattle.law_moves.proofs.LeadsHaveWhatServersHave.{other_idle, other_lacks}
@@ -135,7 +135,7 @@ module _ (it : OneMore) (all : WereKnown it) where
   pub posted_says : (letter : Letter) (p : IsPosted it letter)
       → Says (Handled w p.n) (own_place setting w p.n) (w.servers p.n).own p.job.done p.post
   posted_says letter p = did_says (Handled w p.n) (own_place setting w p.n) (w.servers p.n).own
-      (never_dead prior known.filled.opened p.n p.job.runs) p.job.done p.job.did p.post p.there
+      (never_retired prior known.filled.opened p.n p.job.runs) p.job.done p.job.did p.post p.there
 
   -- one of the step's own
   module _ (m : ℕ) (cell : Cell) (op : Pending) (is : pending_at v m cell ≡ Some op) (fills : is_clients op.kind ≡ false)

@@ -220,9 +220,9 @@ module _ (it : OneMore) (all : WereKnown it) where
             | inr h ↦ (let f : Only n h.whole ≡ Both = sym h.so ∙ ap (λ (r : LinkRow). r.state) (sym (in_row h.row h.is)) ∙ both in absurd cc)
           ]
 
-          not_alone : (is_whole : Bool) → now.state ≡ Only k is_whole → ⊥
-          not_alone is_whole so = elim leads_then [
-            | inl b ↦ (let f : Only k is_whole ≡ Both = sym so ∙ ap (λ (r : LinkRow). r.state) (in_row b.0.row b.0.is) ∙ b.0.so in absurd cc)
+          not_alone : (needs_full_copy : Bool) → now.state ≡ Only k needs_full_copy → ⊥
+          not_alone needs_full_copy so = elim leads_then [
+            | inl b ↦ (let f : Only k needs_full_copy ≡ Both = sym so ∙ ap (λ (r : LinkRow). r.state) (in_row b.0.row b.0.is) ∙ b.0.so in absurd cc)
             | inr h ↦ apart (same_only (sym h.so ∙ ap (λ (r : LinkRow). r.state) (sym (in_row h.row h.is)) ∙ so))
           ]
 
@@ -250,7 +250,7 @@ module _ (it : OneMore) (all : WereKnown it) where
           pub not_other : ⊥
           not_other = elim (led_as prior cell k leads_now now linked_top.1) [
             | As_first g ↦ apart (sym (first_of g.both) ∙ g.first)
-            | Alone is_whole so ↦ not_alone is_whole so
+            | Alone needs_full_copy so ↦ not_alone needs_full_copy so
             | Following b ↦ elim leading.so [
               | Had_it o there ↦
                   let most = mine_low in

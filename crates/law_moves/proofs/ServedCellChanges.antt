@@ -12,11 +12,11 @@ use Rattle.law_moves.proofs.Imports.{running_timely, same_cell_or_apart, same_nu
 use Rattle.law_moves.proofs.Imports.{state_after, subst, sym, taking, true, true_false, unseen_beyond, ℕ}
 use Rattle.law_copies.specs.CopyProgress.{links_of}
 use Rattle.law_copies.proofs.ServedAtLaterFronts.{holder_is_one}
-use Rattle.law_moves.proofs.JobsChangeOneChain.{A_copy, An_asked, An_own, CopiesSo, Is_dropped, Is_dropped_first, Is_put, NeverDead, Nothing_new, Of_the_dead}
+use Rattle.law_moves.proofs.JobsChangeOneChain.{A_copy, An_asked, An_own, CopiesSo, Is_dropped, Is_dropped_first, Is_put, NeverRetired, Nothing_new, Of_the_retired}
 use Rattle.law_moves.proofs.JobsChangeOneChain.{StoresSo, copied_apart, did_stores}
 use Rattle.law_moves.proofs.MoveWorlds.{firm, good, own_counts, rests, steady_at, up}
 use Rattle.petal_msg.specs.declared.body.Body.TheVariants as body
-use Rattle.petal_msg.specs.declared.operation.Far.TheVariants as far
+use Rattle.petal_msg.specs.declared.operation.FollowProgress.TheVariants as follow_progress
 
 -- no fill is pending at a server that runs but while its cell comes
 abbrev pub AreOpenedComing : Setting → World → Type 0
@@ -45,9 +45,9 @@ module _ (it : Run) (opened : AreOpenedComing (end_of it).setting (end_of it).w)
   mine_chosen : IsPrefix mine chosen
   mine_chosen = (firm it).servers n
 
-  -- nothing is pending on a dead cell
-  pub never_dead : NeverDead (own_place setting w n) own
-  never_dead now op taken off =
+  -- nothing is pending on a retired cell
+  pub never_retired : NeverRetired (own_place setting w n) own
+  never_retired now op taken off =
       let k = taking own now op taken in
       let staged = ((rests it).pending n).staged op.cell k.old k.was in
       let born = staged.born in
@@ -179,7 +179,7 @@ module _ (it : Run) (opened : AreOpenedComing (end_of it).setting (end_of it).w)
       Same : new ≡ chain → ChainSo new
       Own_put : (op : Pending) → at cell_cmp own.pairs.pending cell ≡ Some op → op.stage.put ≡ false → IsPutOn chain new op.key.epoch op.bytes → ChainSo new
       Asked_put : (number : ℕ) (key : Key) (version : ℕ) (bytes : List ℕ) → Handled w n (body.Replicate number key version bytes) → cell_of key ≡ cell
-          → is_second (server_state setting w n) n cell ≡ true → last_on own cell ≡ Some (record { op = number; far = far.Reserved })
+          → is_second (server_state setting w n) n cell ≡ true → last_on own cell ≡ Some (record { op = number; progress = follow_progress.Reserved })
           → IsPutOn chain new key.epoch bytes → ChainSo new
 
     stored_so : (new : PairState) → StoresSo (Handled w n) (own_place setting w n) own new → ChainSo (chain_in new.store.chains cell)
@@ -197,7 +197,7 @@ module _ (it : Run) (opened : AreOpenedComing (end_of it).setting (end_of it).w)
     stored_so new (An_asked p) = elim (same_cell_or_apart (cell_of p.key) cell) [
       | inl e ↦ Asked_put p.number p.key p.version p.bytes p.asked e
           (subst (λ (q : Cell). is_second (server_state setting w n) n q ≡ true) e p.seconds)
-          (subst (λ (q : Cell). last_on own q ≡ Some (record { op = p.number; far = far.Reserved })) e p.last)
+          (subst (λ (q : Cell). last_on own q ≡ Some (record { op = p.number; progress = follow_progress.Reserved })) e p.last)
           (p.entry, p.put, ap (λ c. chain_in c cell) p.chains ∙ put_on own.store.chains p.key p.entry cell e)
       | inr ne ↦ Same (ap (λ c. chain_in c cell) p.chains ∙ chain_apart own.store.chains (cell_of p.key) _ cell (λ f. ne (sym f)))
     ]
@@ -206,7 +206,7 @@ module _ (it : Run) (opened : AreOpenedComing (end_of it).setting (end_of it).w)
           (subst (λ (q : Cell). CopiesSo (Handled w n) own q new.store.chains) (sym e) p.how))
       | inr ne ↦ Same (copied_apart (Handled w n) own p.cell new.store.chains p.how cell ne)
     ]
-    stored_so new (Of_the_dead p) = elim (same_cell_or_apart cell p.cell) [
+    stored_so new (Of_the_retired p) = elim (same_cell_or_apart cell p.cell) [
       | inl e ↦ (let none = unborn (ap (live (server_state setting w n)) e ∙ p.off) in Same (p.none cell none ∙ sym none))
       | inr ne ↦ Same (p.others cell ne)
     ]
@@ -225,4 +225,4 @@ module _ (it : Run) (opened : AreOpenedComing (end_of it).setting (end_of it).w)
     pub chain_so : (done : JobResult) → Did (Handled w n) (own_place setting w n) own done → IsSeatedOrMute (own_place setting w n) own done
         → ChainSo (chain_in done.own.store.chains cell)
     chain_so done did seated =
-        stored_so done.own (did_stores (Handled w n) (own_place setting w n) own never_dead done seated did)
+        stored_so done.own (did_stores (Handled w n) (own_place setting w n) own never_retired done seated did)

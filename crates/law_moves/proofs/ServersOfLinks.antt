@@ -43,7 +43,7 @@ module _ (state : State) (steady : IsSteady state) (cell : Cell) (n : ℕ) where
       sym (ap (λ b. if b then option_and_then (λ (row : LinkRow). row_authority row row.state) (cell_link state cell) else None) lives
       ∙ ap (option_and_then (λ (row : LinkRow). row_authority row row.state)) h.is) ∙ e in
       by h.row h.is of_row)
-      (λ dead. none_some (ap (λ b. if b then option_and_then (λ (row : LinkRow). row_authority row row.state) (cell_link state cell) else None) dead) e)
+      (λ retired. none_some (ap (λ b. if b then option_and_then (λ (row : LinkRow). row_authority row row.state) (cell_link state cell) else None) retired) e)
     where
       by : (row : LinkRow) → cell_link state cell ≡ Some row → row_authority row row.state ≡ Some n → IsServing state n cell
       by row is of_row = elim (steady.linked cell row is).served [

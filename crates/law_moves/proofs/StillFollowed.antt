@@ -7,7 +7,7 @@ use Rattle.law_moves.proofs.Imports.{is_between, is_clients, is_in, is_of_entrie
 use Rattle.law_moves.proofs.Imports.{place_touched, places_grow, progress, proposed, proposed_pairs, refl, running_timely, server_state, settled_by, settling}
 use Rattle.law_moves.proofs.Imports.{some_or_none, stage_at, stage_live, state_next, subject_of, subst, sym, touches, touches_cell, true, true_false, ℕ}
 use Rattle.spec_state.specs.Command.{after}
-use Rattle.law_moves.proofs.ServedCellChanges.{never_dead}
+use Rattle.law_moves.proofs.ServedCellChanges.{never_retired}
 use Rattle.law_moves.proofs.LeavingCellsGainNothing.{before}
 use Rattle.law_moves.proofs.AllKeptOfMoves.{Known, WereKnown}
 use Rattle.law_moves.proofs.FillLetters.{Asks_copy, Is_done, Is_done_alone, Is_neither, Is_there, Says, did_says, is_replicate}
@@ -32,7 +32,7 @@ module _ (it : OneMore) (all : WereKnown it) where
 
   -- ### How far a second server is
 
-  -- by these entries the cell is not dead, and its link is at the place at which it was by the server's own entries before the step
+  -- by these entries the cell is not retired, and its link is at the place at which it was by the server's own entries before the step
   module _ (m : ℕ) (f : List Command) (lies : IsPrefix f whole) (cell : Cell) (row : LinkRow) (linked : IsLinked setting f cell row)
       (low : stage_at (By f) cell ≤ 3) where
     abbrev mine : List Command
@@ -148,7 +148,7 @@ module _ (it : OneMore) (all : WereKnown it) where
     -- none is sent any more
     not_sent : 3 ≤ stage_at (By top) cell → IsPosted it letter → ⊥
     not_sent high p = by (did_says (Handled w p.n) (own_place setting w p.n) (w.servers p.n).own
-        (never_dead prior known.filled.opened p.n p.job.runs) p.job.done p.job.did p.post p.there)
+        (never_retired prior known.filled.opened p.n p.job.runs) p.job.done p.job.did p.post p.there)
       where
         text : p.post.body ≡ body.Replicate number key version bytes
         text = sym p.body ∙ is

@@ -6,7 +6,7 @@ use Rattle.law_moves.proofs.Imports.{end_of, ends_of, false, front_itself, front
 use Rattle.law_moves.proofs.Imports.{is_some, kept, kept_by, kept_store, leads_link, own_place, server_state, stage_at, stage_live, subject_of, subst, sym}
 use Rattle.law_moves.proofs.Imports.{taking, true, true_false, ℕ}
 use Rattle.law_moves.specs.Fills.{Has, IsFrozen, IsThere, WasFilled}
-use Rattle.law_moves.proofs.ServedCellChanges.{never_dead}
+use Rattle.law_moves.proofs.ServedCellChanges.{never_retired}
 use Rattle.law_moves.proofs.ServersOfGrownLog.{It_came, It_did, same_joins, served_before}
 use Rattle.law_moves.proofs.LeavingCellsGainNothing.{before, has_on, kept_has}
 use Rattle.law_moves.proofs.AllKeptOfMoves.{Known, WereKnown}
@@ -208,7 +208,7 @@ module _ (it : OneMore) (all : WereKnown it) where
 
     told_new : Told key
     told_new = by_says (did_says (Handled w n) (own_place setting w n) (w.servers n).own
-        (never_dead prior known.filled.opened n runs) p.job.done p.job.did p.post p.there)
+        (never_retired prior known.filled.opened n runs) p.job.done p.job.did p.post p.there)
 
   -- ### Both
 

@@ -7,7 +7,7 @@ pub record AreStill (setting : Setting) (w : World) : Type 0 where
   -- by what is chosen: each copy that counts
   pub now : (n : ℕ) (cell : Cell) → stage_at (chosen_state setting w) cell ≡ 3 → IsServing (chosen_state setting w) n cell
       → w.frozen cell ≡ Some (chain_in (kept setting w n).chains cell)
-  -- and of a server that runs, by each front from its own on by which it is In as itself and serves the link, also where the cell is dead since
+  -- and of a server that runs, by each front from its own on by which it is In as itself and serves the link, also where the cell is retired since
   pub own : (n : ℕ) (front : List Command) (cell : Cell) → (w.servers n).life.running ≡ true → IsPrefix (w.servers n).log.applied front
       → IsPrefix front (chosen_log setting w) → is_in (state_after setting.servers front) n (w.servers n).life.inc ≡ true
       → stage_at (state_after setting.servers front) cell ≡ 3 → IsServing (state_after setting.servers front) n cell

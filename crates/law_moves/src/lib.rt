@@ -29,7 +29,7 @@ ghost use Rattle.law_state.specs.Homes.{stage_at};
 
 /// While a cell is leaving, each server that serves its link by what is chosen has exactly what was frozen when its region's fence took
 /// effect. So has one that runs, by each front from its own entries on by which it serves the link while the cell is leaving, also where
-/// the cell is dead since.
+/// the cell is retired since.
 pub fn old_copies_are_still()
     ensures { (script : Script) (records : List Record) → IsSound script → AreSteps script records
         → AreStill (setting_of script) (world_after (setting_of script) (start (setting_of script)) records) }
@@ -67,7 +67,7 @@ pub fn a_fill_of_a_place_is_under_way()
 {}
 
 /// And one that the second server of a link in Both can still put, which the lead had pending at the second server's place; this is said while
-/// the cell is not dead.
+/// the cell is not retired.
 pub fn what_a_second_server_fills_is_under_way()
     ensures { (script : Script) (records : List Record)
         → IsSound script → AreSteps script records → (n m : ℕ) (cell : Cell) (pairs : Pairs) (op : Pending) (row : LinkRow)

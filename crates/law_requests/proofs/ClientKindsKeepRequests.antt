@@ -206,21 +206,21 @@ module _ (setting : Setting) (w : World) (lives : Lives) (firm : Firm setting w)
 
   -- or told now that the new map has nothing
   as_told : (asked : Asked) → client.asked ≡ Some asked → Heard w (actor.Client c) asked.rev (body.NotHere asked.seq) → (old : Asked)
-      → Some (record asked { told = true; old_way = true }) ≡ Some old → IsAsked lines c client old × HasItsWay w.sent c old
+      → Some (record asked { saw_missing = true; old_way = true }) ≡ Some old → IsAsked lines c client old × HasItsWay w.sent c old
   as_told asked is h old e =
       let a = asking.asked c asked is in
       let letter : WasToldAt w.sent c asked.seq asked.rev = record { letter = h.letter; there = h.sent; to = h.own; is = h.is; at = h.at } in
-      let both : IsAsked lines c client (record asked { told = true; old_way = true }) × HasItsWay w.sent c (record asked { told = true; old_way = true }) = (
+      let both : IsAsked lines c client (record asked { saw_missing = true; old_way = true }) × HasItsWay w.sent c (record asked { saw_missing = true; old_way = true }) = (
         record { line = a.line; is = a.is; number = a.number; asks = a.asks; last = a.last; reached = a.reached; within = a.within },
         record { told = λ t. (asked.rev, letter); old_way = λ t. letter },
       ) in
       subst (λ (x : Asked). IsAsked lines c client x × HasItsWay w.sent c x) (same_some e) both
 
   told_was : (asked : Asked) → client.asked ≡ Some asked → (seq rev : ℕ) (h : IsOpenFrom client seq rev)
-      → (old : Asked) × (Some (record asked { told = true; old_way = true }) ≡ Some old) × (old.seq ≡ seq) × (rev ≤ old.rev)
+      → (old : Asked) × (Some (record asked { saw_missing = true; old_way = true }) ≡ Some old) × (old.seq ≡ seq) × (rev ≤ old.rev)
   told_was asked is seq rev h =
       let same : h.now.asked ≡ asked = same_some (sym h.now.is ∙ is) in (
-        record asked { told = true; old_way = true },
+        record asked { saw_missing = true; old_way = true },
         refl,
         ap (λ (x : Asked). x.seq) (sym same) ∙ h.now.same,
         subst (λ (x : Asked). rev ≤ x.rev) same h.sent,
@@ -335,8 +335,8 @@ module _ (setting : Setting) (w : World) (lives : Lives) (firm : Firm setting w)
                   let now = write_stays setting.servers sent.at.front log plain before lines c asked.seq cell bytes served stage.0 stage.1 in
                   let one : asked.request ≡ request.Write now.name now.block now.pattern = write_asked asked is at cell bytes now in
                   ap (lead at) now.cell_is
-                  ∙ refused_unled at asked.told now.name now.block now.pattern now.disk given now.found
-                  (ap (refusal at asked.told) {x = request.Write now.name now.block now.pattern} (sym one) ∙ so))
+                  ∙ refused_unled at asked.saw_missing now.name now.block now.pattern now.disk given now.found
+                  (ap (refusal at asked.saw_missing) {x = request.Write now.name now.block now.pattern} (sym one) ∙ so))
             ];
           }
 

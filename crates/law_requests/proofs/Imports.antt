@@ -31,7 +31,7 @@ pub use Rattle.std.proofs.lemmas.Bool.{cases_lt}
 pub use Rattle.law_jobs.proofs.JobsSay.{letters_of_job}
 pub use Rattle.law_jobs.proofs.OperationsCome.{HasCome, HasFinished, Is_done, Is_new, None_new, Stood, did_come, did_finish}
 pub use Rattle.law_jobs.proofs.Runs.{At, OneMore, after, by_run, firm_in, grown_in, happened_in, longer, more_of, ready_in, rests_in, run_of, setting_in}
-pub use Rattle.law_jobs.specs.Effects.{Alone_has, Both_have, By_operation, For_a_fill, For_a_write, Had_no_slot, HasEnded, IsFinishedFor, Is_dead}
+pub use Rattle.law_jobs.specs.Effects.{Alone_has, Both_have, By_operation, For_a_fill, For_a_write, Had_no_slot, HasEnded, IsFinishedFor, Is_retired}
 pub use Rattle.law_jobs.specs.Effects.{Is_declined}
 pub use Rattle.law_jobs.specs.Sayings.{Ends_fill, Moves, Moves_on, Repeats, Shows_nothing}
 pub use Rattle.law_log.proofs.CaughtsWanted.{kept_proposed}

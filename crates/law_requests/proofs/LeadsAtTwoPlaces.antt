@@ -191,7 +191,7 @@ module _ (servers : ℕ) (front whole : List Command) (plain : HasProperTuples s
   below : IsBelow earlier later
   below = log_below servers front whole plain prefix
 
-  -- the row of a cell's link, while the cell is not dead
+  -- the row of a cell's link, while the cell is not retired
   later_row : (cell : Cell) (row : LinkRow) → cell_link earlier cell ≡ Some row → (HasDied later cell → ⊥) → HasLater earlier later cell row
   later_row cell row is alive = elim (below.rows cell row is) [ inl h ↦ h | inr died ↦ absurd (alive died) ]
 
@@ -213,7 +213,7 @@ module _ (servers : ℕ) (front whole : List Command) (plain : HasProperTuples s
             ∙ link.has;
       }
 
-  -- at a place of its link who led a cell is In as before, until the cell is dead, and leads it while it takes writes
+  -- at a place of its link who led a cell is In as before, until the cell is retired, and leads it while it takes writes
   pub seat_at_place : (n inc : ℕ) (cell : Cell) (row : LinkRow) → cell_link earlier cell ≡ Some row
       → places_from (start servers) whole row ≡ places_from (start servers) front row → LedBy earlier n inc cell
       → (is_in later n inc ≡ true) ⊎ HasDied later cell

@@ -21,7 +21,7 @@ HaveRun setting w lives = (front : List Command) (n inc : ℕ) → IsPrefix fron
     → is_in (state_after setting.servers front) n inc ≡ true
     → inc ≤ lives.ran n
 
--- a cell that has a link is not dead
+-- a cell that has a link is not retired
 linked_alive : (state : State) (cell : Cell) (row : LinkRow) → cell_link state cell ≡ Some row → HasDied state cell → ⊥
 linked_alive state cell row is died = none_some died.0 is
 

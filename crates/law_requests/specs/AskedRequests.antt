@@ -73,5 +73,5 @@ pub record WasToldAt (sent : List Letter) (client seq rev : ℕ) : Type 0 where
 
 -- an open request that was ever told so has a letter that told it; and one that asks the old map by its latest send has one of that revision
 pub record HasItsWay (sent : List Letter) (client : ℕ) (asked : Asked) : Type 0 where
-  pub told : asked.told ≡ true → (rev : ℕ) × WasToldAt sent client asked.seq rev
+  pub told : asked.saw_missing ≡ true → (rev : ℕ) × WasToldAt sent client asked.seq rev
   pub old_way : asked.old_way ≡ true → WasToldAt sent client asked.seq asked.rev

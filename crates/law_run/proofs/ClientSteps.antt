@@ -157,10 +157,10 @@ module _ (this : ClientStep) where
   -- a read that was told that the new map has nothing stays open
   told_told : (reacted : Reaction) (asked : Asked) (h : Heard this.w (actor.Client this.c) asked.rev (body.NotHere asked.seq))
       (is : client.asked ≡ Some asked) (reads : is_read asked.request ≡ true) (seq : reacted.client.seq ≡ client.seq)
-      (stays : StaysOpen (length reacted.client.applied) (Some (record asked { told = true; old_way = true })) reacted.client.asked)
+      (stays : StaysOpen (length reacted.client.applied) (Some (record asked { saw_missing = true; old_way = true })) reacted.client.asked)
       (only : OnlySays this.setting.servers this.c reacted) → ClientTold false reacted
   told_told reacted asked h is reads seq stays only =
-      let turned : Asked = record asked { told = true; old_way = true } in
+      let turned : Asked = record asked { saw_missing = true; old_way = true } in
       let rev = length reacted.client.applied in
       silent false reacted (Is_told reacted asked h is reads seq stays only) refl (unanswered reacted only)
       (quiet_turn reacted.client
@@ -294,7 +294,7 @@ module _ (this : ClientStep) where
           → EndsSo this.m.opened write given
       may_so write e under_way state entry (By_verdict command own verdict) = none_some (no_command this.c asked.seq asked.request write e) own
       may_so write e under_way state entry (By_witness none own refused) =
-          judged_end this.c asked.seq asked.told asked.request write given state this.m.opened e refused under_way
+          judged_end this.c asked.seq asked.saw_missing asked.request write given state this.m.opened e refused under_way
 
       by : (o : Option Write) → write_by this.c asked.seq asked.request ≡ o → ClientTold false reacted
       by None e =

@@ -58,7 +58,7 @@ module _ (this : ServerStep) where
       stays : leaving chosen cell ≡ false
       stays = by_bool (leaving chosen cell) (λ t. let e = (facts_then cell).leaves t in absurd (omega arith)) (λ f. f)
 
-  -- a cell that is dead had begun to leave before the step
+  -- a cell that is retired had begun to leave before the step
   pub not_jumped : (cell : Cell) → stage_at chosen cell ≤ 2 → stage_at after cell ≤ 3
   not_jumped cell low = elim (cases_lt (stage_at after cell) 4) [
     | inl lt ↦ omega arith
@@ -284,8 +284,8 @@ module _ (this : ServerStep) where
     has_all between come =
         let one = named_comes this.setting.servers chosen (plain_chosen this) disks_then row h b between in
         let from = old_source (grounded this) named one row h named_has in
-        let dead : stage_at after old ≡ 4 = log_twins this.setting.servers top end named old this.next.firm.plain this.grows from one come in
-        let died = this.onward.moves.died old dead in
+        let retired : stage_at after old ≡ 4 = log_twins this.setting.servers top end named old this.next.firm.plain this.grows from one come in
+        let died = this.onward.moves.died old retired in
         let same = frozen_kept old (inl ((facts_then old).left (old_leaves this.setting.servers chosen (plain_chosen this) disks_then row h b between))) in
         record {
           before = died.0;

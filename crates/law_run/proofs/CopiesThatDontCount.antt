@@ -4,7 +4,7 @@ use Rattle.law_run.proofs.Imports.{[], ◌==◌, ◌||◌, ◌∙◌, ◌∷◌,
 use Rattle.law_run.proofs.Imports.{HasSent, IsCaught, IsLastCopy, IsLater, IsLeft, IsLeftBy, IsLinked, IsOther, IsPrefix, IsTold, IsTrimming, Is_dropped}
 use Rattle.law_run.proofs.Imports.{Is_dropped_first, Is_put, LastCopy, LinkRow, List, Lost, Only, Option, PairState, PutsCopy, Some, State, Table, about}
 use Rattle.law_run.proofs.Imports.{alive_on, alone_authority, alone_by, alone_or_flagged, ap, arith, authority, been_below, by_bool, chosen_log, chosen_state}
-use Rattle.law_run.proofs.Imports.{dead_authority, epochs_beyond, front_itself, fronts_meet, has_server, held_by, holder_is_one, id_of, inl, inr, is_flagged}
+use Rattle.law_run.proofs.Imports.{retired_authority, epochs_beyond, front_itself, fronts_meet, has_server, held_by, holder_is_one, id_of, inl, inr, is_flagged}
 use Rattle.law_run.proofs.Imports.{kept, linked_alive, links_of, live, lost_authority, none_some, of_last, one_row, other_apart, other_of, other_than}
 use Rattle.law_run.proofs.Imports.{own_place, own_steady, owns_of, past_last, past_of, place_by, places_up, refl, rows_later, same_numbers, same_some}
 use Rattle.law_run.proofs.Imports.{server_state, subst, sym, true, unseen_beyond, ℕ}
@@ -54,7 +54,7 @@ nothing_left own caught (inr whole) = caught.copied whole.0 whole.1
 
 -- a cell of which a copy counts is live
 pub counted_lives : (state : State) (cell : Cell) (n : ℕ) → authority state cell ≡ Some n → live state cell ≡ true
-counted_lives state cell n counts = by_bool (live state cell) (λ t. t) (λ f. none_some (dead_authority state cell f) counts)
+counted_lives state cell n counts = by_bool (live state cell) (λ t. t) (λ f. none_some (retired_authority state cell f) counts)
 
 module _ (g : Grounded) (n : ℕ) (runs : (g.w.servers n).life.running ≡ true) (new : PairState)
     (puts : PutsCopy (Handled g.w n) (own_place g.setting g.w n) (owns_of g.w n) new) (alive : AliveIn (chosen_state g.setting g.w) puts.cell) where

@@ -1,21 +1,21 @@
 -- A server's put of the copy that counts gives a block the bytes of a write under way; one of another copy changes no content.
 use Rattle.law_run.proofs.Imports.{◌∙◌, ◌≡◌, A_copy, AliveIn, An_asked, An_own, Cell, Drops, IsLinked, IsOpen, IsOwn, IsSecondary, None, Nothing_new}
-use Rattle.law_run.proofs.Imports.{Of_the_dead, Pending, Plain, PutsAsked, PutsCopy, Some, Stored, StoresSo, alone_authority, ap, arith, asked_for, at}
+use Rattle.law_run.proofs.Imports.{Of_the_retired, Pending, Plain, PutsAsked, PutsCopy, Some, Stored, StoresSo, alone_authority, ap, arith, asked_for, at}
 use Rattle.law_run.proofs.Imports.{authority, both_authority, by_bool, cell_cmp, cell_of, chain_apart, chain_in, chains_with, chosen_log, copied_apart}
-use Rattle.law_run.proofs.Imports.{counted, dead_not, epoch_at, false, front_on, inl, inr, is_clients, log_roles, named_cell, nat_cmp, none_some, one_row}
+use Rattle.law_run.proofs.Imports.{counted, retired_not, epoch_at, false, front_on, inl, inr, is_clients, log_roles, named_cell, nat_cmp, none_some, one_row}
 use Rattle.law_run.proofs.Imports.{open_beside, open_running, pending_here, place_by, replay, runs_now, same_or_apart, same_some, some_or_none, stage_at}
 use Rattle.law_run.proofs.Imports.{stage_facts, subst, sym, true, true_false, ℕ}
 use Rattle.law_run.specs.WritesGoOn.{is_held, Onward}
 use Rattle.law_run.proofs.CopiesThatDontCount.{copied_uncounted}
 use Rattle.law_run.proofs.MachineTakesWrites.{Taken, all_given, takes_of}
 use Rattle.law_run.proofs.ServerFrames.{OwnFollow, SaysOk}
-use Rattle.law_run.proofs.GroundGives.{Followed, followed, followed_epoch, followed_recalled, remembered, write_of, alive_or_dead, dropped_same}
+use Rattle.law_run.proofs.GroundGives.{Followed, followed, followed_epoch, followed_recalled, remembered, write_of, alive_or_retired, dropped_same}
 use Rattle.law_run.proofs.GroundGives.{followed_comes, followed_frozen, followed_lacks, followed_timely, pending_timely, pending_write}
 use Rattle.law_run.proofs.OpenWritesAreOnDisks.{Placed, placed}
 use Rattle.law_run.proofs.LeadPutsThatCount.{PutHeld}
 use Rattle.law_run.proofs.OwnPlacesAreLatest.{op_seat, lives_now, second_shares}
 use Rattle.law_run.proofs.EventsOfServerSteps.{ServerStep, TakesTold, ends_of, grounded, later_world, new}
-use Rattle.law_run.proofs.PutContents.{PutsHere, calm_given, calm_told, counts, dead_apart, fill_given, given_put, named_alive, own_unchanged, put_held}
+use Rattle.law_run.proofs.PutContents.{PutsHere, calm_given, calm_told, counts, retired_apart, fill_given, given_put, named_alive, own_unchanged, put_held}
 
 module _ (this : ServerStep) (same : chosen_log this.setting (later_world this) ≡ chosen_log this.setting this.w) where
   open ends_of this use {chosen, own, here, hears}
@@ -35,7 +35,7 @@ module _ (this : ServerStep) (same : chosen_log this.setting (later_world this) 
       elim (roles.seconds this.n (this.w.servers this.n).life.inc cell a.seat (runs_now this.setting this.w firm this.n runs a.seat) second) [
         | inl still ↦ both_authority chosen cell still.row still.is lives still.both ∙ ap Some still.second
         | inr (inl alone) ↦ alone_authority chosen cell alone.row alone.is lives this.n alone.whole alone.alone
-        | inr (inr died) ↦ absurd (dead_not chosen cell died alive)
+        | inr (inr died) ↦ absurd (retired_not chosen cell died alive)
       ]
 
   abbrev FollowedHere : PutsAsked hears here own (new this) → Type 0
@@ -146,9 +146,9 @@ module _ (this : ServerStep) (same : chosen_log this.setting (later_world this) 
             (λ clients e. true_false clients fill)
 
     asked_told : (a : PutsAsked hears here own (new this)) → Jobs (An_asked a) → TakesTold this
-    asked_told a job = elim (alive_or_dead chosen (cell_of a.key)
+    asked_told a job = elim (alive_or_retired chosen (cell_of a.key)
         (stage_facts this.setting.servers (chosen_log this.setting this.w) this.along.firm.plain (cell_of a.key)).most) [
-          | inr dead ↦ dead_told a job dead
+          | inr retired ↦ retired_told a job retired
           | inl alive ↦
               let f = followed (grounded this) this.along.steady this.n runs (new this) a alive in
               by_bool (is_clients f.putting.op.kind) (λ clients. write_told a alive f clients job) (λ fill. fill_told a alive f fill job)
@@ -162,13 +162,13 @@ module _ (this : ServerStep) (same : chosen_log this.setting (later_world this) 
             (cell_of a.key)) ∙ g.visited) in
             same_some (sym f.putting.is ∙ (λ i. at cell_cmp (own i).pairs.pending (cell_of a.key)) ∙ g.putting.is)
 
-        -- of a cell that is dead by what is chosen nothing counts
-        dead_told : (a : PutsAsked hears here own (new this)) → Jobs (An_asked a) → stage_at chosen (cell_of a.key) ≡ 4 → TakesTold this
-        dead_told a job dead =
+        -- of a cell that is retired by what is chosen nothing counts
+        retired_told : (a : PutsAsked hears here own (new this)) → Jobs (An_asked a) → stage_at chosen (cell_of a.key) ≡ 4 → TakesTold this
+        retired_told a job retired =
             let taken = all_given this (calm_given this same (λ row there b. own_unchanged this same (this.ground.own this.n runs a.seat) row there b (λ mine.
             ap (λ c. chain_in c (named_cell row b)) a.chains ∙ chain_apart own.store.chains (cell_of a.key) _ (named_cell row b)
-            (λ e. dead_apart this same row there b (ap (stage_at chosen) e ∙ dead))))) in
-            told_of taken (An_asked a) job (λ g clients. let alive = g.shares.alive in absurd (omega (arith, alive, dead)))
+            (λ e. retired_apart this same row there b (ap (stage_at chosen) e ∙ retired))))) in
+            told_of taken (An_asked a) job (λ g clients. let alive = g.shares.alive in absurd (omega (arith, alive, retired)))
 
         write_told : (a : PutsAsked hears here own (new this)) → AliveIn chosen (cell_of a.key) → (f : FollowedHere a)
             → is_clients f.putting.op.kind ≡ true → Jobs (An_asked a) → TakesTold this
@@ -215,13 +215,13 @@ module _ (this : ServerStep) (same : chosen_log this.setting (later_world this) 
         (ap (authority chosen) (sym e) ∙ mine))))) in
         told_of taken (A_copy c) job tt
 
-    -- a sweep is of a cell that is dead by what is chosen, or has nothing
-    dead_drops : (d : Drops here own (new this)) → Jobs (Of_the_dead d) → TakesTold this
-    dead_drops d job =
+    -- a sweep is of a cell that is retired by what is chosen, or has nothing
+    retired_drops : (d : Drops here own (new this)) → Jobs (Of_the_retired d) → TakesTold this
+    retired_drops d job =
         let taken = all_given this (calm_given this same (λ row there b. own_unchanged this same (this.ground.own this.n runs d.seat) row there b
         (λ mine. dropped_same (grounded this) this.along.steady this.n (new this) d (named_cell row b)
         (named_alive this same row there b)))) in
-        told_of taken (Of_the_dead d) job tt
+        told_of taken (Of_the_retired d) job tt
 
     -- a job that changes at most one chain
     pub stored_told : (s : StoresSo hears here own (new this)) → Jobs s → TakesTold this
@@ -229,4 +229,4 @@ module _ (this : ServerStep) (same : chosen_log this.setting (later_world this) 
     stored_told (An_own p) job = own_told p.op p.is p.fresh p.entry p.bytes p.chains job
     stored_told (An_asked a) job = asked_told a job
     stored_told (A_copy c) job = copy_told c job
-    stored_told (Of_the_dead d) job = dead_drops d job
+    stored_told (Of_the_retired d) job = retired_drops d job

@@ -1,8 +1,8 @@
 -- What a server's step sends: which letters have data, and that one ends a write as written only where that has had its bytes.
 use Rattle.law_run.proofs.Imports.{[], ◌==◌, ◌∙◌, ◌∷◌, ◌≡◌, An_entry_to_move, Answered, Asks, Asks_for, Body, Bool, By_filler, By_holder, By_lead, By_other}
 use Rattle.law_run.proofs.Imports.{By_read, By_second, By_sweep, Closes, Closes_alone, Did, DidLead, DidSecond, Ending, Ends_fill, Finished, Gives_up}
-use Rattle.law_run.proofs.Imports.{Glanced, Goes_on_dead, Has_fill, Has_no_room, Ignores, In, IsOpen, IsRefusal, Is_full, JobContext, JobResult, Letter, List}
-use Rattle.law_run.proofs.Imports.{Moves, Moves_on, NeverDead, Of_the_log, OpKind, Opens, Opens_fill, PairState, Pending, Plain, Post, Refused, Refuses}
+use Rattle.law_run.proofs.Imports.{Glanced, Goes_on_retired, Has_fill, Has_no_room, Ignores, In, IsOpen, IsRefusal, Is_full, JobContext, JobResult, Letter, List}
+use Rattle.law_run.proofs.Imports.{Moves, Moves_on, NeverRetired, Of_the_log, OpKind, Opens, Opens_fill, PairState, Pending, Plain, Post, Refused, Refuses}
 use Rattle.law_run.proofs.Imports.{Repeats, Says, Sender, Subject, about, ap, down_posts, ended, ends, false, filter, gives_back, inl, inr, is_logged}
 use Rattle.law_run.proofs.Imports.{is_refused, letters_of, letters_of_job, map, not, of_filler, of_holder, of_other, of_second, of_sweep, old_lead, one_post}
 use Rattle.law_run.proofs.Imports.{own_place, owns_of, post_of, posted, range_with_len, refl, said, same_some, stamped, subject_of, subst, sym, to_client}
@@ -110,7 +110,7 @@ ends_data here own op kind.Fill ending.Written post i = ap is_looked (posted (ol
 ends_data here own op kind.Fill ending.Full post i = ap is_looked (posted (old_lead here.state op.cell) (body.FillFull op.key) post i)
 ends_data here own op kind.Copy how post i = absurd i
 
-module _ (heard : Body → Type 0) (here : JobContext) (own : PairState) (never : NeverDead here own) where
+module _ (heard : Body → Type 0) (here : JobContext) (own : PairState) (never : NeverRetired here own) where
   lead_data : (done : JobResult) → DidLead heard here own done → (post : Post) → In post done.posts → is_looked post.body ≡ false
   unfolding In
   lead_data _ (Asks_for posts h) post i = unended_data post.body (asks_unended here own post (h post i))
@@ -123,7 +123,7 @@ module _ (heard : Body → Type 0) (here : JobContext) (own : PairState) (never 
   lead_data _ (Opens_fill moving new room both) post i = ap is_looked (posted _ _ post i)
   lead_data _ (Has_fill moving filled) post i = ap is_looked (posted _ _ post i)
   lead_data _ (Has_no_room moving new no_room) post i = ap is_looked (posted _ _ post i)
-  lead_data _ (Goes_on_dead now op taken off) post i = absurd (never now op taken off)
+  lead_data _ (Goes_on_retired now op taken off) post i = absurd (never now op taken off)
   lead_data _ _ post i = absurd i
 
   second_unended : (done : JobResult) → DidSecond heard here own done → (post : Post) → In post done.posts → IsUnended post
@@ -153,7 +153,7 @@ ended_seq seq ending.Written other e = same_some (ap (λ b. (about b).seq) e)
 ended_seq seq ending.Full other e = true_false {b = is_written (body.Written other)} refl (ap is_written (sym e))
 
 module _ (this : ServerStep) (k : Plain) (runs : (this.w.servers this.n).life.running ≡ true) (onward : Onward this.m k)
-    (never : NeverDead (own_place this.setting this.w this.n) (owns_of this.w this.n)) where
+    (never : NeverRetired (own_place this.setting this.w this.n) (owns_of this.w this.n)) where
   open ends_of this use {own, here, hears}
 
   abbrev IsOk : Post → Type 0

@@ -1,7 +1,7 @@
 -- What follows from the ground on which the run stands: of operations that are remembered, of the epochs of those that are put, and of
 -- entries.
 use Rattle.law_run.proofs.Imports.{[], ◌+◌, ◌∙◌, ◌∷◌, ◌≡◌, ◌≤◌, ◌⊎◌, AliveIn, AreEarly, AskingBy, Body, Cell, Chain, Drops, Handled, IsFrozen, IsLinked}
-use Rattle.law_run.proofs.Imports.{IsPutting, IsSteady, IsTimely, IsWrite, JobContext, Key, LinkRow, List, Lives, NeverDead, None, Option, PairState, Pending}
+use Rattle.law_run.proofs.Imports.{IsPutting, IsSteady, IsTimely, IsWrite, JobContext, Key, LinkRow, List, Lives, NeverRetired, None, Option, PairState, Pending}
 use Rattle.law_run.proofs.Imports.{PendingFor, PutsAsked, Setting, Some, State, Store, WasThere, World, ap, arith, asked_for, at, at-empty, at_row, cases_lt}
 use Rattle.law_run.proofs.Imports.{cell_cmp, cell_of, chain_in, chosen_log, chosen_state, epoch_at, false, front_itself, front_long, front_on, half, inl, inr}
 use Rattle.law_run.proofs.Imports.{is_clients, is_in, kept, length, live, nat_cmp, nat_cmp_total, none_some, own_below, own_place, own_plain, owns_of}
@@ -14,11 +14,11 @@ use Rattle.law_run.proofs.OwnPlacesAreLatest.{IsSharing, alive_here, heard_share
 use Rattle.law_run.proofs.OwnPlacesAreLatest.{own_there}
 use Rattle.law_run.proofs.RunScenes.{Grounded}
 use Rattle.petal_msg.specs.declared.body.Body.TheVariants as body
-use Rattle.petal_msg.specs.declared.operation.Far.TheVariants as far
+use Rattle.petal_msg.specs.declared.operation.FollowProgress.TheVariants as follow_progress
 
--- a cell is dead, or not
-pub alive_or_dead : (state : State) (cell : Cell) → stage_at state cell ≤ 4 → AliveIn state cell ⊎ (stage_at state cell ≡ 4)
-alive_or_dead state cell most = elim (cases_lt (stage_at state cell) 4) [ inl lt ↦ inl lt | inr le ↦ inr (omega arith) ]
+-- a cell is retired, or not
+pub alive_or_retired : (state : State) (cell : Cell) → stage_at state cell ≤ 4 → AliveIn state cell ⊎ (stage_at state cell ≡ 4)
+alive_or_retired state cell most = elim (cases_lt (stage_at state cell) 4) [ inl lt ↦ inl lt | inr le ↦ inr (omega arith) ]
 
 -- ### Operations that are remembered
 
@@ -134,14 +134,14 @@ module _ (g : Grounded) (steady : IsSteady g.state) (n : ℕ) where
       (ground.good.came p (place_by setting (chosen_log setting w) row) cell visit there) is clients (front_itself (chosen_log setting w)) linked refl
       (omega arith)
 
-  -- no operation is on a cell that is dead by the server's own state
-  pub never_dead : (w.servers n).life.running ≡ true → NeverDead here own
-  never_dead runs now op taken off =
+  -- no operation is on a cell that is retired by the server's own state
+  pub never_retired : (w.servers n).life.running ≡ true → NeverRetired here own
+  never_retired runs now op taken off =
       let t = taking own now op taken in
       let there : at cell_cmp own.pairs.pending op.cell ≡ Some t.old = t.was in
       true_false (op_lives g n op.cell t.old runs there) off
 
-  -- what is dropped of a cell that is not dead by what is chosen is nothing: the server does not know yet that it is live
+  -- what is dropped of a cell that is not retired by what is chosen is nothing: the server does not know yet that it is live
   pub dropped_same : (new : PairState) → Drops here own new → (q : Cell) → AliveIn (chosen_state setting w) q
       → chain_in new.store.chains q ≡ chain_in own.store.chains q
   dropped_same new d q alive = elim (same_cell_or_apart q d.cell) [
@@ -169,7 +169,7 @@ module _ (g : Grounded) (steady : IsSteady g.state) (n : ℕ) where
     pub own : PairState
     pub visited : ground.good.visits row.primary (place_by setting (w.servers n).log.applied row) (cell_of key) ≡ Some own
     pub putting : IsPutting (at cell_cmp own.pairs.pending (cell_of key)) number key bytes
-    pub last : at cell_cmp (owns_of w n).pairs.last (cell_of key) ≡ Some (record { op = number; far = far.Reserved })
+    pub last : at cell_cmp (owns_of w n).pairs.last (cell_of key) ≡ Some (record { op = number; progress = follow_progress.Reserved })
 
   -- by its letter, and the slot that is set apart here
   putting_there : (visit : Option PairState) (store : Store) (cell : Cell) (number : ℕ) (key : Key) (bytes : List ℕ)
@@ -186,7 +186,7 @@ module _ (g : Grounded) (steady : IsSteady g.state) (n : ℕ) where
       let place = place_by setting (w.servers n).log.applied s.row in
       let last : at cell_cmp (half (ground.good.visits s.row.secondary place cell)
       (store_there g n s.row.secondary)).pairs.last cell
-      ≡ Some (record { op = a.number; far = far.Reserved }) =
+      ≡ Some (record { op = a.number; progress = follow_progress.Reserved }) =
       ap (λ k. at cell_cmp (half (ground.good.visits k place cell) (store_there g n k)).pairs.last cell) s.second
       ∙ ap (λ o. at cell_cmp (half o (store_there g n n)).pairs.last cell)
       (visit_here g n cell s.row runs a.seat s.shares.linked (alive_here g n cell alive)) ∙ a.last in
@@ -249,7 +249,7 @@ module _ (g : Grounded) (steady : IsSteady g.state) (n : ℕ) where
         let twins = (ground.good.both (w.servers n).log.applied cell f.row (firm.servers n) f.shares.linked f.shares.both).twins f.shares.alive
         (sharing_last g n cell f.row f.shares) in
         let there = store_there g n in
-        let last : at cell_cmp (half (ground.good.visits q spot cell) (there q)).pairs.last cell ≡ Some (record { op = number; far = far.Reserved }) =
+        let last : at cell_cmp (half (ground.good.visits q spot cell) (there q)).pairs.last cell ≡ Some (record { op = number; progress = follow_progress.Reserved }) =
         ap (λ k. at cell_cmp (half (ground.good.visits k spot cell) (there k)).pairs.last cell) f.second
         ∙ ap (λ o. at cell_cmp (half o (there n)).pairs.last cell)
         (visit_here g n cell f.row f.shares.runs f.shares.seat f.shares.linked

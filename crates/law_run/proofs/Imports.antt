@@ -39,10 +39,10 @@ pub use Rattle.law_steps.proofs.Imports.{out_has_stopped, same_place, settling, 
 unfoldable pub use Rattle.law_steps.proofs.Imports.{put}
 pub use Rattle.law_jobs.specs.Imports.{IsReadable, IsRefusal, Taken, answering, progress}
 pub use Rattle.law_jobs.proofs.Imports.{An_entry_to_move, Asks, Asks_for, By_filler, By_holder, By_lead, By_other, By_read, By_second, By_sweep, Closes}
-pub use Rattle.law_jobs.proofs.Imports.{Closes_alone, Did, DidLead, DidOther, DidSecond, Gives_up, Goes_on_dead, Handled, Happens, Has_fill, Has_no_room}
+pub use Rattle.law_jobs.proofs.Imports.{Closes_alone, Did, DidLead, DidOther, DidSecond, Gives_up, Goes_on_retired, Handled, Happens, Has_fill, Has_no_room}
 pub use Rattle.law_jobs.proofs.Imports.{Ignores, IsMoment, Is_full, Marks, Marks_alone, Not_here, Of_the_log, Opens, Opens_alone, Opens_fill}
 pub use Rattle.law_jobs.proofs.Imports.{Opens_fill_alone, Puts, Puts_alone, Ready, Refuses, Repeats, Rests, Shows, Sweeps, Unmarks, Unmarks_alone}
-pub use Rattle.law_jobs.proofs.Imports.{always_firm, at_apart, at_same, chains_with, dead_second, front_legal, of_read, of_sweep, own_place, rests_after}
+pub use Rattle.law_jobs.proofs.Imports.{always_firm, at_apart, at_same, chains_with, retired_second, front_legal, of_read, of_sweep, own_place, rests_after}
 pub use Rattle.law_jobs.proofs.Imports.{same_cell_or_apart, start_rests, stood, taking, world_more}
 pub use Rattle.law_copies.specs.Imports.{IsRising, blank_joins_in, kept_store, no_pairs, one_put_ahead}
 pub use Rattle.law_copies.proofs.Imports.{AllMayWake, At, BeforeBlank, Blanks, By_ballot, By_caught, By_entry, By_job, By_join, By_leave, Ends, Ends_fill}
@@ -56,7 +56,7 @@ pub use Rattle.law_copies.proofs.Imports.{row_joined, run_of, said, second_by, s
 pub use Rattle.law_copies.proofs.Imports.{without_rev}
 pub use Rattle.law_requests.specs.Imports.{done_to, line_by}
 pub use Rattle.law_requests.proofs.Imports.{Alone_has, Answered, Begins, Blanks_it, Both_have, By_operation, By_verdict, By_witness, Fails_it, Goes_on}
-pub use Rattle.law_requests.proofs.Imports.{Had_no_slot, Has_no_space, Heard, IsCalled, IsFinishedFor, IsJudged, IsReason, IsSeenAs, Is_dead, Is_declined}
+pub use Rattle.law_requests.proofs.Imports.{Had_no_slot, Has_no_space, Heard, IsCalled, IsFinishedFor, IsJudged, IsReason, IsSeenAs, Is_retired, Is_declined}
 pub use Rattle.law_requests.proofs.Imports.{Is_settled, Is_told, Judges, OnlySays, Reads, Shown, Starts_it, StaysOpen, Stops_at, Stops_it, Turned, both_leads}
 pub use Rattle.law_requests.proofs.Imports.{chosen_steady, did_finish, disk_on, front_same, is_refused, leaving, led_by, own_below, own_plain, rests_in}
 pub use Rattle.law_requests.proofs.Imports.{runs_now, write_refusal}
@@ -79,7 +79,7 @@ pub use Rattle.law_copies.proofs.LastCopies.{of_last, past_last, past_of}
 pub use Rattle.law_copies.proofs.LeftToCopy.{tied}
 pub use Rattle.law_copies.proofs.MarksPrecedePuts.{marks_first}
 pub use Rattle.law_copies.proofs.OtherIsNotHolder.{held_not_lead}
-pub use Rattle.law_copies.proofs.PlacesByFronts.{dead_not, linked_alive}
+pub use Rattle.law_copies.proofs.PlacesByFronts.{retired_not, linked_alive}
 pub use Rattle.law_copies.proofs.RolesOfWorkers.{other_alone}
 pub use Rattle.law_copies.proofs.ServedAtLaterFronts.{AllStarted, been_below, holder_is_one, holds_since, reached_here}
 pub use Rattle.law_copies.proofs.StoreHistories.{always_empty}
@@ -93,10 +93,10 @@ pub use Rattle.law_jobs.proofs.Runs.{at_moment, firm_then, follows_in, grown_the
 pub use Rattle.law_jobs.specs.Sayings.{to_client}
 pub use Rattle.law_moves.proofs.EpochHistories.{early_after, pending_timely, place_timely, second_timely}
 pub use Rattle.law_moves.proofs.FillsAtSeconds.{second_after}
-pub use Rattle.law_moves.proofs.JobsChangeOneChain.{A_copy, An_asked, An_own, CopiesSo, Drops, Is_dropped, Is_dropped_first, Is_put, NeverDead, Nothing_new}
-pub use Rattle.law_moves.proofs.JobsChangeOneChain.{Of_the_dead, OtherStores, PutsAsked, PutsCopy, PutsOwn, StoresSo, copied_apart, did_stores, holder_chains}
+pub use Rattle.law_moves.proofs.JobsChangeOneChain.{A_copy, An_asked, An_own, CopiesSo, Drops, Is_dropped, Is_dropped_first, Is_put, NeverRetired, Nothing_new}
+pub use Rattle.law_moves.proofs.JobsChangeOneChain.{Of_the_retired, OtherStores, PutsAsked, PutsCopy, PutsOwn, StoresSo, copied_apart, did_stores, holder_chains}
 pub use Rattle.law_moves.proofs.JobsChangeOneChain.{lead_stores, other_changes, second_stores, swept}
-pub use Rattle.law_moves.proofs.KnownOfMoves.{comes_after, dead_frozen, filling_after, over_after, rule_after}
+pub use Rattle.law_moves.proofs.KnownOfMoves.{comes_after, retired_frozen, filling_after, over_after, rule_after}
 pub use Rattle.law_moves.proofs.MovesInHistories.{known_after, none_chosen}
 pub use Rattle.law_moves.proofs.NextFill.{in_flat}
 pub use Rattle.law_moves.proofs.NoPutsToLeavingCells.{op_there}
@@ -119,7 +119,7 @@ pub use Rattle.law_requests.specs.KnownRequests.{seen}
 pub use Rattle.law_script.proofs.TakenLines.{is_accepted}
 pub use Rattle.law_script.specs.Laws.{Does, asks, line_at, nets, skipped, waits}
 pub use Rattle.law_state.proofs.CaughtsMadeBoth.{log_held_or_both}
-pub use Rattle.law_state.proofs.CellsByLinkRows.{dead_authority, dead_reader, lost_authority, read_by}
+pub use Rattle.law_state.proofs.CellsByLinkRows.{retired_authority, retired_reader, lost_authority, read_by}
 pub use Rattle.law_state.proofs.Disks.{log_disks}
 pub use Rattle.law_state.proofs.ErasRiseAfterReports.{log_unread}
 pub use Rattle.law_state.proofs.LaterDisks.{AreFresh, HasRowLater, fresh_rows, known_row, later_place, later_rows, old_or_new, stays_row}

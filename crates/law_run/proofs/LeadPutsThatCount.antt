@@ -1,8 +1,8 @@
 -- What a job of a cell's first server, or of its only one, leaves pending and finished: the write of what is put where it counts, or is closed,
 -- has had its bytes.
 use Rattle.law_run.proofs.Imports.{◌+◌, ◌∙◌, ◌≡◌, ◌≢◌, ◌≤◌, A_copy, Alone_has, An_asked, An_own, AreCopies, Bool, Both_have, Busy, By_operation, Cell, Chain}
-use Rattle.law_run.proofs.Imports.{Closes, Closes_alone, DidLead, Finished, Gives_up, Goes_on_dead, Had_no_slot, IsFinishedFor, IsLinked, IsOpen, Is_dead}
-use Rattle.law_run.proofs.Imports.{Is_declined, JobResult, Key, LinkRow, Marks, Marks_alone, NeverDead, None, Nothing_new, Of_the_dead, Opens, Opens_alone}
+use Rattle.law_run.proofs.Imports.{Closes, Closes_alone, DidLead, Finished, Gives_up, Goes_on_retired, Had_no_slot, IsFinishedFor, IsLinked, IsOpen, Is_retired}
+use Rattle.law_run.proofs.Imports.{Is_declined, JobResult, Key, LinkRow, Marks, Marks_alone, NeverRetired, None, Nothing_new, Of_the_retired, Opens, Opens_alone}
 use Rattle.law_run.proofs.Imports.{Opens_fill, Opens_fill_alone, Option, PairOk, PairState, Pending, Plain, Puts, Puts_alone, Some, Stage, Stale, Store}
 use Rattle.law_run.proofs.Imports.{Stored, StoresSo, Table, Taken, Unmarks, Unmarks_alone, Working, alone_not_both, answering, ap, at, authority, cell_apart}
 use Rattle.law_run.proofs.Imports.{cell_cmp, cell_of, cell_same, chain_apart, chain_in, chain_put, chains_with, chosen_state, false, far, fill_operation}
@@ -41,9 +41,9 @@ module _ (this : ServerStep) (k : Plain) where
       (f : Followed (grounded this) this.along.steady this.n a.number a.key a.bytes)
       → is_clients f.putting.op.kind ≡ true → is_held k f.putting.op.client ≡ true
   PutHeld (A_copy c) = Unit {0}
-  PutHeld (Of_the_dead d) = Unit {0}
+  PutHeld (Of_the_retired d) = Unit {0}
 
-  module _ (runs : (this.w.servers this.n).life.running ≡ true) (onward : Onward this.m k) (never : NeverDead here own) where
+  module _ (runs : (this.w.servers this.n).life.running ≡ true) (onward : Onward this.m k) (never : NeverRetired here own) where
     -- an operation that was pending
     pub was_held : (cell : Cell) (op : Pending) → at cell_cmp own.pairs.pending cell ≡ Some op → Counted cell op (mine cell) → Held op
     was_held cell op is counted clients still =
@@ -302,7 +302,7 @@ module _ (this : ServerStep) (k : Plain) where
         put_lead (put cell_cmp own.pairs.pending cell op) own.store.chains cell (with_mark_at op Stale true)
         (beside own.pairs.pending cell op) (λ q ne. refl)
         (fresh_held cell (with_mark_at op Stale true) (mine cell) refl refl)
-    lead_pending _ (Goes_on_dead now op taken off) held = absurd (never now op taken off)
+    lead_pending _ (Goes_on_retired now op taken off) held = absurd (never now op taken off)
     lead_pending _ _ held = λ cell o is. was_held cell o is
 
     -- ### What is finished
@@ -334,4 +334,4 @@ module _ (this : ServerStep) (k : Plain) where
     finish_held t _ _ (By_operation _ _ (Both_have op is both stage) write gone) e = closed_held op is both stage (ap is_clients write)
     finish_held t _ _ (By_operation _ _ (Alone_has now op taken alone stale put free) write gone) e =
         closed_alone now op taken alone put (ap is_clients write)
-    finish_held t _ _ (By_operation _ _ (Is_dead now op taken off) write gone) e = absurd (never now op taken off)
+    finish_held t _ _ (By_operation _ _ (Is_retired now op taken off) write gone) e = absurd (never now op taken off)

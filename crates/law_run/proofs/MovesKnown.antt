@@ -2,7 +2,7 @@
 use Rattle.law_run.proofs.Imports.{[], if◌then◌else◌, ◌++◌, ◌∙◌, ◌∷◌, ◌≡◌, ◌≤◌, ◌⊎◌, Actor, AreSteps, At, Bool, Cell, Chain, Drained, Firm, IsPrefix}
 use Rattle.law_run.proofs.Imports.{IsRising, IsSound, List, None, Option, Pairs, Pending, Record, Script, Setting, Some, State, Step, WasThere, World}
 use Rattle.law_run.proofs.Imports.{always_firm, ap, arith, asking_along, at, at_row, authority, begins_to_leave, by_run, cases_lt, cell_cmp, cell_of}
-use Rattle.law_run.proofs.Imports.{chain_in, chain_that_counts, chosen_log, chosen_state, comes_after, dead_frozen, false, filling_after, front_itself}
+use Rattle.law_run.proofs.Imports.{chain_in, chain_that_counts, chosen_log, chosen_state, comes_after, retired_frozen, false, filling_after, front_itself}
 use Rattle.law_run.proofs.Imports.{front_legal, front_long, good_after, held, history_is_firm, inl, inr, is_all_held, is_in, is_some, kept, known_after}
 use Rattle.law_run.proofs.Imports.{log_unread, nat_cmp, nat_cmp_total, none_some, one_front, option_map, over_after, refl, reports_known, rests_after, run_of}
 use Rattle.law_run.proofs.Imports.{runs_now, same_some, second_after, server_state, setting_in, setting_of, stage_at, start, start_rests, state_after, step}
@@ -110,7 +110,7 @@ module _ (script : Script) (records : List Record) (sound : IsSound script) (leg
   pub moves_known : KnowMoves setting records w
   moves_known = record {
     frozen = frozen_so;
-    died = dead_frozen script records sound legal;
+    died = retired_frozen script records sound legal;
     unread = unread;
     still = (known_after script sound records legal).still;
     fills = (known_after script sound records legal).filled;

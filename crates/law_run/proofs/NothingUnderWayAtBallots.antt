@@ -120,7 +120,7 @@ module _ (script : Script) (records : List Record) (sound : IsSound script) (leg
       linked : cell_link (chosen_state setting w) cell ≡ Some row
       linked = elim (same_place script.servers entries chosen cell row plain prefix catching.linked same) [
         | inl stays ↦ stays.same
-        | inr died ↦ (let dead = died.1 in let on = alive in absurd (omega arith))
+        | inr died ↦ (let retired = died.1 in let on = alive in absurd (omega arith))
       ]
 
       -- at its place the server had the ballot in mind
@@ -182,7 +182,7 @@ module _ (script : Script) (records : List Record) (sound : IsSound script) (leg
       both : cell_link (chosen_state setting w) cell ≡ Some now
       both = elim touched_by [
         | inl so ↦ so
-        | inr died ↦ (let dead = died.1 in let on = alive in absurd (omega arith))
+        | inr died ↦ (let retired = died.1 in let on = alive in absurd (omega arith))
       ]
 
       -- the later row counts the same places

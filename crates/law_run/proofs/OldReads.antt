@@ -1,7 +1,7 @@
 -- A read that was told that the new map has nothing, and is answered under the old one: whoever answers has what was frozen.
 use Rattle.law_run.proofs.Imports.{[], if◌then◌else◌, ◌&&◌, ◌||◌, ◌∙◌, ◌∷◌, ◌≡◌, ◌≤◌, Acted, Actor, AreStepsFrom, Blank, Bool, By_ballot, By_entry, By_job}
 use Rattle.law_run.proofs.Imports.{By_read, Cell, Did, Ends, Fails, Firm, Goes, Handled, In, IsPrefix, IsRead, IsReadable, IsSteady, JobResult, Letter, List}
-use Rattle.law_run.proofs.Imports.{MayActor, NeverDead, None, NotThere, Not_here, Post, Record, Sender, Serving, Setting, Shows, Some, State, Stays, Step}
+use Rattle.law_run.proofs.Imports.{MayActor, NeverRetired, None, NotThere, Not_here, Post, Record, Sender, Serving, Setting, Shows, Some, State, Stays, Step}
 use Rattle.law_run.proofs.Imports.{Wakes, World, acts, ap, arith, awake, begins_to_leave, both_true, by_bool, by_test, bytes_of, chain_in, chain_that_counts}
 use Rattle.law_run.proofs.Imports.{chosen_log, chosen_state, data_among, down_posts, entry_at, epoch_at, front_itself, front_on, in_former, in_none, inl, inr}
 use Rattle.law_run.proofs.Imports.{leaving, length, letters_of, log_below, log_rev, none_some, not, old_data, one_post, own_place, own_plain, own_steady}
@@ -9,7 +9,7 @@ use Rattle.law_run.proofs.Imports.{owns_of, raised, reads_old, refl, rev_of, sai
 use Rattle.law_run.proofs.Imports.{stage_facts, stamped, step, stepped, subst, sym, true, true_false, turns, without_rev, ℕ}
 use Rattle.law_run.specs.MachineTies.{Ground}
 use Rattle.law_run.proofs.EntryAtEpoch.{AreUpTo}
-use Rattle.law_run.proofs.GroundGives.{never_dead}
+use Rattle.law_run.proofs.GroundGives.{never_retired}
 use Rattle.law_run.proofs.ReadsLookWhereSent.{Accepts, AreGrounded, ground_now, is_looked, who_accepts}
 use Rattle.law_run.proofs.ContentsAsked.{known_read, own_up_to, reader_serves, reads_old_is}
 use Rattle.law_run.proofs.DataLetters.{IsUnended, downs_unended, glances_unended, logged_unended, mute_data, unended_no_data}
@@ -71,7 +71,7 @@ module _ (g : Grounded) (steady : IsSteady g.state) (y stamp : ℕ) (letter : Le
       absurd cc
   job_shows done d runs h =
       let s = said (sender (own_place setting u y)) stamp 0 done.posts letter h in
-      let never : NeverDead (own_place setting u y) (owns_of u y) = never_dead g steady y runs in
+      let never : NeverRetired (own_place setting u y) (owns_of u y) = never_retired g steady y runs in
       true_false (ap is_looked (sym s.body ∙ says)) (mute_data (Handled u y) (own_place setting u y) (owns_of u y) never done d tt s.post s.there)
 
   pub shows : (what : Step) (acted : Acted) → Serving setting u y what acted → In letter (stamped stamp acted.letters) → S

@@ -3,7 +3,7 @@
 use Rattle.law_run.proofs.Imports.{[], ◌&&◌, ◌++◌, ◌∙◌, ◌∷◌, ◌≡◌, ◌≤◌, ◌⊎◌, AliveIn, AreCopies, AreTwins, Body, Both, Cell, Command, Handled, HasProperTuples}
 use Rattle.law_run.proofs.Imports.{HasStage, IsHeldBy, IsLast, IsLinked, IsPrefix, IsStaged, Join, LinkRow, List, None, Only, Option, Pair, PairOk, PairState}
 use Rattle.law_run.proofs.Imports.{Pending, Setting, Some, Store, about, alive_on, alone_authority, alone_not_both, ap, arith, at, at-empty, authority}
-use Rattle.law_run.proofs.Imports.{blank_joins_in, both_last, both_row, both_since, by_bool, cell_cmp, chain_in, chosen_log, chosen_state, dead_second, far}
+use Rattle.law_run.proofs.Imports.{blank_joins_in, both_last, both_row, both_since, by_bool, cell_cmp, chain_in, chosen_log, chosen_state, retired_second, far}
 use Rattle.law_run.proofs.Imports.{front_itself, front_more, front_on, half, half_store, has_proposed, has_server, held_as_flag, holds_since, in_both, inl}
 use Rattle.law_run.proofs.Imports.{inr, is_alone_on, is_clients, is_in, is_lead, is_second, is_the_one, kept, lead, led_by, linked_alive, linked_between}
 use Rattle.law_run.proofs.Imports.{live, live_stage, none_some, one_before, one_row, op_there, own_below, own_plain, own_steady, owns_of, pair_at, pair_of}
@@ -112,13 +112,13 @@ module _ (g : Grounded) where
       → AreTwins chosen_store ground.good.visits (place_by setting chosen row) cell row.primary row.secondary
   chosen_twins cell row is both alive = (ground.good.both chosen cell row (front_itself chosen) is both).twins alive (chosen_last cell row is)
 
-  -- a cell that is not dead by what is chosen is not by a server's own state
+  -- a cell that is not retired by what is chosen is not by a server's own state
   pub alive_here : (n : ℕ) (cell : Cell) → AliveIn (chosen_state setting w) cell → AliveIn (server_state setting w n) cell
   alive_here n cell alive = let le = (own_below setting w firm n).stages cell in omega arith
 
   -- ### In Both by its own state
 
-  -- the server runs, and by its own state it is In and one of the two of a link in Both, of a cell that is live by it, and not dead by what is
+  -- the server runs, and by its own state it is In and one of the two of a link in Both, of a cell that is live by it, and not retired by what is
   -- chosen
   pub record IsSharing (n : ℕ) (cell : Cell) (row : LinkRow) : Type 0 where
     pub runs : (w.servers n).life.running ≡ true
@@ -175,7 +175,7 @@ module _ (g : Grounded) where
       (peer n row.secondary cell row) cell)) first
       (shared_ok n cell row s)))
 
-  -- the cell is live by what is chosen, where it is by some state before and not dead since
+  -- the cell is live by what is chosen, where it is by some state before and not retired since
   pub lives_now : (n : ℕ) (cell : Cell) → 1 ≤ stage_at (server_state setting w n) cell → AliveIn (chosen_state setting w) cell
       → live (chosen_state setting w) cell ≡ true
   lives_now n cell low alive =
@@ -230,7 +230,7 @@ module _ (g : Grounded) where
   second_low : (n : ℕ) (cell : Cell) → is_second (server_state setting w n) n cell ≡ true → 1 ≤ stage_at (server_state setting w n) cell
   second_low n cell e = by_bool (live (server_state setting w n) cell)
       (λ lives. (live_stage (server_state setting w n) cell lives).0)
-      (λ dead. none_some (dead_second (server_state setting w n) cell dead) (is_the_one (second (server_state setting w n) cell) n e))
+      (λ retired. none_some (retired_second (server_state setting w n) cell retired) (is_the_one (second (server_state setting w n) cell) n e))
 
   pub second_shares : (n : ℕ) (cell : Cell) → (w.servers n).life.running ≡ true
       → is_in (server_state setting w n) n (w.servers n).life.inc ≡ true

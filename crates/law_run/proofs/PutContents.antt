@@ -247,15 +247,15 @@ module _ (this : ServerStep) (same : chosen_log this.setting (later_world this) 
 
   -- ### A fill
 
-  -- the cell that requests name of a disk's block is not dead
+  -- the cell that requests name of a disk's block is not retired
   pub named_alive : (row : DiskRow) → In row (rows_in this.setting this.w) → (b : ℕ) → AliveIn chosen (named_cell row b)
   named_alive row there b =
       let high = named_high this.setting.servers chosen (plain_now this.setting this.w this.along.firm)
       (disks_now this.setting this.w this.along.firm) row there b in
       omega (arith, high)
 
-  pub dead_apart : {B : Type 0} (row : DiskRow) → In row (rows_in this.setting this.w) → (b : ℕ) → stage_at chosen (named_cell row b) ≡ 4 → B
-  dead_apart row there b dead =
+  pub retired_apart : {B : Type 0} (row : DiskRow) → In row (rows_in this.setting this.w) → (b : ℕ) → stage_at chosen (named_cell row b) ≡ 4 → B
+  retired_apart row there b retired =
       let high = named_high this.setting.servers chosen (plain_now this.setting this.w this.along.firm)
       (disks_now this.setting this.w this.along.firm) row there b in
       absurd (omega arith)

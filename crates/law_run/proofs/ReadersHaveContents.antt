@@ -2,7 +2,7 @@
 use Rattle.law_run.proofs.Imports.{◌==◌, ◌∙◌, ◌≡◌, ◌≤◌, AliveIn, AreDisks, Bool, Both, ByBoth, ByNone, ByOne, Cell, DiskRow, Firm, HasStage, In, IsLinked}
 use Rattle.law_run.proofs.Imports.{IsServing, Line, LinkRow, List, None, Option, PairOk, PairState, Some, Store, Stored, alone_authority, ap, arith, at}
 use Rattle.law_run.proofs.Imports.{authority, both_authority, both_leads, by_bool, bytes_of, cases_lt, cell_cmp, chain_in, chosen_steady, coming, counted}
-use Rattle.law_run.proofs.Imports.{dead_not, dead_reader, either_true, entry_at, entry_before, entry_by, entry_of, false, front_itself, half, has_map, held}
+use Rattle.law_run.proofs.Imports.{retired_not, retired_reader, either_true, entry_at, entry_before, entry_by, entry_of, false, front_itself, half, has_map, held}
 use Rattle.law_run.proofs.Imports.{inl, inr, is_all_held, is_in, is_lead, is_some, is_the_so, leads_link, leaving, linked_between, live, log_roles}
 use Rattle.law_run.proofs.Imports.{named_cell, old_cell, one_row, own_below, own_plain, pair_of, place_by, places_up, readable, refl, runs_now, same_numbers}
 use Rattle.law_run.proofs.Imports.{same_some, serves, stage_at, stage_facts, subst, sym, true, true_false, ℕ}
@@ -42,7 +42,7 @@ module _ (this : ServerStep) where
     own_facts = stage_facts this.setting.servers (this.w.servers this.n).log.applied (own_plain this.setting this.w firm this.n) cell
 
     own_lives : live own_state cell ≡ true
-    own_lives = by_bool (live own_state cell) (λ t. t) (λ f. true_false r.may (dead_reader own_state cell f this.n))
+    own_lives = by_bool (live own_state cell) (λ t. t) (λ f. true_false r.may (retired_reader own_state cell f this.n))
 
     own_low : 1 ≤ stage_at own_state cell
     own_low = (own_facts.lives own_lives).0
@@ -74,7 +74,7 @@ module _ (this : ServerStep) where
         let roles = log_roles this.setting.servers (this.w.servers this.n).log.applied top firm.plain (firm.servers this.n) in
         elim (roles.reads this.n (this.w.servers this.n).life.inc cell r.seat (runs_now this.setting this.w firm this.n r.runs r.seat) serving) [
           | inl now ↦ now
-          | inr died ↦ absurd (dead_not chosen cell died alive)
+          | inr died ↦ absurd (retired_not chosen cell died alive)
         ]
 
     -- ### What it has is what counts

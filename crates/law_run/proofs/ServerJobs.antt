@@ -1,7 +1,7 @@
 -- Each kind of job shows what it has to, where the write of what it has put where it counts has had its bytes.
 use Rattle.law_run.proofs.Imports.{◌∙◌, ◌≡◌, ◌≢◌, ◌⊎◌, A_copy, AliveIn, An_asked, An_own, Both, By_filler, By_holder, By_lead, By_other, By_read, By_second}
 use Rattle.law_run.proofs.Imports.{By_sweep, Cell, Chain, Did, DidOther, DidSecond, Drops, Finished, Ignores, IsOpen, IsOwn, IsSeatedOrMute, IsSteady}
-use Rattle.law_run.proofs.Imports.{JobResult, LinkRow, NeverDead, Nothing_new, Of_the_dead, Only, OtherStores, PairState, Pairs, Pending, Plain, PutsAsked}
+use Rattle.law_run.proofs.Imports.{JobResult, LinkRow, NeverRetired, Nothing_new, Of_the_retired, Only, OtherStores, PairState, Pairs, Pending, Plain, PutsAsked}
 use Rattle.law_run.proofs.Imports.{PutsCopy, PutsOwn, Refuses, Some, Store, StoresSo, Sweeps, ap, at, cell_cmp, cell_of, chain_apart, chain_in, chosen_state}
 use Rattle.law_run.proofs.Imports.{copied_apart, did_finish, did_stores, finished_of, held_not_lead, holder_chains, inl, inr, is_clients, is_lead, is_second}
 use Rattle.law_run.proofs.Imports.{is_the_one, kept, lead_links, led_by, live, nat_cmp, of_filler, of_holder, of_other, of_read, of_second, one_lead}
@@ -23,7 +23,7 @@ module _ (this : ServerStep) (k : Plain) where
   abbrev mine : Cell → Chain
   mine cell = chain_in own.store.chains cell
 
-  module _ (runs : (this.w.servers this.n).life.running ≡ true) (onward : Onward this.m k) (never : NeverDead here own) where
+  module _ (runs : (this.w.servers this.n).life.running ≡ true) (onward : Onward this.m k) (never : NeverRetired here own) where
     -- ### As a second server
 
     abbrev Leads : Cell → Type 0
@@ -62,7 +62,7 @@ module _ (this : ServerStep) (k : Plain) where
     led_chain new (An_own p) none cell lead = absurd none
     led_chain new (An_asked a) none cell lead = asked_beside new a cell lead
     led_chain new (A_copy c) none cell lead = copy_beside new c cell lead
-    led_chain new (Of_the_dead d) none cell lead = d.others cell (λ e. true_false (lead_links here.state this.n cell lead).0 (ap (live here.state) e ∙ d.off))
+    led_chain new (Of_the_retired d) none cell lead = d.others cell (λ e. true_false (lead_links here.state this.n cell lead).0 (ap (live here.state) e ∙ d.off))
 
     -- operations that stay pending
     stays_pending : (new : PairState) (s : StoresSo hears here own new) → IsNoOwn s → new.pairs.pending ≡ own.pairs.pending
@@ -127,8 +127,8 @@ module _ (this : ServerStep) (k : Plain) where
           (subst (AliveIn (chosen_state this.setting this.w)) e shares.alive) p row
           (subst (λ (q : Cell). IsSharing (grounded this) p q row) e shares) not_itself))
 
-      dead_second : (new : PairState) → Drops here own new → Followed_or_held new
-      dead_second new d same = inl (same ∙ dropped_same (grounded this) this.along.steady this.n new d cell
+      retired_second : (new : PairState) → Drops here own new → Followed_or_held new
+      retired_second new d same = inl (same ∙ dropped_same (grounded this) this.along.steady this.n new d cell
           shares.alive)
 
       -- by the stores that count
@@ -157,8 +157,8 @@ module _ (this : ServerStep) (k : Plain) where
           by_own new_own is_new as_before (this.ground.own this.n runs a.seat) (asked_second new_own a held) same
       did_second new_own is_new as_before (A_copy c) held same =
           by_own new_own is_new as_before (this.ground.own this.n runs c.seat) (copy_second new_own c) same
-      did_second new_own is_new as_before (Of_the_dead d) held same =
-          by_own new_own is_new as_before (this.ground.own this.n runs d.seat) (dead_second new_own d) same
+      did_second new_own is_new as_before (Of_the_retired d) held same =
+          by_own new_own is_new as_before (this.ground.own this.n runs d.seat) (retired_second new_own d) same
 
     -- ### All of it
 
@@ -201,7 +201,7 @@ module _ (this : ServerStep) (k : Plain) where
         let f = of_filler hears here own done d in
         stays_pending done.own (Nothing_new (ap (λ (x : Store). x.chains) f.store)) tt (ap (λ (p : Pairs). p.pending) f.pairs)
     did_pending _ seated (By_sweep _ (Sweeps what seat next off)) held =
-        stays_pending _ (Of_the_dead (swept hears here own never what seat off)) tt refl
+        stays_pending _ (Of_the_retired (swept hears here own never what seat off)) tt refl
 
     pub did_job : (done : JobResult) (seated : IsSeatedOrMute here own done) (d : Did hears here own done)
         → PutHeld this k (did_stores hears here own never done seated d)

@@ -1,12 +1,12 @@
 -- What the machine is told of a server's step is allowed, and keeps it tied to the world.
 use Rattle.law_run.proofs.Imports.{[], ◌+◌, ◌||◌, ◌∙◌, ◌≡◌, Acted, AreStepsFrom, Body, By_ballot, By_entry, By_job, By_read, Cell, Command, Did, Ends, Fails}
-use Rattle.law_run.proofs.Imports.{Goes, Handled, In, IsSeatedOrMute, IsSettling, Job, JobContext, JobResult, Letter, Line, List, Log, NeverDead, None}
+use Rattle.law_run.proofs.Imports.{Goes, Handled, In, IsSeatedOrMute, IsSettling, Job, JobContext, JobResult, Letter, Line, List, Log, NeverRetired, None}
 use Rattle.law_run.proofs.Imports.{Not_here, Option, PairState, Pairs, Pending, Plain, Post, Sender, Serving, Shows, Some, Stays, Store, Wakes, Worked, World}
 use Rattle.law_run.proofs.Imports.{ap, at, awake, ballot_store, cell_cmp, chain_in, chosen_log, chosen_same, copying_on, crossed, did_stores, down_posts}
 use Rattle.law_run.proofs.Imports.{false, in_none, inl, is_some, is_under_way, letters_of, named_cell, own_place, owns_of, proposed_pairs, raised, refl}
 use Rattle.law_run.proofs.Imports.{rev_of, said, sender, served_so, server_state, servers_of, settled_by, settling, stamped, stopped_so, subst, sym, true}
 use Rattle.law_run.proofs.Imports.{true_false, without_rev, ℕ}
-use Rattle.law_run.proofs.GroundGives.{never_dead}
+use Rattle.law_run.proofs.GroundGives.{never_retired}
 use Rattle.law_run.proofs.NotHere.{not_here_told}
 use Rattle.law_run.proofs.ReadsShowContents.{AreUnchanged, data_of, show_told}
 use Rattle.law_run.proofs.EventsOfServerSteps.{LooksTold, Next, ServerStep, ServerTold, ServesAt, after_step, kept_here, later_world, letters, new}
@@ -69,9 +69,9 @@ module _ (at : ServesAt) where
       pub grounds : AreGrounded at.setting at.state v at.later
       pub legal : AreStepsFrom at.setting v at.later
 
-    never : (at.w.servers at.n).life.running ≡ true → NeverDead here own
+    never : (at.w.servers at.n).life.running ≡ true → NeverRetired here own
     never =
-        never_dead (record { setting = at.setting; state = at.state; w = at.w; firm = at.along.firm; ground = at.ground }) at.along.steady at.n
+        never_retired (record { setting = at.setting; state = at.state; w = at.w; firm = at.along.firm; ground = at.ground }) at.along.steady at.n
 
     abbrev IsSame : Acted → Type 0
     IsSame acted = chosen_log at.setting (after_step at acted) ≡ chosen_log at.setting at.w

@@ -20,7 +20,7 @@ use Rattle.law_state.proofs.Joins.{alone_joined, both_before, row_still, was_out
 use Rattle.law_state.proofs.Leaves.{both_up, left_by, none_now}
 use Rattle.law_state.proofs.FencesPass.{inc_settled}
 use Rattle.law_state.proofs.Steady.{front_plain, grown_below, plain_steady}
-use Rattle.law_state.proofs.EntriesTouchLinks.{entry_stays, gone_owner, map_of, places_of_both, places_on, still_dead, stays_on, touched, untouched}
+use Rattle.law_state.proofs.EntriesTouchLinks.{entry_stays, gone_owner, map_of, places_of_both, places_on, still_retired, stays_on, touched, untouched}
 
 -- ### Places are of a link, whoever serves it
 
@@ -156,7 +156,7 @@ module _ (servers : ℕ) where
       ] in
       elim ((grown_below servers s t p step.plain step.grown).rows cell row is) [
         | inl h ↦ live_on h
-        | inr gone ↦ none_some (still_dead servers t step.plain rest more cell gone).0 end
+        | inr gone ↦ none_some (still_retired servers t step.plain rest more cell gone).0 end
       ]
 
   -- a link that is Lost stays so
@@ -208,7 +208,7 @@ module _ (servers : ℕ) where
       ])
       (λ off. elim (entry_stays servers s p cell held is entry plain off) [
         | inl one ↦ onward whole (λ e. e) one.same
-        | inr gone ↦ none_some (still_dead servers t step.plain rest more cell gone).0 end
+        | inr gone ↦ none_some (still_retired servers t step.plain rest more cell gone).0 end
       ])
 
   -- a link that is gone is touched by who leaves or joins alone
@@ -258,7 +258,7 @@ module _ (servers : ℕ) where
       let ups = λ (n inc : ℕ). between s t (fold after t rest) n inc (step.grown.ages n) (later.grown.ages n) in
       (ups row.primary one first first_on, ups row.secondary other second second_on)
 
-  -- while a link is in Both, and both of its servers stay In, nothing touches it; nor where its cell is dead
+  -- while a link is in Both, and both of its servers stay In, nothing touches it; nor where its cell is retired
   both_quiet : (entries : List Command) (s : State) → IsSettledState servers s → HasProperTuples servers entries → (cell : Cell) (row : LinkRow) (one other : ℕ)
       → row.map ≡ cell.map → row.state ≡ Both → (cell_link s cell ≡ Some row) ⊎ HasDied s cell
       → is_up_as s row.primary one ≡ true → is_up_as s row.secondary other ≡ true
@@ -286,7 +286,7 @@ module _ (servers : ℕ) where
       ] in
       let on : (cell_link t cell ≡ Some row) ⊎ HasDied t cell = elim held [
         | inl is ↦ elim (entry_stays servers s p cell row is entry plain off) [ inl stays ↦ inl stays.same | inr gone ↦ inr gone ]
-        | inr gone ↦ inr (still_dead servers s p (entry ∷ [])
+        | inr gone ↦ inr (still_retired servers s p (entry ∷ [])
             (λ c h. elim h [ inl e ↦ subst (HasProperTuple servers) (sym e) plain | inr none ↦ absurd none ]) cell gone)
       ] in
       ap (λ b. if b then places_from t rest row + 1 else places_from t rest row) off
@@ -328,7 +328,7 @@ module _ (servers : ℕ) where
           | inl none ↦ inl (ap (λ b. if b then places_from t rest row + 1 else places_from t rest row) off ∙ none)
           | inr later ↦ inr later
         ]
-        | inr gone ↦ inr (inr (still_dead servers t step.plain rest more cell gone))
+        | inr gone ↦ inr (inr (still_retired servers t step.plain rest more cell gone))
       ])
 
 -- ### Fronts of a log

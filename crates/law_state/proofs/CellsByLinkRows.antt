@@ -20,23 +20,23 @@ authority_by lives link = if lives then option_and_then (λ row. row_authority r
 abbrev readable_by : (lives up : Bool) → ℕ → Option LinkRow → Bool
 readable_by lives up n link = lives && up && option_map_or (λ row. serves n row row.state) link false
 
--- ### A dead cell has nobody
+-- ### A retired cell has nobody
 
-module _ (state : State) (cell : Cell) (dead : live state cell ≡ false) where
-  pub dead_lead : lead state cell ≡ None
-  dead_lead = λ i. lead_by state (dead i) (leaving state cell) (cell_link state cell)
+module _ (state : State) (cell : Cell) (retired : live state cell ≡ false) where
+  pub retired_lead : lead state cell ≡ None
+  retired_lead = λ i. lead_by state (retired i) (leaving state cell) (cell_link state cell)
 
-  pub dead_first : first state cell ≡ None
-  dead_first = λ i. option_map (λ row. row.primary) (both_by (dead i) (cell_link state cell))
+  pub retired_first : first state cell ≡ None
+  retired_first = λ i. option_map (λ row. row.primary) (both_by (retired i) (cell_link state cell))
 
-  pub dead_second : second state cell ≡ None
-  dead_second = λ i. option_map (λ row. row.secondary) (both_by (dead i) (cell_link state cell))
+  pub retired_second : second state cell ≡ None
+  retired_second = λ i. option_map (λ row. row.secondary) (both_by (retired i) (cell_link state cell))
 
-  pub dead_authority : authority state cell ≡ None
-  dead_authority = λ i. authority_by (dead i) (cell_link state cell)
+  pub retired_authority : authority state cell ≡ None
+  retired_authority = λ i. authority_by (retired i) (cell_link state cell)
 
-  pub dead_reader : (n : ℕ) → readable state n cell ≡ false
-  dead_reader n = λ i. readable_by (dead i) (is_up state n) n (cell_link state cell)
+  pub retired_reader : (n : ℕ) → readable state n cell ≡ false
+  retired_reader n = λ i. readable_by (retired i) (is_up state n) n (cell_link state cell)
 
 -- ### A cell with a link
 
@@ -137,7 +137,7 @@ lead_is state cell lives stays = λ i. lead_by state (lives i) (stays i) (cell_l
 pub left_lead : (state : State) (cell : Cell) → leaving state cell ≡ true → lead state cell ≡ None
 left_lead state cell leaves = by_bool (live state cell)
     (λ t. (λ i. lead_by state (t i) (leaves i) (cell_link state cell)))
-    (λ f. dead_lead state cell f)
+    (λ f. retired_lead state cell f)
 
 -- ### A cell of a steady state
 
@@ -168,7 +168,7 @@ led_so state cell n e = by_bool (live state cell)
     (λ lives. by_bool (leaving state cell)
     (λ leaves. none_some (left_lead state cell leaves) e)
     (λ stays. record { lives = lives; stays = stays; leads = sym (lead_is state cell lives stays) ∙ e }))
-    (λ dead. none_some (dead_lead state cell dead) e)
+    (λ retired. none_some (retired_lead state cell retired) e)
 
 module _ (state : State) (steady : IsSteady state) (cell : Cell) where
   -- who leads a link is its primary in Both, or holds it alone
@@ -197,7 +197,7 @@ module _ (state : State) (steady : IsSteady state) (cell : Cell) where
       → ((row : LinkRow) → cell_link state cell ≡ Some row → live state cell ≡ true → (holder : ℕ) (whole : Bool) → row.state ≡ Only holder whole → o ≡ None)
       → ((row : LinkRow) → cell_link state cell ≡ Some row → live state cell ≡ true → row.state ≡ Lost → o ≡ None)
       → (live state cell ≡ false → o ≡ None) → (n : ℕ) → o ≡ Some n → (b : IsInBoth state cell) × (server b.row ≡ n)
-  one_of_both o server both alone lost dead n e = by_bool (live state cell)
+  one_of_both o server both alone lost retired n e = by_bool (live state cell)
       (λ lives. let h = steady.lives cell lives in
       let linked = steady.linked cell h.row h.is in
       elim linked.served [
@@ -205,15 +205,15 @@ module _ (state : State) (steady : IsSteady state) (cell : Cell) where
         | ByOne holder other whole so pair out ↦ none_some (alone h.row h.is lives holder whole so) e
         | ByNone one other so pair out ↦ none_some (lost h.row h.is lives so) e
       ])
-      (λ off. none_some (dead off) e)
+      (λ off. none_some (retired off) e)
 
   pub first_by : (n : ℕ) → first state cell ≡ Some n → (b : IsInBoth state cell) × (b.row.primary ≡ n)
   first_by n e = one_of_both (first state cell) (λ row. row.primary) (both_first state cell) (alone_first state cell) (lost_first state cell)
-      (dead_first state cell) n e
+      (retired_first state cell) n e
 
   pub second_by : (n : ℕ) → second state cell ≡ Some n → (b : IsInBoth state cell) × (b.row.secondary ≡ n)
   second_by n e = one_of_both (second state cell) (λ row. row.secondary) (both_second state cell) (alone_second state cell) (lost_second state cell)
-      (dead_second state cell) n e
+      (retired_second state cell) n e
 
   -- who may read a cell is In, and one of the two of its link in Both, or holds it alone
   pub read_by : (n : ℕ) → readable state n cell ≡ true
@@ -230,4 +230,4 @@ module _ (state : State) (steady : IsSteady state) (cell : Cell) where
             (h.0, inr (record { row = k.row; is = k.is; linked = linked; whole = whole; so = so ∙ ap (λ k. Only k whole) same; up = h.0 })))
         | ByNone one other so pair out ↦ true_false e (lost_reader state cell k.row k.is lives so n)
       ])
-      (λ dead. true_false e (dead_reader state cell dead n))
+      (λ retired. true_false e (retired_reader state cell retired n))

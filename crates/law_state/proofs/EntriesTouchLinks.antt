@@ -293,10 +293,10 @@ map_of servers s p cell row is = elim (some_or_none (tuple_of s.maps cell.map)) 
   | inr none ↦ none_some (ap (option_and_then (λ ids. link_at s.links cell.map (link_of (length ids) cell.block))) none) is
 ]
 
-pub still_dead : (servers : ℕ) (s : State) → IsSettledState servers s → (entries : List Command) → HasProperTuples servers entries
+pub still_retired : (servers : ℕ) (s : State) → IsSettledState servers s → (entries : List Command) → HasProperTuples servers entries
     → (cell : Cell) → HasDied s cell
     → HasDied (fold after s entries) cell
-still_dead servers s p entries all cell gone =
+still_retired servers s p entries all cell gone =
     let step = folding servers entries s p all in
     died servers (fold after s entries) step.plain cell
     (gone_on s (fold after s entries) cell.map step.grown.stages (all_died servers s p cell gone))
@@ -320,7 +320,7 @@ untouched servers (entry ∷ entries) s p all cell row is none =
         | inl later ↦ inl (stays_on cell row s (after s entry) _ one later)
         | inr gone ↦ inr gone
       ]
-      | inr gone ↦ inr (still_dead servers (after s entry) next entries more cell gone)
+      | inr gone ↦ inr (still_retired servers (after s entry) next entries more cell gone)
     ])
 
 -- two logs at one place of a link say the same of it

@@ -121,7 +121,7 @@ grown_itself s =
     grown_still s s (no_less (length s.disks.rows)) (λ i row e. record { now = row; is = e; so = later_disk_itself row }) refl refl refl
     (λ cell. no_less (stage_at s cell))
 
--- a map that is dead stays so
+-- a map that is retired stays so
 pub gone_on : (s t : State) (of : ℕ) → ((cell : Cell) → stage_at s cell ≤ stage_at t cell) → IsGone s of → IsGone t of
 gone_on s t of stages gone block =
     let cell : Cell = record { map = of; block = block } in

@@ -42,7 +42,7 @@ pub data Phase (state : State) (cell : Cell) : Type 0 where
   Coming : IsSaid state cell 1 true false true → Phase state cell
   Settled : IsSaid state cell 2 true false false → Phase state cell
   Leaving : IsSaid state cell 3 true true false → Phase state cell
-  Dead : IsSaid state cell 4 false false false → Phase state cell
+  Retired : IsSaid state cell 4 false false false → Phase state cell
 
 module _ (s : State) (at_rows : (i : ℕ) (row : DiskRow) → slice_get s.disks.rows i ≡ Some row → IsRowAt s.maps i row)
     (at_homes : (of disk : ℕ) → disk_of s.maps of ≡ Some disk → HasHome s of disk) (cell : Cell) where
@@ -105,12 +105,12 @@ module _ (s : State) (at_rows : (i : ℕ) (row : DiskRow) → slice_get s.disks.
         by : (r : RegionState) → stage_at s cell ≡ old_stage r → live s cell ≡ live_old r → leaving s cell ≡ is_fenced r → coming s cell ≡ false → Phase s cell
         by Old a b c d = Settled (record { stage_is = a; lives_is = b; leaves_is = c; comes_is = d })
         by Fenced a b c d = Leaving (record { stage_is = a; lives_is = b; leaves_is = c; comes_is = d })
-        by New a b c d = Dead (record { stage_is = a; lives_is = b; leaves_is = c; comes_is = d })
+        by New a b c d = Retired (record { stage_is = a; lives_is = b; leaves_is = c; comes_is = d })
 
-    dead_phase : (row.map == cell.map) ≡ false → leaves cell.map row.moving ≡ false → Phase s cell
-    dead_phase other out =
+    retired_phase : (row.map == cell.map) ≡ false → leaves cell.map row.moving ≡ false → Phase s cell
+    retired_phase other out =
         let has : has_map cell.map row ≡ false = (λ i. other i || out i) in
-        Dead (record {
+        Retired (record {
           stage_is = stage_row ∙ ap (λ b. if b then stage_under cell row else 4) has;
           lives_is = ap (λ o. option_map_or (live_under cell.map region) o false) (owner_by false has);
           leaves_is = ap (λ o. option_map_or (λ (x : DiskRow). is_fenced (move_region region x.moving)) o false) (mover_by false out);
@@ -119,7 +119,7 @@ module _ (s : State) (at_rows : (i : ℕ) (row : DiskRow) → slice_get s.disks.
 
     row_phase : Phase s cell
     row_phase = by_bool (row.map == cell.map) (λ own. own_phase own (move_region region row.moving) refl)
-        (λ other. by_bool (leaves cell.map row.moving) (λ left. old_phase other left (move_region region row.moving) refl) (dead_phase other))
+        (λ other. by_bool (leaves cell.map row.moving) (λ left. old_phase other left (move_region region row.moving) refl) (retired_phase other))
 
   -- the row of a known map
   pub record HasRow : Type 0 where
@@ -172,7 +172,7 @@ module _ (s : State) (at_rows : (i : ℕ) (row : DiskRow) → slice_get s.disks.
   led_so lives stays = (λ i. lead_of (lives i) (stays i))
 
   pub not_live : live s cell ≡ false → lead s cell ≡ None
-  not_live dead = ap (λ b. lead_of b (leaving s cell)) dead
+  not_live retired = ap (λ b. lead_of b (leaving s cell)) retired
 
   pub not_led : live s cell ≡ true → leaving s cell ≡ true → lead s cell ≡ None
   not_led lives left = (λ i. lead_of (lives i) (left i))
@@ -316,56 +316,56 @@ module _ (s : State) (at_rows : (i : ℕ) (row : DiskRow) → slice_get s.disks.
       | Coming x ↦ (let f = x.stage_is in (omega arith, omega arith))
       | Settled x ↦ (let f = x.stage_is in (omega arith, omega arith))
       | Leaving x ↦ (let f = x.stage_is in (omega arith, omega arith))
-      | Dead x ↦ true_false e x.lives_is
+      | Retired x ↦ true_false e x.lives_is
     ];
     alive = λ low high. elim phase_of [
       | Unborn x ↦ (let f = x.stage_is in absurd (omega arith))
       | Coming x ↦ x.lives_is
       | Settled x ↦ x.lives_is
       | Leaving x ↦ x.lives_is
-      | Dead x ↦ (let f = x.stage_is in absurd (omega arith))
+      | Retired x ↦ (let f = x.stage_is in absurd (omega arith))
     ];
     leaves = λ e. elim phase_of [
       | Unborn x ↦ true_false e x.leaves_is
       | Coming x ↦ true_false e x.leaves_is
       | Settled x ↦ true_false e x.leaves_is
       | Leaving x ↦ x.stage_is
-      | Dead x ↦ true_false e x.leaves_is
+      | Retired x ↦ true_false e x.leaves_is
     ];
     left = λ e. elim phase_of [
       | Unborn x ↦ (let f = x.stage_is in absurd (omega arith))
       | Coming x ↦ (let f = x.stage_is in absurd (omega arith))
       | Settled x ↦ (let f = x.stage_is in absurd (omega arith))
       | Leaving x ↦ x.leaves_is
-      | Dead x ↦ (let f = x.stage_is in absurd (omega arith))
+      | Retired x ↦ (let f = x.stage_is in absurd (omega arith))
     ];
     comes = λ e. elim phase_of [
       | Unborn x ↦ true_false e x.comes_is
       | Coming x ↦ x.stage_is
       | Settled x ↦ true_false e x.comes_is
       | Leaving x ↦ true_false e x.comes_is
-      | Dead x ↦ true_false e x.comes_is
+      | Retired x ↦ true_false e x.comes_is
     ];
     came = λ e. elim phase_of [
       | Unborn x ↦ (let f = x.stage_is in absurd (omega arith))
       | Coming x ↦ x.comes_is
       | Settled x ↦ (let f = x.stage_is in absurd (omega arith))
       | Leaving x ↦ (let f = x.stage_is in absurd (omega arith))
-      | Dead x ↦ (let f = x.stage_is in absurd (omega arith))
+      | Retired x ↦ (let f = x.stage_is in absurd (omega arith))
     ];
     leads = λ n e. elim phase_of [
       | Unborn x ↦ nobody n (not_live x.lives_is) e
       | Coming x ↦ (let f = x.stage_is in (sym (ap (λ o. is_the o n) (led_so x.lives_is x.leaves_is)) ∙ e, omega arith, omega arith))
       | Settled x ↦ (let f = x.stage_is in (sym (ap (λ o. is_the o n) (led_so x.lives_is x.leaves_is)) ∙ e, omega arith, omega arith))
       | Leaving x ↦ nobody n (not_led x.lives_is x.leaves_is) e
-      | Dead x ↦ nobody n (not_live x.lives_is) e
+      | Retired x ↦ nobody n (not_live x.lives_is) e
     ];
     led = λ n e low high. elim phase_of [
       | Unborn x ↦ (let f = x.stage_is in absurd (omega arith))
       | Coming x ↦ ap (λ o. is_the o n) (led_so x.lives_is x.leaves_is) ∙ e
       | Settled x ↦ ap (λ o. is_the o n) (led_so x.lives_is x.leaves_is) ∙ e
       | Leaving x ↦ (let f = x.stage_is in absurd (omega arith))
-      | Dead x ↦ (let f = x.stage_is in absurd (omega arith))
+      | Retired x ↦ (let f = x.stage_is in absurd (omega arith))
     ];
     sources = source_of;
     targets = target_of;

@@ -66,7 +66,7 @@ all_has n i noted e lt = all_range (λ link. has_link link noted) 0 n i e (omega
 
 -- ### A row of a disk
 
--- the link is noted for the cell's region, which is on its way; or the cell is dead
+-- the link is noted for the cell's region, which is on its way; or the cell is retired
 abbrev pub IsFilled : Cell → (link links : ℕ) → DiskRow → Type 0
 IsFilled cell link links row =
     ((stage_of cell row ≡ 3) × (noted_in (region_of cell.block) link row.moving ≡ true)) ⊎ ((stage_of cell row ≡ 4) × (link < links))
@@ -94,7 +94,7 @@ gone_value cell row other out =
     (λ i. if other i || out i then (if other i then new_stage (move_region (region_of cell.block) row.moving)
     else old_stage (move_region (region_of cell.block) row.moving)) else 4)
 
--- one that is not dead is told by its region
+-- one that is not retired is told by its region
 three_left : (cell : Cell) (row : DiskRow) → stage_of cell row ≡ 3 → ((row.map == cell.map) ≡ false) × (leaves cell.map row.moving ≡ true)
     × (move_region (region_of cell.block) row.moving ≡ Fenced)
 three_left cell row e = by_bool (row.map == cell.map)
@@ -193,13 +193,13 @@ module _ (servers : ℕ) (s : State) (p : IsSettledState servers s) (of region l
   -- of the links that are noted then one is new
   pub noted_comes : (link links : ℕ) → (of ≡ cell.map → links ≡ links_of s of) → stage_of cell h.row ≤ stage_of cell then_row
       → IsFilled cell link links then_row → Comes link links
-  noted_comes link links many on (inr dead) = elim (side_of (stage_of cell h.row) 3) [
-    | Under lt ↦ (let low = keeps_old (omega arith) in let four = dead.0 in absurd (omega arith))
-    | Over lt ↦ (let most = of_most cell h.row in inl (inr (omega arith, dead.1)))
+  noted_comes link links many on (inr retired) = elim (side_of (stage_of cell h.row) 3) [
+    | Under lt ↦ (let low = keeps_old (omega arith) in let four = retired.0 in absurd (omega arith))
+    | Over lt ↦ (let most = of_most cell h.row in inl (inr (omega arith, retired.1)))
     | Same three ↦ by_bool all_there
         (λ every. is_there link links three (all_has (links_of s of) link (with_link last h.move.noted) every
-        (let e = many (old_of three) in let lt = dead.1 in omega arith)))
-        (λ some. (let e = same_stage some in let four = dead.0 in absurd (omega arith)))
+        (let e = many (old_of three) in let lt = retired.1 in omega arith)))
+        (λ some. (let e = same_stage some in let four = retired.0 in absurd (omega arith)))
   ]
     where
       old_of : stage_of cell h.row ≡ 3 → of ≡ cell.map
@@ -237,10 +237,10 @@ fenced_comes : (cell : Cell) (link links region : ℕ) (row : DiskRow) (move : M
 fenced_comes cell link links region row move moves old (inl noted) =
     true_false (both_true (is_fenced (move_region (region_of cell.block) (Some (move_fenced region move)))) false
     (sym (ap (λ m. noted_in (region_of cell.block) link (option_map (move_fenced region) m)) moves) ∙ noted.1)).1 refl
-fenced_comes cell link links region row move moves old (inr dead) = elim (same_or_apart (region_of cell.block) region) [
-  | inr ne ↦ inr (sym (fenced_apart cell row region move moves ne) ∙ dead.0, dead.1)
+fenced_comes cell link links region row move moves old (inr retired) = elim (same_or_apart (region_of cell.block) region) [
+  | inr ne ↦ inr (sym (fenced_apart cell row region move moves ne) ∙ retired.0, retired.1)
   | inl same ↦ by_bool (row.map == cell.map)
-      (λ own. let low = own_low cell (row_fenced region row) own in let four = dead.0 in absurd (omega arith))
+      (λ own. let low = own_low cell (row_fenced region row) own in let four = retired.0 in absurd (omega arith))
       (λ other. by_bool (leaves cell.map row.moving)
       (λ left.
       let now : leaves cell.map (row_fenced region row).moving ≡ true = ap (λ m. leaves cell.map (option_map (move_fenced region) m)) moves
@@ -250,25 +250,25 @@ fenced_comes cell link links region row move moves old (inr dead) = elim (same_o
       ap (λ m. old_stage (move_region (region_of cell.block) (option_map (move_fenced region) m))) moves
       ∙ ap (λ k. old_stage (unwrap_or (slice_get (slice_set move.regions region Fenced) k) New)) same
       ∙ ap (λ o. old_stage (unwrap_or o New)) (get_set_here move.regions region Fenced (slice_get_within move.regions region Old old)) in
-      let four = dead.0 in
+      let four = retired.0 in
       absurd (omega arith))
-      (λ out. inr (gone_value cell row other out, dead.1)))
+      (λ out. inr (gone_value cell row other out, retired.1)))
 ]
 
 begun_comes : (cell : Cell) (link links new : ℕ) (row : DiskRow) → row.moving ≡ None → IsFilled cell link links (row_moving new row)
     → IsFilled cell link links row
 begun_comes cell link links new row still (inl noted) =
     true_false (both_true (is_fenced (move_region (region_of cell.block) (row_moving new row).moving)) false noted.1).1 refl
-begun_comes cell link links new row still (inr dead) = by_bool (new == cell.map)
-    (λ own. let low = own_low cell (row_moving new row) own in let four = dead.0 in absurd (omega arith))
+begun_comes cell link links new row still (inr retired) = by_bool (new == cell.map)
+    (λ own. let low = own_low cell (row_moving new row) own in let four = retired.0 in absurd (omega arith))
     (λ other. by_bool (row.map == cell.map)
     (λ left.
     let e = old_value cell (row_moving new row) other left in
     let two : old_stage (move_region (region_of cell.block) (row_moving new row).moving) ≡ 2 =
     ap (λ o. old_stage (unwrap_or o New)) (get_replicate 16 (region_of cell.block) Old (low_region cell.block)) in
-    let four = dead.0 in
+    let four = retired.0 in
     absurd (omega arith))
-    (λ out. inr (gone_value cell row out (ap (leaves cell.map) still), dead.1)))
+    (λ out. inr (gone_value cell row out (ap (leaves cell.map) still), retired.1)))
   where
     low_region : (block : ℕ) → region_of block < 16
     low_region block = omega arith
@@ -283,7 +283,7 @@ pub record IsFilledAt (s : State) (cell : Cell) (link : ℕ) : Type 0 where
 
 not_low : {A : Type 0} (cell : Cell) (link links : ℕ) (row : DiskRow) → stage_of cell row ≤ 2 → IsFilled cell link links row → A
 not_low cell link links row low (inl noted) = let e = noted.0 in absurd (omega arith)
-not_low cell link links row low (inr dead) = let e = dead.0 in absurd (omega arith)
+not_low cell link links row low (inr retired) = let e = retired.0 in absurd (omega arith)
 
 -- a Moved of the link for the cell's region, while it is on its way
 record IsMovedBy (s : State) (entry : Command) (cell : Cell) (link : ℕ) : Type 0 where
@@ -566,9 +566,9 @@ log_noted servers whole cell link all three noted =
       so = inl (is, sym (ap (λ o. option_map_or (λ (r : DiskRow). noted_in (region_of cell.block) link r.moving) o false) mover) ∙ noted);
     })
 
-pub log_dead : (servers : ℕ) (whole : List Command) (cell : Cell) (link : ℕ) → HasProperTuples servers whole → stage_at (state_after servers whole) cell ≡ 4
+pub log_retired : (servers : ℕ) (whole : List Command) (cell : Cell) (link : ℕ) → HasProperTuples servers whole → stage_at (state_after servers whole) cell ≡ 4
     → link < links_of (state_after servers whole) cell.map → HasMovedIn servers whole cell link
-log_dead servers whole cell link all four lt =
+log_retired servers whole cell link all four lt =
     let s = state_after servers whole in
     let p = log_plain servers whole all in
     let h = has_row servers s p cell (omega arith) in
@@ -580,7 +580,7 @@ log_dead servers whole cell link all four lt =
 
 -- ### The two cells of a move
 
--- once the cell that comes is there, the one that it came from is dead
+-- once the cell that comes is there, the one that it came from is retired
 pub log_twins : (servers : ℕ) (front whole : List Command) (cell old : Cell) → HasProperTuples servers whole → IsPrefix front whole
     → source (state_after servers front) cell ≡ Some old → stage_at (state_after servers front) cell ≡ 1 → 2 ≤ stage_at (state_after servers whole) cell
     → stage_at (state_after servers whole) old ≡ 4

@@ -43,7 +43,7 @@ holder_is_one state cell n b = elim b.linked.served [
     same_only e = cc
 
 module _ (earlier later : State) (was : IsSteady earlier) (now : IsSteady later) (below : IsBelow earlier later) where
-  -- the later row of a link that a server serves, which is still In: in Both, or the server holds it alone; or its map is dead
+  -- the later row of a link that a server serves, which is still In: in Both, or the server holds it alone; or its map is retired
   served_later : (cell : Cell) (row : LinkRow) (n inc : ℕ) → cell_link earlier cell ≡ Some row → has_server n row ≡ true → serves n row row.state ≡ true
       → is_in earlier n inc ≡ true → is_in later n inc ≡ true
       → ((c : IsInBoth later cell) × IsLater row c.row) ⊎ ((h : IsHeldBy later cell n) × IsLater row h.row) ⊎ HasDied later cell

@@ -31,8 +31,8 @@ block_of : (region : ℕ) → region < 16 → (block : ℕ) × (region_of block 
 block_of region low = (8 * region, omega arith)
 
 module _ (servers : ℕ) (s : State) (p : IsSettledState servers s) where
-  pub dead : (cell : Cell) → owner s cell.map ≡ None → live s cell ≡ false
-  dead cell none = ap (λ o. option_map_or (live_under cell.map (region_of cell.block)) o false) none
+  pub retired : (cell : Cell) → owner s cell.map ≡ None → live s cell ≡ false
+  retired cell none = ap (λ o. option_map_or (live_under cell.map (region_of cell.block)) o false) none
 
   -- ### Cells
 
@@ -84,7 +84,7 @@ module _ (servers : ℕ) (s : State) (p : IsSettledState servers s) where
   live_linked : (cell : Cell) → live s cell ≡ true → HasLink s cell
   live_linked cell lives = elim (owned_or_none cell) [
     | inl h ↦ (let l = linked_owner cell h.0 h.1 in record { row = l.0; is = l.1 })
-    | inr none ↦ true_false lives (dead cell none)
+    | inr none ↦ true_false lives (retired cell none)
   ]
 
   -- a disk that is found by name
@@ -176,9 +176,9 @@ module _ (servers : ℕ) (s : State) (p : IsSettledState servers s) where
       | inl h ↦ (let l = linked_owner cell h.0 h.1 in subst (IsLinked s cell) (same_some (sym l.1 ∙ e)) l.2)
       | inr none ↦ none_some (unlinked cell none) e
     ];
-    dead = λ cell none. elim (owned_or_none cell) [
+    retired = λ cell none. elim (owned_or_none cell) [
       | inl h ↦ none_some none (linked_owner cell h.0 h.1).1
-      | inr gone ↦ dead cell gone
+      | inr gone ↦ retired cell gone
     ];
     lives = live_linked;
     served = λ name disk block told e.
@@ -186,9 +186,9 @@ module _ (servers : ℕ) (s : State) (p : IsSettledState servers s) where
         (live_linked (cell_asked s disk block told) lives, lives);
   }
 
-  -- ### A map that is dead
+  -- ### A map that is retired
 
-  -- nobody has it: of a map that a disk has, some cell is not dead
+  -- nobody has it: of a map that a disk has, some cell is not retired
   unowned : (of : ℕ) → IsGone s of → owner s of ≡ None
   unowned of gone = elim (some_or_none (owner s of)) [
     | inr none ↦ none
@@ -233,7 +233,7 @@ module _ (servers : ℕ) (s : State) (p : IsSettledState servers s) where
 
 -- ### Later states
 
--- a cell that is dead by its links is of a dead map
+-- a cell that is retired by its links is of a retired map
 pub all_died : (servers : ℕ) (s : State) → IsSettledState servers s → (cell : Cell) → HasDied s cell → IsGone s cell.map
 all_died servers s p cell died = elim (owned_or_none servers s p cell) [
   | inl h ↦ none_some died.0 (linked_owner servers s p cell h.0 h.1).1

@@ -167,7 +167,7 @@ module _ (servers : ℕ) (front whole : List Command) (plain : HasProperTuples s
       ap (λ o. epoch_in (option_and_then (slice_get later.disks.rows) o)) (known_on of one.place e) in
       epoch_is later plain_now.rows new ∙ there new.map one.made ∙ sym (there old.map one.of) ∙ sym (epoch_is later plain_now.rows old)
 
-  -- once the new cell is there, the old one is dead
+  -- once the new cell is there, the old one is retired
   pub gone_twin : (old new : Cell) → IsMoved earlier old new → 2 ≤ stage_at later new → stage_at later old ≡ 4
   gone_twin old new one two =
       let l = (log_grown servers front whole plain prefix).rows one.place one.row one.stands in

@@ -19,24 +19,24 @@ stage_under cell row =
     if row.map == cell.map then new_stage (move_region (region_of cell.block) row.moving)
     else old_stage (move_region (region_of cell.block) row.moving)
 
--- by the row of the disk for which the cell's map was made: a map that the disk has no more is dead
+-- by the row of the disk for which the cell's map was made: a map that the disk has no more is retired
 abbrev pub stage_of : Cell → DiskRow → ℕ
 stage_of cell row = if has_map cell.map row then stage_under cell row else 4
 
--- a map that no disk has is not made yet, or dead
+-- a map that no disk has is not made yet, or retired
 abbrev pub stage_by : State → Cell → Option DiskRow → ℕ
 stage_by state cell None = if is_some (tuple_of state.maps cell.map) then 4 else 0
 stage_by state cell (Some row) = stage_under cell row
 
--- 0 not live yet, 1 coming, 2 live, 3 leaving, 4 dead
+-- 0 not live yet, 1 coming, 2 live, 3 leaving, 4 retired
 abbrev pub stage_at : State → Cell → ℕ
 stage_at state cell = stage_by state cell (owner state cell.map)
 
--- the epoch of the disk of the cell's map, also where the map is dead; 0 without one
+-- the epoch of the disk of the cell's map, also where the map is retired; 0 without one
 abbrev pub epoch_at : State → Cell → ℕ
 epoch_at state cell = option_map_or (λ (row : DiskRow). row.epoch) (option_and_then (disk_at state.disks.rows) (disk_of state.maps cell.map)) 0
 
--- the cell's map is dead, and its links are gone
+-- the cell's map is retired, and its links are gone
 abbrev pub HasDied : State → Cell → Type 0
 HasDied state cell = (cell_link state cell ≡ None) × (stage_at state cell ≡ 4)
 

@@ -21,7 +21,7 @@ pub record HasLaterView (later : State) (name : List ℕ) (disk : DiskView) : Ty
   pub map_is : disk.map ≤ now.map
   pub onward : disk.epoch ≤ now.epoch
 
--- a link stays between its two servers until the cell is dead; who served it, and has been In all the time, serves it still; one that is Lost
+-- a link stays between its two servers until the cell is retired; who served it, and has been In all the time, serves it still; one that is Lost
 -- stays so; an incarnation that was Out stays Out; a disk is found as before, or at a later epoch; a snapshot stays at its epoch; no epoch and no
 -- era falls; and each cell only goes forward
 pub record IsBelow (earlier later : State) : Type 0 where
@@ -67,7 +67,7 @@ pub record HasJoinedAlone (earlier later : State) (cell : Cell) : Type 0 where
   pub out : is_up earlier holder ≡ false
   pub joined : age_of earlier holder < age_of later holder
 
--- what a server that is still In as the same incarnation was to a cell's link, it is later, until the cell is dead: its lead, or the secondary of a
+-- what a server that is still In as the same incarnation was to a cell's link, it is later, until the cell is retired: its lead, or the secondary of a
 -- link that is in Both again; its secondary, or now it holds the link alone; and one that serves it. A link that is led later was led before,
 -- where it was known, or its holder has joined since
 pub record KeepsRoles (earlier later : State) : Type 0 where

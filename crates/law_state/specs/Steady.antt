@@ -20,7 +20,7 @@ pub record HasLink (state : State) (cell : Cell) : Type 0 where
 -- users name it, also for a read that was told that the new map has nothing
 pub record IsSteady (state : State) : Type 0 where
   pub linked : (cell : Cell) (row : LinkRow) → cell_link state cell ≡ Some row → IsLinked state cell row
-  pub dead : (cell : Cell) → cell_link state cell ≡ None → live state cell ≡ false
+  pub retired : (cell : Cell) → cell_link state cell ≡ None → live state cell ≡ false
   pub lives : (cell : Cell) → live state cell ≡ true → HasLink state cell
   pub served : (name : List ℕ) (disk : DiskView) (block : ℕ) (told : Bool) → find state name ≡ Some disk
       → HasLink state (cell_asked state disk block told) × (live state (cell_asked state disk block told) ≡ true)

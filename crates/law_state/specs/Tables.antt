@@ -136,12 +136,12 @@ pub record HasLaterDisk (later : State) (i : ℕ) (row : DiskRow) : Type 0 where
   pub is : slice_get later.disks.rows i ≡ Some now
   pub so : IsLaterDisk row now
 
--- all cells of the map are dead
+-- all cells of the map are retired
 abbrev pub IsGone : State → (of : ℕ) → Type 0
 IsGone state of = (block : ℕ) → stage_at state (record { map = of; block = block }) ≡ 4
 
 -- disks and maps were added, and of those before snapshots were taken, and regions moved; a link stays between its two servers until its map
--- is dead, and who served it, and has been In all the time, serves it still, and one that is Lost stays so; and an incarnation that was Out
+-- is retired, and who served it, and has been In all the time, serves it still, and one that is Lost stays so; and an incarnation that was Out
 -- stays Out
 pub record IsGrown (earlier later : State) : Type 0 where
   pub many : length earlier.disks.rows ≤ length later.disks.rows

@@ -46,7 +46,7 @@ pub fn a_longer_log_says_the_same()
         → IsBelow (state_after servers front) (state_after servers whole) }
 {}
 
-/// A server that is still In as the same incarnation leads a link, follows and serves it as before, until its map is dead; only that of a
+/// A server that is still In as the same incarnation leads a link, follows and serves it as before, until its map is retired; only that of a
 /// link's two servers it may be left alone, and that a second server which was alone follows again.
 pub fn a_longer_log_keeps_roles()
     ensures { (servers : ℕ) (front whole : List Command) → HasProperTuples servers whole → IsPrefix front whole
@@ -65,7 +65,7 @@ pub fn a_plain_log_makes_plain_tables()
 {}
 
 /// A longer log adds rows after those that are there, and changes none but who serves a link, and which snapshots and which maps a disk has;
-/// and it drops the links of a map that is dead.
+/// and it drops the links of a map that is retired.
 pub fn a_longer_log_only_adds()
     ensures { (servers : ℕ) (front whole : List Command) → HasProperTuples servers whole → IsPrefix front whole
         → IsGrown (state_after servers front) (state_after servers whole) }
@@ -94,9 +94,9 @@ pub fn who_is_in_has_joined()
         → (inc ≡ 1) ⊎ HasJoined log n inc }
 {}
 
-/// An entry that doesn't touch a link leaves its row as it is, and whether its two servers are In, but for one with which its map is dead; one
+/// An entry that doesn't touch a link leaves its row as it is, and whether its two servers are In, but for one with which its map is retired; one
 /// that does is the Leave of one of them, a Join, or the link's Caught. A longer log has no fewer places of a link, and where it has as many
-/// it says the same of it, or its map is dead.
+/// it says the same of it, or its map is retired.
 pub fn an_entry_that_does_not_touch_a_link()
     ensures stays { (servers : ℕ) (log : List Command) (entry : Command) (cell : Cell) (row : LinkRow) → HasProperTuples servers log
         → HasProperTuple servers entry
@@ -172,7 +172,7 @@ pub fn an_epoch_rises_after_reports()
         → HasReported servers (front ++ Leave other other_inc ∷ []) whole n inc cell }
 {}
 
-/// A cell only goes forward: it is not live yet, coming, live, leaving, dead.
+/// A cell only goes forward: it is not live yet, coming, live, leaving, retired.
 pub fn stages_only_grow()
     ensures { (servers : ℕ) (front whole : List Command) (cell : Cell) → HasProperTuples servers whole → IsPrefix front whole
         → stage_at (state_after servers front) cell ≤ stage_at (state_after servers whole) cell }
@@ -189,7 +189,7 @@ pub fn a_region_moves_after_its_links()
     ensures noted { (servers : ℕ) (whole : List Command) (cell : Cell) (link : ℕ) → HasProperTuples servers whole
         → stage_at (state_after servers whole) cell ≡ 3
         → is_noted (state_after servers whole) cell.map (region_of cell.block) link ≡ true → HasMovedIn servers whole cell link }
-    ensures dead { (servers : ℕ) (whole : List Command) (cell : Cell) (link : ℕ) → HasProperTuples servers whole → stage_at (state_after servers whole) cell ≡ 4
+    ensures retired { (servers : ℕ) (whole : List Command) (cell : Cell) (link : ℕ) → HasProperTuples servers whole → stage_at (state_after servers whole) cell ≡ 4
         → link < links_of (state_after servers whole) cell.map → HasMovedIn servers whole cell link }
     ensures twins { (servers : ℕ) (front whole : List Command) (cell old : Cell) → HasProperTuples servers whole
         → IsPrefix front whole → source (state_after servers front) cell ≡ Some old → stage_at (state_after servers front) cell ≡ 1

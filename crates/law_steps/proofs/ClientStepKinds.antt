@@ -341,7 +341,7 @@ module _ (servers : ℕ) (lines : List Line) (w : World) (c : ℕ) where
   told_turns : (asked : Asked) → Heard w (actor.Client c) asked.rev (body.NotHere asked.seq) → client.asked ≡ Some asked → is_read asked.request ≡ true
       → T (goes_the_old_way state c client asked)
   told_turns asked h is read =
-      let now : Asked = record asked { told = true; old_way = true } in
+      let now : Asked = record asked { saw_missing = true; old_way = true } in
       let reacted = goes_out state c client now in
       let q = goes_quiet state c client now in
       record {
@@ -472,8 +472,8 @@ module _ (servers : ℕ) (lines : List Line) (w : World) (c : ℕ) where
           | Some given ↦ λ so. gives now entry l old asked was.1 was.2 given (By_verdict command own so) _ refl refl refl refl refl
         ] so in
         let by_state : command_of c asked.seq asked.request ≡ None → is_witness c asked.seq entry ≡ true → (o : Option Answer)
-        → refusal (after now.state entry) asked.told asked.request ≡ o → Learnt rev (witnessed (with_one now entry) asked o) =
-        λ own is o so. elim o as (λ o. refusal (after now.state entry) asked.told asked.request ≡ o → Learnt rev (witnessed (with_one now entry) asked o)) [
+        → refusal (after now.state entry) asked.saw_missing asked.request ≡ o → Learnt rev (witnessed (with_one now entry) asked o) =
+        λ own is o so. elim o as (λ o. refusal (after now.state entry) asked.saw_missing asked.request ≡ o → Learnt rev (witnessed (with_one now entry) asked o)) [
           | None ↦ λ so. leaves_open now entry l none _ refl refl refl refl
               (subst (λ x. StaysOpen rev x (Some (record asked { witnesses = asked.witnesses + 1 }))) (sym was.1)
               (record {

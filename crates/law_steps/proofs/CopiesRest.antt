@@ -4,7 +4,7 @@ use Rattle.law_steps.proofs.Imports.{JobContext, JobResult, LastCopy, LinkId, Li
 use Rattle.law_steps.proofs.Imports.{State, Stored, Wait, above, after, ap, at, begins_copy, blocks_left, both_true, by_bool, by_test, cell_apart, cell_at}
 use Rattle.law_steps.proofs.Imports.{cell_cmp, cell_gone, cell_gone_apart, cell_holder, cell_link, cell_of, cell_same, copying_on, eq_by_cmp, false, filter}
 use Rattle.law_steps.proofs.Imports.{found_at, found_itself, holder_of, holds_link, id_of, in-append, inl, inr, is_kept_on, is_link, is_link_under_way, is_on}
-use Rattle.law_steps.proofs.Imports.{is_under_way, is_whole, last_copy, least, length, lesser, link_at, link_cmp, link_named, link_of, live, map}
+use Rattle.law_steps.proofs.Imports.{is_under_way, needs_full_copy, last_copy, least, length, lesser, link_at, link_cmp, link_named, link_of, live, map}
 use Rattle.law_steps.proofs.Imports.{marked_blocks, nat_lt, next_block, next_copy, no_progress, none_some, option_and_then, option_map_or, progress_beside}
 use Rattle.law_steps.proofs.Imports.{progress_here, progress_on, proposed, refl, same_id, same_numbers, same_some, some_or_none, stored_blocks, subst, sym}
 use Rattle.law_steps.proofs.Imports.{true, true_false, tuple_of, unwrap_or, with_copied, with_copying, with_entry, with_full, with_last_copy, with_mark_on}
@@ -149,9 +149,9 @@ cell_left state id row own named block i =
     let same : on.0 ≡ cell_at row block = λ i. record { map = there.1 i; block = on.1 i } in
     (ap (cell_link state) (sym same) ∙ there.0, ap (live state) (sym same) ∙ kept.1)
   where
-    whole : In block (if is_whole row.state then filter (above (progress_on own row).copied) (stored_blocks state row own) else [])
+    whole : In block (if needs_full_copy row.state then filter (above (progress_on own row).copied) (stored_blocks state row own) else [])
         → In block (stored_blocks state row own)
-    whole = by_test (λ (ys : List ℕ). In block ys → In block (stored_blocks state row own)) (is_whole row.state) _ _
+    whole = by_test (λ (ys : List ℕ). In block ys → In block (stored_blocks state row own)) (needs_full_copy row.state) _ _
         (λ t j. in_filter (above (progress_on own row).copied) block (stored_blocks state row own) j) (λ t j. in_none block j)
 
 next_on : (state : State) (id : LinkId) (row : LinkRow) (own : PairState) → link_named state id ≡ Some row → (cell : Cell)

@@ -7,7 +7,7 @@ use Rattle.law_steps.specs.Did.{Did, Ignores, Refuses, By_read, By_lead, By_seco
 use Rattle.law_steps.specs.DidFiller.{Is_filled, Is_out_of_slots}
 use Rattle.law_steps.specs.DidLead.{DidLead, Asks, An_entry_to_move, Of_the_log, Asks_for, Repeats, Is_full, Opens, Marks, Puts, Gives_up, Unmarks, Closes}
 use Rattle.law_steps.specs.DidLead.{Opens_alone, Marks_alone, Puts_alone, Unmarks_alone, Closes_alone, Opens_fill, Opens_fill_alone, Has_fill, Has_no_room}
-use Rattle.law_steps.specs.DidLead.{Goes_on_dead, IsNewFill, IsNextFill}
+use Rattle.law_steps.specs.DidLead.{Goes_on_retired, IsNewFill, IsNextFill}
 use Rattle.law_steps.proofs.CopyFrames.{of_holder, of_other}
 use Rattle.law_steps.proofs.Letters.{one_post, posted}
 use Rattle.law_steps.proofs.OperationsGoOn.{acts_say, ended_so, ends_say, is_of_operation}
@@ -88,7 +88,7 @@ module _ (heard : Body → Type 0) (here : JobContext) (own : PairState) where
   lead_fills _ (Opens_fill moving new room both) post i = Is_other (ap is_fill (posted _ _ post i))
   lead_fills _ (Has_fill moving filled) post i = Is_other (ap is_fill (posted _ _ post i))
   lead_fills _ (Has_no_room moving new no_room) post i = Is_other (ap is_fill (posted _ _ post i))
-  lead_fills _ (Goes_on_dead now op taken off) post i = Is_other (operation_other post.body (acts_say here now op (next_stage here.state here.me op) post i).0)
+  lead_fills _ (Goes_on_retired now op taken off) post i = Is_other (operation_other post.body (acts_say here now op (next_stage here.state here.me op) post i).0)
   lead_fills _ _ post i = absurd i
 
   pub did_fills : (done : JobResult) → Did heard here own done → (post : Post) → In post done.posts → SaysFill here own done post
@@ -161,7 +161,7 @@ module _ (heard : Body → Type 0) (here : JobContext) (own : PairState) where
       let first = fill_operation here own.pairs.next moving in
       opened_two (cell_of moving.key) first (with_mark_at first Stale true)
       (λ o e. fill_come moving new o (ap (λ (p : Pending). p.key) e) (ap (λ (p : Pending). p.bytes) e) (ap (λ (p : Pending). p.rev) e)) q op there
-  lead_come _ (Goes_on_dead now o taken off) q op there = Stood (was_acted own now o taken here (next_stage here.state here.me o) q op there)
+  lead_come _ (Goes_on_retired now o taken off) q op there = Stood (was_acted own now o taken here (next_stage here.state here.me o) q op there)
   lead_come _ _ q op there = Stood (was_same own q op there)
 
   still_stood : (pairs : Pairs) → pairs.pending ≡ own.pairs.pending → (q : Cell) (op : Pending) → at cell_cmp pairs.pending q ≡ Some op → H q op

@@ -13,7 +13,7 @@ pub use Rattle.law_state.proofs.Imports.{not_true, number_itself, option_and_the
 pub use Rattle.law_state.proofs.Imports.{same_numbers, same_or_apart, same_some, second, slice_get, some_or_none, state_lead, subst, suc, sym, touches, true}
 pub use Rattle.law_state.proofs.Imports.{true_false, unwrap_or, zero, ℕ}
 pub use Rattle.law_log.proofs.Imports.{Accepted, Acted, Action, Actor, After, Again, Answer, AreSteps, AreStepsFrom, Arm, Ask, Asked, Before, Blank, Block}
-pub use Rattle.law_log.proofs.Imports.{Body, Boot, Call, Client, Collecting, Copies, CopyAction, Copying, Dead, Decided, Deliver, Ending, Entry, Equal, Far}
+pub use Rattle.law_log.proofs.Imports.{Body, Boot, Call, Client, Collecting, Copies, CopyAction, Copying, Retired, Decided, Deliver, Ending, Entry, Equal, FollowProgress}
 pub use Rattle.law_log.proofs.Imports.{Firm, Glance, Grows, HasProperTuple, HasProperTuples, Heard, Idle, Inc, IsSettledState, IsSound, IsTotalOrder, Job}
 pub use Rattle.law_log.proofs.Imports.{JobContext, JobResult, Key, LastCopy, LastOp, Learning, Letter, Line, Log, LogDone, MayActor, MayClient, MayServer}
 pub use Rattle.law_log.proofs.Imports.{Moving, Newer, NextCopy, Older, OpKind, Pax, Pending, Phase, Post, Promise, Reaction, Refused, Request, Script, Send}
@@ -43,7 +43,7 @@ pub use Rattle.law_log.proofs.Imports.{tick_posts, tied_itself, to_propose, trim
 pub use Rattle.law_log.proofs.Imports.{voter_of, wakes, wanted, wanted_by, way_now, with_copied, with_copying, with_full, with_last_copy, with_leave}
 pub use Rattle.law_log.proofs.Imports.{with_opened, with_page, with_progress, with_sight, without_copying, without_pending, witnessed, worked, works}
 pub use Rattle.law_log.proofs.Imports.{world_after, write_posts, wrong_rev}
-unfoldable pub use Rattle.law_log.proofs.Imports.{applies, copies_on, does, goes_on, handles, heard, hears_log, learns, log_does, next_copy, next_dead}
+unfoldable pub use Rattle.law_log.proofs.Imports.{applies, copies_on, does, goes_on, handles, heard, hears_log, learns, log_does, next_copy, next_retired}
 unfoldable pub use Rattle.law_log.proofs.Imports.{on_ask, on_down, on_fill, on_fill_full, on_filled, on_hello, on_hello_ask, on_news, on_pair_full, on_pax}
 unfoldable pub use Rattle.law_log.proofs.Imports.{on_propose, on_read, on_replicate, on_replicated, on_reserve, on_reserved, on_sync, on_sync_full, on_synced}
 unfoldable pub use Rattle.law_log.proofs.Imports.{on_trim, on_trimmed, on_write, put_at, refusal, repairs, starts, step, sweeps, ticked, trims_on}
@@ -111,9 +111,9 @@ pub use Rattle.spec_rules.specs.Fills.{comes_before, comes_next, earlier, fill_l
 pub use Rattle.spec_rules.specs.Log.{acceptor}
 pub use Rattle.spec_rules.specs.Reads.{reply_of}
 pub use Rattle.spec_rules.specs.Server.{Pairs, no_copies}
-pub use Rattle.spec_rules.specs.State.{is_on, is_whole}
+pub use Rattle.spec_rules.specs.State.{is_on, needs_full_copy}
 pub use Rattle.spec_rules.specs.Store.{Chain, Store, version_of, with_entry, with_mark_on, with_ticket}
-pub use Rattle.spec_rules.specs.Sweeping.{dead_in, dead_key, dead_mark}
+pub use Rattle.spec_rules.specs.Sweeping.{retired_in, retired_key, retired_mark}
 pub use Rattle.spec_rules.specs.World.{clock_of, line_in, received}
 pub use Rattle.spec_rules.specs.Writes.{alone_action, both_action, has_slot, is_clients, standing, with_mark_at}
 pub use Rattle.spec_state.specs.CellState.{noted, region_leaving, region_on_way}

@@ -10,7 +10,7 @@ use Rattle.law_steps.proofs.Imports.{said, same_numbers, says, second, standing,
 use Rattle.law_steps.proofs.Imports.{with_pending, with_reserved, ℕ}
 use Rattle.law_steps.specs.Operations.{IsStaged, AtRest, Waiting, Putting, Copying, Answering, waiting, putting, copying, answering, done_to}
 use Rattle.law_steps.specs.DidLead.{Asks_for, Repeats, Is_full, Opens, Marks, Puts, Gives_up, Unmarks, Closes, Opens_alone, Marks_alone, Puts_alone}
-use Rattle.law_steps.specs.DidLead.{Unmarks_alone, Closes_alone, Opens_fill, Opens_fill_alone, Has_fill, Has_no_room, Goes_on_dead, Asks, A_slot, A_copy}
+use Rattle.law_steps.specs.DidLead.{Unmarks_alone, Closes_alone, Opens_fill, Opens_fill_alone, Has_fill, Has_no_room, Goes_on_retired, Asks, A_slot, A_copy}
 use Rattle.law_steps.specs.DidLead.{IsNew, IsNewFill, Taken, As_it_is, As_told, IsIdleFill}
 use Rattle.law_steps.specs.Did.{Did, Ignores, Refuses, For_a_write, By_copy_for_a_write, A_write, By_lead}
 use Rattle.law_steps.proofs.BusyLetters.{busy_not_held, busy_seq, held_not_busy, held_seq}
@@ -120,7 +120,7 @@ module _ (heard : Body → Type 0) (here : JobContext) (own : PairState) (steady
         | Answering stage ↦ subst (λ a. D (acts here own op a)) (sym (both_next op answering (s.leads on) both stage)) (By_lead _ (Closes op is both stage))
       ])
       (λ apart. did_alone own op (As_it_is op is) (s.leads on) apart))
-      (λ off. By_lead _ (Goes_on_dead own op (As_it_is op is) off))
+      (λ off. By_lead _ (Goes_on_retired own op (As_it_is op is) off))
 
   pub did_next : (cell : Cell) (o : Option Pending) → pending_on own cell ≡ o → D (goes_on_with here own o)
   did_next cell None e = Ignores
@@ -214,7 +214,7 @@ module _ (heard : Body → Type 0) (here : JobContext) (own : PairState) (steady
       subst (λ o. D (goes_on_with here now o)) (sym (cell_same own.pairs.pending op.cell next))
       (by_bool (live here.state op.cell)
       (λ on. by_bool (in_both here.state op.cell) (in_two on) (λ apart. did_alone now next taken (leads on) apart))
-      (λ off. By_lead _ (Goes_on_dead now next taken off)))
+      (λ off. By_lead _ (Goes_on_retired now next taken off)))
 
   pub did_reserved : (number : ℕ) (cell : Cell) (o : Option Pending) → heard (body.Reserved number cell) → pending_on own cell ≡ o
       → D (hears_reserved here own number o)

@@ -21,7 +21,7 @@ use Rattle.law_steps.proofs.HeldBackForCaughts.{ballot_unheld, crossed_unheld}
 use Rattle.law_steps.proofs.ServerStepKinds.{is_blank, server_serves}
 use Rattle.law_steps.proofs.OperationsRest.{did_ready}
 use Rattle.law_steps.proofs.ClientStepKinds.{is_call, client_turns}
-use Rattle.law_steps.proofs.OneWorld.{past_max, queues_later, ready_held, not_dead, proposed_copies, ready_at}
+use Rattle.law_steps.proofs.OneWorld.{past_max, queues_later, ready_held, not_retired, proposed_copies, ready_at}
 use Rattle.petal_msg.specs.declared.letter.Actor.TheVariants as actor
 pub use Rattle.law_steps.proofs.OneWorld.{own_plain, own_steady, chosen_steady, own_below, runs_at, runs_now, ready_chosen, chosen_below, proposed_pairs}
 
@@ -58,7 +58,7 @@ module _ (setting : Setting) (w : World) (rests : Rests setting w) (firm : Firm 
       let row = led_by_link (server_state setting w n) n cell (s.leads (stage_live (server_state setting w n) cell s.born (omega arith))) in
       elim (below.rows cell row.0 row.1) [
         | inl h ↦ crossed_unheld (server_state setting w n) (state_after setting.servers log.applied) entry (w.servers n).own cell row.0 row.1 h unheld
-        | inr died ↦ not_dead now cell alive died
+        | inr died ↦ not_retired now cell alive died
       ])
       (ready_at setting w firm rests n runs log.applied on front))
 

@@ -38,11 +38,11 @@ ready_held state me held later pending less ready = record {
   rising = ready.rising;
 }
 
--- a live cell is not dead
-pub not_dead : {B : Type 0} (state : State) (cell : Cell) → live state cell ≡ true → HasDied state cell → B
-not_dead state cell alive died =
+-- a live cell is not retired
+pub not_retired : {B : Type 0} (state : State) (cell : Cell) → live state cell ≡ true → HasDied state cell → B
+not_retired state cell alive died =
     let most = (live_stage state cell alive).1 in
-    let dead = died.1 in
+    let retired = died.1 in
     absurd (omega arith)
 
 -- what a server has pending by an earlier state, and a later one by which it is In as the same incarnation, where no Caught of the server's
@@ -90,7 +90,7 @@ module _ (it : LaterPending) where
   later_row : (cell : Cell) (row : LinkRow) → cell_link earlier cell ≡ Some row → live later cell ≡ true → HasLater earlier later cell row
   later_row cell row there alive = elim ((log_below servers front whole plain prefix).rows cell row there) [
     | inl h ↦ h
-    | inr died ↦ not_dead later cell alive died
+    | inr died ↦ not_retired later cell alive died
   ]
 
   -- who holds the link of such an operation alone goes on to
@@ -117,7 +117,7 @@ module _ (it : LaterPending) where
             let alone = come.alone in
             true_false (so_both later cell one.row one.is one.both)
             (alone_not_both later n cell (alone_still cell op is alive alone.row alone.whole alone.is alone.alone)))
-        | inr (inr died) ↦ not_dead later cell alive died
+        | inr (inr died) ↦ not_retired later cell alive died
       ]
 
   stage_still : (cell : Cell) (op : Pending) → at cell_cmp pending cell ≡ Some op → live later cell ≡ true → in_both later cell ≡ true → AtRest op.stage

@@ -6,7 +6,7 @@ use Rattle.law_steps.proofs.Imports.{is_alone_on, leads_link, live, next_stage, 
 use Rattle.law_steps.proofs.Imports.{sym, true, true_false, version_of, with_mark_at, with_paired, with_reserved, without, without_pending, ℕ}
 use Rattle.law_steps.specs.Operations.{A_fill, A_write, IsOpenedFor, IsStaged, AtRest, Waiting, Putting, Copying, Answering}
 use Rattle.law_steps.specs.DidLead.{DidLead, Opens, Marks, Puts, Gives_up, Unmarks, Closes, Opens_alone, Marks_alone, Puts_alone, Unmarks_alone, Closes_alone}
-use Rattle.law_steps.specs.DidLead.{Opens_fill, Opens_fill_alone, Goes_on_dead, Taken}
+use Rattle.law_steps.specs.DidLead.{Opens_fill, Opens_fill_alone, Goes_on_retired, Taken}
 use Rattle.law_steps.specs.Did.{Did, Ignores, Refuses, By_read, By_lead, By_second, By_holder, By_other, By_filler, By_sweep}
 use Rattle.law_steps.specs.Ready.{IsReady, IsRising}
 use Rattle.law_steps.proofs.CopyFrames.{of_holder, of_other}
@@ -154,10 +154,10 @@ module _ (heard : Body → Type 0) (here : JobContext) (own : PairState)
 
   -- ### On a cell that is no longer live
 
-  dead_staged : (now : PairState) (op new : Pending) → Taken own now op → live here.state op.cell ≡ false → new.cell ≡ op.cell
+  retired_staged : (now : PairState) (op new : Pending) → Taken own now op → live here.state op.cell ≡ false → new.cell ≡ op.cell
       → new.kind ≡ op.kind → new.client ≡ op.client → new.seq ≡ op.seq → new.key ≡ op.key
       → IsStaged here.state here.me (has_proposed here.state own) op.cell new
-  dead_staged now op new taken off cell kind client seq key =
+  retired_staged now op new taken off cell kind client seq key =
       let k = taking own now op taken in
       let s = ready.staged op.cell k.old k.was in
       record {
@@ -171,27 +171,27 @@ module _ (heard : Body → Type 0) (here : JobContext) (own : PairState)
       }
 
   -- it stands as it was taken up
-  dead_stays : (now : PairState) (op : Pending) → Taken own now op → live here.state op.cell ≡ false → R now.pairs.pending
-  dead_stays now op taken off =
+  retired_stays : (now : PairState) (op : Pending) → Taken own now op → live here.state op.cell ≡ false → R now.pairs.pending
+  retired_stays now op taken off =
       let k = taking own now op taken in
       changed_ready here.state here.me (has_proposed here.state own) t now.pairs.pending op.cell ready (k.rises ready.rising) k.others
       (λ o there. subst (IsStaged here.state here.me (has_proposed here.state own) op.cell) (same_some (sym k.there ∙ there))
-      (dead_staged now op op taken off refl refl refl refl refl))
+      (retired_staged now op op taken off refl refl refl refl refl))
 
-  dead_ready : (now : PairState) (op : Pending) → Taken own now op → live here.state op.cell ≡ false → (next : Action)
+  retired_ready : (now : PairState) (op : Pending) → Taken own now op → live here.state op.cell ≡ false → (next : Action)
       → R (acts here now op next).own.pairs.pending
-  dead_ready now op taken off action.Reserve = dead_stays now op taken off
-  dead_ready now op taken off (action.Mark which) =
-      taken_put now op (with_mark_at op which true) taken (dead_staged now op (with_mark_at op which true) taken off refl refl refl refl refl)
-  dead_ready now op taken off action.Put =
+  retired_ready now op taken off action.Reserve = retired_stays now op taken off
+  retired_ready now op taken off (action.Mark which) =
+      taken_put now op (with_mark_at op which true) taken (retired_staged now op (with_mark_at op which true) taken off refl refl refl refl refl)
+  retired_ready now op taken off action.Put =
       let new : Pending = record op { version = version_of (chain_in now.store.chains op.cell) + 1; stage = record op.stage { put = true } } in
-      taken_put now op new taken (dead_staged now op new taken off refl refl refl refl refl)
-  dead_ready now op taken off action.Replicate = dead_stays now op taken off
-  dead_ready now op taken off (action.Unmark which) =
-      taken_put now op (with_mark_at op which false) taken (dead_staged now op (with_mark_at op which false) taken off refl refl refl refl refl)
-  dead_ready now op taken off action.Answer =
+      taken_put now op new taken (retired_staged now op new taken off refl refl refl refl refl)
+  retired_ready now op taken off action.Replicate = retired_stays now op taken off
+  retired_ready now op taken off (action.Unmark which) =
+      taken_put now op (with_mark_at op which false) taken (retired_staged now op (with_mark_at op which false) taken off refl refl refl refl refl)
+  retired_ready now op taken off action.Answer =
       subst R (sym (of_ending here (without_pending now op.cell) op op.kind Written).pending) (taken_gone now op taken)
-  dead_ready now op taken off action.Drop =
+  retired_ready now op taken off action.Drop =
       by_test (λ (o : PairState). R o.pairs.pending) op.stage.put (without_pending now op.cell) (gives_back (without_pending now op.cell))
       (λ put. taken_gone now op taken) (λ fresh. taken_gone now op taken)
 
@@ -251,7 +251,7 @@ module _ (heard : Body → Type 0) (here : JobContext) (own : PairState)
       put_twice_ready op op (with_mark_at op Stale true)
       (alone_staged op.cell (with_mark_at op Stale true) refl (A_fill refl refl refl) refl (live_stage here.state op.cell led.0).0
       (λ on. led.1) alone (λ on. new.unheld))
-  lead_ready _ (Goes_on_dead now op taken off) = dead_ready now op taken off (next_stage here.state here.me op)
+  lead_ready _ (Goes_on_retired now op taken off) = retired_ready now op taken off (next_stage here.state here.me op)
   lead_ready _ _ = ready
 
   still : (t : Table Cell Pending) → t ≡ own.pairs.pending → R t

@@ -55,7 +55,7 @@ crossed_rests servers state plain entry plain_entry grows me own r = record {
       let so : StaysSo cell o.row state (after state entry) = elim (entry_stays servers state plain cell o.row o.is entry plain_entry off) [
         | inl stays ↦ stays
         | inr died ↦ (
-            let dead = died.1 in
+            let retired = died.1 in
             let most = (live_stage (after state entry) cell alive).1 in
             absurd (omega arith))
       ] in
@@ -77,7 +77,7 @@ crossed_rests servers state plain entry plain_entry grows me own r = record {
   lasts = λ cell last is.
       let was = left_there state entry own.copies.last cell last is in
       elim (r.lasts cell last was.0) [
-        | inr dead ↦ inr (stays_dead cell dead)
+        | inr retired ↦ inr (stays_retired cell retired)
         | inl o ↦ (
             let off : touches state entry o.row ≡ false = sym (ap (λ l. option_map_or (touches state entry) l false) o.is) ∙ was.1 in
             elim (entry_stays servers state plain cell o.row o.is entry plain_entry off) [
@@ -87,8 +87,8 @@ crossed_rests servers state plain entry plain_entry grows me own r = record {
       ];
 }
   where
-    stays_dead : (cell : Cell) → stage_at state cell ≡ 4 → stage_at (after state entry) cell ≡ 4
-    stays_dead cell dead =
+    stays_retired : (cell : Cell) → stage_at state cell ≡ 4 → stage_at (after state entry) cell ≡ 4
+    stays_retired cell retired =
         let more = grows cell in
         let most = stage_most (after state entry) cell in
         omega arith

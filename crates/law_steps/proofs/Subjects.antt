@@ -1,12 +1,12 @@
 -- What a job of each subject leaves as it is: a law that does not speak of the subject goes by this alone.
-use Rattle.law_steps.proofs.Imports.{[], ◌∙◌, ◌≡◌, ◌⊎◌, Action, Body, Cell, Copies, Ending, Far, Filling, Full, In, Job, JobContext, JobResult, Letter}
+use Rattle.law_steps.proofs.Imports.{[], ◌∙◌, ◌≡◌, ◌⊎◌, Action, Body, Cell, Copies, Ending, FollowProgress, Filling, Full, In, Job, JobContext, JobResult, Letter}
 use Rattle.law_steps.proofs.Imports.{LinkRow, List, None, OpKind, Option, PairState, Paired, Pending, Post, Some, State, Written, acts, ap, at, by_test}
 use Rattle.law_steps.proofs.Imports.{cell_cmp, cell_link, ends, false, gives_back, has_proposed, id_of, inl, inr, link_cmp, next_stage, no_progress}
 use Rattle.law_steps.proofs.Imports.{option_map_or, progress_on, refl, subject_of, subst, sym, tells, unwrap_or, without_pending, ℕ}
 use Rattle.law_steps.specs.Ready.{IsRising}
 use Rattle.law_steps.specs.DidRead.{DidRead, Not_here, Shows}
 use Rattle.law_steps.specs.DidLead.{DidLead, Repeats, Marks, Puts, Gives_up, Unmarks, Closes, Opens_alone, Marks_alone, Puts_alone, Unmarks_alone}
-use Rattle.law_steps.specs.DidLead.{Closes_alone, Opens_fill_alone, Goes_on_dead}
+use Rattle.law_steps.specs.DidLead.{Closes_alone, Opens_fill_alone, Goes_on_retired}
 use Rattle.law_steps.specs.DidSecond.{DidSecond, Sets_apart, Promises, Declines, Follows}
 use Rattle.law_steps.specs.DidFiller.{DidFiller, Is_filled, Is_out_of_slots}
 use Rattle.law_steps.specs.DidSweep.{DidSweep, Sweeps}
@@ -15,7 +15,7 @@ use Rattle.law_steps.proofs.CopyFrames.{of_holder, of_other}
 use Rattle.law_steps.proofs.Letters.{one_post, posted}
 use Rattle.law_steps.proofs.TakenUpAlone.{taking}
 use Rattle.petal_msg.specs.declared.body.Body.TheVariants as body
-use Rattle.petal_msg.specs.declared.operation.Far.TheVariants as far
+use Rattle.petal_msg.specs.declared.operation.FollowProgress.TheVariants as follow_progress
 use Rattle.petal_msg.specs.declared.operation.Action.TheVariants as action
 use Rattle.petal_msg.specs.declared.operation.OpKind.TheVariants as kind
 use Rattle.spec_rules.specs.declared.job.Job.TheVariants as job
@@ -119,9 +119,9 @@ acts_frame here own op action.Drop = record {
 }
 
 -- what a second server tells of an operation leaves its own part
-pub told_own : (here : JobContext) (new : PairState) (cell : Cell) (number : ℕ) (how : Far) → (tells here new cell number how).own ≡ new
-told_own here new cell number far.Reserved = refl
-told_own here new cell number far.Replicated = refl
+pub told_own : (here : JobContext) (new : PairState) (cell : Cell) (number : ℕ) (how : FollowProgress) → (tells here new cell number how).own ≡ new
+told_own here new cell number follow_progress.Reserved = refl
+told_own here new cell number follow_progress.Replicated = refl
 
 module _ (heard : Body → Type 0) (here : JobContext) (own : PairState) where
   pub of_read : (done : JobResult) → DidRead heard here own done → ReadFrame own done
@@ -170,25 +170,25 @@ module _ (heard : Body → Type 0) (here : JobContext) (own : PairState) where
       (ends_frame here (without_pending now op.cell) op op.kind Written)
   of_lead _ (Opens_fill_alone moving new room alone) =
       record { last = refl; copies = refl; no_letters = λ letter i. elim i [ inl e ↦ cc | inr none ↦ none ] }
-  of_lead _ (Goes_on_dead now op taken off) =
+  of_lead _ (Goes_on_retired now op taken off) =
       frame_on own now _ (taking own now op taken).last (taking own now op taken).copies (acts_frame here now op (next_stage here.state here.me op))
   of_lead _ _ = record { last = refl; copies = refl; no_letters = λ letter i. i }
 
   -- what a second server tells the lead
-  told : (new : PairState) (cell : Cell) (number : ℕ) (how : Far) → new.pairs.pending ≡ own.pairs.pending → new.pairs.next ≡ own.pairs.next
+  told : (new : PairState) (cell : Cell) (number : ℕ) (how : FollowProgress) → new.pairs.pending ≡ own.pairs.pending → new.pairs.next ≡ own.pairs.next
       → new.pairs.finished ≡ own.pairs.finished → new.copies ≡ own.copies
       → SecondFrame own (tells here new cell number how)
-  told new cell number far.Reserved pending next finished copies =
+  told new cell number follow_progress.Reserved pending next finished copies =
       record { pending = pending; next = next; finished = finished; copies = copies; no_jobs = refl; says = λ post i. ap subject_of (posted _ _ post i) }
-  told new cell number far.Replicated pending next finished copies =
+  told new cell number follow_progress.Replicated pending next finished copies =
       record { pending = pending; next = next; finished = finished; copies = copies; no_jobs = refl; says = λ post i. ap subject_of (posted _ _ post i) }
 
   pub of_second : (done : JobResult) → DidSecond heard here own done → SecondFrame own done
-  of_second _ (Sets_apart number cell tickets h s le) = told _ cell number far.Reserved refl refl refl refl
+  of_second _ (Sets_apart number cell tickets h s le) = told _ cell number follow_progress.Reserved refl refl refl refl
   of_second _ (Promises number cell how s is) = told own cell number how refl refl refl refl
   of_second _ (Declines number cell h s no_room) =
       record { pending = refl; next = refl; finished = refl; copies = refl; no_jobs = refl; says = λ post i. ap subject_of (posted _ _ post i) }
-  of_second _ (Follows number key version bytes h s is) = told _ _ number far.Replicated refl refl refl refl
+  of_second _ (Follows number key version bytes h s is) = told _ _ number follow_progress.Replicated refl refl refl refl
 
   filled : (to : PairState) (posts : List Post) → to.pairs ≡ own.pairs → to.store ≡ own.store → to.copies.progress ≡ own.copies.progress
       → to.copies.pending ≡ own.copies.pending → to.copies.last ≡ own.copies.last

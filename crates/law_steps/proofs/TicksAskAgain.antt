@@ -15,7 +15,7 @@ use Rattle.law_steps.proofs.TablesOfPuts.{at_row}
 use Rattle.law_steps.proofs.InvertFiller.{row_fills}
 use Rattle.law_steps.proofs.InvertHolder.{unpaged, untrue}
 use Rattle.law_steps.proofs.InvertLead.{asks_slot, asks_copy, both_next, alone_next}
-use Rattle.law_steps.proofs.WhoLeads.{dead_second}
+use Rattle.law_steps.proofs.WhoLeads.{retired_second}
 use Rattle.law_steps.proofs.LogJobs.{ballot_logged, ask_logged}
 use Rattle.law_steps.proofs.IdleServers.{logged_apart}
 use Rattle.petal_msg.specs.declared.body.Body.TheVariants as body
@@ -49,15 +49,15 @@ module _ (it : KnownServer) where
       (λ t. by_test (λ a. In post (awaited here own op a) → ⊥) op.stage.busy _ _ (λ t i. i) (λ t i. i)))
 
   -- nor does an operation on a cell that is no longer live
-  dead_sends : (op : Pending) → second here.state op.cell ≡ None → (next : Action) (post : Post) → In post (awaited here own op next) → ⊥
+  retired_sends : (op : Pending) → second here.state op.cell ≡ None → (next : Action) (post : Post) → In post (awaited here own op next) → ⊥
   unfolding In
-  dead_sends op none action.Reserve post i = subst (λ o. In post (post_to o (body.Reserve op.op op.cell))) none i
-  dead_sends op none (action.Mark which) post i = i
-  dead_sends op none action.Put post i = i
-  dead_sends op none action.Replicate post i = subst (λ o. In post (post_to o (body.Replicate op.op op.key op.version op.bytes))) none i
-  dead_sends op none (action.Unmark which) post i = i
-  dead_sends op none action.Answer post i = i
-  dead_sends op none action.Drop post i = i
+  retired_sends op none action.Reserve post i = subst (λ o. In post (post_to o (body.Reserve op.op op.cell))) none i
+  retired_sends op none (action.Mark which) post i = i
+  retired_sends op none action.Put post i = i
+  retired_sends op none action.Replicate post i = subst (λ o. In post (post_to o (body.Replicate op.op op.key op.version op.bytes))) none i
+  retired_sends op none (action.Unmark which) post i = i
+  retired_sends op none action.Answer post i = i
+  retired_sends op none action.Drop post i = i
 
   asked_again : (op : Pending) → pending_on own op.cell ≡ Some op → (post : Post) → In post (sent_again here own op) → A post
   unfolding In
@@ -73,7 +73,7 @@ module _ (it : KnownServer) where
       ])
       (λ apart. absurd (alone_sends op post
       (subst (λ a. In post (awaited here own op a)) (alone_next hears_server here own steady staged op (s.leads on) apart) h))))
-      (λ off. absurd (dead_sends op (dead_second here.state op.cell off) (next_stage here.state n op) post h))
+      (λ off. absurd (retired_sends op (retired_second here.state op.cell off) (next_stage here.state n op) post h))
     where
       sent : in_both here.state op.cell ≡ true → (stage : Stage) → op.stage ≡ stage → leads_link here.state n op.cell ≡ true
           → In post (awaited here own op (both_action stage))

@@ -109,7 +109,7 @@ module _ (it : RunningFronts) (cell : Cell) (row : LinkRow) (is : cell_link (sta
       let plain = front_plain setting.servers more _ firm.plain chosen in
       let h : HasLater earlier later cell row = elim ((log_below setting.servers front more plain prefix).rows cell row is) [
         | inl on ↦ on
-        | inr died ↦ (let dead = died.1 in absurd (omega (arith, under)))
+        | inr died ↦ (let retired = died.1 in absurd (omega (arith, under)))
       ] in
       let on = h.on n (w.servers n).life.inc has serving seat (runs_at setting w firm front more prefix chosen n runs seat) in
       elim ((log_steady setting.servers more plain).linked cell h.now h.is).served [

@@ -16,7 +16,7 @@ unlive false e = sym e
 pub lead_links : (state : State) (n : ℕ) (cell : Cell) → is_lead state n cell ≡ true → (live state cell ≡ true) × (leads_link state n cell ≡ true)
 lead_links state n cell =
     by_test (λ (o : Option ℕ). is_the o n ≡ true → (live state cell ≡ true) × (leads_link state n cell ≡ true)) (not (live state cell)) None _
-    (λ dead e. true_false e refl)
+    (λ retired e. true_false e refl)
     (λ on. by_test (λ (o : Option ℕ). is_the o n ≡ true → (live state cell ≡ true) × (leads_link state n cell ≡ true)) (leaving state cell) None _
     (λ goes e. true_false e refl) (λ stays e. (unlive (live state cell) on, e)))
 
@@ -46,8 +46,8 @@ led_by_link state n cell = by (cell_link state cell) refl
     by (Some row) is e = (row, is)
 
 -- a cell that is not live has no second server
-pub dead_second : (state : State) (cell : Cell) → live state cell ≡ false → second state cell ≡ None
-dead_second state cell off =
+pub retired_second : (state : State) (cell : Cell) → live state cell ≡ false → second state cell ≡ None
+retired_second state cell off =
     ap (λ b. option_map (λ (row : LinkRow). row.secondary)
     (if b then option_and_then (λ (row : LinkRow). row_in_both row row.state) (cell_link state cell) else None)) off
 

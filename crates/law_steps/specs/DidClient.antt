@@ -54,7 +54,7 @@ pub record IsSame (rev : ℕ) (old new : Asked) : Type 0 where
   pub line : new.line ≡ old.line
   pub seq : new.seq ≡ old.seq
   pub request : new.request ≡ old.request
-  pub told : new.told ≡ old.told
+  pub told : new.saw_missing ≡ old.saw_missing
   pub sent : WasSent rev old new
 
 abbrev pub StaysOpen : ℕ → Option Asked → Option Asked → Type 0
@@ -68,7 +68,7 @@ pub record IsCalled (line : Line) (seq rev : ℕ) (asked : Asked) : Type 0 where
   pub seq_is : asked.seq ≡ seq
   pub request_is : asked.request ≡ line.request
   pub rev_is : asked.rev ≡ rev
-  pub untold : asked.told ≡ false
+  pub untold : asked.saw_missing ≡ false
   pub new_way : asked.old_way ≡ false
 
 -- ### Answers by an entry
@@ -78,7 +78,7 @@ pub record IsCalled (line : Line) (seq rev : ℕ) (asked : Asked) : Type 0 where
 pub data IsReason (c : ℕ) (asked : Asked) (given : Answer) (state : State) (entry : Command) : Type 0 where
   By_verdict : (command : Command) → command_of c asked.seq asked.request ≡ Some command → verdict_for asked.seq (latest state c) ≡ Some given
       → IsReason c asked given state entry
-  By_witness : command_of c asked.seq asked.request ≡ None → is_witness c asked.seq entry ≡ true → refusal state asked.told asked.request ≡ Some given
+  By_witness : command_of c asked.seq asked.request ≡ None → is_witness c asked.seq entry ≡ true → refusal state asked.saw_missing asked.request ≡ Some given
       → IsReason c asked given state entry
 
 -- an entry that the client applied in this step answers its request
@@ -117,7 +117,7 @@ pub data Turned (heard : ℕ → Body → Type 0) (servers : ℕ) (lines : List 
       → Turned heard servers lines c client false reacted
   Is_told : (reacted : Reaction) (asked : Asked) → heard asked.rev (body.NotHere asked.seq) → client.asked ≡ Some asked → is_read asked.request ≡ true
       → reacted.client.seq ≡ client.seq
-      → StaysOpen (length reacted.client.applied) (Some (record asked { told = true; old_way = true })) reacted.client.asked
+      → StaysOpen (length reacted.client.applied) (Some (record asked { saw_missing = true; old_way = true })) reacted.client.asked
       → OnlySays servers c reacted
       → Turned heard servers lines c client false reacted
   Begins : (reacted : Reaction) (line : Line) (asked : Asked) → next_line lines c client ≡ Some line → client.asked ≡ None

@@ -143,5 +143,5 @@ pub data DidLead (heard : Body → Type 0) (here : JobContext) (own : PairState)
       → DidLead heard here own (says_to own (old_lead here.state (cell_of moving.key)) (body.Filled moving.key))
   Has_no_room : (moving : Moving) → IsNewFill heard here own moving → free_of own.store ≡ 0
       → DidLead heard here own (says_to own (old_lead here.state (cell_of moving.key)) (body.FillFull moving.key))
-  Goes_on_dead : (now : PairState) (op : Pending) → Taken own now op → live here.state op.cell ≡ false
+  Goes_on_retired : (now : PairState) (op : Pending) → Taken own now op → live here.state op.cell ≡ false
       → DidLead heard here own (acts here now op (next_stage here.state here.me op))

@@ -20,11 +20,11 @@ pub use Rattle.petal_msg.specs.declared.body.Body.{Body}
 pub use Rattle.petal_msg.specs.declared.copying.Copying.{Copying}
 pub use Rattle.petal_msg.specs.declared.copying.LastCopy.{LastCopy}
 pub use Rattle.petal_msg.specs.declared.copying.NextCopy.TheVariants.{Block, Nothing}
-pub use Rattle.petal_msg.specs.declared.dead.Dead.{Dead}
+pub use Rattle.petal_msg.specs.declared.retired.Retired.{Retired}
 pub use Rattle.petal_msg.specs.declared.letter.Actor.{Actor}
 pub use Rattle.petal_msg.specs.declared.letter.Letter.{Letter}
 pub use Rattle.petal_msg.specs.declared.operation.Ending.{Ending}
-pub use Rattle.petal_msg.specs.declared.operation.Far.{Far}
+pub use Rattle.petal_msg.specs.declared.operation.FollowProgress.{FollowProgress}
 pub use Rattle.petal_msg.specs.declared.operation.Finished.{Finished}
 pub use Rattle.petal_msg.specs.declared.operation.LastOp.{LastOp}
 pub use Rattle.petal_msg.specs.declared.operation.Pending.{Pending}
@@ -53,8 +53,8 @@ pub use Rattle.spec_rules.specs.Returns.{proposed}
 pub use Rattle.spec_rules.specs.Server.{JobContext, JobResult, Post, Sender, letters_of, says, says_to, sender, silent, stopped}
 pub use Rattle.spec_rules.specs.State.{coming, first, holder_of, id_of, in_both, is_alone_on, is_second, lead, link_named, live, other_in, readable, second}
 pub use Rattle.spec_rules.specs.Store.{Stored, bytes_of, cell_cmp, chain_in, entry_at, epochs_of, free_of, mark_left, without_entry, without_mark_on}
-pub use Rattle.spec_rules.specs.Sweeping.{without_dead}
-unfoldable pub use Rattle.spec_rules.specs.Sweeping.{next_dead}
+pub use Rattle.spec_rules.specs.Sweeping.{without_retired}
+unfoldable pub use Rattle.spec_rules.specs.Sweeping.{next_retired}
 pub use Rattle.spec_rules.specs.World.{before_blanks, lines_of, next_line, reacts, server_state}
 pub use Rattle.spec_rules.specs.Writes.{Wanted, acts, ended, ends, finishes, first_stage, follows, gives_back, is_for, is_under_way, last_on, marks}
 pub use Rattle.spec_rules.specs.Writes.{next_stage, old_lead, opened, operation, pending_on, puts, tells, unmarks, with_last, with_opened, with_paired}

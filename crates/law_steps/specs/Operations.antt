@@ -1,7 +1,7 @@
 -- How far an operation is, at its lead and at its second server.
-use Rattle.law_steps.specs.Imports.{Cell, Far, Finished, LastOp, Pending, Stage, State, cell_of, first_stage, in_both, leads_link, live, stage_at}
+use Rattle.law_steps.specs.Imports.{Cell, FollowProgress, Finished, LastOp, Pending, Stage, State, cell_of, first_stage, in_both, leads_link, live, stage_at}
 use Rattle.std.specs.Prelude.{◌+◌, ◌≡◌, ◌≤◌, Bool, None, Option, Some, false, true, ℕ}
-use Rattle.petal_msg.specs.declared.operation.Far.TheVariants as far
+use Rattle.petal_msg.specs.declared.operation.FollowProgress.TheVariants as follow_progress
 use Rattle.petal_msg.specs.declared.operation.OpKind.TheVariants as kind
 
 -- the stages that an operation rests in while its link is in Both: it waits for its slot at the second server; its block is marked, and it is to put;
@@ -47,10 +47,10 @@ done_to None = 0
 done_to (Some last) = last.seq + 1
 
 -- above twice the number of the last operation, once its slot is set apart, and one more once its copy is put
-abbrev pub far_of : ℕ → Far → ℕ
-far_of number far.Reserved = number + number
-far_of number far.Replicated = number + number + 1
+abbrev pub far_of : ℕ → FollowProgress → ℕ
+far_of number follow_progress.Reserved = number + number
+far_of number follow_progress.Replicated = number + number + 1
 
 abbrev pub progress : Option LastOp → ℕ
 progress None = 0
-progress (Some last) = far_of last.op last.far
+progress (Some last) = far_of last.op last.progress

@@ -19,7 +19,7 @@ pub record CopyRests (state : State) (me : ℕ) (own : PairState) (cell : Cell) 
   pub paged : (progress_on own row).paged ≡ true
   pub begun : copy.trimmed ≡ false → copy.index ≡ 0
 
--- a copy to this server is of a link that the other one holds alone, unless the cell is dead
+-- a copy to this server is of a link that the other one holds alone, unless the cell is retired
 pub record LastRests (state : State) (me : ℕ) (cell : Cell) : Type 0 where
   pub row : LinkRow
   pub is : cell_link state cell ≡ Some row

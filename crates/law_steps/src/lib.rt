@@ -36,7 +36,7 @@ pub fn what_is_chosen_is_steady()
 /// moves. While its cell is live, by the server's own state, the server leads the cell's link, and the operation rests in one of four stages
 /// where the link is in Both; and the server has started no ballot for the Caught of the link. While the server runs this is so by what is
 /// chosen, too. A copy that is under way is of a live cell of a link that the server holds alone by its own state, and whose pages are
-/// done; and the last copy to a server is of a link that the other one holds, or of a dead cell.
+/// done; and the last copy to a server is of a link that the other one holds, or of a retired cell.
 pub fn operations_rest_in_four_stages()
     ensures chosen { (script : Script) (records : List Record) → IsSound script
         → AreSteps script records → (n : ℕ) → ((world_after (setting_of script) (start (setting_of script)) records).servers n).life.running ≡ true
@@ -66,7 +66,7 @@ pub fn each_step_is_of_a_kind()
 
 /// While a server runs, and is In as itself, it is tied to what is chosen from its own entries on: a link that was in Both is so at the
 /// same place, or the server holds it alone; and one that it held alone it holds so still, or it is in Both by a Caught for which the
-/// server has started the ballot, right after its own entries. This is said while the cell is not dead.
+/// server has started the ballot, right after its own entries. This is said while the cell is not retired.
 pub fn a_running_server_is_tied_to_what_is_chosen()
     ensures both { (script : Script) (records : List Record) → IsSound script → AreSteps script records → (n : ℕ) (front more : List Command)
         → ((world_after (setting_of script) (start (setting_of script)) records).servers n).life.running ≡ true

@@ -11,7 +11,7 @@ use Rattle.petal_base.specs.declared.cell.Cell.{Cell}
 use Rattle.petal_table.specs.Table.{Table}
 use Rattle.spec_rules.specs.Copies.{cell_at, idle_mark, is_kept_on, least}
 use Rattle.spec_rules.specs.Server.{PairState}
-use Rattle.spec_rules.specs.State.{State, is_on, is_whole}
+use Rattle.spec_rules.specs.State.{State, is_on, needs_full_copy}
 use Rattle.spec_rules.specs.Store.{Chain}
 use Rattle.spec_rules.specs.Writes.{is_under_way}
 use Rattle.pair_memory.specs.Walking.{marked_in, stored_in}
@@ -74,12 +74,12 @@ idle_is state row own =
     )
 
 module _ (state : State) (row : LinkRow) (marks : List Mark) (chains : Table Cell Chain) (copied : Option ℕ) where
-  pub left_plain : is_whole row.state ≡ false → least (filter (above None) (marked_on state row marks)) ≡ least (left_on state row marks chains copied)
+  pub left_plain : needs_full_copy row.state ≡ false → least (filter (above None) (marked_on state row marks)) ≡ least (left_on state row marks chains copied)
   left_plain is =
       ap least (from_start (marked_on state row marks) ∙ sym (append-nil (marked_on state row marks)))
       ∙ ap (λ (b : Bool). least (marked_on state row marks ++ (if b then filter (above copied) (stored_on state row chains) else []))) (sym is)
 
-  pub left_whole : is_whole row.state ≡ true
+  pub left_whole : needs_full_copy row.state ≡ true
       → lesser (least (filter (above None) (marked_on state row marks))) (least (filter (above copied) (stored_on state row chains)))
       ≡ least (left_on state row marks chains copied)
   left_whole is =

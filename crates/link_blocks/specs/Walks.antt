@@ -7,7 +7,7 @@ use Rattle.petal_base.specs.declared.cell.Cell.{Cell}
 use Rattle.petal_table.specs.Table.{Table}
 use Rattle.spec_rules.specs.Copies.{cell_at, is_kept_on}
 use Rattle.spec_rules.specs.Server.{PairState}
-use Rattle.spec_rules.specs.State.{State, is_whole}
+use Rattle.spec_rules.specs.State.{State, needs_full_copy}
 use Rattle.spec_rules.specs.Store.{Chain, Store}
 use Rattle.spec_rules.specs.Writes.{is_under_way}
 use Rattle.pair_memory.specs.PairMemory.{PairMemory, pairs_of}
@@ -23,7 +23,7 @@ stored_on state row chains = map (λ chain. chain.0.block) (filter (λ chain. is
 -- those that are left to copy, where the other server came back with nothing also the stored ones above the last copied one
 abbrev pub left_on : State → LinkRow → List Mark → Table Cell Chain → Option ℕ → List ℕ
 left_on state row marks chains copied =
-    marked_on state row marks ++ (if is_whole row.state then filter (above copied) (stored_on state row chains) else [])
+    marked_on state row marks ++ (if needs_full_copy row.state then filter (above copied) (stored_on state row chains) else [])
 
 -- the block lies on the link, and its cell is live
 abbrev pub on_link : State → LinkRow → ℕ → Bool

@@ -11,7 +11,7 @@ ghost use Rattle.pair_memory.specs.Kept.{chains_of};
 ghost use Rattle.pair_memory.specs.PairMemory.{own_of};
 ghost use Rattle.link_blocks.specs.Walks.{left_on, side_own};
 
-use crate::roles::is_whole;
+use crate::roles::needs_full_copy;
 use crate::walk::{cell_at, marked_above, stored_above};
 use global_state::LinkRow;
 use pair_lock::PairLock;
@@ -40,7 +40,7 @@ fn block_left<D: Disk>(
     ensures { result ≡ least (left_on here.now.state row.now store.now.marks (chains_of store.now.entries) copied) }
 {
     let marked = marked_above(here, store, row, None);
-    if !is_whole(row.state) {
+    if !needs_full_copy(row.state) {
         return marked;
     }
     lesser_block(marked, stored_above(here, store, row, copied))

@@ -30,11 +30,14 @@ pub fn holder_on(here: &JobContext, cell: Cell) -> Option<ServerId>
 }
 
 /// Whether the other server came back with nothing, so that all is to be copied.
-pub fn is_whole(state: LinkState) -> bool
-    ensures { result ≡ rules.is_whole state }
+pub fn needs_full_copy(state: LinkState) -> bool
+    ensures { result ≡ rules.needs_full_copy state }
 {
     match state {
-        LinkState::Only { holder: _, whole } => whole,
+        LinkState::Only {
+            holder: _,
+            full_copy_needed,
+        } => full_copy_needed,
         LinkState::Both | LinkState::Lost => false,
     }
 }

@@ -142,11 +142,11 @@ fn new_state(
         (true, true) => LinkState::Both,
         (true, false) | (false, false) => LinkState::Only {
             holder: primary,
-            whole: false,
+            full_copy_needed: false,
         },
         (false, true) => LinkState::Only {
             holder: secondary,
-            whole: false,
+            full_copy_needed: false,
         },
     }
 }
@@ -190,9 +190,15 @@ fn left_state(other: ServerId, state: LinkState) -> LinkState
     match state {
         LinkState::Both => LinkState::Only {
             holder: other,
-            whole: false,
+            full_copy_needed: false,
         },
-        LinkState::Only { holder, whole } => LinkState::Only { holder, whole },
+        LinkState::Only {
+            holder,
+            full_copy_needed,
+        } => LinkState::Only {
+            holder,
+            full_copy_needed,
+        },
         LinkState::Lost => LinkState::Lost,
     }
 }
@@ -225,13 +231,16 @@ fn blanked_state(server: ServerId, has: bool, state: LinkState) -> LinkState
 {
     match state {
         LinkState::Both => LinkState::Both,
-        LinkState::Only { holder, whole } => {
+        LinkState::Only {
+            holder,
+            full_copy_needed,
+        } => {
             if holder == server {
                 LinkState::Lost
             } else {
                 LinkState::Only {
                     holder,
-                    whole: has || whole,
+                    full_copy_needed: has || full_copy_needed,
                 }
             }
         }

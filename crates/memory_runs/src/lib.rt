@@ -20,7 +20,7 @@ use petal_world::{Record, World, are_in_order};
 use random_runs::{Count, Habit, Random, Tale, script_by, simulate};
 use std::alloc::Global;
 use std::test::Fail;
-use step_runner::{FirstHosts, Row, Run, play_case};
+use step_runner::{Case, FirstHosts, Run, play_case};
 use world_probe::{Copy, held};
 
 /// Servers with disks in memory.
@@ -77,27 +77,27 @@ pub fn start(alloc: Global, text: &str) -> Result<Run<MemServer>, Fail> {
     Ok(Run::new(alloc, world_of(alloc, script, hosts)?))
 }
 
-/// Plays a row.
-pub fn play(alloc: Global, row: &Row) -> Result<(), Fail> {
-    play_case(alloc, &Memory, row, start(alloc, row.script)?)
+/// Plays a case.
+pub fn play(alloc: Global, case: &Case) -> Result<(), Fail> {
+    play_case(alloc, &Memory, case, start(alloc, case.script)?)
 }
 
-/// Plays these rows, one after the other.
-pub fn play_all(alloc: Global, rows: &[Row]) -> Result<(), Fail> {
-    for row in rows {
-        play(alloc, row)?;
+/// Plays these cases, one after the other.
+pub fn play_all(alloc: Global, cases: &[Case]) -> Result<(), Fail> {
+    for case in cases {
+        play(alloc, case)?;
     }
     Ok(())
 }
 
-/// Plays a row that has these parts.
+/// Plays a case that has these parts.
 pub fn play_steps(alloc: Global, shows: &str, script: &str, steps: &str) -> Result<(), Fail> {
-    let row = Row {
+    let case = Case {
         shows,
         script,
         steps,
     };
-    play(alloc, &row)
+    play(alloc, &case)
 }
 
 /// Worlds are stepped by chance from so many seeds, counted from 1.

@@ -23,11 +23,11 @@ fn joined(alloc: Global, parts: &[&str]) -> Result<String, AllocError> {
     Ok(steps)
 }
 
-/// Plays these rows.
-pub fn play_parts(alloc: Global, rows: &[Parts]) -> Result<(), Fail> {
-    for row in rows {
-        let steps = joined(alloc, row.steps)?;
-        play_steps(alloc, row.shows, row.script, steps.as_str())?;
+/// Plays these cases.
+pub fn play_parts(alloc: Global, cases: &[Parts]) -> Result<(), Fail> {
+    for case in cases {
+        let steps = joined(alloc, case.steps)?;
+        play_steps(alloc, case.shows, case.script, steps.as_str())?;
     }
     Ok(())
 }

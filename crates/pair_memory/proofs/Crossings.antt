@@ -264,7 +264,7 @@ pub apart_below : {D : Type 0} (side : PairMemory) (held : Holdings D) → HasTi
 apart_below side held h slot = let all = h.out slot in omega (arith, all)
 
 abbrev has_slot_last : LastOp → Bool
-has_slot_last last = has_slot last.far
+has_slot_last last = has_slot last.progress
 
 needs_is : (found : Option LastOp) → needs_apart found ≡ has_value has_slot_last found
 needs_is None = refl
@@ -344,7 +344,7 @@ module _ (state next : State) (entry : Command) (made : next ≡ commands.after 
         (same_cells has_slot_last old.apart old.last sorted other (λ c. h.kept c ∙ needs_is (at cell_cmp old.last c)))
         ∙ sym (number_taken ending (filter (λ row. has_slot_last row.1) old.last))
         ∙ number_both ending has_slot_last old.last
-        ∙ ap (λ (test : Cell → Bool). length (filter (λ row. test row.0 && has_slot row.1.far) old.last)) ends_is
+        ∙ ap (λ (test : Cell → Bool). length (filter (λ row. test row.0 && has_slot row.1.progress) old.last)) ends_is
 
     number_is : length after.tickets ≡ length before.tickets - length (filter (loses_slot state entry) old.last)
     number_is =

@@ -254,7 +254,7 @@ module _ (pending : Table Cell Pending) (last : Table Cell LastOp) (own apart : 
   }
 
   -- the second server goes on from an operation that has a slot to one that has, or from one that has none to one that has none
-  pub kept_last : (cell : Cell) (op : LastOp) → needs_apart (at cell_cmp last cell) ≡ has_slot op.far
+  pub kept_last : (cell : Cell) (op : LastOp) → needs_apart (at cell_cmp last cell) ≡ has_slot op.progress
       → HasTickets pending (put cell_cmp last cell op) own apart tickets
   kept_last cell op same = record {
     out = h.out;
@@ -267,7 +267,7 @@ module _ (pending : Table Cell Pending) (last : Table Cell LastOp) (own apart : 
   }
 
   -- a slot is set apart for the lead
-  pub kept_apart : (cell : Cell) (op : LastOp) (slot : ℕ) → at cell_cmp apart cell ≡ None → has_slot op.far ≡ true
+  pub kept_apart : (cell : Cell) (op : LastOp) (slot : ℕ) → at cell_cmp apart cell ≡ None → has_slot op.progress ≡ true
       → HasTickets pending (put cell_cmp last cell op) own (put cell_cmp apart cell slot) (tickets ++ slot ∷ [])
   kept_apart cell op slot none new = record {
     out = λ n.
@@ -285,7 +285,7 @@ module _ (pending : Table Cell Pending) (last : Table Cell LastOp) (own apart : 
 
   -- the second server puts its copy in the slot that was set apart
   pub kept_followed : (cell : Cell) (op : LastOp) (slot : ℕ) → IsStrictlySortedBy cell_cmp (keys_of apart) → at cell_cmp apart cell ≡ Some slot
-      → has_slot op.far ≡ false → HasTickets pending (put cell_cmp last cell op) own (without cell_cmp apart cell) (store.without tickets slot)
+      → has_slot op.progress ≡ false → HasTickets pending (put cell_cmp last cell op) own (without cell_cmp apart cell) (store.without tickets slot)
   kept_followed cell op slot sorted is used = record {
     out = λ n.
         let all = h.out n in

@@ -52,7 +52,7 @@ needs_own (Some op) = not op.stage.put
 -- so has an operation that this server is to follow
 abbrev pub needs_apart : Option LastOp → Bool
 needs_apart None = false
-needs_apart (Some last) = has_slot last.far
+needs_apart (Some last) = has_slot last.progress
 
 -- the tickets that are out are those of the two tables, and each stands where it is needed
 pub record HasTickets (pending : Table Cell Pending) (last : Table Cell LastOp) (own apart : Table Cell ℕ) (tickets : List ℕ) : Type 0 where

@@ -7,15 +7,17 @@
 
 mod body;
 mod copying;
-mod dead;
 mod letter;
 mod operation;
 mod owner;
+mod retired;
 mod same;
 
 pub use body::Body;
 pub use copying::{CopyAction, Copying, LastCopy, LinkId, NextCopy, Progress};
-pub use dead::Dead;
 pub use letter::{Actor, Letter};
-pub use operation::{Action, Ending, Far, Finished, LastOp, OpKind, Pending, Reply, Stage};
+pub use operation::{
+    Action, Ending, Finished, FollowProgress, LastOp, OpKind, Pending, Reply, Stage,
+};
 pub use owner::{Shared, SharedLetter};
+pub use retired::Retired;

@@ -94,7 +94,7 @@ pub struct Finished {
 
 /// How far a second server is with an operation.
 #[derive(Clone, Copy, Debug, PartialEq, Eq)]
-pub enum Far {
+pub enum FollowProgress {
     /// A slot is set apart.
     Reserved,
     /// Its copy is put.
@@ -105,5 +105,5 @@ pub enum Far {
 #[derive(Clone, Copy, Debug, PartialEq, Eq)]
 pub struct LastOp {
     pub op: Op,
-    pub far: Far,
+    pub progress: FollowProgress,
 }

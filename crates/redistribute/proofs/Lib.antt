@@ -2,8 +2,8 @@ pub mod Fillings
 pub mod Flat
 pub mod Firsts
 pub mod FillOf
-pub mod FirstDead
-pub mod Dead
+pub mod FirstRetired
+pub mod Retired
 pub mod Rests
 pub mod Marked
-pub mod DeadMarks
+pub mod RetiredMarks

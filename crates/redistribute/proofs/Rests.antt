@@ -12,7 +12,7 @@ use Rattle.physical_map.specs.Entries.{key_of}
 use Rattle.physical_map.specs.Keys.{key_below, IsAbove, IsInOrder}
 use Rattle.physical_map.proofs.Orders.{order-at}
 use Rattle.server_store.specs.Holdings.{Held, key_held, listed}
-use Rattle.redistribute.specs.Swept.{first_dead}
+use Rattle.redistribute.specs.Swept.{first_retired}
 
 above_listed : (k : Key) (es : List Held) → IsAbove key_held k es → IsAbove key_of k (listed es)
 above_listed k [] above = tt
@@ -42,7 +42,7 @@ same_map k l rises up = grind (arith, nat_tests, rises, up)
 
 -- after an entry of a map of which each cell is live nothing of that map is looked at
 pub passed : (state : State) (k : Key) (es : List Entry) → ((block : ℕ) → live state (record { map = k.map; block = block }) ≡ true)
-    → IsAbove key_of k es → first_dead state (drop (up_to k.map es) es) ≡ first_dead state es
+    → IsAbove key_of k es → first_retired state (drop (up_to k.map es) es) ≡ first_retired state es
 passed state k [] lives above = refl
 passed state k (x ∷ xs) lives above = elim (cases_Bool (nat_le x.key.map k.map)) [
   | inl own ↦

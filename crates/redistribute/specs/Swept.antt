@@ -11,11 +11,11 @@ use Rattle.spec_rules.specs.State.{State, live}
 use Rattle.physical_map.specs.declared.entry.Entry.{Entry}
 use Rattle.physical_map.specs.Entries.{key_of}
 
-abbrev pub first_dead : State → List Entry → Option Key
-first_dead state entries = option_map key_of (find (λ entry. not (live state (cell_of entry.key))) entries)
+abbrev pub first_retired : State → List Entry → Option Key
+first_retired state entries = option_map key_of (find (λ entry. not (live state (cell_of entry.key))) entries)
 
-abbrev pub dead_marks : State → List Mark → List Mark
-dead_marks state marks = filter (λ mark. not (live state mark.cell)) marks
+abbrev pub retired_marks : State → List Mark → List Mark
+retired_marks state marks = filter (λ mark. not (live state mark.cell)) marks
 
 -- the cell with a mark on the least map, and there on the least block
 abbrev pub first_marked : List Mark → Option Cell

@@ -15,5 +15,5 @@ mod want;
 
 pub use answer::{on_fill_full, on_filled};
 pub use letters::fills_after;
-pub use sweep::{has_dead, sweep_one};
+pub use sweep::{has_retired, sweep_one};
 pub use want::moving;

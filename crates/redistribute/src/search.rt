@@ -3,16 +3,16 @@
 ghost use Rattle.std.specs.Prelude.{◌≡◌, ◌≤◌, ◌∷◌, None, nat_le, drop, length};
 ghost use Rattle.std.specs.List.{prefix_len};
 ghost use Rattle.busy_marks.specs.Marks.{next_marked};
-ghost use Rattle.spec_rules.specs.Sweeping.{dead_mark};
+ghost use Rattle.spec_rules.specs.Sweeping.{retired_mark};
 ghost use Rattle.physical_map.specs.Entries.{key_of};
 ghost use Rattle.physical_map.specs.Keys.{IsInOrder};
-ghost use Rattle.redistribute.specs.Swept.{dead_marks, first_dead, first_kind, first_marked};
+ghost use Rattle.redistribute.specs.Swept.{retired_marks, first_retired, first_kind, first_marked};
 
 use busy_marks::MarkKind;
 use global_state::GlobalState;
 use petal_base::{BlockNo, Cell, Key, MapId};
 use petal_disk::Disk;
-use petal_msg::Dead;
+use petal_msg::Retired;
 use server_store::{Entry, Store};
 
 /// The entries of the maps above this one, found by binary search.
@@ -27,7 +27,7 @@ fn above_map(entries: &[Entry], map: MapId) -> &[Entry]
 /// each cell of that map is live.
 fn rest_after<'a>(state: &GlobalState, entry: &Entry, later: &'a [Entry]) -> &'a [Entry]
     requires { IsInOrder key_of (entry.now ∷ later.now) }
-    ensures first { first_dead state.now result.now ≡ first_dead state.now later.now }
+    ensures first { first_retired state.now result.now ≡ first_retired state.now later.now }
     ensures order { IsInOrder key_of result.now }
     ensures shorter { length result.now ≤ length later.now }
 {
@@ -39,9 +39,9 @@ fn rest_after<'a>(state: &GlobalState, entry: &Entry, later: &'a [Entry]) -> &'a
 }
 
 /// The first entry of a cell that is live no longer.
-pub fn dead_entry(state: &GlobalState, entries: &[Entry]) -> Option<Key>
+pub fn retired_entry(state: &GlobalState, entries: &[Entry]) -> Option<Key>
     requires { IsInOrder key_of entries.now }
-    ensures { result ≡ first_dead state.now entries.now }
+    ensures { result ≡ first_retired state.now entries.now }
 {
     let mut rest = entries;
     while let Some((entry, later)) = rest.split_first() {
@@ -54,8 +54,8 @@ pub fn dead_entry(state: &GlobalState, entries: &[Entry]) -> Option<Key>
 }
 
 /// The first marked block of the map whose cell is live no longer.
-fn dead_block<D: Disk>(state: &GlobalState, store: &Store<D>, map: MapId) -> Option<BlockNo>
-    ensures { result ≡ next_marked map None (dead_marks state.now store.now.marks) }
+fn retired_block<D: Disk>(state: &GlobalState, store: &Store<D>, map: MapId) -> Option<BlockNo>
+    ensures { result ≡ next_marked map None (retired_marks state.now store.now.marks) }
 {
     if state.is_live_map(map) {
         return None;
@@ -71,12 +71,12 @@ fn dead_block<D: Disk>(state: &GlobalState, store: &Store<D>, map: MapId) -> Opt
 }
 
 /// The first marked cell that is live no longer, by map and then by block.
-fn dead_cell<D: Disk>(state: &GlobalState, store: &Store<D>) -> Option<Cell>
-    ensures { result ≡ first_marked (dead_marks state.now store.now.marks) }
+fn retired_cell<D: Disk>(state: &GlobalState, store: &Store<D>) -> Option<Cell>
+    ensures { result ≡ first_marked (retired_marks state.now store.now.marks) }
 {
     let mut after = None;
     while let Some(map) = store.next_marked_map(after) {
-        if let Some(block) = dead_block(state, store, map) {
+        if let Some(block) = retired_block(state, store, map) {
             return Some(Cell { map, block });
         }
         after = Some(map);
@@ -96,13 +96,13 @@ fn first_kind<D: Disk>(store: &Store<D>, cell: Cell) -> MarkKind
 }
 
 /// The first mark of a cell that is live no longer.
-pub fn dead_mark<D: Disk>(state: &GlobalState, store: &Store<D>) -> Option<Dead>
-    ensures { result ≡ dead_mark state.now store.now.marks }
+pub fn retired_mark<D: Disk>(state: &GlobalState, store: &Store<D>) -> Option<Retired>
+    ensures { result ≡ retired_mark state.now store.now.marks }
 {
     // What `next_mark` promises tells the proof that the marks are in order.
     let _ = store.next_mark(0, None);
-    match dead_cell(state, store) {
-        Some(cell) => Some(Dead::Mark(first_kind(store, cell), cell)),
+    match retired_cell(state, store) {
+        Some(cell) => Some(Retired::Mark(first_kind(store, cell), cell)),
         None => None,
     }
 }

@@ -3,7 +3,7 @@
 ghost use Rattle.std.specs.Prelude.{◌≡◌, [], true, nat_eq, Some, is_some};
 ghost use Rattle.std.specs.List.{list_any};
 ghost use Rattle.petal_base.specs.Cells.{cell_of};
-ghost use Rattle.petal_msg.specs.declared.dead.Dead.TheVariants as dead;
+ghost use Rattle.petal_msg.specs.declared.retired.Retired.TheVariants as retired;
 ghost use Rattle.spec_rules.specs.Store.{chain_in, epochs_of};
 ghost use Rattle.spec_rules.specs.Sweeping as sweeping;
 ghost use Rattle.kept_chains.specs.Kept.{chains_of, store_of};
@@ -11,33 +11,33 @@ ghost use Rattle.pair_memory.specs.declared.job_result.FollowUp.TheVariants as f
 ghost use Rattle.pair_memory.specs.JobResult.{IsDone};
 ghost use Rattle.pair_memory.specs.PairMemory.{own_of, HasTicketsAt};
 
-use crate::search::{dead_entry, dead_mark};
+use crate::search::{retired_entry, retired_mark};
 use busy_marks::MarkKind;
 use global_state::GlobalState;
 use kept_chains::{drop_entry, unmark};
 use pair_memory::{FollowUp, JobContext, JobResult, PairMemory, WorkError, silent};
 use petal_base::{Cell, Key, Sequence};
 use petal_disk::Disk;
-use petal_msg::Dead;
+use petal_msg::Retired;
 use server_store::Store;
 
 /// What is to be dropped next: the first entry of a cell that is live no longer, or else the first such mark.
-pub fn next_dead<D: Disk>(state: &GlobalState, store: &Store<D>) -> Option<Dead>
-    ensures { result ≡ sweeping.next_dead state.now (store_of store.now) }
+pub fn next_retired<D: Disk>(state: &GlobalState, store: &Store<D>) -> Option<Retired>
+    ensures { result ≡ sweeping.next_retired state.now (store_of store.now) }
 {
     // What `free` promises tells the proof that the entries are in order.
     let _ = store.free();
-    match dead_entry(state, store.entries()) {
-        Some(key) => Some(Dead::Key(key)),
-        None => dead_mark(state, store),
+    match retired_entry(state, store.entries()) {
+        Some(key) => Some(Retired::Key(key)),
+        None => retired_mark(state, store),
     }
 }
 
 /// Whether something is to be dropped.
-pub fn has_dead<D: Disk>(state: &GlobalState, store: &Store<D>) -> bool
-    ensures { result ≡ is_some (sweeping.next_dead state.now (store_of store.now)) }
+pub fn has_retired<D: Disk>(state: &GlobalState, store: &Store<D>) -> bool
+    ensures { result ≡ is_some (sweeping.next_retired state.now (store_of store.now)) }
 {
-    next_dead(state, store).is_some()
+    next_retired(state, store).is_some()
 }
 
 /// No letter is sent, and the next one is dropped in a job of its own.
@@ -60,7 +60,7 @@ fn drop_one<D: Disk>(
     requires tickets { HasTicketsAt side.now store.old }
     requires there { list_any (nat_eq key.epoch) (epochs_of (chain_in (chains_of store.old.entries) (cell_of key))) ≡ true }
     ensures { IsDone D.Disk here.now side.now side.now store.old store.new result
-        (sweeping.sweeps_with (own_of side.now store.old) (Some (dead.Key key))) }
+        (sweeping.sweeps_with (own_of side.now store.old) (Some (retired.Key key))) }
 {
     let _ = side;
     drop_entry(store, key)?;
@@ -77,7 +77,7 @@ fn unmark_one<D: Disk>(
 ) -> Result<JobResult, WorkError>
     requires { HasTicketsAt side.now store.old }
     ensures { IsDone D.Disk here.now side.now side.now store.old store.new result
-        (sweeping.sweeps_with (own_of side.now store.old) (Some (dead.Mark kind cell))) }
+        (sweeping.sweeps_with (own_of side.now store.old) (Some (retired.Mark kind cell))) }
 {
     let _ = side;
     unmark(store, kind, cell)?;
@@ -100,9 +100,9 @@ pub fn sweep_one<D: Disk>(
 {
     // What `free` promises tells the proof that the entries are in order.
     let _ = store.free();
-    match next_dead(here.state(), store) {
+    match next_retired(here.state(), store) {
         None => silent(here, side, store),
-        Some(Dead::Key(key)) => drop_one(here, side, store, key),
-        Some(Dead::Mark(kind, cell)) => unmark_one(here, side, store, kind, cell),
+        Some(Retired::Key(key)) => drop_one(here, side, store, key),
+        Some(Retired::Mark(kind, cell)) => unmark_one(here, side, store, kind, cell),
     }
 }

@@ -23,7 +23,8 @@ use petal_base::{NoMemory, Sequence};
 use petal_disk::{DeviceError, Disk};
 use petal_msg::Letter;
 use server_jobs::{
-    copy_letters_after, fills_after, has_dead, is_in, own_wants, repair_jobs, write_letters_after,
+    copy_letters_after, fills_after, has_retired, is_in, own_wants, repair_jobs,
+    write_letters_after,
 };
 use server_store::Store;
 use spec_rules::Job;
@@ -113,7 +114,7 @@ fn link_jobs<D: Disk>(
     }
     let here = JobContext::new(alloc, parts.log.state(), parts.log.me(), parts.log.inc());
     let mut queued = repair_jobs(&here, &parts.side, store)?;
-    let mut sweeps = job_where(alloc, has_dead(parts.log.state(), store), Job::Sweep)?;
+    let mut sweeps = job_where(alloc, has_retired(parts.log.state(), store), Job::Sweep)?;
     queued.append(&mut sweeps)?;
     Ok(queued)
 }

@@ -17,6 +17,6 @@ pub use copy_recovery::{letters_after as copy_letters_after, repair_jobs};
 pub use jobs::does;
 pub use queue::{Kind, add_all, enter, go_on, kind_of, make_room};
 pub use recent::RecentBlocks;
-pub use redistribute::{fills_after, has_dead};
+pub use redistribute::{fills_after, has_retired};
 pub use wants::{is_in, own_wants};
 pub use write_pair::letters_after as write_letters_after;

@@ -36,7 +36,7 @@ use Rattle.spec_state.specs.Command.{is_alone, state_after}
 use Rattle.spec_state.specs.Place.{places_from}
 use Rattle.spec_state.specs.State.{start as first_state}
 use Rattle.spec_state.specs.declared.answer.Hold.TheVariants.{No}
-use Rattle.spec_rules.specs.State.{State, authority, coming, first, second, is_in, is_lead, is_whole, lead, leads_link, leaving, live, held}
+use Rattle.spec_rules.specs.State.{State, authority, coming, first, second, is_in, is_lead, needs_full_copy, lead, leads_link, leaving, live, held}
 use Rattle.spec_rules.specs.Store.{Chain, Store, cell_cmp, chain_in, version_of, is_marked}
 use Rattle.spec_rules.specs.Log.{rev_of}
 use Rattle.spec_rules.specs.World.{Setting, World, start, setting_of, server_state, devices, chosen_log, chosen_state, counted, kept}
@@ -74,7 +74,7 @@ IsMarked store cell = (is_marked store Busy cell ≡ true) ⊎ (is_marked store 
 
 -- the other server came back with nothing, so that the holder is to copy each block that it has; it has this one
 pub record IsToBeCopied (row : LinkRow) (holder : Store) (cell : Cell) : Type 0 where
-  pub whole : is_whole row.state ≡ true
+  pub whole : needs_full_copy row.state ≡ true
   pub stored : chain_in holder.chains cell ≢ []
 
 -- two copies of a cell are equal, or the block is marked at one of them, or the holder is to copy all that it has

@@ -42,7 +42,7 @@ pub record Asked : Type 0 where
   pub turn : ℕ
   pub rev : ℕ
   pub witnesses : ℕ
-  pub told : Bool
+  pub saw_missing : Bool
   pub old_way : Bool
   pub round : ℕ
   pub seen : Table ℕ (Option ℕ)
@@ -134,17 +134,17 @@ abbrev pub read_refusal_at : State → (asked old : Cell) → Option ℕ → Opt
 read_refusal_at state asked old None = Some answer.NoSnap
 read_refusal_at state asked old (Some epoch) = if is_unread state asked || is_unread state old then Some answer.Unavailable else None
 
-abbrev pub read_refusal : State → Option DiskView → Option (List ℕ) → ℕ → (told : Bool) → Option Answer
-read_refusal state None snap block told = Some answer.NoDisk
-read_refusal state (Some disk) snap block told =
-    read_refusal_at state (cell_asked state disk block false) (cell_asked state disk block told) (epoch_for state disk snap)
+abbrev pub read_refusal : State → Option DiskView → Option (List ℕ) → ℕ → (saw_missing : Bool) → Option Answer
+read_refusal state None snap block saw_missing = Some answer.NoDisk
+read_refusal state (Some disk) snap block saw_missing =
+    read_refusal_at state (cell_asked state disk block false) (cell_asked state disk block saw_missing) (epoch_for state disk snap)
 
 -- why a read or write can't be served in this state: its disk or snapshot is unknown, or it has no usable server. A read that was ever told
 -- that the new map has nothing needs a server of either map, while the block's region is on its way
-unfoldable pub refusal : State → (told : Bool) → Request → Option Answer
-refusal state told (request.Write name block pattern) = write_refusal state (find state name) block
-refusal state told (request.Read name snap block) = read_refusal state (find state name) snap block told
-refusal state told _ = None
+unfoldable pub refusal : State → (saw_missing : Bool) → Request → Option Answer
+refusal state saw_missing (request.Write name block pattern) = write_refusal state (find state name) block
+refusal state saw_missing (request.Read name snap block) = read_refusal state (find state name) snap block saw_missing
+refusal state saw_missing _ = None
 
 -- a place of the log from which the client can tell that its request can't be served
 abbrev pub witness_of : ℕ → Asked → Command
@@ -160,7 +160,7 @@ or_command (Some command) other = Some command
 
 -- what is to be proposed for the open request: its own command, or a Witness where the state can't serve it
 abbrev pub to_propose : State → ℕ → Asked → Option Command
-to_propose state me asked = or_command (command_of me asked.seq asked.request) (witness_where (refusal state asked.told asked.request) me asked)
+to_propose state me asked = or_command (command_of me asked.seq asked.request) (witness_where (refusal state asked.saw_missing asked.request) me asked)
 
 -- ### Sending the open request
 
@@ -231,7 +231,7 @@ called state me client line asked =
       turn = 0;
       rev = state.rev;
       witnesses = 0;
-      told = false;
+      saw_missing = false;
       old_way = false;
       round = first_round asked;
       seen = [];
@@ -258,7 +258,7 @@ answers client asked given = record { client = record client { asked = None }; p
 
 -- the new map has nothing: the old one is asked, at the same revision; after another one the request starts again
 abbrev pub goes_the_old_way : State → ℕ → Client → Asked → Reaction
-goes_the_old_way state me client asked = goes_out state me client (record asked { told = true; old_way = true })
+goes_the_old_way state me client asked = goes_out state me client (record asked { saw_missing = true; old_way = true })
 
 -- Data and NotHere answer only a read, Written and Full only a write. What was refused for a while, or at another revision, is sent
 -- again, and the client asks what follows. The others are no replies
@@ -375,7 +375,7 @@ is_witness me seq _ = false
 -- a request with a command of its own waits for its verdict; another one for its own Witness
 abbrev pub judged_by : ℕ → Command → Learning → Asked → Option Command → Learning
 judged_by me entry now asked (Some command) = answered_where now asked (verdict_for asked.seq (latest now.state me))
-judged_by me entry now asked None = if is_witness me asked.seq entry then witnessed now asked (refusal now.state asked.told asked.request) else now
+judged_by me entry now asked None = if is_witness me asked.seq entry then witnessed now asked (refusal now.state asked.saw_missing asked.request) else now
 
 abbrev pub judged : ℕ → Command → Learning → Option Asked → Learning
 judged me entry now None = now

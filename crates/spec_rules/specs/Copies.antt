@@ -27,7 +27,7 @@ use Rattle.petal_msg.specs.declared.copying.Progress.{Progress}
 use Rattle.spec_state.specs.CellState.{cell_link}
 use Rattle.spec_rules.specs.Progress.{progress_on, with_progress, copying_on, with_copying, without_copying, last_copy, with_last_copy, with_full}
 use Rattle.spec_rules.specs.Server.{PairState, JobContext, JobResult, Post, post_to, silent, says_to}
-use Rattle.spec_rules.specs.State.{State, id_of, link_named, is_on, live, other_in, holder_of, is_whole}
+use Rattle.spec_rules.specs.State.{State, id_of, link_named, is_on, live, other_in, holder_of, needs_full_copy}
 use Rattle.spec_rules.specs.Store.{Store, Stored, chain_in, free_of, with_ticket, with_entry, without_entry, epochs_of}
 use Rattle.spec_rules.specs.Store.{mark_left, with_mark_on, without_mark_on}
 use Rattle.spec_rules.specs.Writes.{is_under_way}
@@ -61,7 +61,7 @@ least (n ∷ ns) = lesser (Some n) (least ns)
 -- those that it copied
 abbrev pub blocks_left : State → LinkRow → PairState → List ℕ
 blocks_left state row own =
-    marked_blocks state row own ++ (if is_whole row.state then filter (above (progress_on own row).copied) (stored_blocks state row own) else [])
+    marked_blocks state row own ++ (if needs_full_copy row.state then filter (above (progress_on own row).copied) (stored_blocks state row own) else [])
 
 -- an operation or a copy is under way on the link
 abbrev pub is_link_under_way : State → LinkRow → PairState → Bool

@@ -34,13 +34,13 @@ ends_cell state entry cell = touches_cell state entry cell || dies state entry c
 
 -- a slot is set apart here for an operation of another server on such a cell
 abbrev pub loses_slot : State → Command → Cell × LastOp → Bool
-loses_slot state entry row = ends_cell state entry row.0 && has_slot row.1.far
+loses_slot state entry row = ends_cell state entry row.0 && has_slot row.1.progress
 
 -- the entry touches the link of this name
 abbrev pub touches_link : State → Command → LinkId → Bool
 touches_link state entry id = option_map_or (touches state entry) (link_named state id) false
 
--- what is kept of the link ends with the entry: it touches it, or its map is dead
+-- what is kept of the link ends with the entry: it touches it, or its map is retired
 abbrev pub ends_link : State → Command → LinkId → Bool
 ends_link state entry id = touches_link state entry id || is_none (link_named (after state entry) id)
 

@@ -76,10 +76,10 @@ abbrev pub holder_of : ℕ → LinkRow → Option ℕ
 holder_of me row = if has_server me row && is_alone (other_of me row) row.state then Some (other_of me row) else None
 
 -- the other server came back with nothing, so that all that the holder has is to be copied
-abbrev pub is_whole : LinkState → Bool
-is_whole Both = false
-is_whole (Only holder whole) = whole
-is_whole Lost = false
+abbrev pub needs_full_copy : LinkState → Bool
+needs_full_copy Both = false
+needs_full_copy (Only holder whole) = whole
+needs_full_copy Lost = false
 
 -- the server holds the cell's link alone
 abbrev pub is_alone_on : State → ℕ → Cell → Bool

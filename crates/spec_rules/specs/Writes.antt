@@ -17,8 +17,8 @@ use Rattle.petal_msg.specs.declared.operation.Action.{Action}
 use Rattle.petal_msg.specs.declared.operation.Action.TheVariants as action
 use Rattle.petal_msg.specs.declared.operation.Ending.{Ending}
 use Rattle.petal_msg.specs.declared.operation.Ending.TheVariants.{Written, Full}
-use Rattle.petal_msg.specs.declared.operation.Far.{Far}
-use Rattle.petal_msg.specs.declared.operation.Far.TheVariants as far
+use Rattle.petal_msg.specs.declared.operation.FollowProgress.{FollowProgress}
+use Rattle.petal_msg.specs.declared.operation.FollowProgress.TheVariants as follow_progress
 use Rattle.petal_msg.specs.declared.operation.Finished.{Finished}
 use Rattle.petal_msg.specs.declared.operation.LastOp.{LastOp}
 use Rattle.petal_msg.specs.declared.operation.OpKind.{OpKind}
@@ -314,24 +314,24 @@ on_replicated here own number cell = hears_replicated here own number (pending_o
 abbrev pub last_on : PairState → Cell → Option LastOp
 last_on own cell = at cell_cmp own.pairs.last cell
 
-abbrev pub with_last : PairState → Cell → ℕ → Far → PairState
-with_last own cell number far = record own { pairs = record own.pairs { last = put cell_cmp own.pairs.last cell (record { op = number; far = far }) } }
+abbrev pub with_last : PairState → Cell → ℕ → FollowProgress → PairState
+with_last own cell number far = record own { pairs = record own.pairs { last = put cell_cmp own.pairs.last cell (record { op = number; progress = far }) } }
 
 -- the second server tells the lead how far it is
-abbrev pub tells : JobContext → PairState → Cell → ℕ → Far → JobResult
-tells here own cell number far.Reserved = says_to own (first here.state cell) (body.Reserved number cell)
-tells here own cell number far.Replicated = says_to own (first here.state cell) (body.Replicated number cell)
+abbrev pub tells : JobContext → PairState → Cell → ℕ → FollowProgress → JobResult
+tells here own cell number follow_progress.Reserved = says_to own (first here.state cell) (body.Reserved number cell)
+tells here own cell number follow_progress.Replicated = says_to own (first here.state cell) (body.Replicated number cell)
 
 -- a slot is set apart and not yet used
-abbrev pub has_slot : Far → Bool
-has_slot far.Reserved = true
-has_slot far.Replicated = false
+abbrev pub has_slot : FollowProgress → Bool
+has_slot follow_progress.Reserved = true
+has_slot follow_progress.Replicated = false
 
 -- an operation that is new here gets the slot that is set apart for the cell, or a free one
 abbrev pub reserves : JobContext → PairState → Cell → ℕ → (has room : Bool) → JobResult
-reserves here own cell number true room = tells here (with_last own cell number far.Reserved) cell number far.Reserved
+reserves here own cell number true room = tells here (with_last own cell number follow_progress.Reserved) cell number follow_progress.Reserved
 reserves here own cell number false true =
-    tells here (with_last (record own { store = with_ticket own.store }) cell number far.Reserved) cell number far.Reserved
+    tells here (with_last (record own { store = with_ticket own.store }) cell number follow_progress.Reserved) cell number follow_progress.Reserved
 reserves here own cell number false false = says_to own (first here.state cell) (body.PairFull number cell)
 
 -- an older number is dropped, an equal one is answered again
@@ -339,8 +339,8 @@ abbrev pub hears_reserve : JobContext → PairState → Cell → ℕ → Option 
 hears_reserve here own cell number None = reserves here own cell number false (nat_lt 0 (free_of own.store))
 hears_reserve here own cell number (Some last) =
     if nat_lt number last.op then silent own
-    else if number == last.op then tells here own cell number last.far
-    else reserves here own cell number (has_slot last.far) (nat_lt 0 (free_of own.store))
+    else if number == last.op then tells here own cell number last.progress
+    else reserves here own cell number (has_slot last.progress) (nat_lt 0 (free_of own.store))
 
 unfoldable pub on_reserve : JobContext → PairState → ℕ → Cell → JobResult
 on_reserve here own number cell = if is_second here.state here.me cell then hears_reserve here own cell number (last_on own cell) else silent own
@@ -350,17 +350,17 @@ abbrev pub follows : JobContext → PairState → ℕ → Key → List ℕ → J
 follows here own number key bytes =
     let version = version_of (chain_in own.store.chains (cell_of key)) + 1 in
     let with_put : PairState = record own { store = with_entry own.store key (record { version = version; bytes = bytes }) } in
-    tells here (with_last with_put (cell_of key) number far.Replicated) (cell_of key) number far.Replicated
+    tells here (with_last with_put (cell_of key) number follow_progress.Replicated) (cell_of key) number follow_progress.Replicated
 
 -- once, in the slot that was set apart
-abbrev pub follows_once : JobContext → PairState → ℕ → Key → List ℕ → Far → JobResult
-follows_once here own number key bytes far.Reserved = follows here own number key bytes
-follows_once here own number key bytes far.Replicated = tells here own (cell_of key) number far.Replicated
+abbrev pub follows_once : JobContext → PairState → ℕ → Key → List ℕ → FollowProgress → JobResult
+follows_once here own number key bytes follow_progress.Reserved = follows here own number key bytes
+follows_once here own number key bytes follow_progress.Replicated = tells here own (cell_of key) number follow_progress.Replicated
 
 -- only for the number whose slot was set apart; an equal number is answered again
 abbrev pub hears_replicate : JobContext → PairState → ℕ → Key → List ℕ → Option LastOp → JobResult
 hears_replicate here own number key bytes None = silent own
-hears_replicate here own number key bytes (Some last) = if number == last.op then follows_once here own number key bytes last.far else silent own
+hears_replicate here own number key bytes (Some last) = if number == last.op then follows_once here own number key bytes last.progress else silent own
 
 unfoldable pub on_replicate : JobContext → PairState → ℕ → Key → List ℕ → JobResult
 on_replicate here own number key bytes =

@@ -9,7 +9,7 @@ ghost use Rattle.petal_msg.specs.declared.letter.Actor.{Actor};
 ghost use Rattle.petal_msg.specs.declared.letter.Letter.{Letter};
 ghost use Rattle.petal_msg.specs.declared.operation.Action.TheVariants.{Drop};
 ghost use Rattle.petal_msg.specs.declared.operation.Ending.{Ending};
-ghost use Rattle.petal_msg.specs.declared.operation.Far.TheVariants.{Replicated};
+ghost use Rattle.petal_msg.specs.declared.operation.FollowProgress.TheVariants.{Replicated};
 ghost use Rattle.petal_msg.specs.declared.operation.Finished.{Finished};
 ghost use Rattle.petal_msg.specs.declared.operation.LastOp.{LastOp};
 ghost use Rattle.petal_msg.specs.declared.operation.Pending.{Pending};
@@ -56,7 +56,7 @@ pub fn an_ended_request_is_remembered()
 /// The second server puts a copy once, and only for the number whose slot it set apart.
 pub fn a_second_copy_is_put_once()
     ensures again { (here : JobContext) (own : PairState) (number : ℕ) (key : Key) (bytes : List ℕ)
-        → last_on own (cell_of key) ≡ Some (record { op = number; far = Replicated }) → (on_replicate here own number key bytes).own ≡ own }
+        → last_on own (cell_of key) ≡ Some (record { op = number; progress = Replicated }) → (on_replicate here own number key bytes).own ≡ own }
     ensures other { (here : JobContext) (own : PairState) (number : ℕ) (key : Key) (bytes : List ℕ) (last : LastOp) → last_on own (cell_of key) ≡ Some last
         → number ≢ last.op → on_replicate here own number key bytes ≡ silent own }
     ensures unknown { (here : JobContext) (own : PairState) (number : ℕ) (key : Key) (bytes : List ℕ) → last_on own (cell_of key) ≡ None
@@ -70,5 +70,5 @@ pub fn a_second_copy_is_put()
         → chain_in (follows here own number key bytes).own.store.chains (cell_of key) ≡ put nat_cmp (chain_in own.store.chains (cell_of key)) key.epoch
         (record { version = version_of (chain_in own.store.chains (cell_of key)) + 1; bytes = bytes }) }
     ensures last { (here : JobContext) (own : PairState) (number : ℕ) (key : Key) (bytes : List ℕ)
-        → last_on (follows here own number key bytes).own (cell_of key) ≡ Some (record { op = number; far = Replicated }) }
+        → last_on (follows here own number key bytes).own (cell_of key) ≡ Some (record { op = number; progress = Replicated }) }
 {}

@@ -135,7 +135,7 @@ abbrev pub drained : State → (server inc fence : ℕ) → State
 drained s server inc fence =
     if is_head s fence && is_up_as s server inc then record s { view = view.drained s.view server } else s
 
--- a region is `New`: the next one waits, or after the last the old map is dead
+-- a region is `New`: the next one waits, or after the last the old map is retired
 abbrev pub after_region : State → (map disk region : ℕ) → State
 after_region s of disk region =
     if region == 15 then record s { links = links.dropped s.links of } else with_fence s (Region disk (region + 1))

@@ -347,7 +347,7 @@ pub fn is_alone(holder: ServerId, state: LinkState) -> bool
     match state {
         LinkState::Only {
             holder: alone,
-            whole: _,
+            full_copy_needed: _,
         } => alone == holder,
         LinkState::Both | LinkState::Lost => false,
     }

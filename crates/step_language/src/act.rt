@@ -1,4 +1,4 @@
-//! One step of a row: what its words ask for.
+//! One step of a case: what its words ask for.
 
 use crate::words::{Mail, actor, byte, calls, cell, client, device, mail_of, number, server};
 use petal_base::{Cell, ClientId, MapId, ServerId};

@@ -23,7 +23,7 @@ fn like(
     SharedLetter::new(alloc, other)
 }
 
-/// The write under another name. Any other letter stays as it is, so that a row that expects a refusal of it fails.
+/// The write under another name. Any other letter stays as it is, so that a case that expects a refusal of it fails.
 pub fn renamed(alloc: Global, letter: &SharedLetter) -> Result<SharedLetter, NoMemory> {
     let sent = letter.get();
     match &sent.body {

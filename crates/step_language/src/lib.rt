@@ -1,5 +1,5 @@
-//! The language of a row's steps: the words for actors, numbers, devices and letters, what a step asks for by its words, and letters
-//! that nobody sent, as rows hand them over in the place of one that was.
+//! The language of a case's steps: the words for actors, numbers, devices and letters, what a step asks for by its words, and letters
+//! that nobody sent, as cases hand them over in the place of one that was.
 //!
 //! To the layer above it promises no more than safety; tests show what it reads. It knows nothing of runs.
 #![tactic(auto)]

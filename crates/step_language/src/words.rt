@@ -1,11 +1,11 @@
-//! What the words of a row stand for.
+//! What the words of a case stand for.
 
 use petal_base::{Cell, ClientId, OPERATOR, ServerId};
 use petal_command::Pax;
 use petal_disk::{CallKind, Which};
 use petal_msg::{Actor, Body, Letter};
 
-/// Does something with the list of the kinds of letters that rows name, in the order of the format: each with the word of it.
+/// Does something with the list of the kinds of letters that cases name, in the order of the format: each with the word of it.
 macro_rules! with_kinds {
     ($does:ident $given:expr) => {
         $does! {
@@ -47,7 +47,7 @@ macro_rules! with_kinds {
     };
 }
 
-/// The word of a letter's kind, or one that no row can name.
+/// The word of a letter's kind, or one that no case can name.
 macro_rules! word_of {
     ($body:expr; $($kind:pat => $word:literal,)*) => {
         match $body {
@@ -64,7 +64,7 @@ macro_rules! is_word {
     };
 }
 
-/// The word of a letter's kind, empty where rows name it not.
+/// The word of a letter's kind, empty where cases name it not.
 fn kind_of(body: &Body) -> &'static str {
     with_kinds!(word_of body)
 }

@@ -1,4 +1,4 @@
-//! Runs of worlds in orders that the plain schedule never takes, over servers of any kind: step by step, as rows say, and what a row
+//! Runs of worlds in orders that the plain schedule never takes, over servers of any kind: step by step, as cases say, and what a case
 //! expects of its servers and answers.
 //!
 //! To the layer above it promises no more than safety; tests show what it plays. It knows nothing of how a server keeps its
@@ -11,5 +11,5 @@ mod schedule;
 mod wants;
 
 pub use held::FirstHosts;
-pub use schedule::{Row, play_case};
+pub use schedule::{Case, play_case};
 pub use world_probe::Run;

@@ -1,4 +1,4 @@
-//! A run that a row steps.
+//! A run that a case steps.
 
 use crate::held::{FirstHosts, is_held};
 use crate::wants::is_so;

@@ -1,4 +1,4 @@
-//! Schedules as rows: a script, and the steps of its run in words.
+//! Schedules as cases: a script, and the steps of its run in words.
 //!
 //! Its steps stand one after the other with `;` between them. A server is its digit, a client its letter, the operator `op`, and
 //! a line of the script its number. Line 1 is the `servers` line.
@@ -53,7 +53,7 @@
 //! `not` before a step says that the world refuses it, or that there is no such letter; before an expectation, that it is not
 //! so. The kinds of letters are the words of `with_kinds` (`step_language`); the events are `make`, `freeze`, `begin`, `take`, `end` and `look`.
 //!
-//! At the end of each row the plain machine takes all that it is told. A row that fails names itself, the step and, where a
+//! At the end of each case the plain machine takes all that it is told. A case that fails names itself, the step and, where a
 //! word is none of these, the word and its place in the step.
 
 use crate::held::FirstHosts;
@@ -68,7 +68,7 @@ use world_probe::Run;
 
 /// What a run shows, its script, and its steps, in the form of this module.
 #[derive(Clone, Copy)]
-pub struct Row<'a> {
+pub struct Case<'a> {
     pub shows: &'a str,
     pub script: &'a str,
     pub steps: &'a str,
@@ -127,14 +127,14 @@ fn word_at<'a>(words: &[&'a str], place: usize) -> &'a str {
     }
 }
 
-fn fail(row: &Row, at: usize, words: &[&str], fault: Fault) -> Fail {
+fn fail(case: &Case, at: usize, words: &[&str], fault: Fault) -> Fail {
     match fault {
-        Fault::NotSo => Fail::new(format_args!("{}: step {at}, {words:?}", row.shows)),
+        Fault::NotSo => Fail::new(format_args!("{}: step {at}, {words:?}", case.shows)),
         Fault::BadWord(place) => {
             let word = word_at(words, place);
             Fail::new(format_args!(
                 "{}: step {at}, {words:?}: `{word}`, word {place}, is none of the form",
-                row.shows
+                case.shows
             ))
         }
     }
@@ -143,36 +143,36 @@ fn fail(row: &Row, at: usize, words: &[&str], fault: Fault) -> Fail {
 fn walk<H: Host, C: FirstHosts<H> + Stores>(
     alloc: Global,
     hosts: &C,
-    row: &Row,
+    case: &Case,
     player: &mut Player<H>,
 ) -> Result<(), Fail> {
     let mut at = 0usize;
-    for step in row.steps.split(';') {
+    for step in case.steps.split(';') {
         at = at.saturating_add(1);
         let words: Vec<&str> = step.split_whitespace().collect(alloc)?;
         if let Some(fault) = fault_of(alloc, hosts, player, &words)? {
-            return Err(fail(row, at, &words, fault));
+            return Err(fail(case, at, &words, fault));
         }
     }
     match player.first_refused(alloc, hosts)? {
         None => Ok(()),
         Some(record) => Err(Fail::new(format_args!(
             "{}: the plain machine refuses record {record}",
-            row.shows
+            case.shows
         ))),
     }
 }
 
-/// Plays a row on the run of its script that begins, with these servers.
+/// Plays a case on the run of its script that begins, with these servers.
 ///
 /// # Errors
-/// What is wrong: the row, its step, and where a word is none of the form that word; or what the plain machine refuses.
+/// What is wrong: the case, its step, and where a word is none of the form that word; or what the plain machine refuses.
 pub fn play_case<H: Host, C: FirstHosts<H> + Stores>(
     alloc: Global,
     hosts: &C,
-    row: &Row,
+    case: &Case,
     run: Run<H>,
 ) -> Result<(), Fail> {
     let mut player = Player::new(alloc, run);
-    walk(alloc, hosts, row, &mut player)
+    walk(alloc, hosts, case, &mut player)
 }

@@ -65,7 +65,7 @@ enum Step {
 }
 
 /// What the steps of a client show, and the steps before them.
-struct Row {
+struct Case {
     shows: &'static str,
     before: &'static [Step],
     steps: &'static [Step],
@@ -327,23 +327,23 @@ fn is_so(alloc: Global, client: &mut ClientCore, step: &Step) -> Result<bool, Fa
     }
 }
 
-fn play(alloc: Global, client: &mut ClientCore, row: &Row) -> Result<(), Fail> {
-    for (at, step) in row.before.iter().chain(row.steps).enumerate() {
+fn play(alloc: Global, client: &mut ClientCore, case: &Case) -> Result<(), Fail> {
+    for (at, step) in case.before.iter().chain(case.steps).enumerate() {
         if !is_so(alloc, client, step)? {
-            return Err(Fail::new(format_args!("{}: step {at}", row.shows)));
+            return Err(Fail::new(format_args!("{}: step {at}", case.shows)));
         }
     }
     Ok(())
 }
 
-fn play_case(alloc: Global, row: &Row) -> Result<(), Fail> {
+fn play_case(alloc: Global, case: &Case) -> Result<(), Fail> {
     let mut client = ClientCore::new(alloc, 0, 3)?;
-    play(alloc, &mut client, row)
+    play(alloc, &mut client, case)
 }
 
-fn play_all(alloc: Global, rows: &[Row]) -> Result<(), Fail> {
-    for row in rows {
-        play_case(alloc, row)?;
+fn play_all(alloc: Global, cases: &[Case]) -> Result<(), Fail> {
+    for case in cases {
+        play_case(alloc, case)?;
     }
     Ok(())
 }
@@ -360,8 +360,8 @@ const SNAPPED: &[Step] = &[
     Step::IsAt(4, Entry::Drained(2), 5),
 ];
 
-const DISKS: &[Row] = &[
-    Row {
+const DISKS: &[Case] = &[
+    Case {
         shows: "a disk line is answered by its entry",
         before: &[],
         steps: &[
@@ -369,7 +369,7 @@ const DISKS: &[Row] = &[
             Step::Told(0, Entry::Disk(0, 1), Ending::Ok),
         ],
     },
-    Row {
+    Case {
         shows: "a taken name is told by the own entry alone",
         before: &[],
         steps: &[
@@ -378,7 +378,7 @@ const DISKS: &[Row] = &[
             Step::Told(1, Entry::Disk(0, 1), Ending::Exists),
         ],
     },
-    Row {
+    Case {
         shows: "two entries, of which one is a Witness, let the write go on",
         before: &[],
         steps: &[
@@ -386,7 +386,7 @@ const DISKS: &[Row] = &[
             Step::WritesTo(Entry::Disk(1, 1), Entry::Witness, 1, 2),
         ],
     },
-    Row {
+    Case {
         shows: "a Witness tells that there is no disk",
         before: &[],
         steps: &[
@@ -394,7 +394,7 @@ const DISKS: &[Row] = &[
             Step::Told(0, Entry::Witness, Ending::NoDisk),
         ],
     },
-    Row {
+    Case {
         shows: "news with a gap, in any order and twice",
         before: &[],
         steps: &[
@@ -411,8 +411,8 @@ fn entries_and_disks(rt: HostRuntime) -> Result<(), Fail> {
     play_all(rt.alloc(), DISKS)
 }
 
-const BLOCKS: &[Row] = &[
-    Row {
+const BLOCKS: &[Case] = &[
+    Case {
         shows: "a write is sent and answered",
         before: ON_DISK,
         steps: &[
@@ -423,7 +423,7 @@ const BLOCKS: &[Row] = &[
             Step::Written(1, 1, Ending::Ok),
         ],
     },
-    Row {
+    Case {
         shows: "a read goes round",
         before: ON_DISK,
         steps: &[
@@ -439,8 +439,8 @@ fn writes_and_reads(rt: HostRuntime) -> Result<(), Fail> {
     play_all(rt.alloc(), BLOCKS)
 }
 
-const SNAPSHOTS: &[Row] = &[
-    Row {
+const SNAPSHOTS: &[Case] = &[
+    Case {
         shows: "a snap line is answered once all have reported",
         before: ON_DISK,
         steps: &[
@@ -451,7 +451,7 @@ const SNAPSHOTS: &[Row] = &[
             Step::Told(4, Entry::Drained(2), Ending::Ok),
         ],
     },
-    Row {
+    Case {
         shows: "a snapshot that waits has its name",
         before: ON_DISK,
         steps: &[
@@ -460,7 +460,7 @@ const SNAPSHOTS: &[Row] = &[
             Step::Told(2, Entry::Snap(0, 1), Ending::Exists),
         ],
     },
-    Row {
+    Case {
         shows: "a snap line tells that there is no disk",
         before: &[],
         steps: &[
@@ -475,18 +475,18 @@ fn snap_lines(rt: HostRuntime) -> Result<(), Fail> {
     play_all(rt.alloc(), SNAPSHOTS)
 }
 
-const EPOCHS: &[Row] = &[
-    Row {
+const EPOCHS: &[Case] = &[
+    Case {
         shows: "a read of a snapshot asks for its epoch",
         before: SNAPPED,
         steps: &[Step::AsksFor(Line::OldRead, 0)],
     },
-    Row {
+    Case {
         shows: "a read asks for the epoch after it",
         before: SNAPPED,
         steps: &[Step::AsksFor(Line::Read, 1)],
     },
-    Row {
+    Case {
         shows: "a write asks for the epoch after it",
         before: SNAPPED,
         steps: &[Step::AsksFor(Line::Write, 1)],

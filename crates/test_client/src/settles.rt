@@ -22,7 +22,7 @@ enum Shows {
 
 /// The glances of a settle, each of a server in a round; and which of them answers the settle, counted from 0, and how.
 #[derive(Clone, Copy)]
-struct Row {
+struct Case {
     shows: &'static str,
     glances: &'static [(ServerId, u32, Shows)],
     answered: Option<(usize, Ending)>,
@@ -87,10 +87,10 @@ fn hear(
 fn answered_by(
     alloc: Global,
     client: &mut ClientCore,
-    row: &Row,
+    case: &Case,
 ) -> Result<Option<(usize, Ending)>, Fail> {
     let mut found = None;
-    for (at, glance) in row.glances.iter().enumerate() {
+    for (at, glance) in case.glances.iter().enumerate() {
         if let Some(answer) = hear(alloc, client, *glance)? {
             found = Some((at, answer));
         }
@@ -98,32 +98,32 @@ fn answered_by(
     Ok(found)
 }
 
-/// Whether the settle ends as the row says.
-fn is_so(alloc: Global, client: &mut ClientCore, row: &Row) -> Result<bool, Fail> {
+/// Whether the settle ends as the case says.
+fn is_so(alloc: Global, client: &mut ClientCore, case: &Case) -> Result<bool, Fail> {
     if !client.is_free() {
         return Ok(false);
     }
     client.call(alloc, LINE, Request::Settle)?;
-    Ok(answered_by(alloc, client, row)? == row.answered)
+    Ok(answered_by(alloc, client, case)? == case.answered)
 }
 
-/// Whether a new client's settle ends as the row says.
-fn is_so_from_the_start(alloc: Global, row: &Row) -> Result<bool, Fail> {
+/// Whether a new client's settle ends as the case says.
+fn is_so_from_the_start(alloc: Global, case: &Case) -> Result<bool, Fail> {
     let mut client = ClientCore::new(alloc, OPERATOR, 3)?;
-    is_so(alloc, &mut client, row)
+    is_so(alloc, &mut client, case)
 }
 
-fn are_so(alloc: Global, rows: &[Row]) -> Result<(), Fail> {
-    for row in rows {
-        if !is_so_from_the_start(alloc, row)? {
-            return Err(Fail::new(row.shows));
+fn are_so(alloc: Global, cases: &[Case]) -> Result<(), Fail> {
+    for case in cases {
+        if !is_so_from_the_start(alloc, case)? {
+            return Err(Fail::new(case.shows));
         }
     }
     Ok(())
 }
 
-const ROUNDS: &[Row] = &[
-    Row {
+const ROUNDS: &[Case] = &[
+    Case {
         shows: "the last server of a round that runs as the state says ends the settle",
         glances: &[
             (2, 1, Shows::Runs),
@@ -132,7 +132,7 @@ const ROUNDS: &[Row] = &[
         ],
         answered: Some((2, Ending::Ok)),
     },
-    Row {
+    Case {
         shows: "a server that was shown twice counts once",
         glances: &[
             (0, 1, Shows::Runs),
@@ -142,7 +142,7 @@ const ROUNDS: &[Row] = &[
         ],
         answered: None,
     },
-    Row {
+    Case {
         shows: "what was shown of a server last counts",
         glances: &[
             (0, 1, Shows::Stopped),
@@ -152,7 +152,7 @@ const ROUNDS: &[Row] = &[
         ],
         answered: Some((3, Ending::Ok)),
     },
-    Row {
+    Case {
         shows: "a server that is In by the state has stopped: another round begins",
         glances: &[
             (0, 1, Shows::Runs),
@@ -164,7 +164,7 @@ const ROUNDS: &[Row] = &[
         ],
         answered: Some((5, Ending::Ok)),
     },
-    Row {
+    Case {
         shows: "a glance of a round before does not count",
         glances: &[
             (0, 1, Shows::Runs),
@@ -176,12 +176,12 @@ const ROUNDS: &[Row] = &[
         ],
         answered: None,
     },
-    Row {
+    Case {
         shows: "a copy found no slot",
         glances: &[(0, 1, Shows::Runs), (1, 1, Shows::NoSlot)],
         answered: Some((1, Ending::NoSpace)),
     },
-    Row {
+    Case {
         shows: "so it is in a glance of a round before",
         glances: &[
             (0, 1, Shows::Runs),
@@ -198,8 +198,8 @@ fn a_settle_goes_round_by_round(rt: HostRuntime) -> Result<(), Fail> {
     are_so(rt.alloc(), ROUNDS)
 }
 
-const AHEAD: &[Row] = &[
-    Row {
+const AHEAD: &[Case] = &[
+    Case {
         shows: "a glance at a server that is ahead of the operator does not count, nor does it end the round",
         glances: &[
             (0, 1, Shows::Runs),
@@ -210,7 +210,7 @@ const AHEAD: &[Row] = &[
         ],
         answered: Some((4, Ending::Ok)),
     },
-    Row {
+    Case {
         shows: "that a copy found no slot is told by a server that is ahead, too",
         glances: &[(0, 1, Shows::Ahead), (1, 1, Shows::AheadWithoutSlot)],
         answered: Some((1, Ending::NoSpace)),

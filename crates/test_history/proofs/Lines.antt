@@ -11,7 +11,7 @@ use Rattle.spec_rules.proofs.Tests.{number_itself, same_some, true_false}
 -- the operator's request of this number
 abbrev pub asks_for : Request → (line seq : ℕ) → Asked
 asks_for what line seq =
-    record { line = line; seq = seq; request = what; turn = 1; rev = 1; witnesses = 0; told = false; old_way = false; round = 0; seen = [] }
+    record { line = line; seq = seq; request = what; turn = 1; rev = 1; witnesses = 0; saw_missing = false; old_way = false; round = 0; seen = [] }
 
 -- it stops server 1, blanks it, or starts it
 abbrev pub asked_for : (line seq : ℕ) → Asked

@@ -1,4 +1,4 @@
-//! One call of the program over an outside in memory, as a row of a table.
+//! One call of the program over an outside in memory, as a case of a table.
 
 use crate::letters::letters;
 use byte_streams::{MemSink, MemSource};
@@ -29,7 +29,7 @@ pub enum Letters {
 
 /// A call of the program, and how it ends.
 #[derive(Clone, Copy)]
-pub struct Row {
+pub struct Case {
     pub shows: &'static str,
     pub words: &'static [&'static str],
     /// The script is this start with these lines.
@@ -70,15 +70,15 @@ fn sink_faults(alloc: Global, fault: Fault) -> Result<Vec<u32>, AllocError> {
     }
 }
 
-fn script_of(alloc: Global, row: &Row) -> Result<Vec<u8>, AllocError> {
-    let mut script = Vec::from_slice(alloc, row.start.as_bytes())?;
-    script.extend_from_slice(row.lines.as_bytes())?;
+fn script_of(alloc: Global, case: &Case) -> Result<Vec<u8>, AllocError> {
+    let mut script = Vec::from_slice(alloc, case.start.as_bytes())?;
+    script.extend_from_slice(case.lines.as_bytes())?;
     Ok(script)
 }
 
-fn source_of(alloc: Global, row: &Row) -> Result<MemSource, AllocError> {
-    let script = script_of(alloc, row)?;
-    Ok(MemSource::new(script, source_faults(alloc, row.fault)?))
+fn source_of(alloc: Global, case: &Case) -> Result<MemSource, AllocError> {
+    let script = script_of(alloc, case)?;
+    Ok(MemSource::new(script, source_faults(alloc, case.fault)?))
 }
 
 fn is_once([lost, once, twice]: [usize; 3]) -> bool {
@@ -97,33 +97,33 @@ fn are_handed_so(records: &[Record], wanted: Letters) -> bool {
     }
 }
 
-fn is_written(sink: MemSink, row: &Row) -> bool {
+fn is_written(sink: MemSink, case: &Case) -> bool {
     let bytes = sink.into_bytes();
-    row.written
+    case.written
         .iter()
         .any(|text| bytes.as_slice() == text.as_bytes())
 }
 
-fn ends_so(outcome: &Outcome, row: &Row) -> bool {
-    outcome.status == row.status && are_handed_so(outcome.history.records.as_slice(), row.letters)
+fn ends_so(outcome: &Outcome, case: &Case) -> bool {
+    outcome.status == case.status && are_handed_so(outcome.history.records.as_slice(), case.letters)
 }
 
-/// Whether the call ends as the row says.
-fn is_so<R: Wait>(rt: &R, alloc: Global, row: &Row) -> Result<bool, AllocError> {
-    let words = word_list(alloc, row.words)?;
-    let mut source = source_of(alloc, row)?;
-    let mut sink = MemSink::new(alloc, sink_faults(alloc, row.fault)?);
+/// Whether the call ends as the case says.
+fn is_so<R: Wait>(rt: &R, alloc: Global, case: &Case) -> Result<bool, AllocError> {
+    let words = word_list(alloc, case.words)?;
+    let mut source = source_of(alloc, case)?;
+    let mut sink = MemSink::new(alloc, sink_faults(alloc, case.fault)?);
     let mut shelf = MemShelf::refusing(1);
     let outcome = petal(rt, alloc, &words, &mut source, &mut sink, &mut shelf);
-    let ends = ends_so(&outcome, row);
-    Ok(is_written(sink, row) && ends)
+    let ends = ends_so(&outcome, case);
+    Ok(is_written(sink, case) && ends)
 }
 
-/// Calls the program by these rows, each of which has to end as it says.
-pub fn are_so<R: Wait>(rt: &R, alloc: Global, rows: &[Row]) -> Result<(), Fail> {
-    for row in rows {
-        if !is_so(rt, alloc, row)? {
-            return Err(Fail::new(row.shows));
+/// Calls the program by these cases, each of which has to end as it says.
+pub fn are_so<R: Wait>(rt: &R, alloc: Global, cases: &[Case]) -> Result<(), Fail> {
+    for case in cases {
+        if !is_so(rt, alloc, case)? {
+            return Err(Fail::new(case.shows));
         }
     }
     Ok(())

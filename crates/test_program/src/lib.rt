@@ -1,8 +1,8 @@
-//! Whole-program tests: tables of scripts with their answers, over a source, a sink and a shelf in memory. A row says what is expected
+//! Whole-program tests: tables of scripts with their answers, over a source, a sink and a shelf in memory. A case says what is expected
 //! of the status, of what is written, and of the letters of the run.
 #![tactic(auto)]
 
 mod call;
-mod letters;
 #[cfg(test)]
-mod rows;
+mod cases;
+mod letters;

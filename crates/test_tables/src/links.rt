@@ -29,7 +29,10 @@ fn is_lost(links: &Links, map: MapId, link: u8) -> bool {
 fn is_only(links: &Links, map: MapId, link: u8, server: ServerId, wants_whole: bool) -> bool {
     match links.get(map, link) {
         Some(row) => match row.state {
-            LinkState::Only { holder, whole } => holder == server && whole == wants_whole,
+            LinkState::Only {
+                holder,
+                full_copy_needed,
+            } => holder == server && full_copy_needed == wants_whole,
             _ => false,
         },
         None => false,

@@ -108,7 +108,10 @@ fn is_lost(state: &GlobalState, link: u8) -> bool {
 fn is_only(state: &GlobalState, link: u8, server: ServerId, wants_whole: bool) -> bool {
     match state.link(0, link) {
         Some(link) => match link.state {
-            LinkState::Only { holder, whole } => holder == server && whole == wants_whole,
+            LinkState::Only {
+                holder,
+                full_copy_needed,
+            } => holder == server && full_copy_needed == wants_whole,
             _ => false,
         },
         None => false,

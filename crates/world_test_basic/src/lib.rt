@@ -3,8 +3,8 @@
 #![tactic(auto)]
 
 #[cfg(test)]
-mod moves;
+mod cases;
 #[cfg(test)]
-mod rows;
+mod moves;
 #[cfg(test)]
 mod snapshots;

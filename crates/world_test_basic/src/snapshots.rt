@@ -2,7 +2,7 @@
 
 use memory_runs::play_all;
 use std::test::Fail;
-use step_runner::Row;
+use step_runner::Case;
 
 // Of three servers, servers 0 and 1 have block 0, servers 1 and 2 block 1, and servers 2 and 0 block 2.
 const BEFORE_AND_AFTER: &str =
@@ -15,20 +15,20 @@ const NAMES: &str =
 a snap vol one\nb snap other one\nc snap none one\nd read vol@two 0\nwait
 e read other@one 0\nf read vol@one 1\ng read none@one 0\na snap vol one\n";
 
-const SNAPSHOTS: &[Row] = &[
-    Row {
+const SNAPSHOTS: &[Case] = &[
+    Case {
         shows: "a snapshot has what was written before it, and the disk what was written since, each letter twice",
         script: BEFORE_AND_AFTER,
         steps: "play out; line 4 ok; line 5 ok; line 7 ok; line 9 ok; line 11 ok; line 13 ok; line 14 ok;
             line 16 fill 4; line 17 fill 1; line 18 fill 3; line 19 fill 2; line 20 fill 2; line 21 fill 5; line 22 fill 0",
     },
-    Row {
+    Case {
         shows: "a name that is taken, one that is unknown, and disks that are unknown",
         script: NAMES,
         steps: "play out; line 5 ok; line 7 exists; line 8 ok; line 9 nodisk; line 10 nosnap; line 12 fill 0; line 13 fill 0;
             line 14 nodisk; line 15 exists; told freeze freeze look look",
     },
-    Row {
+    Case {
         shows: "three clients snap one disk in one phase, two of them by one name",
         script: "servers 3 slots 8\na disk vol on 0 1 2\nwait\na write vol 0 fill 1\nb snap vol one\nc snap vol two\nd snap vol two\nwait
 a read vol 0\nb read vol@one 0\nc read vol@two 0\n",
@@ -49,10 +49,10 @@ const ONE_HELD: &str =
     "servers 3 slots 8\na disk vol on 0 1 2\na disk other on 0 1\nwait\na write vol 0 fill 1\nwait\nb snap vol one\nc write vol 0 fill 2
 d read vol 0\ne write other 0 fill 3\nwait\na read vol@one 0\nb read vol 0\nc read other 0\n";
 
-const FENCES: &[Row] = &[
+const FENCES: &[Case] = &[
     // Server 2 leads block 2, and server 0 is second. Server 0 has applied the entry of the snapshot when the copy comes that
     // server 2 sends at the revision before.
-    Row {
+    Case {
         shows: "a write that is under way at a server that is behind is taken in the old epoch, and the snapshot has it",
         script: ONE_PENDING,
         steps: "a calls 2; agree; wait; a calls 4; write a>2; 2 works; reserve 2>0; 0 works; reserved 0>2; b calls 5;
@@ -61,7 +61,7 @@ const FENCES: &[Row] = &[
             agree; line 4 ok; line 5 ok; told begin take end freeze;
             wait; a calls 7; agree; line 7 ok; wait; c calls 9; d calls 10; agree; line 9 fill 5; line 10 fill 6",
     },
-    Row {
+    Case {
         shows: "while a fence waits for a server, writes of its disk are held, and reads and writes of other disks go on",
         script: ONE_HELD,
         steps: "a calls 2; agree; a calls 3; agree; wait; a calls 5; agree; wait; b calls 7; not agree without 2; line 7 open;

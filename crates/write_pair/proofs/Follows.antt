@@ -10,7 +10,7 @@ use Rattle.petal_disk.specs.declared.disk.Disk.{Ghosts}
 use Rattle.petal_table.specs.Table.{Table, at, put, without}
 use Rattle.petal_msg.specs.declared.body.Body.TheVariants as body
 use Rattle.petal_msg.specs.declared.letter.Letter.{Letter}
-use Rattle.petal_msg.specs.declared.operation.Far.TheVariants as far
+use Rattle.petal_msg.specs.declared.operation.FollowProgress.TheVariants as follow_progress
 use Rattle.petal_msg.specs.declared.operation.LastOp.{LastOp}
 use Rattle.petal_msg.specs.declared.operation.Pending.{Pending}
 use Rattle.spec_rules.specs.State.{first, is_second}
@@ -33,25 +33,25 @@ use Rattle.pair_memory.proofs.Tickets.{kept_followed}
 use Rattle.pair_memory.proofs.Tickets as tickets
 
 abbrev pub reserved : ℕ → LastOp
-reserved number = record { op = number; far = far.Reserved }
+reserved number = record { op = number; progress = follow_progress.Reserved }
 
 abbrev pub replicated : ℕ → LastOp
-replicated number = record { op = number; far = far.Replicated }
+replicated number = record { op = number; progress = follow_progress.Replicated }
 
 -- what the second server leaves that put its copy, at the cell of the key
 abbrev pub follows_in : JobContext → PairState → ℕ → Key → List ℕ → Cell → JobResult
 follows_in here own number key bytes cell =
     says_to
     (with_last (record own { store = with_entry own.store key (record { version = version_of (chain_in own.store.chains cell) + 1; bytes = bytes }) })
-    cell number far.Replicated)
+    cell number follow_progress.Replicated)
     (first here.state cell) (body.Replicated number cell)
 
 module _ {D : Type 0} (here : JobContext) (side : PairMemory) (store : Holdings D) (cell : Cell) (number : ℕ) (h : HasTicketsAt side store) where
   pub again_is : (last : Table Cell LastOp) (done : Left) → needs_apart (at cell_cmp side.last cell) ≡ true
       → last ≡ put cell_cmp side.last cell (reserved number)
-      → IsSaid here side side store store (Ok done) (tells here (own_of side store) cell number far.Reserved)
+      → IsSaid here side side store store (Ok done) (tells here (own_of side store) cell number follow_progress.Reserved)
       → IsSaid here side (record side { last = last }) store store (Ok done)
-      (tells here (with_last (own_of side store) cell number far.Reserved) cell number far.Reserved)
+      (tells here (with_last (own_of side store) cell number follow_progress.Reserved) cell number follow_progress.Reserved)
   again_is last done has table said =
       rw table (record {
         done = record { own = refl; letters = said.done.letters; jobs = said.done.jobs };

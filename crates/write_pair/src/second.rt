@@ -8,7 +8,7 @@ ghost use Rattle.spec_rules.specs.State as rules;
 ghost use Rattle.spec_rules.specs.Store.{cell_cmp, free_of};
 ghost use Rattle.spec_rules.specs.Writes as writes;
 ghost use Rattle.petal_msg.specs.declared.body.Body.TheVariants as body;
-ghost use Rattle.petal_msg.specs.declared.operation.Far.TheVariants as far;
+ghost use Rattle.petal_msg.specs.declared.operation.FollowProgress.TheVariants as follow_progress;
 ghost use Rattle.kept_chains.specs.Kept.{store_of};
 ghost use Rattle.pair_memory.specs.declared.error.WorkError.TheVariants as error;
 ghost use Rattle.pair_memory.specs.PairMemory.{needs_apart, own_of, HasTicketsAt};
@@ -20,7 +20,7 @@ use pair_memory::{
 };
 use petal_base::{Cell, Key, NoMemory, Op, Sequence, SharedBlock};
 use petal_disk::Disk;
-use petal_msg::{Body, Far, LastOp, Letter};
+use petal_msg::{Body, FollowProgress, LastOp, Letter};
 use petal_table::Table;
 use server_store::Store;
 
@@ -31,18 +31,18 @@ fn tell<D: Disk>(
     store: &Store<D>,
     cell: Cell,
     op: Op,
-    far: Far,
+    progress: FollowProgress,
 ) -> Result<JobResult, WorkError>
     requires { HasTicketsAt side.now store.now }
     ensures { IsSaid here.now side.now side.now store.now store.now result
-        (writes.tells here.now (own_of side.now store.now) cell op far) }
+        (writes.tells here.now (own_of side.now store.now) cell op progress) }
 {
-    match far {
-        Far::Reserved => {
+    match progress {
+        FollowProgress::Reserved => {
             let body = Body::Reserved { op, cell };
             say_to(here, side, store, here.first(cell), body)
         }
-        Far::Replicated => {
+        FollowProgress::Replicated => {
             let body = Body::Replicated { op, cell };
             say_to(here, side, store, here.first(cell), body)
         }
@@ -62,10 +62,10 @@ fn reserve_again<D: Disk>(
     ensures { IsSaid here.now side.old side.new store.now store.now result
         (writes.reserves here.now (own_of side.old store.now) cell op true (nat_lt 0 (free_of (store_of store.now)))) }
 {
-    let done = tell(here, side, store, cell, op, Far::Reserved)?;
+    let done = tell(here, side, store, cell, op, FollowProgress::Reserved)?;
     let last = LastOp {
         op,
-        far: Far::Reserved,
+        progress: FollowProgress::Reserved,
     };
     side.last.replace(cell, last);
     Ok(done)
@@ -80,13 +80,13 @@ fn promise(
 ) -> Result<Sequence<Letter>, NoMemory>
     ensures letters { IfOk result (λ letters. letters
         ≡ letters_of (sender here.now) 0 (post_to (rules.first here.now.state cell) (body.Reserved op cell))) }
-    ensures ok { OnOk result (last.new ≡ put cell_cmp last.old cell (record { op = op; far = far.Reserved })) }
+    ensures ok { OnOk result (last.new ≡ put cell_cmp last.old cell (record { op = op; progress = follow_progress.Reserved })) }
     ensures err { OnErr result (last.new ≡ last.old) }
 {
     let letters = here.say_to(here.first(cell), Body::Reserved { op, cell })?;
     let reserved = LastOp {
         op,
-        far: Far::Reserved,
+        progress: FollowProgress::Reserved,
     };
     match last.put(cell, reserved) {
         Ok(()) => Ok(letters),
@@ -120,12 +120,12 @@ fn reserve_free_slot<D: Disk>(
     }
 }
 
-fn has_slot(far: Far) -> bool
-    ensures { result ≡ writes.has_slot far }
+fn has_slot(progress: FollowProgress) -> bool
+    ensures { result ≡ writes.has_slot progress }
 {
-    match far {
-        Far::Reserved => true,
-        Far::Replicated => false,
+    match progress {
+        FollowProgress::Reserved => true,
+        FollowProgress::Replicated => false,
     }
 }
 
@@ -168,9 +168,9 @@ fn reserve_after<D: Disk>(
         return silent(here, side, store);
     }
     if op == last.op {
-        return tell(here, side, store, cell, op, last.far);
+        return tell(here, side, store, cell, op, last.progress);
     }
-    reserve(here, side, store, cell, op, has_slot(last.far))
+    reserve(here, side, store, cell, op, has_slot(last.progress))
 }
 
 /// An older number is dropped, an equal one is answered again, a newer one gets a slot.
@@ -221,7 +221,7 @@ fn follow<D: Disk>(
     spend(&mut side.apart, store, cell, key, version, bytes)?;
     let last = LastOp {
         op,
-        far: Far::Replicated,
+        progress: FollowProgress::Replicated,
     };
     side.last.replace(cell, last);
     Ok(only(letters))
@@ -252,9 +252,9 @@ pub fn on_replicate<D: Disk>(
         return silent(here, side, store);
     }
     match side.last_on(cell) {
-        Some(last) if op == last.op => match last.far {
-            Far::Reserved => follow(here, side, store, op, key, bytes),
-            Far::Replicated => tell(here, side, store, cell, op, Far::Replicated),
+        Some(last) if op == last.op => match last.progress {
+            FollowProgress::Reserved => follow(here, side, store, op, key, bytes),
+            FollowProgress::Replicated => tell(here, side, store, cell, op, last.progress),
         },
         _ => silent(here, side, store),
     }

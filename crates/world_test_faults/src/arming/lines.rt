@@ -3,11 +3,11 @@
 use memory_runs::{play_all, play_steps};
 use std::alloc::Global;
 use std::test::Fail;
-use step_runner::Row;
+use step_runner::Case;
 
 // Of three servers, server 0 leads block 0. Its data device takes sixteen calls for the write, the seventh of its syncs the last.
-const ARMS: &[Row] = &[
-    Row {
+const ARMS: &[Case] = &[
+    Case {
         shows: "a line gives its server the one plan, and then its glance, before which the server takes no other step",
         script: "servers 3 slots 4\na disk vol on 0 1 2\nwait\nop stop 0 at 16\nwait\na write vol 0 fill 7\nwait\nb read vol 0\n",
         steps: "by lines; a calls 2; agree; not 0 arms data any 16 stop; wait; not 0 arms data any 16 stop; op calls 4; not 0 shows 4;
@@ -16,13 +16,13 @@ const ARMS: &[Row] = &[
             0 arms data any 16 stop; not 0 arms data any 16 stop; not 0 ticks; line 4 open; 0 shows 4; not 0 shows 4;
             seen 0>op; line 4 ok; play out; stopped 1; failed 0; committed 0; line 6 ok; line 8 fill 7",
     },
-    Row {
+    Case {
         shows: "a line for a fault gives a plan that does not stop the server",
         script: "servers 3 slots 4\na disk vol on 0 1 2\nwait\nop fault 0 data sync 7\nwait\na write vol 0 fill 7\nwait\nb read vol 0\n",
         steps: "by lines; a calls 2; agree; wait; op calls 4; not 0 arms data sync 7 stop; not 0 arms data any 7; not 0 arms state sync 7;
             0 arms data sync 7; 0 shows 4; seen 0>op; line 4 ok; play out; failed 1; stopped 0; line 6 ok; line 8 fill 7",
     },
-    Row {
+    Case {
         shows: "a device of a server that is stopped is armed by a line too",
         script: "servers 3 slots 4\nop stop 0\nop fault 0 state sync 3\nwait\na disk vol on 0 1 2\n",
         steps: "by lines; op calls 2; not 0 shows 2; 0 stops; 0 shows 2; seen 0>op; op calls 3; not 0 stops; not 0 boots; 0 arms state sync 3;
@@ -35,8 +35,8 @@ fn lines_that_arm(rt: HostRuntime) -> Result<(), Fail> {
     play_all(rt.alloc(), ARMS)
 }
 
-const STARTS: &[Row] = &[
-    Row {
+const STARTS: &[Case] = &[
+    Case {
         shows: "a start takes the plans away from a server that runs",
         script: "servers 3 slots 4\na disk vol on 0 1 2\nwait\nop stop 0 at 1\nop fault 0 state sync 1\nop start 0\nwait\na write vol 0 fill 7
 a disk log on 1 2\nwait\nb read vol 0\n",
@@ -45,24 +45,24 @@ a disk log on 1 2\nwait\nb read vol 0\n",
             not 0 shows 6; 0 disarms state; not 0 boots; 0 shows 6; seen 0>op; line 6 ok; play out; stopped 0; failed 0; line 8 ok; line 9 ok;
             line 11 fill 7",
     },
-    Row {
+    Case {
         shows: "with the plan of its state device the next disk fails there",
         script: "servers 3 slots 4\na disk vol on 0 1 2\nwait\nop fault 0 state sync 1\nwait\na write vol 0 fill 7\na disk log on 1 2\nwait\nb read vol 0\n",
         steps: "by lines; play out; stopped 0; failed 1; line 4 ok; line 6 ok; line 7 ok; line 9 fill 7",
     },
-    Row {
+    Case {
         shows: "a start takes the plans away before the boot",
         script: "servers 3 slots 4\nop stop 0\nop fault 0 state sync 3\nop start 0\n",
         steps: "by lines; op calls 2; 0 stops; 0 shows 2; seen 0>op; op calls 3; 0 arms state sync 3; 0 shows 3; seen 0>op; op calls 4; not 0 boots;
             0 disarms data; not 0 boots; 0 disarms state; 0 boots; failed 0; 0 shows 4; seen 0>op; line 4 ok",
     },
-    Row {
+    Case {
         shows: "with that plan the boot fails",
         script: "servers 3 slots 4\nop stop 0\nop fault 0 state sync 3\nop start 0\n",
         steps: "op calls 2; 0 stops; 0 shows 2; seen 0>op; op calls 3; 0 arms state sync 3; 0 shows 3; seen 0>op; op calls 4; 0 boots; failed 1;
             0 shows 4; seen 0>op; line 4 failed",
     },
-    Row {
+    Case {
         shows: "a blank takes the plans away before the boot",
         script: "servers 3 slots 4\nop fault 0 state sync 3\nop blank 0\n",
         steps: "by lines; op calls 2; 0 arms state sync 3; 0 shows 2; seen 0>op; op calls 3; not 0 blanks; not 0 disarms data; 0 stops; not 0 boots;

@@ -3,7 +3,7 @@
 use memory_runs::{play_all, play_steps};
 use std::alloc::Global;
 use std::test::Fail;
-use step_runner::Row;
+use step_runner::Case;
 
 // Line 15 is the second move. Server 1 holds the old links alone when it stops, too.
 const WITHOUT_A_LEAD: &str =
@@ -11,7 +11,7 @@ const WITHOUT_A_LEAD: &str =
 a move vol on 2 3\nop settle\nwait\nb move vol on 3 4\nc read vol 0\nd write vol 1 fill 5\ne read vol 8\nop settle\nwait
 a read vol 1\nop start 1\nop settle\nwait\na read vol 0\nb read vol 1\nc move vol on 3 4\n";
 
-const WITHOUT_LEADS: &[Row] = &[Row {
+const WITHOUT_LEADS: &[Case] = &[Case {
     shows: "a move waits while nobody has an old link, a second one is refused, and blocks on their way are written, though not read",
     script: WITHOUT_A_LEAD,
     steps: "play out; line 12 ok; line 13 ok; line 15 moving; line 16 unavailable; line 17 ok; line 18 unavailable; line 19 ok; line 21 fill 5;

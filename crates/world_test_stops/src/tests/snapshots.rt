@@ -2,7 +2,7 @@
 
 use memory_runs::play_all;
 use std::test::Fail;
-use step_runner::Row;
+use step_runner::Case;
 
 // Of three servers, servers 0 and 1 have block 0, servers 1 and 2 block 1, and servers 2 and 0 block 2. In the end servers 1 and then 0
 // are alone with what they have.
@@ -29,26 +29,26 @@ b read two@monday 1\nb read two@monday 0\nb read two 0\nb read two 1\n";
 const ONE_LEAVES: &str =
     "servers 3 slots 8\na disk vol on 0 1 2\nwait\na write vol 0 fill 5\nb snap vol one\nop stop 0\nwait\nc read vol@one 0\nd read vol 0\n";
 
-const SNAPSHOTS: &[Row] = &[
-    Row {
+const SNAPSHOTS: &[Case] = &[
+    Case {
         shows: "a snapshot is taken while a server of its disk is stopped, and is copied to it when it returns",
         script: WITHOUT_ONE,
         steps: "play out; line 10 ok; line 12 ok; line 13 ok; line 16 ok; line 20 fill 1; line 21 fill 2; line 22 fill 4; line 23 fill 5;
             line 30 fill 2; line 31 fill 3; line 32 fill 5; line 33 fill 3",
     },
-    Row {
+    Case {
         shows: "snapshots are taken while a server is brought up to date",
         script: DURING_A_CATCH_UP,
         steps: "play out; line 13 ok; line 14 ok; line 15 ok; line 16 ok; line 17 ok; line 18 ok;
             line 22 fill 4 or 6; line 23 fill 5 or 7; line 24 fill 6; line 25 fill 7",
     },
-    Row {
+    Case {
         shows: "the day's use of two disks",
         script: TWO_DISKS,
         steps: "play out; line 10 ok; line 17 ok; line 18 ok; line 19 ok; line 20 fill 1; line 22 ok; line 26 ok; line 31 fill 1; line 32 fill 2;
             line 33 fill 5; line 34 fill 7; line 35 fill 10; line 36 fill 7; line 37 fill 4 or 8; line 38 fill 6; line 39 fill 9; line 40 fill 8",
     },
-    Row {
+    Case {
         // Server 1 reports while the lead's copy is on its way to it, does not hear that its report is chosen, and takes the copy after
         // the lead's leave is chosen: were that report to count still, the fence would have taken effect with the leave.
         shows: "a report that was made before a leave does not count, so the copy that is on its way is taken in the old epoch",

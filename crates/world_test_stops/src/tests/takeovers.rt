@@ -2,7 +2,7 @@
 
 use memory_runs::play_all;
 use std::test::Fail;
-use step_runner::Row;
+use step_runner::Case;
 
 // Of three servers, server 0 leads block 0, and server 1 is second.
 const SECONDARY_STOPS: &str =
@@ -11,8 +11,8 @@ const SECONDARY_STOPS: &str =
 const PRIMARY_STOPS: &str =
     "servers 3 slots 4\na disk vol on 0 1 2\nwait\na write vol 0 fill 7\nop stop 0\nwait\nb read vol 0\n";
 
-const STOPS: &[Row] = &[
-    Row {
+const STOPS: &[Case] = &[
+    Case {
         shows: "the lead has put: the contents change with the vote that chooses the Leave, and the lead goes on alone and keeps a mark",
         script: SECONDARY_STOPS,
         steps: "a calls 2; agree; wait; a calls 4; write a>0; 0 works; reserve 0>1; 1 works; reserved 1>0; 0 works; 0 works; 0 works;
@@ -23,7 +23,7 @@ const STOPS: &[Row] = &[
             sent 1 written 0>a; written 0>a; line 4 open; agree; line 4 ok; told begin take end;
             0 has 0/0 fill 7; 0 marks 0 0; 1 has 0 entries; wait; b calls 7; agree; line 7 fill 7; told begin take end look",
     },
-    Row {
+    Case {
         shows: "the lead has reserved: it puts alone once it knows of the Leave",
         script: SECONDARY_STOPS,
         steps: "a calls 2; agree; wait; a calls 4; write a>0; 0 works; reserve 0>1; 1 works; op calls 5; 1 stops; 1 shows 5; seen 1>op;
@@ -32,7 +32,7 @@ const STOPS: &[Row] = &[
             reserved 1>0; told begin; 0 works off; told begin take; line 4 open; agree; line 4 ok; told begin take end;
             wait; b calls 7; agree; line 7 fill 7",
     },
-    Row {
+    Case {
         shows: "what it has put alone is lost, and the secondary puts the write that its client sends again",
         script: PRIMARY_STOPS,
         steps: "a calls 2; agree; wait; a calls 4; write a>0; 0 works; reserve 0>1; 1 works; reserved 1>0; 0 works; 0 works; 0 works;
@@ -43,7 +43,7 @@ const STOPS: &[Row] = &[
             a ticks; a ticks; a ticks; ask a>1; 1 works; news 1>a; write a>1; 1 works; told begin; 1 works; 1 works; told begin take;
             written 1>a; line 4 ok; told begin take end; wait; b calls 7; agree; line 7 fill 7; told begin take end look",
     },
-    Row {
+    Case {
         shows: "its copy comes to the secondary before that knows of the Leave: it counts, and is put again for the client",
         script: PRIMARY_STOPS,
         steps: "a calls 2; agree; wait; a calls 4; write a>0; 0 works; reserve 0>1; 1 works; reserved 1>0; 0 works; 0 works; 0 works;

@@ -10,11 +10,11 @@ use Rattle.spec_rules.specs.Writes.{goes_on, on_write, on_reserve, on_reserved, 
 use Rattle.spec_rules.specs.Reads.{on_read}
 use Rattle.spec_rules.specs.Jobs.{handles, hears_log, does, log_does}
 use Rattle.spec_rules.specs.Clients.{heard, ticked, refusal}
-use Rattle.spec_rules.specs.Sweeping.{next_dead}
+use Rattle.spec_rules.specs.Sweeping.{next_retired}
 use Rattle.spec_rules.specs.World.{step}
 use Rattle.spec_history.proofs.witness.a_choice_makes_the_disk.Goals as goal
 
 pub returns : goal.returns
 unfolding number nobody at put without put_at on_propose on_pax starts learns on_news applies on_ask goes_on on_write on_reserve on_reserved on_pair_full
-    on_replicate on_replicated on_read handles hears_log does log_does heard ticked refusal next_dead step
+    on_replicate on_replicated on_read handles hears_log does log_does heard ticked refusal next_retired step
 returns c = record { told = refl }

@@ -4,7 +4,7 @@ use Rattle.std.proofs.lemmas.Bool.Decides.{nat_tests}
 use Rattle.std.specs.Prelude.{if◌then◌else◌}
 use Rattle.petal_base.specs.Cells.{cell_of}
 use Rattle.petal_base.specs.declared.cell.Key.{Key}
-use Rattle.petal_msg.specs.declared.operation.Far.TheVariants as far
+use Rattle.petal_msg.specs.declared.operation.FollowProgress.TheVariants as follow_progress
 use Rattle.petal_msg.specs.declared.operation.LastOp.{LastOp}
 use Rattle.spec_rules.specs.State.{is_second}
 use Rattle.spec_rules.specs.Server.{PairState, JobContext, JobResult, silent}
@@ -18,7 +18,7 @@ module _ (here : JobContext) (own : PairState) (number : ℕ) (key : Key) (bytes
   abbrev by_last : Option LastOp → JobResult
   by_last o = if is_second here.state here.me (cell_of key) then hears_replicate here own number key bytes o else silent own
 
-  kept : (second same : Bool) → (if second then (if same then follows_once here own number key bytes far.Replicated else silent own) else silent own).own ≡ own
+  kept : (second same : Bool) → (if second then (if same then follows_once here own number key bytes follow_progress.Replicated else silent own) else silent own).own ≡ own
   kept false same = refl
   kept true false = refl
   kept true true = refl

@@ -10,13 +10,13 @@ use Rattle.spec_rules.specs.Copies.{next_copy, copies_on, repairs, on_hello_ask,
 use Rattle.spec_rules.specs.Writes.{goes_on, on_write}
 use Rattle.spec_rules.specs.Jobs.{handles, hears_log, does, log_does}
 use Rattle.spec_rules.specs.Clients.{heard, refusal}
-use Rattle.spec_rules.specs.Sweeping.{next_dead}
+use Rattle.spec_rules.specs.Sweeping.{next_retired}
 use Rattle.spec_rules.specs.World.{step}
 use Rattle.test_history.proofs.copies.a_link_is_both_again.Goals as goal
 
 pub returns : goal.returns
 unfolding number nobody at put without put_at on_pax starts learns applies next_copy copies_on repairs on_hello_ask on_hello on_trim trims_on on_trimmed
-    on_sync on_synced on_sync_full goes_on on_write handles hears_log does log_does heard refusal next_dead step
+    on_sync on_synced on_sync_full goes_on on_write handles hears_log does log_does heard refusal next_retired step
 returns c = record {
   both = refl;
   content = refl;

@@ -9,13 +9,13 @@ use Rattle.spec_rules.specs.Entries.{learns, applies}
 use Rattle.spec_rules.specs.Copies.{next_copy, copies_on, repairs, on_hello_ask, on_hello, on_trim, trims_on, on_trimmed, on_sync, on_synced, on_sync_full}
 use Rattle.spec_rules.specs.Jobs.{handles, hears_log, does, log_does}
 use Rattle.spec_rules.specs.Clients.{heard, refusal}
-use Rattle.spec_rules.specs.Sweeping.{next_dead}
+use Rattle.spec_rules.specs.Sweeping.{next_retired}
 use Rattle.spec_rules.specs.World.{step}
 use Rattle.test_history.proofs.returns.a_returning_primary_drops_its_put.Goals as goal
 
 pub returns : goal.returns
 unfolding number nobody at put without put_at on_pax starts learns applies next_copy copies_on repairs on_hello_ask on_hello on_trim trims_on on_trimmed
-    on_sync on_synced on_sync_full handles hears_log does log_does heard refusal next_dead step
+    on_sync on_synced on_sync_full handles hears_log does log_does heard refusal next_retired step
 returns c = record {
   old = refl;
   marked = refl;

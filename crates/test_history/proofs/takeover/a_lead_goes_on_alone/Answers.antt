@@ -9,11 +9,11 @@ use Rattle.spec_rules.specs.Entries.{learns, on_news, applies, on_ask}
 use Rattle.spec_rules.specs.Writes.{goes_on, on_write, on_reserve, on_reserved}
 use Rattle.spec_rules.specs.Jobs.{handles, hears_log, does, log_does}
 use Rattle.spec_rules.specs.Clients.{heard, ticked, refusal}
-use Rattle.spec_rules.specs.Sweeping.{next_dead}
+use Rattle.spec_rules.specs.Sweeping.{next_retired}
 use Rattle.spec_rules.specs.World.{step}
 use Rattle.test_history.proofs.takeover.a_lead_goes_on_alone.Goals as goal
 
 pub returns : goal.returns
 unfolding number nobody at put without put_at on_down on_pax starts learns on_news applies on_ask
-    goes_on on_write on_reserve on_reserved handles hears_log does log_does heard ticked refusal next_dead step
+    goes_on on_write on_reserve on_reserved handles hears_log does log_does heard ticked refusal next_retired step
 returns c = record { answers = refl; primary = refl; secondary = refl; marked = refl; pending = refl }

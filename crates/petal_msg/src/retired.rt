@@ -5,7 +5,7 @@ use petal_base::{Cell, Key};
 
 /// The next thing to be swept.
 #[derive(Clone, Copy, Debug, PartialEq, Eq)]
-pub enum Dead {
+pub enum Retired {
     /// An entry.
     Key(Key),
     /// A mark.

@@ -1,4 +1,4 @@
--- The first mark of a dead cell, found by the least map that has one, the least block there, and the first kind of mark.
+-- The first mark of a retired cell, found by the least map that has one, the least block there, and the first kind of mark.
 use Rattle.std.proofs.Common.{◌≡◌, inl, inr, ℕ, ◌≤◌, ◌<◌, ◌==◌, ◌&&◌, ◌||◌, Bool, true, false, not, nat_lt, nat_le, List, [], ◌∷◌, filter}
 use Rattle.std.proofs.Common.{Option, Some, None, option_map, option_and_then, refl, sym, ap, ◌∙◌, arith}
 use Rattle.std.proofs.lemmas.Bool.{cases_Bool}
@@ -17,11 +17,11 @@ use Rattle.busy_marks.specs.declared.marks.MarkKind.TheVariants.{Busy, Stale}
 use Rattle.busy_marks.specs.Marks.{above, has_mark, kind_rank, lesser, mark_cmp, next_marked, next_marked_map, same_kind, same_mark}
 use Rattle.busy_marks.proofs.Orders.{before}
 use Rattle.petal_command.proofs.Equal.{both_left, both_right, number_self}
-use Rattle.petal_msg.specs.declared.dead.Dead.{Dead}
-use Rattle.petal_msg.specs.declared.dead.Dead.TheVariants as dead
+use Rattle.petal_msg.specs.declared.retired.Retired.{Retired}
+use Rattle.petal_msg.specs.declared.retired.Retired.TheVariants as retired
 use Rattle.spec_rules.specs.State.{State, live}
-use Rattle.spec_rules.specs.Sweeping.{dead_mark}
-use Rattle.redistribute.specs.Swept.{dead_marks, first_kind, first_marked}
+use Rattle.spec_rules.specs.Sweeping.{retired_mark}
+use Rattle.redistribute.specs.Swept.{retired_marks, first_kind, first_marked}
 use Rattle.redistribute.proofs.Marked.{fewer, hit_least, hits, least, left, low, Past, walk_hit, walk_none, walk_on}
 
 abbrev pub block_of : Mark → ℕ
@@ -81,29 +81,29 @@ module _ (alive : Cell → Bool) where
   abbrev pub dying : List Mark → List Mark
   dying ms = filter (λ m. not (alive m.cell)) ms
 
-  -- the mark is on the map, and of a dead cell
-  abbrev dead_on : ℕ → Mark → Bool
-  dead_on map m = gone m && m.cell.map == map
+  -- the mark is on the map, and of a retired cell
+  abbrev retired_on : ℕ → Mark → Bool
+  retired_on map m = gone m && m.cell.map == map
 
-  dead_block_least : (map : ℕ) (after : Option ℕ) (ms : List Mark) → next_marked map after (dying ms) ≡ least block_of (dead_on map) after ms
-  dead_block_least map after [] = refl
-  dead_block_least map after (m ∷ ms) = elim (cases_Bool (alive m.cell)) [
-    | inl lives ↦ rw lives (dead_block_least map after ms)
+  retired_block_least : (map : ℕ) (after : Option ℕ) (ms : List Mark) → next_marked map after (dying ms) ≡ least block_of (retired_on map) after ms
+  retired_block_least map after [] = refl
+  retired_block_least map after (m ∷ ms) = elim (cases_Bool (alive m.cell)) [
+    | inl lives ↦ rw lives (retired_block_least map after ms)
     | inr dies ↦
         rw dies (ap (λ (o : Option ℕ). if m.cell.map == map && above after m.cell.block then lesser (Some m.cell.block) o else o)
-        (dead_block_least map after ms))
+        (retired_block_least map after ms))
   ]
 
-  dead_map_least : (after : Option ℕ) (ms : List Mark) → next_marked_map after (dying ms) ≡ least map_of gone after ms
-  dead_map_least after [] = refl
-  dead_map_least after (m ∷ ms) = elim (cases_Bool (alive m.cell)) [
-    | inl lives ↦ rw lives (dead_map_least after ms)
-    | inr dies ↦ rw dies (ap (λ (o : Option ℕ). if above after m.cell.map then lesser (Some m.cell.map) o else o) (dead_map_least after ms))
+  retired_map_least : (after : Option ℕ) (ms : List Mark) → next_marked_map after (dying ms) ≡ least map_of gone after ms
+  retired_map_least after [] = refl
+  retired_map_least after (m ∷ ms) = elim (cases_Bool (alive m.cell)) [
+    | inl lives ↦ rw lives (retired_map_least after ms)
+    | inr dies ↦ rw dies (ap (λ (o : Option ℕ). if above after m.cell.map then lesser (Some m.cell.map) o else o) (retired_map_least after ms))
   ]
 
   -- ### From block to block
 
-  narrow_on : (map : ℕ) (m : Mark) → dead_on map m ≡ true → on map m ≡ true
+  narrow_on : (map : ℕ) (m : Mark) → retired_on map m ≡ true → on map m ≡ true
   narrow_on map m is = both_right (gone m) (m.cell.map == map) is
 
   same_cell : (c : Cell) (map block : ℕ) → (c.map == map) ≡ true → (c.block == block) ≡ true → c ≡ record { map = map; block = block }
@@ -112,81 +112,81 @@ module _ (alive : Cell → Bool) where
       let here : c.block ≡ block = grind (arith, nat_tests, f) in
       λ i. record { map = own i; block = here i }
 
-  -- the marks of one cell are all of a dead cell, or none is
-  hit_dead : (map block : ℕ) (ms : List Mark) → alive (record { map = map; block = block }) ≡ false → hits block_of (on map) block ms ≡ true
-      → hits block_of (dead_on map) block ms ≡ true
-  hit_dead map block [] dies hit = hit
-  hit_dead map block (m ∷ ms) dies hit = elim (cases_Bool (m.cell.map == map)) [
+  -- the marks of one cell are all of a retired cell, or none is
+  hit_retired : (map block : ℕ) (ms : List Mark) → alive (record { map = map; block = block }) ≡ false → hits block_of (on map) block ms ≡ true
+      → hits block_of (retired_on map) block ms ≡ true
+  hit_retired map block [] dies hit = hit
+  hit_retired map block (m ∷ ms) dies hit = elim (cases_Bool (m.cell.map == map)) [
     | inl own ↦ elim (cases_Bool (m.cell.block == block)) [
       | inl here ↦
           let dies_too : alive m.cell ≡ false = ap alive (same_cell m.cell map block own here) ∙ dies in
           rw (dies_too, own, here) refl
-      | inr there ↦ rw there (later (gone m && m.cell.map == map) (hits block_of (dead_on map) block ms) (hit_dead map block ms dies (rw (own, there) at hit)))
+      | inr there ↦ rw there (later (gone m && m.cell.map == map) (hits block_of (retired_on map) block ms) (hit_retired map block ms dies (rw (own, there) at hit)))
     ]
-    | inr other ↦ rw other (later_on (gone m) (m.cell.block == block) (hits block_of (dead_on map) block ms) (hit_dead map block ms dies (rw other at hit)))
+    | inr other ↦ rw other (later_on (gone m) (m.cell.block == block) (hits block_of (retired_on map) block ms) (hit_retired map block ms dies (rw other at hit)))
   ]
 
-  miss_dead : (map block : ℕ) (ms : List Mark) → alive (record { map = map; block = block }) ≡ true → hits block_of (dead_on map) block ms ≡ false
-  miss_dead map block [] lives = refl
-  miss_dead map block (m ∷ ms) lives = elim (cases_Bool (m.cell.map == map)) [
+  miss_retired : (map block : ℕ) (ms : List Mark) → alive (record { map = map; block = block }) ≡ true → hits block_of (retired_on map) block ms ≡ false
+  miss_retired map block [] lives = refl
+  miss_retired map block (m ∷ ms) lives = elim (cases_Bool (m.cell.map == map)) [
     | inl own ↦ elim (cases_Bool (m.cell.block == block)) [
       | inl here ↦
           let stays : alive m.cell ≡ true = ap alive (same_cell m.cell map block own here) ∙ lives in
-          rw stays (miss_dead map block ms lives)
-      | inr there ↦ rw there (later (gone m && m.cell.map == map) (hits block_of (dead_on map) block ms) (miss_dead map block ms lives))
+          rw stays (miss_retired map block ms lives)
+      | inr there ↦ rw there (later (gone m && m.cell.map == map) (hits block_of (retired_on map) block ms) (miss_retired map block ms lives))
     ]
-    | inr other ↦ rw other (later_on (gone m) (m.cell.block == block) (hits block_of (dead_on map) block ms) (miss_dead map block ms lives))
+    | inr other ↦ rw other (later_on (gone m) (m.cell.block == block) (hits block_of (retired_on map) block ms) (miss_retired map block ms lives))
   ]
 
   pub block_none : (map : ℕ) (after : Option ℕ) (ms : List Mark) → next_marked map after ms ≡ None → next_marked map after (dying ms) ≡ None
   block_none map after ms is =
-      dead_block_least map after ms ∙ walk_none block_of (dead_on map) (on map) (narrow_on map) after ms (sym (block_least map after ms) ∙ is)
+      retired_block_least map after ms ∙ walk_none block_of (retired_on map) (on map) (narrow_on map) after ms (sym (block_least map after ms) ∙ is)
 
   pub block_hit : (map : ℕ) (after : Option ℕ) (ms : List Mark) (block : ℕ) → next_marked map after ms ≡ Some block
       → alive (record { map = map; block = block }) ≡ false
       → next_marked map after (dying ms) ≡ Some block
   block_hit map after ms block is dies =
       let next = sym (block_least map after ms) ∙ is in
-      let hit = hit_dead map block ms dies (hit_least block_of (on map) after block ms next) in
-      dead_block_least map after ms ∙ walk_hit block_of (dead_on map) (on map) (narrow_on map) after block ms next hit
+      let hit = hit_retired map block ms dies (hit_least block_of (on map) after block ms next) in
+      retired_block_least map after ms ∙ walk_hit block_of (retired_on map) (on map) (narrow_on map) after block ms next hit
 
   pub block_on : (map : ℕ) (after : Option ℕ) (ms : List Mark) (block : ℕ) → next_marked map after ms ≡ Some block
       → alive (record { map = map; block = block }) ≡ true
       → next_marked map (Some block) (dying ms) ≡ next_marked map after (dying ms)
   block_on map after ms block is lives =
       let next = sym (block_least map after ms) ∙ is in
-      dead_block_least map (Some block) ms
-      ∙ walk_on block_of (dead_on map) (on map) (narrow_on map) after block ms next (miss_dead map block ms lives)
-      ∙ sym (dead_block_least map after ms)
+      retired_block_least map (Some block) ms
+      ∙ walk_on block_of (retired_on map) (on map) (narrow_on map) after block ms next (miss_retired map block ms lives)
+      ∙ sym (retired_block_least map after ms)
 
   -- a map of which each cell is alive has none
-  pub none_dead : (map : ℕ) (after : Option ℕ) (ms : List Mark) → ((block : ℕ) → alive (record { map = map; block = block }) ≡ true)
+  pub none_retired : (map : ℕ) (after : Option ℕ) (ms : List Mark) → ((block : ℕ) → alive (record { map = map; block = block }) ≡ true)
       → next_marked map after (dying ms) ≡ None
-  none_dead map after [] lives = refl
-  none_dead map after (m ∷ ms) lives = elim (cases_Bool (alive m.cell)) [
-    | inl stays ↦ rw stays (none_dead map after ms lives)
+  none_retired map after [] lives = refl
+  none_retired map after (m ∷ ms) lives = elim (cases_Bool (alive m.cell)) [
+    | inl stays ↦ rw stays (none_retired map after ms lives)
     | inr dies ↦ elim (cases_Bool (m.cell.map == map)) [
       | inl own ↦
           let e : m.cell.map ≡ map = grind (arith, nat_tests, own) in
           let stays : alive m.cell ≡ true = ap (λ (n : ℕ). alive (record { map = n; block = m.cell.block })) e ∙ lives m.cell.block in
           absurd (let no_cell : true ≡ false = sym stays ∙ dies in cc)
-      | inr other ↦ rw (dies, other) (none_dead map after ms lives)
+      | inr other ↦ rw (dies, other) (none_retired map after ms lives)
     ]
   ]
 
   -- ### From map to map
 
-  hit_map : (map block : ℕ) (ms : List Mark) → hits block_of (dead_on map) block ms ≡ true → hits map_of gone map ms ≡ true
+  hit_map : (map block : ℕ) (ms : List Mark) → hits block_of (retired_on map) block ms ≡ true → hits map_of gone map ms ≡ true
   hit_map map block [] hit = hit
   hit_map map block (m ∷ ms) hit = elim (cases_Bool (gone m && m.cell.map == map)) [
     | inl here ↦ rw here refl
     | inr there ↦ rw there (hit_map map block ms (rw there at hit))
   ]
 
-  miss_map : (map : ℕ) (ms : List Mark) → least block_of (dead_on map) None ms ≡ None → hits map_of gone map ms ≡ false
+  miss_map : (map : ℕ) (ms : List Mark) → least block_of (retired_on map) None ms ≡ None → hits map_of gone map ms ≡ false
   miss_map map [] is = refl
   miss_map map (m ∷ ms) is = elim (cases_Bool (gone m && m.cell.map == map)) [
-    | inl here ↦ absurd (some_least m.cell.block (least block_of (dead_on map) None ms) (rw here at is))
+    | inl here ↦ absurd (some_least m.cell.block (least block_of (retired_on map) None ms) (rw here at is))
     | inr there ↦ rw there (miss_map map ms (rw there at is))
   ]
     where
@@ -198,21 +198,21 @@ module _ (alive : Cell → Bool) where
       ]
 
   pub map_none : (after : Option ℕ) (ms : List Mark) → next_marked_map after ms ≡ None → next_marked_map after (dying ms) ≡ None
-  map_none after ms is = dead_map_least after ms ∙ walk_none map_of gone any (λ m has. refl) after ms (sym (map_least after ms) ∙ is)
+  map_none after ms is = retired_map_least after ms ∙ walk_none map_of gone any (λ m has. refl) after ms (sym (map_least after ms) ∙ is)
 
   pub map_hit : (after : Option ℕ) (ms : List Mark) (map block : ℕ) → next_marked_map after ms ≡ Some map → next_marked map None (dying ms) ≡ Some block
       → next_marked_map after (dying ms) ≡ Some map
   map_hit after ms map block is found =
-      let hit = hit_map map block ms (hit_least block_of (dead_on map) None block ms (sym (dead_block_least map None ms) ∙ found)) in
-      dead_map_least after ms ∙ walk_hit map_of gone any (λ m has. refl) after map ms (sym (map_least after ms) ∙ is) hit
+      let hit = hit_map map block ms (hit_least block_of (retired_on map) None block ms (sym (retired_block_least map None ms) ∙ found)) in
+      retired_map_least after ms ∙ walk_hit map_of gone any (λ m has. refl) after map ms (sym (map_least after ms) ∙ is) hit
 
   pub map_on : (after : Option ℕ) (ms : List Mark) (map : ℕ) → next_marked_map after ms ≡ Some map → next_marked map None (dying ms) ≡ None
       → next_marked_map (Some map) (dying ms) ≡ next_marked_map after (dying ms)
   map_on after ms map is none =
-      let miss = miss_map map ms (sym (dead_block_least map None ms) ∙ none) in
-      dead_map_least (Some map) ms
+      let miss = miss_map map ms (sym (retired_block_least map None ms) ∙ none) in
+      retired_map_least (Some map) ms
       ∙ walk_on map_of gone any (λ m has. refl) after map ms (sym (map_least after ms) ∙ is) miss
-      ∙ sym (dead_map_least after ms)
+      ∙ sym (retired_map_least after ms)
 
 -- ### The first of marks in order
 
@@ -270,48 +270,48 @@ kind_is m ms following = kind_by m.kind (m.cell.map == m.cell.map) (m.cell.block
     kind_by Stale a b c e f g = rw g refl
 
 module _ (alive : Cell → Bool) where
-  dead_here : (m : Mark) (cell : Cell) → same_mark m (busy_at cell) ≡ true → alive cell ≡ false → alive m.cell ≡ false
-  dead_here m cell is dies =
+  retired_here : (m : Mark) (cell : Cell) → same_mark m (busy_at cell) ≡ true → alive cell ≡ false → alive m.cell ≡ false
+  retired_here m cell is dies =
       let front = both_left (same_kind m.kind Busy && m.cell.map == cell.map) (m.cell.block == cell.block) is in
       let own = both_right (same_kind m.kind Busy) (m.cell.map == cell.map) front in
       let here = both_right (same_kind m.kind Busy && m.cell.map == cell.map) (m.cell.block == cell.block) is in
       ap alive (same_cell alive m.cell cell.map cell.block own here) ∙ dies
 
-  -- of a dead cell the marks of dead cells are all marks
+  -- of a retired cell the marks of retired cells are all marks
   busy_dying : (cell : Cell) (ms : List Mark) → alive cell ≡ false → has_mark (busy_at cell) (dying alive ms) ≡ has_mark (busy_at cell) ms
   busy_dying cell [] dies = refl
   busy_dying cell (m ∷ ms) dies = elim (cases_Bool (same_mark m (busy_at cell))) [
-    | inl same ↦ rw (dead_here m cell same dies, same) refl
+    | inl same ↦ rw (retired_here m cell same dies, same) refl
     | inr other ↦ elim (cases_Bool (alive m.cell)) [
       | inl lives ↦ rw (lives, other) (busy_dying cell ms dies)
       | inr lost ↦ rw (lost, other) (busy_dying cell ms dies)
     ]
   ]
 
-  each_dead : (ms : List Mark) → AllByRecursion (λ m. alive m.cell ≡ false) (dying alive ms)
-  each_dead [] = tt
-  each_dead (m ∷ ms) = elim (cases_Bool (alive m.cell)) [
-    | inl lives ↦ rw lives (each_dead ms)
-    | inr dies ↦ rw dies (dies, each_dead ms)
+  each_retired : (ms : List Mark) → AllByRecursion (λ m. alive m.cell ≡ false) (dying alive ms)
+  each_retired [] = tt
+  each_retired (m ∷ ms) = elim (cases_Bool (alive m.cell)) [
+    | inl lives ↦ rw lives (each_retired ms)
+    | inr dies ↦ rw dies (dies, each_retired ms)
   ]
 
 module _ (state : State) where
-  abbrev top_of : List Mark → Option Dead
+  abbrev top_of : List Mark → Option Retired
   top_of [] = None
-  top_of (m ∷ ms) = Some (dead.Mark m.kind m.cell)
+  top_of (m ∷ ms) = Some (retired.Mark m.kind m.cell)
 
-  top_dying : (ms : List Mark) → dead_mark state ms ≡ top_of (dead_marks state ms)
+  top_dying : (ms : List Mark) → retired_mark state ms ≡ top_of (retired_marks state ms)
   top_dying [] = refl
   top_dying (m ∷ ms) = elim (cases_Bool (live state m.cell)) [
     | inl lives ↦ rw lives (top_dying ms)
     | inr dies ↦ rw dies refl
   ]
 
-  -- what is found of all marks, where these are those of dead cells
-  abbrev pub found_of : List Mark → Option Cell → Option Dead
-  found_of ms found = option_map (λ (cell : Cell). dead.Mark (first_kind ms cell) cell) found
+  -- what is found of all marks, where these are those of retired cells
+  abbrev pub found_of : List Mark → Option Cell → Option Retired
+  found_of ms found = option_map (λ (cell : Cell). retired.Mark (first_kind ms cell) cell) found
 
-  found_top : (ms ds : List Mark) → dead_marks state ms ≡ ds → IsStrictlySortedBy mark_cmp ds → AllByRecursion (λ m. live state m.cell ≡ false) ds
+  found_top : (ms ds : List Mark) → retired_marks state ms ≡ ds → IsStrictlySortedBy mark_cmp ds → AllByRecursion (λ m. live state m.cell ≡ false) ds
       → found_of ms (first_marked ds) ≡ top_of ds
   found_top ms [] is sorted each = refl
   found_top ms (d ∷ ds) is sorted each =
@@ -319,11 +319,11 @@ module _ (state : State) where
       let busy : has_mark (busy_at d.cell) ms ≡ has_mark (busy_at d.cell) (d ∷ ds) =
       sym (busy_dying (live state) d.cell ms each.0) ∙ ap (has_mark (busy_at d.cell)) is in
       let kind : first_kind ms d.cell ≡ d.kind = ap (λ (b : Bool). if b then Busy else Stale) busy ∙ kind_is d ds following in
-      ap (found_of ms) (first_cell d ds following) ∙ ap (λ (k : MarkKind). Some (dead.Mark k d.cell)) kind
+      ap (found_of ms) (first_cell d ds following) ∙ ap (λ (k : MarkKind). Some (retired.Mark k d.cell)) kind
 
-  -- where marks are in order, the first one of a dead cell is found by its map, its block and its kind
-  pub found : (ms : List Mark) → IsStrictlySortedBy mark_cmp ms → found_of ms (first_marked (dead_marks state ms)) ≡ dead_mark state ms
+  -- where marks are in order, the first one of a retired cell is found by its map, its block and its kind
+  pub found : (ms : List Mark) → IsStrictlySortedBy mark_cmp ms → found_of ms (first_marked (retired_marks state ms)) ≡ retired_mark state ms
   found ms sorted =
-      found_top ms (dead_marks state ms) refl (IsStrictlySortedBy-filter mark_cmp (λ (m : Mark). not (live state m.cell)) ms sorted)
-      (each_dead (live state) ms)
+      found_top ms (retired_marks state ms) refl (IsStrictlySortedBy-filter mark_cmp (λ (m : Mark). not (live state m.cell)) ms sorted)
+      (each_retired (live state) ms)
       ∙ sym (top_dying ms)

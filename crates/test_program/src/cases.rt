@@ -1,6 +1,6 @@
 //! Scripts and what the program writes, worked by hand.
 
-use crate::call::{Fault, Letters, Row, are_so};
+use crate::call::{Case, Fault, Letters, are_so};
 use std::test::Fail;
 
 const DISK: &str = "servers 5 slots 16\na disk vol on 0 1 2 3 4\nwait\n";
@@ -18,7 +18,7 @@ const ONE_WRITE: &str = "a disk vol on 0 1 2\na write vol 5 fill 7\nwait\nh read
 const USAGE: &str = "usage: petal run [FOLDER] | petal drill SEED COUNT\n";
 
 /// A script that ends, where nothing outside fails.
-const RUN: Row = Row {
+const RUN: Case = Case {
     shows: "an empty session writes nothing",
     words: &["run"],
     start: "servers 2 slots 4\n",
@@ -30,21 +30,21 @@ const RUN: Row = Row {
 };
 
 /// A script of one disk over five servers.
-const ON_DISK: Row = Row { start: DISK, ..RUN };
+const ON_DISK: Case = Case { start: DISK, ..RUN };
 
 /// A script of which a line is refused.
-const REFUSED: Row = Row { status: 2, ..RUN };
+const REFUSED: Case = Case { status: 2, ..RUN };
 
 /// Words that are no form.
-const NO_FORM: Row = Row {
+const NO_FORM: Case = Case {
     status: 1,
     written: &[USAGE],
     ..RUN
 };
 
-const SESSIONS: &[Row] = &[
+const SESSIONS: &[Case] = &[
     RUN,
-    Row {
+    Case {
         shows: "two writes fill two slots, the third is refused and the first stays",
         start: "servers 2 slots 2\na disk vol on 0 1\n",
         lines: "a write vol 0 fill 1\na write vol 1 fill 2\na write vol 0 fill 3\na read vol 0\n",
@@ -58,20 +58,20 @@ fn whole_sessions(rt: HostRuntime) -> Result<(), Fail> {
     are_so(&rt, rt.alloc(), SESSIONS)
 }
 
-const NAMES: &[Row] = &[
-    Row {
+const NAMES: &[Case] = &[
+    Case {
         shows: "a name that no disk has",
         lines: "a read nosuch 0\n",
         written: &["2: nodisk\n"],
         ..RUN
     },
-    Row {
+    Case {
         shows: "a name that a disk has already",
         lines: "a disk vol on 0 1\na disk vol on 1 0\n",
         written: &["2: ok\n3: exists\n"],
         ..RUN
     },
-    Row {
+    Case {
         shows: "two clients make a disk of one name at once: one of them does",
         lines: "a disk vol on 0 1\nb disk vol on 1 0\nwait\na write vol 1 fill 3\nb read vol 0\n",
         written: &[
@@ -87,15 +87,15 @@ fn names_of_disks(rt: HostRuntime) -> Result<(), Fail> {
     are_so(&rt, rt.alloc(), NAMES)
 }
 
-const STOPS: &[Row] = &[
-    Row {
+const STOPS: &[Case] = &[
+    Case {
         shows: "the lead of a block stops, and its neighbour goes on; a second stop of it does nothing",
         start: "servers 3 slots 4\na disk vol on 0 1 2\n",
         lines: "a write vol 0 fill 7\nwait\nop stop 0\nop stop 0\nwait\na read vol 0\nwait\nb write vol 0 fill 8\nwait\na read vol 0\n",
         written: &["2: ok\n3: ok\n5: ok\n6: ok\n8: data 65536x7\n10: ok\n12: data 65536x8\n"],
         ..RUN
     },
-    Row {
+    Case {
         shows: "two neighbours stop: their block is unavailable, and others go on",
         lines: "a write vol 0 fill 1\na write vol 1 fill 2\nwait\nop stop 0\nop stop 1\nwait\na read vol 0\nb write vol 0 fill 3\nc read vol 1\n",
         written: &[
@@ -110,7 +110,7 @@ fn servers_that_stop(rt: HostRuntime) -> Result<(), Fail> {
     are_so(&rt, rt.alloc(), STOPS)
 }
 
-const STARTS: &[Row] = &[Row {
+const STARTS: &[Case] = &[Case {
     shows: "a server that starts again is brought up to date, and serves what it has missed once its neighbour stops",
     lines: "op stop 0\nwait\na write vol 0 fill 7\nwait\nop start 0\nwait\nop stop 1\nwait\na read vol 0\nb read vol 1\nwait
 op start 1\nop start 1\nwait\nc read vol 0\n",
@@ -125,21 +125,21 @@ fn servers_that_start_again(rt: HostRuntime) -> Result<(), Fail> {
     are_so(&rt, rt.alloc(), STARTS)
 }
 
-const SETTLES: &[Row] = &[
-    Row {
+const SETTLES: &[Case] = &[
+    Case {
         shows: "servers that run are settled",
         start: "servers 3 slots 4\n",
         lines: "op settle\n",
         written: &["2: ok\n"],
         ..RUN
     },
-    Row {
+    Case {
         shows: "a server that starts again is brought up to date, and its neighbour may stop",
         lines: "a write vol 1 fill 1\nwait\nop stop 2\nwait\na write vol 1 fill 2\nwait\nop start 2\nop settle\nop stop 1\nwait\na read vol 1\n",
         written: &["2: ok\n4: ok\n6: ok\n8: ok\n10: ok\n11: ok\n12: ok\n14: data 65536x2\n"],
         ..ON_DISK
     },
-    Row {
+    Case {
         shows: "the same, where letters are lost and come twice",
         start: "servers 5 slots 16\nnet lose 3\nnet twice 2\na disk vol on 0 1 2 3 4\nwait\n",
         lines: "a write vol 1 fill 1\nwait\nop stop 2\nwait\na write vol 1 fill 2\nwait\nop start 2\nop settle\nop stop 1\nwait\na read vol 1\n",
@@ -147,7 +147,7 @@ const SETTLES: &[Row] = &[
         written: &["4: ok\n6: ok\n8: ok\n10: ok\n12: ok\n13: ok\n14: ok\n16: data 65536x2\n"],
         ..RUN
     },
-    Row {
+    Case {
         shows: "servers are settled where one has stopped that alone holds a block, and the block comes back with it",
         lines: "op stop 1\nwait\na write vol 1 fill 4\nwait\nop stop 2\nop start 1\nop settle\nwait\na read vol 1\nwait\nop start 2\nop settle\nwait
 a read vol 1\n",
@@ -156,7 +156,7 @@ a read vol 1\n",
         ],
         ..ON_DISK
     },
-    Row {
+    Case {
         shows: "two blocks were written while a server of one slot was stopped: there is no space for both of them",
         start: "servers 3 slots 1\na disk vol on 0 1 2\nwait\n",
         lines: "op stop 1\nwait\na write vol 0 fill 1\nb write vol 1 fill 2\nwait\nop start 1\nop settle\n",
@@ -170,8 +170,8 @@ fn servers_that_are_settled(rt: HostRuntime) -> Result<(), Fail> {
     are_so(&rt, rt.alloc(), SETTLES)
 }
 
-const BLANKS: &[Row] = &[
-    Row {
+const BLANKS: &[Case] = &[
+    Case {
         shows: "a server that comes back with nothing is filled, and its neighbours may stop",
         lines: "a write vol 1 fill 1\na write vol 2 fill 2\nwait\nop blank 2\nop settle\nop stop 1\nop stop 3\nwait\na read vol 1\nb read vol 2\n",
         written: &[
@@ -179,7 +179,7 @@ const BLANKS: &[Row] = &[
         ],
         ..ON_DISK
     },
-    Row {
+    Case {
         shows: "the same, where letters are lost and come twice",
         start: "servers 5 slots 16\nnet lose 3\nnet twice 2\na disk vol on 0 1 2 3 4\nwait\n",
         lines: "a write vol 1 fill 1\na write vol 2 fill 2\nwait\nop blank 2\nop settle\nop stop 1\nop stop 3\nwait\na read vol 1\nb read vol 2\n",
@@ -189,13 +189,13 @@ const BLANKS: &[Row] = &[
         ],
         ..RUN
     },
-    Row {
+    Case {
         shows: "a server that is stopped already is blanked",
         lines: "a write vol 1 fill 1\nwait\nop stop 2\nwait\na write vol 1 fill 2\nwait\nop blank 2\nop settle\nop stop 1\nwait\na read vol 1\n",
         written: &["2: ok\n4: ok\n6: ok\n8: ok\n10: ok\n11: ok\n12: ok\n14: data 65536x2\n"],
         ..ON_DISK
     },
-    Row {
+    Case {
         shows: "what a server held alone is lost with its device, and other blocks of it are served",
         lines: "a write vol 2 fill 3\nwait\nop stop 1\nwait\na write vol 1 fill 4\nwait\nop blank 2\nop settle\nop start 1\nop settle\nwait
 a read vol 1\nb write vol 1 fill 5\nc read vol 2\nd write vol 0 fill 6\nwait\na read vol 0\n",
@@ -211,8 +211,8 @@ fn servers_that_are_blanked(rt: HostRuntime) -> Result<(), Fail> {
     are_so(&rt, rt.alloc(), BLANKS)
 }
 
-const SNAPSHOTS: &[Row] = &[
-    Row {
+const SNAPSHOTS: &[Case] = &[
+    Case {
         shows: "a snapshot keeps what the disk held, its name is taken, and another is unknown",
         lines: "a write vol 5 fill 1\na snap vol s1\na write vol 5 fill 2\na read vol@s1 5\na read vol 5\na snap vol s1\na read vol@s2 5\n",
         written: &[
@@ -220,7 +220,7 @@ const SNAPSHOTS: &[Row] = &[
         ],
         ..ON_DISK
     },
-    Row {
+    Case {
         shows: "a day's use of two disks, with a snapshot, a stop and a return",
         start: "servers 4 slots 64\na disk home on 0 1 2 3\na disk mail on 1 3\nwait\n",
         lines: "a write home 0 fill 10\na write home 1 fill 11\nb write mail 0 fill 20\nc read home 9\nwait\na snap home monday\nb write mail 0 fill 21\nop stop 3\nwait\na write home 1 fill 12\nb read mail 0\nop start 3\nop settle\nwait\nc read home@monday 1\nc read home 1\nb read mail 0\n",
@@ -236,20 +236,20 @@ fn snapshots(rt: HostRuntime) -> Result<(), Fail> {
     are_so(&rt, rt.alloc(), SNAPSHOTS)
 }
 
-const REFUSALS: &[Row] = &[
-    Row {
+const REFUSALS: &[Case] = &[
+    Case {
         shows: "a word that is no command",
         lines: "wirte vol 1\n",
         written: &["refused line 2: bad line\n"],
         ..REFUSED
     },
-    Row {
+    Case {
         shows: "the empty script",
         start: "",
         written: &["refused line 1: no servers line\n"],
         ..REFUSED
     },
-    Row {
+    Case {
         shows: "a stop of one of two servers leaves no majority",
         lines: "op stop 1\n",
         written: &["refused line 2: no majority\n"],
@@ -262,8 +262,8 @@ fn lines_that_are_refused(rt: HostRuntime) -> Result<(), Fail> {
     are_so(&rt, rt.alloc(), REFUSALS)
 }
 
-const ARMED: &[Row] = &[
-    Row {
+const ARMED: &[Case] = &[
+    Case {
         shows: "a server stops in a call of its data device amid a write, which its neighbour ends",
         lines: "a write vol 1 fill 1\nwait\nop stop 1 at 3\na write vol 1 fill 2\nb read vol 1\nwait\na read vol 1\nwait\nop start 1\nop settle\nwait\na read vol 1\n",
         written: &[
@@ -272,7 +272,7 @@ const ARMED: &[Row] = &[
         ],
         ..ON_DISK
     },
-    Row {
+    Case {
         shows: "a write of a data device fails, and its server stops; nothing is lost",
         lines: "op fault 1 data write 2\nwait\na write vol 1 fill 6\na read vol 1\n",
         written: &["2: ok\n4: ok\n6: ok\n7: data 65536x6\n"],
@@ -285,20 +285,20 @@ fn devices_that_stop_a_server_or_fail(rt: HostRuntime) -> Result<(), Fail> {
     are_so(&rt, rt.alloc(), ARMED)
 }
 
-const BLOCKS: &[Row] = &[
-    Row {
+const BLOCKS: &[Case] = &[
+    Case {
         shows: "a block that was never written is zeros",
         lines: "a read vol 5",
         written: &["2: ok\n4: data 65536x0\n"],
         ..ON_DISK
     },
-    Row {
+    Case {
         shows: "a block of sevens",
         lines: "a write vol 5 fill 7\na read vol 5",
         written: &["2: ok\n4: ok\n5: data 65536x7\n"],
         ..ON_DISK
     },
-    Row {
+    Case {
         shows: "the greatest block number",
         lines: "a write vol 281474976710655 fill 9\na read vol 281474976710655\n",
         written: &["2: ok\n4: ok\n5: data 65536x9\n"],
@@ -311,15 +311,15 @@ fn blocks_of_one_byte(rt: HostRuntime) -> Result<(), Fail> {
     are_so(&rt, rt.alloc(), BLOCKS)
 }
 
-const LONG_ANSWERS: &[Row] = &[
-    Row {
+const LONG_ANSWERS: &[Case] = &[
+    Case {
         shows: "one block number more",
         lines: "a read vol 281474976710656",
         status: 2,
         written: &["refused line 4: bad number\n"],
         ..ON_DISK
     },
-    Row {
+    Case {
         shows: "halves, and two equal blocks whose runs are too many to print",
         lines: "a write vol 2 halves 1 2\na read vol 2\na write vol 3 ramp 0\na read vol 3\na write vol 4 ramp 0\na read vol 4\n",
         written: &[
@@ -334,15 +334,15 @@ fn the_greatest_block_and_long_answers(rt: HostRuntime) -> Result<(), Fail> {
     are_so(&rt, rt.alloc(), LONG_ANSWERS)
 }
 
-const RACES: &[Row] = &[
-    Row {
+const RACES: &[Case] = &[
+    Case {
         shows: "two clients write one block of three servers",
         start: "servers 3 slots 4\na disk vol on 0 1 2\n",
         lines: RACE,
         written: RACED,
         ..RUN
     },
-    Row {
+    Case {
         shows: "two clients write one block of five servers",
         start: "servers 5 slots 16\na disk vol on 0 1 2 3 4\n",
         lines: RACE,
@@ -356,8 +356,8 @@ fn two_clients_write_one_block(rt: HostRuntime) -> Result<(), Fail> {
     are_so(&rt, rt.alloc(), RACES)
 }
 
-const LETTERS: &[Row] = &[
-    Row {
+const LETTERS: &[Case] = &[
+    Case {
         shows: "each letter is handed over once",
         start: "servers 3 slots 4\n",
         lines: ONE_WRITE,
@@ -365,7 +365,7 @@ const LETTERS: &[Row] = &[
         written: &["2: ok\n3: ok\n5: data 65536x7\n"],
         ..RUN
     },
-    Row {
+    Case {
         shows: "letters are lost and come twice",
         start: "servers 3 slots 4\nnet lose 4\nnet twice 3\n",
         lines: ONE_WRITE,
@@ -380,22 +380,22 @@ fn letters_that_are_lost_and_doubled(rt: HostRuntime) -> Result<(), Fail> {
     are_so(&rt, rt.alloc(), LETTERS)
 }
 
-const FAULTS: &[Row] = &[
-    Row {
+const FAULTS: &[Case] = &[
+    Case {
         shows: "a source that fails at its first read",
         lines: "a write vol 5 fill 7\na read vol 5\n",
         fault: Fault::Source(1),
         status: 4,
         ..ON_DISK
     },
-    Row {
+    Case {
         shows: "a sink that fails at its first write",
         lines: "a write vol 5 fill 7\na read vol 5\n",
         fault: Fault::Sink(1),
         status: 5,
         ..ON_DISK
     },
-    Row {
+    Case {
         shows: "a sink that fails in the second phase",
         lines: "a disk vol on 0 1\nwait\na read vol 5\nwait\na read vol 6\n",
         fault: Fault::Sink(2),
@@ -410,28 +410,28 @@ fn faults(rt: HostRuntime) -> Result<(), Fail> {
     are_so(&rt, rt.alloc(), FAULTS)
 }
 
-const WORDS: &[Row] = &[
-    Row {
+const WORDS: &[Case] = &[
+    Case {
         shows: "no word",
         words: &[],
         ..NO_FORM
     },
-    Row {
+    Case {
         shows: "a word that is no command",
         words: &["fly"],
         ..NO_FORM
     },
-    Row {
+    Case {
         shows: "a run in a folder",
         words: &["run", "folder"],
         ..NO_FORM
     },
-    Row {
+    Case {
         shows: "a drill",
         words: &["drill", "0", "0"],
         ..NO_FORM
     },
-    Row {
+    Case {
         shows: "an empty word",
         words: &[""],
         ..NO_FORM

@@ -8,45 +8,45 @@ use Rattle.std.specs.List.{list_any}
 use Rattle.busy_marks.specs.declared.marks.Mark.{Mark}
 use Rattle.petal_base.specs.declared.cell.Key.{Key}
 use Rattle.petal_base.specs.Cells.{cell_of}
-use Rattle.petal_msg.specs.declared.dead.Dead.TheVariants as dead
+use Rattle.petal_msg.specs.declared.retired.Retired.TheVariants as retired
 use Rattle.spec_rules.specs.State.{State, live}
 use Rattle.spec_rules.specs.Store.{chain_in, epochs_of}
-use Rattle.spec_rules.specs.Sweeping.{dead_mark, next_dead}
+use Rattle.spec_rules.specs.Sweeping.{retired_mark, next_retired}
 use Rattle.physical_map.specs.declared.entry.Entry.{Entry}
 use Rattle.physical_map.specs.Entries.{chain_of, in_cell}
 use Rattle.physical_map.specs.Keys.{IsInOrder}
 use Rattle.server_store.specs.Holdings.{Held, Holdings, key_held, listed}
 use Rattle.kept_chains.specs.Kept.{chains_of, store_of, stored_of}
 use Rattle.kept_chains.proofs.Walks.{epochs_is}
-use Rattle.redistribute.specs.Swept.{first_dead}
-use Rattle.redistribute.proofs.FirstDead.{dead_by, dead_is}
+use Rattle.redistribute.specs.Swept.{first_retired}
+use Rattle.redistribute.proofs.FirstRetired.{retired_by, retired_is}
 
 module _ (state : State) where
-  abbrev is_dead : Key → Bool
-  is_dead k = not (live state (cell_of k))
+  abbrev is_retired : Key → Bool
+  is_retired k = not (live state (cell_of k))
 
-  find_listed : (es : List Held) → find is_dead (map key_held es) ≡ first_dead state (listed es)
+  find_listed : (es : List Held) → find is_retired (map key_held es) ≡ first_retired state (listed es)
   find_listed [] = refl
   find_listed (e ∷ es) = elim (cases_Bool (live state (cell_of e.entry.key))) [
     | inl is ↦ rw is (find_listed es)
     | inr is ↦ rw is refl
   ]
 
-  pub dead_found : {D : Type 0} (s : Holdings D) → IsInOrder key_held s.entries
-      → next_dead state (store_of s) ≡ dead_by state (dead_mark state s.marks) (first_dead state (listed s.entries))
-  unfolding next_dead
-  dead_found s order =
-      dead_is state (dead_mark state s.marks) key_held stored_of s.entries order
-      ∙ ap (dead_by state (dead_mark state s.marks)) (find_listed s.entries)
+  pub retired_found : {D : Type 0} (s : Holdings D) → IsInOrder key_held s.entries
+      → next_retired state (store_of s) ≡ retired_by state (retired_mark state s.marks) (first_retired state (listed s.entries))
+  unfolding next_retired
+  retired_found s order =
+      retired_is state (retired_mark state s.marks) key_held stored_of s.entries order
+      ∙ ap (retired_by state (retired_mark state s.marks)) (find_listed s.entries)
 
-  no_key : (ms : List Mark) (k : Key) → dead_mark state ms ≡ Some (dead.Key k) → ⊥
+  no_key : (ms : List Mark) (k : Key) → retired_mark state ms ≡ Some (retired.Key k) → ⊥
   no_key [] k is = absurd (cc)
   no_key (m ∷ ms) k is = elim (cases_Bool (live state m.cell)) [
     | inl lives ↦ no_key ms k (rw lives at is)
-    | inr dies ↦ absurd (let e : Some (dead.Mark m.kind m.cell) ≡ Some (dead.Key k) = rw dies at is in cc)
+    | inr dies ↦ absurd (let e : Some (retired.Mark m.kind m.cell) ≡ Some (retired.Key k) = rw dies at is in cc)
   ]
 
-  key_by : (ms : List Mark) (o : Option Key) (k : Key) → dead_by state (dead_mark state ms) o ≡ Some (dead.Key k) → o ≡ Some k
+  key_by : (ms : List Mark) (o : Option Key) (k : Key) → retired_by state (retired_mark state ms) o ≡ Some (retired.Key k) → o ≡ Some k
   key_by ms None k is = absurd (no_key ms k is)
   key_by ms (Some j) k is = cc
 
@@ -73,7 +73,7 @@ module _ (state : State) where
   there_first : (e : Entry) (es : List Entry) → list_any (nat_eq e.key.epoch) (epochs (chain_of (cell_of e.key) (e ∷ es))) ≡ true
   there_first e es = rw (in_own e.key, same_epoch e.key.epoch) refl
 
-  there : (es : List Entry) (k : Key) → first_dead state es ≡ Some k → list_any (nat_eq k.epoch) (epochs (chain_of (cell_of k) es)) ≡ true
+  there : (es : List Entry) (k : Key) → first_retired state es ≡ Some k → list_any (nat_eq k.epoch) (epochs (chain_of (cell_of k) es)) ≡ true
   there [] k is = absurd (cc)
   there (e ∷ es) k is = elim (cases_Bool (live state (cell_of e.key))) [
     | inl lives ↦ there_more e es k (there es k (rw lives at is))
@@ -83,8 +83,8 @@ module _ (state : State) where
   ]
 
   -- a key that is to be dropped is there
-  pub dead_there : {D : Type 0} (s : Holdings D) (k : Key) → IsInOrder key_held s.entries → next_dead state (store_of s) ≡ Some (dead.Key k)
+  pub retired_there : {D : Type 0} (s : Holdings D) (k : Key) → IsInOrder key_held s.entries → next_retired state (store_of s) ≡ Some (retired.Key k)
       → list_any (nat_eq k.epoch) (epochs_of (chain_in (chains_of s.entries) (cell_of k))) ≡ true
-  dead_there s k order is =
-      let first = key_by s.marks (first_dead state (listed s.entries)) k (sym (dead_found s order) ∙ is) in
+  retired_there s k order is =
+      let first = key_by s.marks (first_retired state (listed s.entries)) k (sym (retired_found s order) ∙ is) in
       ap (list_any (nat_eq k.epoch)) (sym (epochs_is s.entries (cell_of k) order)) ∙ there (listed s.entries) k first

@@ -1,11 +1,11 @@
 use Rattle.std.proofs.Common.{None, sym, ◌∙◌}
 use Rattle.spec_rules.specs.State.{live}
-use Rattle.redistribute.proofs.DeadMarks.{block_hit, block_none, block_on, fewer_blocks, none_dead}
-use Rattle.redistribute.proofs.search.dead_block.Goals as goal
+use Rattle.redistribute.proofs.RetiredMarks.{block_hit, block_none, block_on, fewer_blocks, none_retired}
+use Rattle.redistribute.proofs.search.retired_block.Goals as goal
 
 pub returns-then-is_live_map : goal.returns-then-is_live_map
 returns-then-is_live_map g c =
-    sym (none_dead (live c.args.state.now) c.args.map None c.args.store.now.marks
+    sym (none_retired (live c.args.state.now) c.args.map None c.args.store.now.marks
     (c.is_live_map.ensures.live (sym c.is_live_map.ensures.value ∙ c.if-is_live_map.true)))
 
 pub returns-then-not-live : goal.returns-then-not-live
