@@ -88,7 +88,7 @@ pub use Rattle.law_steps.proofs.ClientLetters.{turned_asks}
 pub use Rattle.law_steps.proofs.CopiesRest.{among_least, cell_left, in_none, on_row, same_cell}
 pub use Rattle.law_steps.proofs.CopyFrames.{of_holder, of_other}
 pub use Rattle.law_steps.proofs.FillsByJobs.{Fills, Stood, Writes, did_come}
-pub use Rattle.law_steps.proofs.Fronts.{below_itself, front_itself, front_long, front_more, front_on, front_within, one_front}
+pub use Rattle.law_state.proofs.Fronts.{below_itself, front_itself, front_long, front_more, front_on, front_within, one_front}
 pub use Rattle.law_steps.proofs.HeldBackForCaughts.{held_as_flag}
 pub use Rattle.law_steps.proofs.IdleServers.{logged_apart}
 pub use Rattle.law_steps.proofs.InvertHolder.{untrue}

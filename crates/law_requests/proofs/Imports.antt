@@ -53,7 +53,7 @@ pub use Rattle.law_state.specs.LaterStates.{HasComeSecond}
 pub use Rattle.law_state.specs.LinkChanges.{IsCaughtBy}
 pub use Rattle.law_state.specs.LinkRows.{IsServed}
 pub use Rattle.law_steps.proofs.CopyFrames.{of_holder, of_other}
-pub use Rattle.law_steps.proofs.Fronts.{below_itself, front_itself, front_long, front_more, front_on, front_same, front_within, one_front}
+pub use Rattle.law_state.proofs.Fronts.{below_itself, front_itself, front_long, front_more, front_on, front_same, front_within, one_front}
 pub use Rattle.law_steps.proofs.HeldBackForCaughts.{held_as_flag}
 pub use Rattle.law_steps.proofs.KindsInHistories.{chosen_below, chosen_steady, own_below, own_plain, own_steady, proposed_pairs, runs_at, runs_now}
 pub use Rattle.law_steps.proofs.Letters.{said}

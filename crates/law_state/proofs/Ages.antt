@@ -1,8 +1,9 @@
 -- Ages of servers: an incarnation that is In is of one age, and one that was In and is In again was In all the time.
 use Rattle.law_state.proofs.Imports.{◌+◌, ◌<◌, ◌==◌, ◌∙◌, ◌≡◌, ◌≤◌, Member, None, Option, Some, State, ap, arith, by_bool, false, inc_in, inc_of, is_in}
-use Rattle.law_state.proofs.Imports.{is_up, is_up_as, may_join, nat_lt, nat_tests, number_itself, option_and_then, option_map_or, refl, same_numbers}
-use Rattle.law_state.proofs.Imports.{slice_get, sym, true, true_false, ℕ}
+use Rattle.law_state.proofs.Imports.{is_up, is_up_as, may_join, number_itself, option_and_then, option_map_or, refl, same_numbers, slice_get, sym, true}
+use Rattle.law_state.proofs.Imports.{true_false, ℕ}
 use Rattle.law_state.specs.Ages.{age, age_of}
+use Rattle.law_state.proofs.TestFacts.{less_by}
 use Rattle.global_tables.specs.declared.fence.Member.TheVariants as member
 
 in_by : (o : Option Member) (inc : ℕ) → option_map_or (λ present. present == inc) (option_and_then inc_in o) false ≡ true → age o ≡ inc + inc + 1
@@ -70,7 +71,4 @@ no_less a = omega arith
 pub may_by : (o : Option Member) (inc : ℕ) → may_join o inc ≡ true → (last : ℕ) × (o ≡ Some (member.Out last)) × (last < inc)
 may_by None inc e = true_false e refl
 may_by (Some (member.In last)) inc e = true_false e refl
-may_by (Some (member.Out last)) inc e = (last, refl, less last inc e)
-  where
-    less : (a b : ℕ) → nat_lt a b ≡ true → a < b
-    less a b e = grind (arith, nat_tests)
+may_by (Some (member.Out last)) inc e = (last, refl, less_by last inc e)

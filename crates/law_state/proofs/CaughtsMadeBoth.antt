@@ -1,26 +1,29 @@
 -- A link that is in Both again: the Caught that made it so stands in the log. And a link's place in Both is told by the incarnations
 -- of its two servers.
-use Rattle.law_state.proofs.Imports.{[], if◌then◌else◌, ◌&&◌, ◌++◌, ◌+◌, ◌==◌, ◌∙◌, ◌∷◌, ◌≡◌, ◌⊎◌, Bool, Both, Caught, Cell, Command, Drained, In, IsPrefix}
-use Rattle.law_state.proofs.Imports.{Join, Leave, LinkRow, LinkState, List, Lost, MakeDisk, Moved, None, Only, Snap, Some, StartMove, State, Witness, act}
-use Rattle.law_state.proofs.Imports.{after, ap, append_assoc, arith, both_true, by_bool, cell_link, false, fold, fold-append, has_server, in_later, inc_of}
-use Rattle.law_state.proofs.Imports.{inl, inr, is_link, is_up, is_up_as, left_state, link_at, may_catch, may_join, none_some, other_of, owner, places_from}
-use Rattle.law_state.proofs.Imports.{refl, row_left, same_numbers, same_some, slice_get, start, state_after, subst, sym, touches, true, true_false, ℕ}
+use Rattle.law_state.proofs.Imports.{[], if◌then◌else◌, ◌&&◌, ◌++◌, ◌+◌, ◌==◌, ◌∙◌, ◌∷◌, ◌≡◌, ◌≢◌, ◌⊎◌, Bool, Both, Caught, Cell, Command, IsPrefix, Join}
+use Rattle.law_state.proofs.Imports.{Leave, LinkRow, LinkState, List, Lost, None, Only, Some, State, act, after, ap, both_true, by_bool, cell_link, false}
+use Rattle.law_state.proofs.Imports.{has_server, inc_of, inl, inr, is_link, is_up, is_up_as, left_state, link_at, may_catch, may_join, none_some, other_of}
+use Rattle.law_state.proofs.Imports.{owner, places_from, refl, row_left, same_numbers, same_some, slice_get, start, state_after, subst, sym, touches, true}
+use Rattle.law_state.proofs.Imports.{true_false, ℕ}
 use Rattle.spec_rules.specs.State.{is_in}
-use Rattle.law_state.specs.LaterStates.{HasLater}
+use Rattle.law_state.specs.LaterStates.{IsBelow}
 use Rattle.law_state.specs.Homes.{HasDied}
 use Rattle.law_state.specs.LinkChanges.{IsCaughtBy, IsCaughtIn, IsCaughtSince, IsCaughtStill, IsHeldStill, IsLostIn, By_caught, By_join, By_leave, StaysSo}
+use Rattle.law_state.specs.LinkChanges.{IsTouchedBy, row_joined}
 use Rattle.law_state.specs.Plain.{HasProperTuple, HasProperTuples}
 use Rattle.law_state.specs.LinkRows.{IsLater}
 use Rattle.law_state.specs.Tables.{IsSettledState}
-use Rattle.law_state.proofs.Ages.{between, in_up, out_by}
+use Rattle.law_state.proofs.Ages.{in_up, out_by}
 use Rattle.law_state.proofs.Caughts.{touch_by}
-use Rattle.law_state.proofs.EntriesOnlyAdd.{entering, folding, log_plain}
+use Rattle.law_state.proofs.EntriesOnlyAdd.{log_plain}
 use Rattle.law_state.proofs.GrownStates.{alone_not_both, one_before}
 use Rattle.law_state.proofs.Joins.{alone_joined, both_before, row_still, was_out}
 use Rattle.law_state.proofs.Leaves.{both_up, left_by, none_now}
 use Rattle.law_state.proofs.FencesPass.{inc_settled}
-use Rattle.law_state.proofs.Steady.{front_plain, grown_below, plain_steady}
-use Rattle.law_state.proofs.EntriesTouchLinks.{entry_stays, gone_owner, map_of, places_of_both, places_on, still_retired, stays_on, touched, untouched}
+use Rattle.law_state.proofs.Steady.{front_plain, log_below}
+use Rattle.law_state.proofs.EntriesTouchLinks.{gone_owner, map_of, stays_on, log_entry_stays, log_touched, places_left, places_touched}
+use Rattle.law_state.proofs.EntryByEntry.{NextEntry, by_entries, retired_next, in_between, next_is, settled_there}
+use Rattle.law_state.proofs.Fronts.{front_itself, front_more, front_on}
 
 -- ### Places are of a link, whoever serves it
 
@@ -38,63 +41,11 @@ places_later row later so (entry ∷ entries) s =
     (λ i. if touches_later row later so s entry i then places_later row later so entries (after s entry) i + 1
     else places_later row later so entries (after s entry) i)
 
--- ### The entry that made it so
-
--- of these entries one is a Caught that acts on the cell's link, and finds it as this row
-record IsCaughtAmong (s : State) (entries : List Command) (cell : Cell) (row : LinkRow) : Type 0 where
-  before : List Command
-  entry : Command
-  rest : List Command
-  lies : entries ≡ before ++ entry ∷ rest
-  was : cell_link (fold after s before) cell ≡ Some row
-  acts : IsCaughtBy (fold after s before) entry row
-  on : touches (fold after s before) entry row ≡ true
-
--- after one entry more
-abbrev later_caught : (s : State) (entry : Command) (entries : List Command) (cell : Cell) (row : LinkRow) → IsCaughtAmong (after s entry) entries cell row
-    → IsCaughtAmong s (entry ∷ entries) cell row
-later_caught s entry entries cell row c =
-    record { before = entry ∷ c.before; entry = c.entry; rest = c.rest; lies = ap (λ xs. entry ∷ xs) c.lies; was = c.was; acts = c.acts; on = c.on }
+-- ### One entry
 
 -- the row of a link that one server holds alone
 abbrev held_row : LinkRow → (holder : ℕ) (whole : Bool) → LinkRow
 held_row row holder whole = record row { state = Only holder whole }
-
--- such a Caught finds the link held by this server still
-record IsCaughtHeld (s : State) (entries : List Command) (cell : Cell) (row : LinkRow) (holder : ℕ) (whole : Bool) : Type 0 where
-  later : Bool
-  found : IsCaughtAmong s entries cell (held_row row holder later)
-  kept : whole ≡ true → later ≡ true
-
--- of these entries one is a Join of the holder with an empty store, which acts
-record IsLostAmong (s : State) (entries : List Command) (holder : ℕ) : Type 0 where
-  before : List Command
-  inc : ℕ
-  rest : List Command
-  lies : entries ≡ before ++ Join holder inc true ∷ rest
-  may : may_join (slice_get (fold after s before).view.members holder) inc ≡ true
-
--- what becomes of a link that the server holds alone
-abbrev HeldUntil : State → List Command → Cell → (row now : LinkRow) → (holder : ℕ) (whole : Bool) → Type 0
-HeldUntil s entries cell row now holder whole =
-    IsHeldStill holder whole now.state ⊎ (now.state ≡ Lost) × IsLostAmong s entries holder ⊎ IsCaughtHeld s entries cell row holder whole
-
--- after one entry more, which leaves the link as it is, but that more of it may have to be copied
-held_on : (s : State) (entry : Command) (rest : List Command) (cell : Cell) (row now : LinkRow) (holder : ℕ) (whole more : Bool) → (whole ≡ true → more ≡ true)
-    → HeldUntil (after s entry) rest cell row now holder more → HeldUntil s (entry ∷ rest) cell row now holder whole
-held_on s entry rest cell row now holder whole more kept (inl still) = inl (still.0, still.1, λ e. still.2 (kept e))
-held_on s entry rest cell row now holder whole more kept (inr (inl lost)) =
-    let c = lost.1 in
-    inr (inl (lost.0, record { before = entry ∷ c.before; inc = c.inc; rest = c.rest; lies = ap (λ xs. entry ∷ xs) c.lies; may = c.may }))
-held_on s entry rest cell row now holder whole more kept (inr (inr c)) =
-    inr (inr (record { later = c.later; found = later_caught s entry rest cell (held_row row holder c.later) c.found; kept = λ e. c.kept (kept e) }))
-
--- such a Caught put the link in Both, as it is at the end
-record IsCaughtLast (s : State) (entries : List Command) (cell : Cell) (now : LinkRow) : Type 0 where
-  row : LinkRow
-  found : IsCaughtAmong s entries cell row
-  since : StaysSo cell now (fold after s found.before) (fold after s entries)
-  quiet : places_from (after (fold after s found.before) found.entry) found.rest row ≡ 0
 
 pub left_not_both : {B : Type 0} (other : ℕ) (state : LinkState) → left_state other state ≡ Both → B
 left_not_both other Both e = let f : Only other false ≡ Both = e in absurd cc
@@ -111,106 +62,6 @@ stays_row row server holder has alone =
     ap (λ b. if b then record row { state = left_state (other_of server row) row.state } else row) has ∙ (λ i. record row { state = same i })
 
 module _ (servers : ℕ) where
-  -- where nothing touches the link after the entry
-  made_both : (s : State) → IsSettledState servers s → (entry : Command) → HasProperTuple servers entry
-      → (rest : List Command) (cell : Cell) (row next now : LinkRow)
-      → cell_link s cell ≡ Some row → touches s entry row ≡ true → cell_link (after s entry) cell ≡ Some next → IsLater row next
-      → StaysSo cell next (after s entry) (fold after (after s entry) rest) → places_from (after s entry) rest next ≡ 0
-      → next ≡ now → now.state ≡ Both → IsCaughtLast s (entry ∷ rest) cell now
-  made_both s p entry plain rest cell row next now is on there so stays quiet same both =
-      elim (touched servers s p cell row is ((plain_steady servers s p).linked cell row is).served entry plain on) [
-        | By_leave left at seats ↦ left_not_both (other_of left.server row) row.state
-            (sym (left_row row left.server left.one_of) ∙ ap (λ (r : LinkRow). r.state) (same_some (sym at ∙ there) ∙ same) ∙ both)
-        | By_join joined at apart seats ↦ absurd (apart (both_before joined.server joined.blank row
-            (ap (λ (r : LinkRow). r.state) (same_some (sym at ∙ there) ∙ same) ∙ both)))
-        | By_caught acts one ↦ (
-            let is_next : record row { state = Both } ≡ next = same_some (sym one.same ∙ there) in
-            let whole = stays_on cell next s (after s entry) _ (subst (λ r. StaysSo cell r s (after s entry)) is_next one) stays in
-            record {
-              row = row;
-              found = record { before = []; entry = entry; rest = rest; lies = refl; was = is; acts = acts; on = on };
-              since = subst (λ r. StaysSo cell r s (fold after (after s entry) rest)) same whole;
-              quiet = sym (places_later row next so rest (after s entry)) ∙ quiet;
-            })
-      ]
-
-  both_by : (entries : List Command) (s : State) → IsSettledState servers s → HasProperTuples servers entries → (cell : Cell) (row now : LinkRow)
-      → cell_link s cell ≡ Some row → cell_link (fold after s entries) cell ≡ Some now → now.state ≡ Both
-      → (places_from s entries row ≡ 0) ⊎ IsCaughtLast s entries cell now
-  unfolding In
-  both_by [] s p all cell row now is end both = inl refl
-  both_by (entry ∷ rest) s p all cell row now is end both =
-      let plain = all entry (inl refl) in
-      let more = λ (other : Command) (h : In other rest). all other (inr h) in
-      let t = after s entry in
-      let step = entering servers s entry p plain in
-      let live_on : HasLater s t cell row → (places_from s (entry ∷ rest) row
-      ≡ 0) ⊎ IsCaughtLast s (entry ∷ rest) cell now = λ h. elim (both_by rest t step.plain more cell h.now now h.is end both) [
-        | inr c ↦ inr (record { row = c.row; found = later_caught s entry rest cell c.row c.found; since = c.since; quiet = c.quiet })
-        | inl quiet ↦ elim (untouched servers rest t step.plain more cell h.now h.is quiet) [
-          | inr gone ↦ none_some gone.0 end
-          | inl stays ↦ by_bool (touches s entry row)
-              (λ on. inr (made_both s p entry plain rest cell row h.now now is on h.is h.so stays quiet (same_some (sym stays.same ∙ end)) both))
-              (λ off. inl (ap (λ b. if b then places_from t rest row + 1 else places_from t rest row) off ∙ sym (places_later row h.now h.so rest t) ∙ quiet))
-        ]
-      ] in
-      elim ((grown_below servers s t p step.plain step.grown).rows cell row is) [
-        | inl h ↦ live_on h
-        | inr gone ↦ none_some (still_retired servers t step.plain rest more cell gone).0 end
-      ]
-
-  -- a link that is Lost stays so
-  lost_until : (entries : List Command) (s : State) → IsSettledState servers s → HasProperTuples servers entries → (cell : Cell) (row now : LinkRow)
-      → cell_link s cell ≡ Some row → row.state ≡ Lost → cell_link (fold after s entries) cell ≡ Some now → now.state ≡ Lost
-  lost_until entries s p all cell row now is lost end =
-      let later = folding servers entries s p all in
-      elim ((grown_below servers s (fold after s entries) p later.plain later.grown).rows cell row is) [
-        | inl h ↦ ap (λ (r : LinkRow). r.state) (same_some (sym end ∙ h.is)) ∙ h.lost lost
-        | inr gone ↦ none_some gone.0 end
-      ]
-
-  -- one that a server holds alone leaves that state by a Caught first, or by the holder's Join with an empty store
-  alone_until : (entries : List Command) (s : State) → IsSettledState servers s → HasProperTuples servers entries
-      → (cell : Cell) (row now : LinkRow) (holder : ℕ)
-      (whole : Bool) → cell_link s cell ≡ Some (held_row row holder whole) → cell_link (fold after s entries) cell ≡ Some now
-      → HeldUntil s entries cell row now holder whole
-  unfolding In
-  alone_until [] s p all cell row now holder whole is end = inl (whole, ap (λ (r : LinkRow). r.state) (same_some (sym end ∙ is)), λ e. e)
-  alone_until (entry ∷ rest) s p all cell row now holder whole is end =
-      let plain = all entry (inl refl) in
-      let more = λ (other : Command) (h : In other rest). all other (inr h) in
-      let t = after s entry in
-      let step = entering servers s entry p plain in
-      let held = held_row row holder whole in
-      let onward = λ (more_fills : Bool) (kept : whole ≡ true → more_fills ≡ true) (there : cell_link t cell ≡ Some (held_row row holder more_fills)).
-      held_on s entry rest cell row now holder whole more_fills kept (alone_until rest t step.plain more cell row now holder more_fills there end) in
-      by_bool (touches s entry held)
-      (λ on. elim (touched servers s p cell held is ((plain_steady servers s p).linked cell held is).served entry plain on) [
-        | By_leave left at seats ↦ onward whole (λ e. e) (at ∙ ap Some (stays_row held left.server holder left.one_of refl))
-        | By_join joined at apart seats ↦ elim (alone_joined joined.server joined.blank held holder whole refl) [
-          | inl still ↦ onward still.0 still.2 (at ∙ ap Some (row_still joined.server joined.blank held still.1))
-          | inr lost ↦ inr (inl (
-            lost_until rest t step.plain more cell _ now at lost.2 end,
-            record {
-              before = [];
-              inc = joined.inc;
-              rest = rest;
-              lies = ap (λ e. e ∷ rest) (joined.is ∙ (λ i. Join (sym lost.1 i) joined.inc (lost.0 i)));
-              may = ap (λ k. may_join (slice_get s.view.members k) joined.inc) lost.1 ∙ joined.may;
-            },
-          ))
-        ]
-        | By_caught acts one ↦ inr (inr (record {
-          later = whole;
-          found = record { before = []; entry = entry; rest = rest; lies = refl; was = is; acts = acts; on = on };
-          kept = λ e. e;
-        }))
-      ])
-      (λ off. elim (entry_stays servers s p cell held is entry plain off) [
-        | inl one ↦ onward whole (λ e. e) one.same
-        | inr gone ↦ none_some (still_retired servers t step.plain rest more cell gone).0 end
-      ])
-
   -- a link that is gone is touched by who leaves or joins alone
   gone_untouched : (s : State) → IsSettledState servers s → (entry : Command) → HasProperTuple servers entry → (cell : Cell) (row : LinkRow) (one other : ℕ)
       → row.map ≡ cell.map → HasDied s cell → is_up s row.primary ≡ true → is_up s row.secondary ≡ true
@@ -238,98 +89,7 @@ module _ (servers : ℕ) where
       ∙ gone_owner servers s p cell gone) in
       none_some none h.1.is)
       (λ off. off)
-  gone_untouched s p (MakeDisk client seq name tuple) plain cell row one other same gone first second first_on second_on = refl
-  gone_untouched s p (Snap client seq disk name) plain cell row one other same gone first second first_on second_on = refl
-  gone_untouched s p (StartMove client seq disk tuple) plain cell row one other same gone first second first_on second_on = refl
-  gone_untouched s p (Drained server inc fence) plain cell row one other same gone first second first_on second_on = refl
-  gone_untouched s p (Moved of region link) plain cell row one other same gone first second first_on second_on = refl
-  gone_untouched s p (Witness client seq turn) plain cell row one other same gone first second first_on second_on = refl
-
-  -- two servers that are In before these entries and after them are so after the first one
-  ups_between : (entry : Command) (rest : List Command) (s : State) → IsSettledState servers s → HasProperTuples servers (entry ∷ rest)
-      → (row : LinkRow) (one other : ℕ) → is_up_as s row.primary one ≡ true → is_up_as s row.secondary other ≡ true
-      → is_up_as (fold after s (entry ∷ rest)) row.primary one ≡ true → is_up_as (fold after s (entry ∷ rest)) row.secondary other ≡ true
-      → (is_up_as (after s entry) row.primary one ≡ true) × (is_up_as (after s entry) row.secondary other ≡ true)
-  unfolding In
-  ups_between entry rest s p all row one other first second first_on second_on =
-      let t = after s entry in
-      let step = entering servers s entry p (all entry (inl refl)) in
-      let later = folding servers rest t step.plain (λ (other : Command) (h : In other rest). all other (inr h)) in
-      let ups = λ (n inc : ℕ). between s t (fold after t rest) n inc (step.grown.ages n) (later.grown.ages n) in
-      (ups row.primary one first first_on, ups row.secondary other second second_on)
-
-  -- while a link is in Both, and both of its servers stay In, nothing touches it; nor where its cell is retired
-  both_quiet : (entries : List Command) (s : State) → IsSettledState servers s → HasProperTuples servers entries → (cell : Cell) (row : LinkRow) (one other : ℕ)
-      → row.map ≡ cell.map → row.state ≡ Both → (cell_link s cell ≡ Some row) ⊎ HasDied s cell
-      → is_up_as s row.primary one ≡ true → is_up_as s row.secondary other ≡ true
-      → is_up_as (fold after s entries) row.primary one ≡ true → is_up_as (fold after s entries) row.secondary other ≡ true → places_from s entries row ≡ 0
-  unfolding In
-  both_quiet [] s p all cell row one other same both held first second first_on second_on = refl
-  both_quiet (entry ∷ rest) s p all cell row one other same both held first second first_on second_on =
-      let plain = all entry (inl refl) in
-      let more = λ (other : Command) (h : In other rest). all other (inr h) in
-      let t = after s entry in
-      let step = entering servers s entry p plain in
-      let ups = ups_between entry rest s p all row one other first second first_on second_on in
-      let off : touches s entry row ≡ false = elim held [
-        | inl is ↦ by_bool (touches s entry row)
-            (λ on. elim (touched servers s p cell row is ((plain_steady servers s p).linked cell row is).served entry plain on) [
-              | By_leave left at seats ↦ true_false
-                  (both_up (is_up t) row left.server (in_up t row.primary one ups.0) (in_up t row.secondary other ups.1) left.one_of)
-                  (out_by t left.server seats.here)
-              | By_join joined at apart seats ↦ absurd (apart both)
-              | By_caught acts stays ↦ alone_not_both row acts.holder acts.alone both
-            ])
-            (λ off. off)
-        | inr gone ↦ gone_untouched s p entry plain cell row one other same gone (in_up s row.primary one first)
-            (in_up s row.secondary other second) ups.0 ups.1
-      ] in
-      let on : (cell_link t cell ≡ Some row) ⊎ HasDied t cell = elim held [
-        | inl is ↦ elim (entry_stays servers s p cell row is entry plain off) [ inl stays ↦ inl stays.same | inr gone ↦ inr gone ]
-        | inr gone ↦ inr (still_retired servers s p (entry ∷ [])
-            (λ c h. elim h [ inl e ↦ subst (HasProperTuple servers) (sym e) plain | inr none ↦ absurd none ]) cell gone)
-      ] in
-      ap (λ b. if b then places_from t rest row + 1 else places_from t rest row) off
-      ∙ both_quiet rest t step.plain more cell row one other same both on ups.0 ups.1 first_on second_on
-
-  -- a link that one server holds alone, while both of its servers stay In: a Caught alone touches it, which puts it in Both
-  held_or_both : (entries : List Command) (s : State) → IsSettledState servers s → HasProperTuples servers entries → (cell : Cell) (row : LinkRow)
-      (one other : ℕ) → cell_link s cell ≡ Some row → is_up_as s row.primary one ≡ true → is_up_as s row.secondary other ≡ true
-      → is_up_as (fold after s entries) row.primary one ≡ true → is_up_as (fold after s entries) row.secondary other ≡ true
-      → (places_from s entries row ≡ 0) ⊎ (cell_link (fold after s entries) cell ≡ Some (record row { state = Both }))
-      ⊎ HasDied (fold after s entries) cell
-  unfolding In
-  held_or_both [] s p all cell row one other is first second first_on second_on = inl refl
-  held_or_both (entry ∷ rest) s p all cell row one other is first second first_on second_on =
-      let plain = all entry (inl refl) in
-      let more = λ (other : Command) (h : In other rest). all other (inr h) in
-      let t = after s entry in
-      let step = entering servers s entry p plain in
-      let ups = ups_between entry rest s p all row one other first second first_on second_on in
-      by_bool (touches s entry row)
-      (λ on. elim (touched servers s p cell row is ((plain_steady servers s p).linked cell row is).served entry plain on) [
-        | By_leave left at seats ↦ true_false
-            (both_up (is_up t) row left.server (in_up t row.primary one ups.0) (in_up t row.secondary other ups.1) left.one_of)
-            (out_by t left.server seats.here)
-        | By_join joined at apart seats ↦ true_false
-            (both_up (is_up s) row joined.server (in_up s row.primary one first) (in_up s row.secondary other second) joined.one_of)
-            (was_out servers s p joined.server joined.inc joined.blank joined.may)
-        | By_caught acts stays ↦ (
-            let now : LinkRow = record row { state = Both } in
-            let quiet = both_quiet rest t step.plain more cell now one other (map_of servers s p cell row is) refl (inl stays.same) ups.0 ups.1
-            first_on second_on in
-            elim (untouched servers rest t step.plain more cell now stays.same quiet) [
-              | inl so ↦ inr (inl so.same)
-              | inr gone ↦ inr (inr gone)
-            ])
-      ])
-      (λ off. elim (entry_stays servers s p cell row is entry plain off) [
-        | inl stays ↦ elim (held_or_both rest t step.plain more cell row one other stays.same ups.0 ups.1 first_on second_on) [
-          | inl none ↦ inl (ap (λ b. if b then places_from t rest row + 1 else places_from t rest row) off ∙ none)
-          | inr later ↦ inr later
-        ]
-        | inr gone ↦ inr (inr (still_retired servers t step.plain rest more cell gone))
-      ])
+  gone_untouched s p _ plain cell row one other same gone first second first_on second_on = refl
 
 -- ### Fronts of a log
 
@@ -337,114 +97,255 @@ module _ (servers : ℕ) (front whole : List Command) (all : HasProperTuples ser
   abbrev s : State
   s = state_after servers front
 
-  plain : IsSettledState servers s
-  plain = log_plain servers front (front_plain servers front whole all prefix)
+  abbrev Next : Type 0
+  Next = NextEntry servers front whole
 
-  more : HasProperTuples servers prefix.later
-  more command h = all command (subst (In command) (sym prefix.is) (in_later command front prefix.later h))
+  abbrev at : Next → State
+  at it = state_after servers it.until
 
-  whole_is : state_after servers whole ≡ fold after s prefix.later
-  whole_is = ap (state_after servers) prefix.is ∙ fold-append after (start servers) front prefix.later
+  abbrev next : Next → State
+  next it = after (state_after servers it.until) it.entry
 
-  at_place : (before : List Command) → state_after servers (front ++ before) ≡ fold after s before
-  at_place before = fold-append after (start servers) front before
+  -- what an entry comes to for a cell's link
+  untouched_next : (it : Next) (cell : Cell) (row : LinkRow) → cell_link (at it) cell ≡ Some row → touches (at it) it.entry row ≡ false
+      → StaysSo cell row (at it) (next it) ⊎ HasDied (next it) cell
+  untouched_next it cell row is off = log_entry_stays servers it.until it.entry cell row it.plain it.proper is off
 
-  -- an entry of those after the front, with all before it
-  after_front : (before : List Command) (entry : Command) (rest : List Command) → prefix.later ≡ before ++ entry ∷ rest
-      → IsPrefix ((front ++ before) ++ entry ∷ []) whole
-  after_front before entry rest lies = record {
-    later = rest;
-    is = prefix.is ∙ ap (λ xs. front ++ xs) lies ∙ sym (append_assoc front before (entry ∷ rest)) ∙ sym (append_assoc (front ++ before) (entry ∷ []) rest);
-  }
+  touched_next : (it : Next) (cell : Cell) (row : LinkRow) → cell_link (at it) cell ≡ Some row → touches (at it) it.entry row ≡ true
+      → IsTouchedBy cell row (at it) it.entry
+  touched_next it cell row is on = log_touched servers it.until it.entry cell row it.plain it.proper is on
 
-  abbrev caught_in : (cell : Cell) (row : LinkRow) → IsCaughtAmong s prefix.later cell row → IsCaughtIn servers front whole cell row
-  caught_in cell row c = record {
-    until = front ++ c.before;
-    entry = c.entry;
-    following = record { later = c.before; is = refl };
-    stands = after_front c.before c.entry c.rest c.lies;
-    was = ap (λ (t : State). cell_link t cell) (at_place c.before) ∙ c.was;
-    acts = subst (λ (t : State). IsCaughtBy t c.entry row) (sym (at_place c.before)) c.acts;
-  }
+  abbrev caught_at : (until : List Command) (it : Next) (cell : Cell) (row : LinkRow) → IsPrefix (it.until ++ it.entry ∷ []) until → cell_link (at it) cell ≡ Some row
+      → IsCaughtBy (at it) it.entry row → IsCaughtIn servers front until cell row
+  caught_at until it cell row stands is acts =
+      record { until = it.until; entry = it.entry; following = it.following; stands = stands; was = is; acts = acts }
 
-  -- the Caught's place, and none after it
-  place_on : (cell : Cell) (now : LinkRow) (c : IsCaughtLast s prefix.later cell now)
-      → places_from (start servers) whole c.row ≡ places_from (start servers) (front ++ c.found.before) c.row + 1
-  place_on cell now c =
-      let f = c.found in
-      let one : places_from (start servers) whole c.row
-      ≡ places_from (start servers) front c.row + (places_from s f.before c.row + places_from (fold after s f.before) (f.entry ∷ f.rest) c.row) =
-      places_of_both servers front whole c.row prefix
-      ∙ ap (λ k. places_from (start servers) front c.row + k) (ap (λ xs. places_from s xs c.row) f.lies ∙ places_on c.row s f.before (f.entry ∷ f.rest)) in
-      let two : places_from (fold after s f.before) (f.entry ∷ f.rest) c.row ≡ places_from (after (fold after s f.before) f.entry) f.rest c.row + 1 =
-      ap (λ b. if b then places_from (after (fold after s f.before) f.entry) f.rest c.row + 1
-      else places_from (after (fold after s f.before) f.entry) f.rest c.row) f.on in
-      let three : places_from (start servers) (front ++ f.before) c.row ≡ places_from (start servers) front c.row + places_from s f.before c.row =
-      places_on c.row (start servers) front f.before in
-      let quiet = c.quiet in
-      omega arith
+  -- ### A link in Both by its Caught
+
+  module _ (cell : Cell) (row : LinkRow) (is : cell_link s cell ≡ Some row) where
+    -- no entry has touched it, or such a Caught put it in Both, and none has touched it since
+    abbrev BothBy : List Command → State → Type 0
+    BothBy log t = (now : LinkRow) → cell_link t cell ≡ Some now → now.state ≡ Both
+        → (places_from (start servers) log row ≡ places_from (start servers) front row)
+        ⊎ ((c : IsCaughtSince servers front log cell now) × IsLater c.row now)
+
+    both_touched : (it : Next) (was : LinkRow) → cell_link (at it) cell ≡ Some was → touches (at it) it.entry was ≡ true → (now : LinkRow)
+        → cell_link (next it) cell ≡ Some now → now.state ≡ Both
+        → (c : IsCaughtSince servers front (it.until ++ it.entry ∷ []) cell now) × IsLater c.row now
+    both_touched it was there on now end both = elim (touched_next it cell was there on) [
+      | By_leave left at seats ↦ left_not_both (other_of left.server was) was.state
+          (sym (left_row was left.server left.one_of) ∙ ap (λ (r : LinkRow). r.state) (same_some (sym at ∙ end)) ∙ both)
+      | By_join joined at apart seats ↦ absurd (apart (both_before joined.server joined.blank was
+          (ap (λ (r : LinkRow). r.state) (same_some (sym at ∙ end)) ∙ both)))
+      | By_caught acts one ↦ (
+          let is_now : record was { state = Both } ≡ now = same_some (sym one.same ∙ end) in (
+            record {
+              row = was;
+              found = caught_at (it.until ++ it.entry ∷ []) it cell was (front_itself (it.until ++ it.entry ∷ [])) there acts;
+              since = subst (StaysSo cell now (at it)) (sym (next_is servers front whole all prefix it))
+                  (subst (λ r. StaysSo cell r (at it) (next it)) is_now one);
+              place = places_touched servers it.until it.entry was on;
+            },
+            subst (IsLater was) is_now (record { map = refl; link = refl; primary = refl; secondary = refl }),
+          ))
+    ]
+
+    both_left : (it : Next) (now : LinkRow) → StaysSo cell now (at it) (next it) → touches (at it) it.entry now ≡ false
+        → (c : IsCaughtSince servers front it.until cell now) × IsLater c.row now
+        → (c : IsCaughtSince servers front (it.until ++ it.entry ∷ []) cell now) × IsLater c.row now
+    both_left it now stays off (c, later) =
+        let f = c.found in (
+          record {
+            row = c.row;
+            found = record {
+              until = f.until;
+              entry = f.entry;
+              following = f.following;
+              stands = front_on (f.until ++ f.entry ∷ []) it.until (it.until ++ it.entry ∷ []) f.stands (front_more it.until it.entry);
+              was = f.was;
+              acts = f.acts;
+            };
+            since = stays_on cell now (state_after servers f.until) (at it) (state_after servers (it.until ++ it.entry ∷ [])) c.since
+                (subst (StaysSo cell now (at it)) (sym (next_is servers front whole all prefix it)) stays);
+            place = places_left servers it.until it.entry c.row (sym (touches_later c.row now later (at it) it.entry) ∙ off) ∙ c.place;
+          },
+          later,
+        )
+
+    both_next : (it : Next) → BothBy it.until (at it) → BothBy (it.until ++ it.entry ∷ []) (next it)
+    both_next it so now end both = elim ((log_below servers front it.until it.plain it.following).rows cell row is) [
+      | inr gone ↦ none_some (retired_next servers front whole all prefix it cell gone).0 end
+      | inl was ↦ by_bool (touches (at it) it.entry was.now) (λ on. inr (both_touched it was.now was.is on now end both))
+          (λ off. elim (untouched_next it cell was.now was.is off) [
+            | inr gone ↦ none_some gone.0 end
+            | inl stays ↦
+                let same : was.now ≡ now = same_some (sym stays.same ∙ end) in
+                elim (so was.now was.is (ap (λ (r : LinkRow). r.state) same ∙ both)) [
+                  | inl quiet ↦ inl (places_left servers it.until it.entry row (sym (touches_later row was.now was.so (at it) it.entry) ∙ off) ∙ quiet)
+                  | inr c ↦ inr (subst (λ r. (c : IsCaughtSince servers front (it.until ++ it.entry ∷ []) cell r) × IsLater c.row r) same
+                      (both_left it was.now stays off c))
+                ]
+          ])
+    ]
 
   pub log_both : (cell : Cell) (row now : LinkRow) → cell_link s cell ≡ Some row → cell_link (state_after servers whole) cell ≡ Some now → now.state ≡ Both
       → (places_from (start servers) whole row ≡ places_from (start servers) front row) ⊎ IsCaughtSince servers front whole cell now
   log_both cell row now is end both =
-      elim (both_by servers prefix.later s plain more cell row now is (sym (ap (λ (t : State). cell_link t cell) whole_is) ∙ end) both) [
-        | inl quiet ↦ inl (let e = places_of_both servers front whole row prefix in omega arith)
-        | inr c ↦ inr (record {
-          row = c.row;
-          found = caught_in cell c.row c.found;
-          since = subst (λ (t : State). StaysSo cell now t (state_after servers whole)) (sym (at_place c.found.before))
-              (subst (StaysSo cell now (fold after s c.found.before)) (sym whole_is) c.since);
-          place = place_on cell now c;
-        })
+      elim (by_entries servers front whole all prefix (BothBy cell row is) (both_next cell row is) (λ now end both. inl refl) now end both) [
+        | inl quiet ↦ inl quiet
+        | inr c ↦ inr c.0
       ]
 
-  lost_in : (holder : ℕ) → IsLostAmong s prefix.later holder → IsLostIn servers front whole holder
-  lost_in holder c = record {
-    until = front ++ c.before;
-    inc = c.inc;
-    following = record { later = c.before; is = refl };
-    stands = after_front c.before (Join holder c.inc true) c.rest c.lies;
-    may = ap (λ (t : State). may_join (slice_get t.view.members holder) c.inc) (at_place c.before) ∙ c.may;
-  }
+  -- ### A link that one server holds alone
 
+  -- one that is Lost stays so
+  lost_on : (was : State) → IsBelow was (state_after servers whole) → (cell : Cell) (row now : LinkRow) → cell_link was cell ≡ Some row → row.state ≡ Lost
+      → cell_link (state_after servers whole) cell ≡ Some now → now.state ≡ Lost
+  lost_on was below cell row now is lost end = elim (below.rows cell row is) [
+    | inl h ↦ ap (λ (r : LinkRow). r.state) (same_some (sym end ∙ h.is)) ∙ h.lost lost
+    | inr gone ↦ none_some gone.0 end
+  ]
+
+  pub log_lost : (cell : Cell) (row now : LinkRow) → cell_link s cell ≡ Some row → row.state ≡ Lost → cell_link (state_after servers whole) cell ≡ Some now
+      → now.state ≡ Lost
+  log_lost cell row now is lost end = lost_on s (log_below servers front whole all prefix) cell row now is lost end
+
+  -- it leaves that state by a Caught first, or by the holder's Join with an empty store
   pub log_alone : (cell : Cell) (row now : LinkRow) (holder : ℕ) (fills : Bool) → cell_link s cell ≡ Some row → row.state ≡ Only holder fills
       → cell_link (state_after servers whole) cell ≡ Some now
       → IsHeldStill holder fills now.state ⊎ (now.state ≡ Lost) × IsLostIn servers front whole holder
       ⊎ IsCaughtStill servers front whole cell row holder fills
   log_alone cell row now holder fills is alone end =
-      elim (alone_until servers prefix.later s plain more cell row now holder fills (is ∙ (λ i. Some (record row { state = alone i })))
-      (sym (ap (λ (t : State). cell_link t cell) whole_is) ∙ end)) [
-        | inl same ↦ inl same
-        | inr (inl lost) ↦ inr (inl (lost.0, lost_in holder lost.1))
-        | inr (inr c) ↦ inr (inr (record { later = c.later; found = caught_in cell (held_row row holder c.later) c.found; kept = c.kept }))
+      elim (by_entries servers front whole all prefix (λ log t. Held t ⊎ HasDied t cell ⊎ Left) step
+      (inl (fills, is ∙ (λ i. Some (record row { state = alone i })), λ e. e))) [
+        | inl held ↦ inl (held.0, ap (λ (r : LinkRow). r.state) (same_some (sym end ∙ held.1)), held.2)
+        | inr (inl gone) ↦ none_some gone.0 end
+        | inr (inr left) ↦ inr left
       ]
+    where
+      Held : State → Type 0
+      Held t = (more : Bool) × (cell_link t cell ≡ Some (held_row row holder more)) × (fills ≡ true → more ≡ true)
 
-  pub log_lost : (cell : Cell) (row now : LinkRow) → cell_link s cell ≡ Some row → row.state ≡ Lost → cell_link (state_after servers whole) cell ≡ Some now
-      → now.state ≡ Lost
-  log_lost cell row now is lost end =
-      lost_until servers prefix.later s plain more cell row now is lost (sym (ap (λ (t : State). cell_link t cell) whole_is) ∙ end)
+      Left : Type 0
+      Left = (now.state ≡ Lost) × IsLostIn servers front whole holder ⊎ IsCaughtStill servers front whole cell row holder fills
+
+      lost_since : (it : Next) (lost : LinkRow) → cell_link (next it) cell ≡ Some lost → lost.state ≡ Lost → now.state ≡ Lost
+      lost_since it lost there is_lost =
+          lost_on (state_after servers (it.until ++ it.entry ∷ [])) (log_below servers (it.until ++ it.entry ∷ []) whole all it.stands) cell lost now
+          (ap (λ (t : State). cell_link t cell) (next_is servers front whole all prefix it) ∙ there) is_lost end
+
+      step : (it : Next) → Held (at it) ⊎ HasDied (at it) cell ⊎ Left → Held (next it) ⊎ HasDied (next it) cell ⊎ Left
+      step it (inr (inl gone)) = inr (inl (retired_next servers front whole all prefix it cell gone))
+      step it (inr (inr left)) = inr (inr left)
+      step it (inl h) =
+          let held = held_row row holder h.0 in
+          by_bool (touches (at it) it.entry held)
+          (λ on. elim (touched_next it cell held h.1 on) [
+            | By_leave left at seats ↦ inl (h.0, at ∙ ap Some (stays_row held left.server holder left.one_of refl), h.2)
+            | By_join joined at apart seats ↦ elim (alone_joined joined.server joined.blank held holder h.0 refl) [
+              | inl still ↦ inl (still.0, at ∙ ap Some (row_still joined.server joined.blank held still.1), λ e. still.2 (h.2 e))
+              | inr lost ↦ inr (inr (inl (
+                lost_since it (row_joined joined.server joined.blank held) at lost.2,
+                record {
+                  until = it.until;
+                  inc = joined.inc;
+                  following = it.following;
+                  stands = subst (λ e. IsPrefix (it.until ++ e ∷ []) whole) (joined.is ∙ (λ i. Join (sym lost.1 i) joined.inc (lost.0 i))) it.stands;
+                  may = ap (λ k. may_join (slice_get (state_after servers it.until).view.members k) joined.inc) lost.1 ∙ joined.may;
+                },
+              )))
+            ]
+            | By_caught acts one ↦ inr (inr (inr (record { later = h.0; found = caught_at whole it cell held it.stands h.1 acts; kept = h.2 })))
+          ])
+          (λ off. elim (untouched_next it cell held h.1 off) [ inl one ↦ inl (h.0, one.same, h.2) | inr gone ↦ inr (inl gone) ])
+
+  -- ### A link whose two servers stay In
+
+  module _ (cell : Cell) (row : LinkRow) (one other : ℕ) (first : is_in s row.primary one ≡ true) (second : is_in s row.secondary other ≡ true)
+      (first_on : is_in (state_after servers whole) row.primary one ≡ true) (second_on : is_in (state_after servers whole) row.secondary other ≡ true) where
+    -- who leaves was In, and who joins was Out
+    abbrev Ups : State → Type 0
+    Ups t = (is_up_as t row.primary one ≡ true) × (is_up_as t row.secondary other ≡ true)
+
+    ups : (it : Next) → Ups (at it) × Ups (next it)
+    ups it =
+        let a = in_between servers front whole all prefix it row.primary one first first_on in
+        let b = in_between servers front whole all prefix it row.secondary other second second_on in
+        ((a.0, b.0), (a.1, b.1))
+
+    up_on : (t : State) → Ups t → (server : ℕ) → has_server server row ≡ true → is_up t server ≡ true
+    up_on t h server has = both_up (is_up t) row server (in_up t row.primary one h.0) (in_up t row.secondary other h.1) has
+
+    -- one that is held alone is in Both then, and one in Both is not touched at all
+    caught_next : (it : Next) (state : LinkState) → cell_link (at it) cell ≡ Some (record row { state = state })
+        → touches (at it) it.entry (record row { state = state }) ≡ true
+        → (state ≢ Both) × (cell_link (next it) cell ≡ Some (record row { state = Both }))
+    caught_next it state is on =
+        let p = settled_there servers front whole all prefix it in
+        elim (touched_next it cell (record row { state = state }) is on) [
+          | By_leave left now seats ↦ true_false (up_on (next it) (ups it).1 left.server left.one_of)
+              (out_by (next it) left.server seats.here)
+          | By_join joined now apart seats ↦ true_false (up_on (at it) (ups it).0 joined.server joined.one_of)
+              (was_out servers (at it) p joined.server joined.inc joined.blank joined.may)
+          | By_caught acts stays ↦ (λ both. alone_not_both (record row { state = state }) acts.holder acts.alone both, stays.same)
+        ]
+
+    -- one that is gone is touched by who leaves or joins alone
+    quiet_next : (it : Next) → row.map ≡ cell.map → row.state ≡ Both → (cell_link (at it) cell ≡ Some row) ⊎ HasDied (at it) cell
+        → touches (at it) it.entry row ≡ false
+    quiet_next it same both (inl is) =
+        by_bool (touches (at it) it.entry row) (λ on. absurd ((caught_next it row.state is on).0 both)) (λ off. off)
+    quiet_next it same both (inr gone) =
+        let h = ups it in
+        gone_untouched servers (at it) (settled_there servers front whole all prefix it) it.entry it.proper cell row one other same gone
+        (in_up (at it) row.primary one h.0.0) (in_up (at it) row.secondary other h.0.1) h.1.0 h.1.1
+
+    both_stays : (it : Next) → row.map ≡ cell.map → row.state ≡ Both → (cell_link (at it) cell ≡ Some row) ⊎ HasDied (at it) cell
+        → (cell_link (next it) cell ≡ Some row) ⊎ HasDied (next it) cell
+    both_stays it same both (inl is) = elim (untouched_next it cell row is (quiet_next it same both (inl is))) [
+      | inl stays ↦ inl stays.same
+      | inr gone ↦ inr gone
+    ]
+    both_stays it same both (inr gone) = inr (retired_next servers front whole all prefix it cell gone)
 
   pub log_both_place : (cell : Cell) (row : LinkRow) (one other : ℕ) → cell_link s cell ≡ Some row → row.state ≡ Both
       → is_in s row.primary one ≡ true → is_in s row.secondary other ≡ true
       → is_in (state_after servers whole) row.primary one ≡ true → is_in (state_after servers whole) row.secondary other ≡ true
       → places_from (start servers) whole row ≡ places_from (start servers) front row
   log_both_place cell row one other is both first second first_on second_on =
-      let quiet = both_quiet servers prefix.later s plain more cell row one other (map_of servers s plain cell row is) both (inl is) first second
-      (sym (ap (λ (t : State). is_up_as t row.primary one) whole_is) ∙ first_on)
-      (sym (ap (λ (t : State). is_up_as t row.secondary other) whole_is) ∙ second_on) in
-      let e = places_of_both servers front whole row prefix in
-      omega arith
+      (by_entries servers front whole all prefix
+      (λ log t. (places_from (start servers) log row ≡ places_from (start servers) front row) × ((cell_link t cell ≡ Some row) ⊎ HasDied t cell))
+      (λ it h. (
+        places_left servers it.until it.entry row (quiet_next cell row one other first second first_on second_on it of_map both h.1) ∙ h.0,
+        both_stays cell row one other first second first_on second_on it of_map both h.1,
+      )) (refl, inl is)).0
+    where
+      of_map : row.map ≡ cell.map
+      of_map = map_of servers s (log_plain servers front (front_plain servers front whole all prefix)) cell row is
 
+  -- a Caught alone touches a link that one server holds alone
   pub log_held_or_both : (cell : Cell) (row : LinkRow) (one other : ℕ) → cell_link s cell ≡ Some row
       → is_in s row.primary one ≡ true → is_in s row.secondary other ≡ true
       → is_in (state_after servers whole) row.primary one ≡ true → is_in (state_after servers whole) row.secondary other ≡ true
       → (places_from (start servers) whole row ≡ places_from (start servers) front row)
       ⊎ (cell_link (state_after servers whole) cell ≡ Some (record row { state = Both })) ⊎ HasDied (state_after servers whole) cell
   log_held_or_both cell row one other is first second first_on second_on =
-      elim (held_or_both servers prefix.later s plain more cell row one other is first second
-      (sym (ap (λ (t : State). is_up_as t row.primary one) whole_is) ∙ first_on)
-      (sym (ap (λ (t : State). is_up_as t row.secondary other) whole_is) ∙ second_on)) [
-        | inl quiet ↦ inl (let e = places_of_both servers front whole row prefix in omega arith)
-        | inr (inl both) ↦ inr (inl (ap (λ (t : State). cell_link t cell) whole_is ∙ both))
-        | inr (inr gone) ↦ inr (inr (subst (λ (t : State). HasDied t cell) (sym whole_is) gone))
-      ]
+      elim (by_entries servers front whole all prefix HeldOrBoth step (inl (refl, is))) [ inl quiet ↦ inl quiet.0 | inr later ↦ inr later ]
+    where
+      BothOrRetired : State → Type 0
+      BothOrRetired t = (cell_link t cell ≡ Some (record row { state = Both })) ⊎ HasDied t cell
+
+      HeldOrBoth : List Command → State → Type 0
+      HeldOrBoth log t = (places_from (start servers) log row ≡ places_from (start servers) front row) × (cell_link t cell ≡ Some row) ⊎ BothOrRetired t
+
+      of_map : row.map ≡ cell.map
+      of_map = map_of servers s (log_plain servers front (front_plain servers front whole all prefix)) cell row is
+
+      step : (it : Next) → HeldOrBoth it.until (at it) → HeldOrBoth (it.until ++ it.entry ∷ []) (next it)
+      step it (inr h) = inr (both_stays cell (record row { state = Both }) one other first second first_on second_on it of_map refl h)
+      step it (inl h) = by_bool (touches (at it) it.entry row)
+          (λ on. inr (inl (caught_next cell row one other first second first_on second_on it row.state h.1 on).1))
+          (λ off. elim (untouched_next it cell row h.1 off) [
+            | inl stays ↦ inl (places_left servers it.until it.entry row off ∙ h.0, stays.same)
+            | inr gone ↦ inr (inr gone)
+          ])

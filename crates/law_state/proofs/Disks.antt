@@ -1,27 +1,23 @@
 -- In a plain state disks, maps and cells belong together, and each server is In, or has left.
-use Rattle.law_state.proofs.Imports.{[], ◌<◌, ◌==◌, ◌∙◌, ◌∷◌, ◌≡◌, Caught, Cell, Command, DiskRow, Drained, In, IsPrefix, Join, Leave, List, MakeDisk, Moved}
-use Rattle.law_state.proofs.Imports.{None, Snap, Snapshot, Some, StartMove, State, Witness, act, after, ap, arith, by_bool, by_test, disk_at, false, fold}
-use Rattle.law_state.proofs.Imports.{fold-append, has_map, in_later, inc_in, inl, inr, is_disk, is_new, is_some, is_up, is_up_as, latest, may_join, named}
-use Rattle.law_state.proofs.Imports.{nat_lists_same, not, number_itself, option_and_then, option_map_or, owner, refl, same_name, same_numbers, same_or_apart}
-use Rattle.law_state.proofs.Imports.{same_some, slice_get, slice_get_within, snapshot_named, some_or_none, start, state_after, subst, sym, told, true}
-use Rattle.law_state.proofs.Imports.{true_false, with_disk, ℕ}
+use Rattle.law_state.proofs.Imports.{◌<◌, ◌==◌, ◌∙◌, ◌≡◌, ◌⊎◌, Cell, Command, DiskRow, In, IsPrefix, Leave, List, None, Snapshot, Some, State, act, after, ap}
+use Rattle.law_state.proofs.Imports.{arith, by_bool, disk_at, false, has_map, inc_in, inl, inr, is_disk, is_up, is_up_as, named, nat_lists_same}
+use Rattle.law_state.proofs.Imports.{number_itself, option_and_then, option_map_or, owner, same_name, same_numbers, same_or_apart, same_some}
+use Rattle.law_state.proofs.Imports.{slice_get_within, snapshot_named, some_or_none, start, state_after, subst, sym, true, true_false, ℕ}
 use Rattle.law_state.specs.Disks.{AreDisks, AreInOrOut}
-use Rattle.law_state.specs.Plain.{HasProperTuple, HasProperTuples}
+use Rattle.law_state.specs.Plain.{HasProperTuples}
 use Rattle.law_state.specs.Steady.{HasLink}
 use Rattle.law_state.specs.Tables.{IsSettledState}
 use Rattle.law_state.proofs.Ages.{in_once, in_up, up_some}
-use Rattle.law_state.proofs.Caughts.{act_caught}
-use Rattle.law_state.proofs.Joins.{joined_by, was_out, in_beside as joined_beside}
-use Rattle.law_state.proofs.MovesOfDisks.{act_moved, act_note, act_start}
+use Rattle.law_state.proofs.Joins.{was_out, in_beside as joined_beside}
 use Rattle.law_state.proofs.Owners.{owned}
 use Rattle.law_state.proofs.ListLookups.{find_here, found_at, get_in, in_get, get_replicate, text_itself}
-use Rattle.law_state.proofs.Leaves.{left_by, in_beside}
+use Rattle.law_state.proofs.Leaves.{in_beside}
 use Rattle.law_state.proofs.FencesPass.{in_settled}
-use Rattle.law_state.proofs.SnapsQueueFences.{act_drained, act_snap}
-use Rattle.law_state.proofs.Steady.{front_plain, in_first, linked_owner, unlinked}
-use Rattle.law_state.proofs.EntriesOnlyAdd.{entering, log_plain}
+use Rattle.law_state.proofs.Steady.{in_first, linked_owner, unlinked}
+use Rattle.law_state.proofs.EntriesOnlyAdd.{log_plain}
+use Rattle.law_state.proofs.EntryByEntry.{NextEntry, by_entries, in_whole, settled_there}
+use Rattle.law_state.proofs.EntryOutcomes.{Joins, Leaves, Outcome, outcome}
 use Rattle.global_tables.specs.declared.fence.Member.TheVariants as member
-use Rattle.global_tables.specs.declared.disk.Verdict.TheVariants as Verdict
 
 module _ (servers : ℕ) (s : State) (p : IsSettledState servers s) where
   at : (row : DiskRow) → In row s.disks.rows → disk_at s.disks.rows row.id ≡ Some row
@@ -105,68 +101,38 @@ log_in servers log all = plain_in servers (state_after servers log) (log_plain s
 -- ### Who is Out has left
 
 -- an incarnation that an entry makes Out has this very Leave
-made_out : (servers : ℕ) (s : State) → IsSettledState servers s → (entry : Command) → HasProperTuple servers entry → (n inc : ℕ) → is_up_as s n inc ≡ true
-    → is_up_as (act entry s) n inc ≡ false → Leave n inc ≡ entry
-made_out servers s p (Join server later blank) plain n inc is =
-    by_test (λ (t : State). is_up_as t n inc ≡ false → Leave n inc ≡ Join server later blank) (may_join (slice_get s.view.members server) later)
-    (joined_by s server later blank) s
-    (λ may out. elim (same_or_apart n server) [
-      | inl e ↦ true_false (sym (ap (is_up s) e) ∙ in_up s n inc is) (was_out servers s p server later blank may)
-      | inr ne ↦ true_false (joined_beside servers s p server later blank may n inc ne ∙ is) out
-    ])
-    (λ no out. true_false is out)
-made_out servers s p (Leave server last) plain n inc is =
-    by_test (λ (t : State). is_up_as t n inc ≡ false → Leave n inc ≡ Leave server last) (is_up_as s server last) (left_by s server) s
-    (λ now out. elim (same_or_apart n server) [
-      | inl e ↦ let same : inc ≡ last = in_once s n inc last is (ap (λ k. is_up_as s k last) e ∙ now) in λ i. Leave (e i) (same i)
-      | inr ne ↦ true_false (in_beside servers s p server last now n inc ne ∙ is) out
-    ])
-    (λ no out. true_false is out)
-made_out servers s p (Caught of link holder holder_inc other other_inc) plain n inc is =
-    act_caught (λ (t : State). is_up_as t n inc ≡ false → Leave n inc ≡ Caught of link holder holder_inc other other_inc) s
-    of link holder holder_inc other other_inc (λ acts out. true_false is out) (λ out. true_false is out)
-made_out servers s p (MakeDisk client seq name tuple) plain n inc is =
-    by_test (λ (t : State). is_up_as t n inc ≡ false → Leave n inc ≡ MakeDisk client seq name tuple) (not (is_new seq (latest s client))) s _
-    (λ old out. true_false is out)
-    (λ new. by_test (λ (t : State). is_up_as t n inc ≡ false → Leave n inc ≡ MakeDisk client seq name tuple) (is_some (named s.disks.rows name))
-    (told s client seq Verdict.Exists) (told (with_disk s name tuple) client seq Verdict.Ok)
-    (λ there out. true_false is out) (λ none out. true_false is out))
-made_out servers s p (Snap client seq disk name) plain n inc is =
-    act_snap (λ (t : State). is_up_as t n inc ≡ false → Leave n inc ≡ Snap client seq disk name) s client seq disk name (λ old out. true_false is out)
-    (λ new none out. true_false is out) (λ new row found taken out. true_false is out) (λ new row found free out. true_false is out)
-made_out servers s p (StartMove client seq disk tuple) plain n inc is =
-    act_start (λ (t : State). is_up_as t n inc ≡ false → Leave n inc ≡ StartMove client seq disk tuple) s client seq disk tuple (λ old out. true_false is out)
-    (λ new none out. true_false is out) (λ new row found busy out. true_false is out) (λ new row found still out. true_false is out)
-made_out servers s p (Moved of region link) plain n inc is =
-    act_moved (λ (t : State). is_up_as t n inc ≡ false → Leave n inc ≡ Moved of region link) servers s p of region link (λ out. true_false is out)
-    (λ h. act_note servers s p of region link h (λ (t : State). is_up_as t n inc ≡ false → Leave n inc ≡ Moved of region link)
-    (λ some out. true_false is out) (λ every more out. true_false is out) (λ every last out. true_false is out))
-made_out servers s p (Drained server last fence) plain n inc is =
-    act_drained (λ (t : State). is_up_as t n inc ≡ false → Leave n inc ≡ Drained server last fence) s server last fence (λ out. true_false is out)
-    (λ head up out. true_false is out)
-made_out servers s p (Witness client seq turn) plain n inc is = λ out. true_false is out
-
-out_left : (servers : ℕ) (log : List Command) (s : State) → IsSettledState servers s → HasProperTuples servers log → (n inc : ℕ) → is_up_as s n inc ≡ true
-    → is_up_as (fold after s log) n inc ≡ false → In (Leave n inc) log
-unfolding In
-out_left servers [] s p all n inc is out = true_false is out
-out_left servers (entry ∷ log) s p all n inc is out =
-    let plain = all entry (inl refl) in
-    let next = (entering servers s entry p plain).plain in
-    by_bool (is_up_as (after s entry) n inc)
-    (λ stays. inr (out_left servers log (after s entry) next (λ other h. all other (inr h)) n inc stays out))
-    (λ gone. inl (made_out servers s p entry plain n inc is (sym (in_settled (act entry s) n inc) ∙ gone)))
+made_out : (servers : ℕ) (s : State) (p : IsSettledState servers s) (entry : Command) (t : State) → Outcome servers s p entry t → (n inc : ℕ)
+    → is_up_as s n inc ≡ true → is_up_as t n inc ≡ false → Leave n inc ≡ entry
+made_out servers s p _ _ (Joins server later blank may) n inc is out = elim (same_or_apart n server) [
+  | inl e ↦ true_false (sym (ap (is_up s) e) ∙ in_up s n inc is) (was_out servers s p server later blank may)
+  | inr ne ↦ true_false (joined_beside servers s p server later blank may n inc ne ∙ is) out
+]
+made_out servers s p _ _ (Leaves server last now) n inc is out = elim (same_or_apart n server) [
+  | inl e ↦ let same : inc ≡ last = in_once s n inc last is (ap (λ k. is_up_as s k last) e ∙ now) in λ i. Leave (e i) (same i)
+  | inr ne ↦ true_false (in_beside servers s p server last now n inc ne ∙ is) out
+]
+made_out servers s p _ _ _ n inc is out = true_false is out
 
 pub first_at_start : (servers n : ℕ) → n < servers → is_up_as (start servers) n 1 ≡ true
 first_at_start servers n lt =
     ap (λ o. option_map_or (λ present. present == 1) (option_and_then inc_in o) false) (get_replicate servers n (member.In 1) lt) ∙ number_itself 1
 
--- the part of the log in which it was In at first and is not In at last has its Leave
+-- the entry that made it Out is its Leave
 pub who_is_out : (servers : ℕ) (front whole : List Command) (n inc : ℕ) → HasProperTuples servers whole → IsPrefix front whole
     → is_up_as (state_after servers front) n inc ≡ true → is_up_as (state_after servers whole) n inc ≡ false → In (Leave n inc) whole
-who_is_out servers front whole n inc all prefix is out =
-    let rest = λ (c : Command) (h : In c prefix.later). subst (In c) (sym prefix.is) (in_later c front prefix.later h) in
-    rest (Leave n inc)
-    (out_left servers prefix.later (state_after servers front) (log_plain servers front (front_plain servers front whole all prefix))
-    (λ c h. all c (rest c h)) n inc is
-    (sym (ap (λ t. is_up_as t n inc) (ap (state_after servers) prefix.is ∙ fold-append after (start servers) front prefix.later)) ∙ out))
+who_is_out servers front whole n inc all prefix is out = elim (by_entries servers front whole all prefix (λ log. In_or_left) step (inl is)) [
+  | inl up ↦ true_false up out
+  | inr left ↦ left
+]
+  where
+    In_or_left : State → Type 0
+    In_or_left t = (is_up_as t n inc ≡ true) ⊎ In (Leave n inc) whole
+
+    step : (it : NextEntry servers front whole) → In_or_left (state_after servers it.until) → In_or_left (after (state_after servers it.until) it.entry)
+    step it (inr left) = inr left
+    step it (inl up) = by_bool (is_up_as (after (state_after servers it.until) it.entry) n inc) inl
+        (λ gone. inr (subst (λ e. In e whole)
+        (sym (made_out servers (state_after servers it.until) (settled_there servers front whole all prefix it) it.entry _
+        (outcome servers (state_after servers it.until) _ it.entry it.proper) n inc up
+        (sym (in_settled (act it.entry (state_after servers it.until)) n inc) ∙ gone)))
+        (in_whole servers front whole all prefix it)))

@@ -1,65 +1,41 @@
 -- Plain entries keep a state plain, and only add to its tables, but for servers that leave and join, and links that are in Both again.
-use Rattle.law_state.proofs.Imports.{[], ◌+◌, ◌∷◌, ◌≡◌, Caught, Command, Drained, In, Join, Leave, LinkRow, List, MakeDisk, Member, Moved, Snap, Some}
-use Rattle.law_state.proofs.Imports.{StartMove, State, Verdict, Whole, Witness, act, after, ap, arith, by_test, fold, inl, inr, is_new, is_some, is_up_as}
-use Rattle.law_state.proofs.Imports.{last_inc, latest, length-replicate, may_join, named, none_some, not, refl, replicate, same_some, settled, slice_get}
-use Rattle.law_state.proofs.Imports.{start, state_after, suc, sym, told, with_disk, with_fence, with_move, zero, ℕ}
+use Rattle.law_state.proofs.Imports.{[], ◌+◌, ◌∷◌, ◌≡◌, Command, In, LinkRow, List, Member, Some, State, Whole, act, after, ap, arith, fold, inl, inr}
+use Rattle.law_state.proofs.Imports.{last_inc, length-replicate, none_some, refl, replicate, same_some, settled, slice_get, start, state_after, suc, sym}
+use Rattle.law_state.proofs.Imports.{with_disk, with_fence, with_move, zero, ℕ}
 use Rattle.law_state.specs.Plain.{HasProperTuple, HasProperTuples}
 use Rattle.law_state.specs.Tables.{IsSettledState}
 use Rattle.law_state.proofs.Fences.{Acted, acts_not, renumbered, untabled}
 use Rattle.law_state.proofs.GrownStates.{Step, grown_on, stays}
 use Rattle.law_state.proofs.Leaves.{leaving}
 use Rattle.law_state.proofs.Joins.{joining}
-use Rattle.law_state.proofs.Caughts.{act_caught, acting_caught, catching}
+use Rattle.law_state.proofs.Caughts.{acting_caught, catching}
 use Rattle.law_state.proofs.MapsAreAdded.{making}
-use Rattle.law_state.proofs.MovesOfDisks.{act_moved, act_start, begins, noting_acts}
+use Rattle.law_state.proofs.MovesOfDisks.{begins, noting, onward, over}
 use Rattle.law_state.proofs.FencesPass.{settling}
-use Rattle.law_state.proofs.SnapsQueueFences.{act_drained, act_snap, draining, none_of, snapping}
+use Rattle.law_state.proofs.SnapsQueueFences.{draining, snapping}
+use Rattle.law_state.proofs.EntryOutcomes.{Begins, Catches_up, Ends, Joins, Leaves, Makes, Moves_on, Notes, Outcome, Queues, Reports, Tells, Unchanged}
+use Rattle.law_state.proofs.EntryOutcomes.{outcome}
 use Rattle.global_tables.specs.declared.fence.Member.TheVariants as member
 
+acted : (servers : ℕ) (s : State) (p : IsSettledState servers s) (entry : Command) (t : State) → Outcome servers s p entry t → Acted servers s t
+acted servers s p _ _ (Unchanged entry) = acts_not servers s p
+acted servers s p _ _ (Tells entry client seq verdict) = untabled servers s.rev _ s s (acts_not servers s p)
+acted servers s p _ _ (Joins server inc blank may) = joining servers s p server inc blank may
+acted servers s p _ _ (Leaves server inc is) = leaving servers s p server inc is
+acted servers s p _ _ (Catches_up of link holder inc other other_inc acts) = catching (acting_caught p acts)
+acted servers s p _ _ (Makes client seq name tuple fresh proper) =
+    untabled servers s.rev _ s (with_disk s name tuple) (making servers s p name tuple fresh proper)
+acted servers s p _ _ (Queues client seq disk name row found free) =
+    untabled servers s.rev _ s (with_fence s (Whole row.id name client seq)) (snapping servers s p client seq disk name row found free)
+acted servers s p _ _ (Begins client seq disk tuple row found still proper) =
+    untabled servers s.rev _ s (with_move s tuple row.id) (begins servers s p disk tuple row found still proper)
+acted servers s p _ _ (Reports server inc fence head up) = draining servers s p server
+acted servers s p _ _ (Notes of region link h some) = noting servers s p of region link h some
+acted servers s p _ _ (Moves_on of region link h every more) = onward servers s p of region link h every more
+acted servers s p _ _ (Ends of region link h every last) = over servers s p of region link h every last
+
 pub acting : (servers : ℕ) (s : State) (command : Command) → IsSettledState servers s → HasProperTuple servers command → Acted servers s (act command s)
-acting servers s (Join server inc blank) p proper =
-    by_test (Acted servers s) (may_join (slice_get s.view.members server) inc) _ s (λ may. joining servers s p server inc blank may)
-    (λ no. acts_not servers s p)
-acting servers s (Leave server inc) p proper =
-    by_test (Acted servers s) (is_up_as s server inc) _ s (λ is. leaving servers s p server inc is) (λ no. acts_not servers s p)
-acting servers s (Caught of link holder holder_inc other other_inc) p proper =
-    act_caught (Acted servers s) s of link holder holder_inc other other_inc (λ acts. catching (acting_caught p acts))
-    (acts_not servers s p)
-acting servers s (MakeDisk client seq name tuple) p proper =
-    by_test (Acted servers s) (not (is_new seq (latest s client))) s _
-    (λ old. acts_not servers s p)
-    (λ new. by_test (Acted servers s) (is_some (named s.disks.rows name)) (told s client seq Verdict.Exists)
-    (told (with_disk s name tuple) client seq Verdict.Ok)
-    (λ there. untabled servers s.rev _ s s (acts_not servers s p))
-    (λ none. untabled servers s.rev _ s (with_disk s name tuple) (making servers s p name tuple (none_of _ none) proper)))
-acting servers s (Snap client seq disk name) p proper =
-    act_snap (Acted servers s) s client seq disk name
-    (λ old. acts_not servers s p)
-    (λ new none. untabled servers s.rev _ s s (acts_not servers s p))
-    (λ new row found taken. untabled servers s.rev _ s s (acts_not servers s p))
-    (λ new row found free. untabled servers s.rev _ s (with_fence s (Whole row.id name client seq)) (snapping (record {
-      servers = servers;
-      s = s;
-      p = p;
-      client = client;
-      seq = seq;
-      disk = disk;
-      name = name;
-      row = row;
-      found = found;
-      free = free;
-    })))
-acting servers s (StartMove client seq disk tuple) p proper =
-    act_start (Acted servers s) s client seq disk tuple
-    (λ old. acts_not servers s p)
-    (λ new none. untabled servers s.rev _ s s (acts_not servers s p))
-    (λ new row found busy. untabled servers s.rev _ s s (acts_not servers s p))
-    (λ new row found still. untabled servers s.rev _ s (with_move s tuple row.id) (begins servers s p disk tuple row found still proper))
-acting servers s (Moved of region link) p proper =
-    act_moved (Acted servers s) servers s p of region link (acts_not servers s p) (noting_acts servers s p of region link)
-acting servers s (Drained server inc fence) p proper =
-    act_drained (Acted servers s) s server inc fence (acts_not servers s p) (λ is up. draining servers s p server)
-acting servers s (Witness client seq turn) p proper = acts_not servers s p
+acting servers s command p proper = acted servers s p command (act command s) (outcome servers s p command proper)
 
 pub entering : (servers : ℕ) (s : State) (command : Command) → IsSettledState servers s → HasProperTuple servers command → Step servers s (after s command)
 entering servers s command p is =

@@ -1,32 +1,31 @@
 -- What an entry does to a link: one that does not touch it leaves its row and its two servers as they are. A longer log has no fewer
 -- places.
-use Rattle.law_state.proofs.Imports.{[], if◌then◌else◌, ◌&&◌, ◌++◌, ◌+◌, ◌==◌, ◌∙◌, ◌∷◌, ◌≡◌, ◌≢◌, ◌≤◌, ◌⊎◌, Bool, Both, Caught, Cell, Command, Drained, In}
-use Rattle.law_state.proofs.Imports.{IsPrefix, Join, Leave, LinkRow, List, MakeDisk, Member, Moved, None, Option, Region, Snap, Some, StartMove, State}
-use Rattle.law_state.proofs.Imports.{Witness, act, after, ap, arith, both_true, by_bool, by_test, cell_link, false, fold, fold-append, has_server, in_later}
-use Rattle.law_state.proofs.Imports.{inc_in, inc_of, inl, inr, is_link, is_new, is_some, is_up, is_up_as, latest, length, link_at, link_of, may_join, named}
-use Rattle.law_state.proofs.Imports.{new_rows, none_some, not, number_itself, option_and_then, option_map, owner, places_from, refl, row_caught, row_left}
-use Rattle.law_state.proofs.Imports.{same_numbers, same_or_apart, slice_get, some_or_none, start, state_after, subst, sym, told, touches, true, true_false}
-use Rattle.law_state.proofs.Imports.{tuple_of, ups, with_disk, with_fence, with_move, ℕ}
+use Rattle.law_state.proofs.Imports.{[], if◌then◌else◌, ◌&&◌, ◌++◌, ◌+◌, ◌==◌, ◌∙◌, ◌∷◌, ◌≡◌, ◌≢◌, ◌≤◌, ◌⊎◌, Bool, Both, Caught, Cell, Command, IsPrefix}
+use Rattle.law_state.proofs.Imports.{Join, Leave, LinkRow, List, Member, None, Option, Some, State, act, after, ap, arith, both_true, by_bool, cell_link}
+use Rattle.law_state.proofs.Imports.{false, fold, has_server, inc_in, inc_of, inl, inr, is_link, is_up, is_up_as, length, link_at, link_of, may_join}
+use Rattle.law_state.proofs.Imports.{new_rows, none_some, number_itself, option_and_then, option_map, owner, places_from, refl, row_caught, row_left}
+use Rattle.law_state.proofs.Imports.{same_numbers, same_or_apart, slice_get, some_or_none, start, state_after, subst, sym, touches, true, true_false}
+use Rattle.law_state.proofs.Imports.{tuple_of, ups, with_disk, with_move, ℕ}
 use Rattle.law_state.specs.LinkChanges.{IsReseated, IsTouchedBy, By_caught, By_join, By_leave, StaysSo, row_joined}
 use Rattle.law_state.specs.Plain.{HasProperTuple, HasProperTuples}
 use Rattle.law_state.specs.Homes.{HasDied}
 use Rattle.law_state.specs.Tables.{IsSettledState}
-use Rattle.law_state.proofs.EntriesOnlyAdd.{entering, folding, log_plain}
+use Rattle.law_state.proofs.EntriesOnlyAdd.{entering, log_plain}
 use Rattle.law_state.specs.LinkRows.{IsServed, ByBoth, ByNone, ByOne}
 use Rattle.law_state.proofs.Caughts.{act_caught, acting_caught, alone_by, catch_so, caught_by, link_caught, row_in_both, row_uncaught, the_row, touch_by}
 use Rattle.law_state.proofs.Caughts.{touch_so}
 use Rattle.law_state.proofs.MembershipChanges.{found_itself}
-use Rattle.law_state.proofs.GrownStates.{alone_not_both, gone_on, lost_not_both}
+use Rattle.law_state.proofs.GrownStates.{alone_not_both, lost_not_both}
 use Rattle.law_state.proofs.Joins.{joined_by, link_joined, row_beside, some_now, was_out, inc_beside as joined_beside}
 use Rattle.law_state.proofs.Leaves.{both_up, inc_beside, left_by, link_left, none_now, row_stays}
 use Rattle.law_state.proofs.NewMapLinks.{either_false}
 use Rattle.law_state.proofs.MapsAreAdded.{map_front}
-use Rattle.law_state.proofs.MovesOfDisks.{act_moved, act_note, act_start, gone_link, kept_link, moved_state, noted_state}
+use Rattle.law_state.proofs.MovesOfDisks.{gone_link, kept_link, moved_state}
 use Rattle.law_state.proofs.FencesPass.{cell_settled, inc_settled}
 use Rattle.law_state.proofs.ListLookups.{find_front, found_at}
-use Rattle.law_state.proofs.SnapsQueueFences.{act_drained, act_snap}
-use Rattle.law_state.proofs.Steady.{died, front_plain, grown_below, linked_owner, log_steady, owned_or_none, plain_steady, all_died}
-use Rattle.global_tables.specs.declared.disk.Verdict.TheVariants as Verdict
+use Rattle.law_state.proofs.Steady.{died, grown_below, linked_owner, log_steady, owned_or_none, plain_steady}
+use Rattle.law_state.proofs.EntryByEntry.{NextEntry, by_entries, retired_next}
+use Rattle.law_state.proofs.EntryOutcomes.{Begins, Catches_up, Ends, Joins, Leaves, Makes, Outcome, outcome}
 
 differ : (a b : ℕ) → (a == b) ≡ false → a ≢ b
 differ a b away e = true_false (ap (λ k. k == b) e ∙ number_itself b) away
@@ -64,10 +63,15 @@ module _ (servers : ℕ) (s : State) (p : IsSettledState servers s) (cell : Cell
     secondary = ap (λ (m : List Member). option_and_then inc_in (slice_get m row.secondary)) members;
   })
 
-  act_stays : (entry : Command) → HasProperTuple servers entry → touches s entry row ≡ false → Stays (act entry s)
-  act_stays (Join server inc blank) plain off =
-      by_test Stays (may_join (slice_get s.view.members server) inc) (joined_by s server inc blank) s
-      (λ may.
+  -- over one map more, with its links
+  one_map_more : (t : State) (tuple : List ℕ) (disk : ℕ) → t.maps ≡ (with_move s tuple disk).maps → t.links ≡ (with_move s tuple disk).links
+      → cell_link t cell ≡ Some row
+  one_map_more t tuple disk maps links = moved_link t row
+      (λ ids e. ap (λ m. tuple_of m cell.map) maps ∙ map_front s.maps ids tuple disk cell.map e)
+      (λ link e. ap (λ l. link_at l cell.map link) links ∙ find_front (is_link cell.map link) s.links (new_rows (length s.maps) tuple (ups s)) row e)
+
+  act_stays : (entry : Command) (t : State) → Outcome servers s p entry t → touches s entry row ≡ false → Stays t
+  act_stays _ _ (Joins server inc blank may) off =
       let away : has_server server row ≡ false = sym (ap (λ b. b && has_server server row) may) ∙ off in
       let apart = either_false (row.primary == server) (row.secondary == server) away in
       let served = ((plain_steady servers s p).linked cell row is).served in
@@ -77,10 +81,8 @@ module _ (servers : ℕ) (s : State) (p : IsSettledState servers s) (cell : Cell
             ∙ ap Some (row_beside server blank (is_up s) (λ n. is_up_as s n 1) row served away));
         primary = joined_beside servers s p server inc blank may row.primary (differ row.primary server apart.0);
         secondary = joined_beside servers s p server inc blank may row.secondary (differ row.secondary server apart.1);
-      }))
-      (λ no. inl itself)
-  act_stays (Leave server inc) plain off = by_test Stays (is_up_as s server inc) (left_by s server) s
-      (λ now.
+      })
+  act_stays _ _ (Leaves server inc now) off =
       let away : has_server server row ≡ false = sym (ap (λ b. b && has_server server row) now) ∙ off in
       let apart = either_false (row.primary == server) (row.secondary == server) away in
       inl (record {
@@ -89,47 +91,20 @@ module _ (servers : ℕ) (s : State) (p : IsSettledState servers s) (cell : Cell
             ∙ ap Some (row_stays row server away));
         primary = inc_beside servers s p server inc now row.primary (differ row.primary server apart.0);
         secondary = inc_beside servers s p server inc now row.secondary (differ row.secondary server apart.1);
-      }))
-      (λ no. inl itself)
-  act_stays (Caught of link holder holder_inc other other_inc) plain off =
-      act_caught Stays s of link holder holder_inc other other_inc
-      (λ acts.
+      })
+  act_stays _ _ (Catches_up of link holder inc other other_inc acts) off =
       let away : is_link of link row ≡ false = by_bool (is_link of link row)
-      (λ on. true_false (touch_so s row of link holder holder_inc other other_inc on acts) off) (λ no. no) in
+      (λ on. true_false (touch_so s row of link holder inc other other_inc on acts) off) (λ no. no) in
       inl (record {
         same = moved_link (caught_by s of link) row (λ ids e. e)
             (λ at e. link_caught (acting_caught p acts) cell.map at
             ∙ ap (option_map (row_caught of link)) e ∙ ap Some (row_uncaught of link row away));
         primary = refl;
         secondary = refl;
-      }))
-      (inl itself)
-  act_stays (MakeDisk client seq name tuple) plain off =
-      by_test Stays (not (is_new seq (latest s client))) s _ (λ old. inl itself)
-      (λ new. by_test Stays (is_some (named s.disks.rows name)) _ _ (λ there. inl (record { same = is; primary = refl; secondary = refl }))
-      (λ none. inl (record {
-        same = moved_link (with_disk s name tuple) row (λ ids e. map_front s.maps ids tuple s.disks.made cell.map e)
-            (λ link e. find_front (is_link cell.map link) s.links (new_rows (length s.maps) tuple (ups s)) row e);
-        primary = refl;
-        secondary = refl;
-      })))
-  act_stays (Snap client seq disk name) plain off =
-      act_snap Stays s client seq disk name (λ old. inl itself)
-      (λ new none. inl (record { same = is; primary = refl; secondary = refl }))
-      (λ new at found taken. inl (record { same = is; primary = refl; secondary = refl }))
-      (λ new at found free. inl (record { same = is; primary = refl; secondary = refl }))
-  act_stays (StartMove client seq disk tuple) plain off =
-      act_start Stays s client seq disk tuple (λ old. inl itself) (λ new none. same_still (told s client seq Verdict.NoDisk) is refl)
-      (λ new at found busy. same_still (told s client seq Verdict.Moving) is refl)
-      (λ new at found still. same_still (told (with_move s tuple at.id) client seq Verdict.Ok)
-      (moved_link (with_move s tuple at.id) row (λ ids e. map_front s.maps ids tuple at.id cell.map e)
-      (λ link e. find_front (is_link cell.map link) s.links (new_rows (length s.maps) tuple (ups s)) row e)) refl)
-  act_stays (Moved of region link) plain off =
-      act_moved Stays servers s p of region link (inl itself)
-      (λ h. act_note servers s p of region link h Stays
-      (λ some. same_still (noted_state servers s p of region link h) is refl)
-      (λ every more. same_still (with_fence (noted_state servers s p of region link h) (Region h.row.id (region + 1))) is refl)
-      (λ every last.
+      })
+  act_stays _ _ (Makes client seq name tuple fresh proper) off = same_still _ (one_map_more (with_disk s name tuple) tuple s.disks.made refl refl) refl
+  act_stays _ _ (Begins client seq disk tuple at found still proper) off = same_still _ (one_map_more (with_move s tuple at.id) tuple at.id refl refl) refl
+  act_stays _ _ (Ends of region link h every last) off =
       let t = moved_state servers s p of region link h every last in
       elim (same_or_apart cell.map of) [
         | inr ne ↦ same_still t (moved_link t row (λ ids e. e) (λ at e. kept_link servers s p of region link h every last cell.map at ne ∙ e)) refl
@@ -139,16 +114,14 @@ module _ (servers : ℕ) (s : State) (p : IsSettledState servers s) (cell : Cell
               ∙ gone_link servers s p of region link h every last (link_of (length ids.0) cell.block)
           | inr none ↦ ap (option_and_then (λ ids. link_at t.links cell.map (link_of (length ids) cell.block))) none
         ])
-      ]))
-  act_stays (Drained server inc fence) plain off =
-      act_drained Stays s server inc fence (inl itself) (λ head up. inl (record { same = is; primary = refl; secondary = refl }))
-  act_stays (Witness client seq turn) plain off = inl itself
+      ]
+  act_stays _ _ _ off = same_still _ is refl
 
   pub entry_stays : (entry : Command) → HasProperTuple servers entry → touches s entry row ≡ false
       → StaysSo cell row s (after s entry) ⊎ HasDied (after s entry) cell
   entry_stays entry plain off =
       let t = act entry s in
-      elim (act_stays entry plain off) [
+      elim (act_stays entry t (outcome servers s p entry plain) off) [
         | inl h ↦ inl (record {
           same = cell_settled t cell ∙ h.same;
           primary = inc_settled t row.primary ∙ h.primary;
@@ -233,12 +206,7 @@ module _ (servers : ℕ) (s : State) (p : IsSettledState servers s) (cell : Cell
       same_seat of link holder inc other other_inc plain n =
           inc_settled (act (Caught of link holder inc other other_inc) s) n
           ∙ act_caught (λ (t : State). inc_of t n ≡ inc_of s n) s of link holder inc other other_inc (λ acts. refl) refl
-  touched (MakeDisk client seq name tuple) plain on = let f : false ≡ true = on in absurd cc
-  touched (Snap client seq disk name) plain on = let f : false ≡ true = on in absurd cc
-  touched (StartMove client seq disk tuple) plain on = let f : false ≡ true = on in absurd cc
-  touched (Drained server inc fence) plain on = let f : false ≡ true = on in absurd cc
-  touched (Moved of region link) plain on = let f : false ≡ true = on in absurd cc
-  touched (Witness client seq turn) plain on = let f : false ≡ true = on in absurd cc
+  touched _ plain on = true_false on refl
 
 pub log_entry_stays : (servers : ℕ) (log : List Command) (entry : Command) (cell : Cell) (row : LinkRow) → HasProperTuples servers log
     → HasProperTuple servers entry
@@ -293,35 +261,18 @@ map_of servers s p cell row is = elim (some_or_none (tuple_of s.maps cell.map)) 
   | inr none ↦ none_some (ap (option_and_then (λ ids. link_at s.links cell.map (link_of (length ids) cell.block))) none) is
 ]
 
-pub still_retired : (servers : ℕ) (s : State) → IsSettledState servers s → (entries : List Command) → HasProperTuples servers entries
-    → (cell : Cell) → HasDied s cell
-    → HasDied (fold after s entries) cell
-still_retired servers s p entries all cell gone =
-    let step = folding servers entries s p all in
-    died servers (fold after s entries) step.plain cell
-    (gone_on s (fold after s entries) cell.map step.grown.stages (all_died servers s p cell gone))
+-- an entry adds a place where it touches the link
+pub places_touched : (servers : ℕ) (log : List Command) (entry : Command) (row : LinkRow) → touches (state_after servers log) entry row ≡ true
+    → places_from (start servers) (log ++ entry ∷ []) row ≡ places_from (start servers) log row + 1
+places_touched servers log entry row on =
+    places_on row (start servers) log (entry ∷ []) ∙ ap (λ b. places_from (start servers) log row + (if b then 1 else 0)) on
 
-pub untouched : (servers : ℕ) (entries : List Command) (s : State) → IsSettledState servers s → HasProperTuples servers entries → (cell : Cell) (row : LinkRow)
-    → cell_link s cell ≡ Some row → places_from s entries row ≡ 0 → StaysSo cell row s (fold after s entries) ⊎ HasDied (fold after s entries) cell
-unfolding In
-untouched servers [] s p all cell row is none = inl (record { same = is; primary = refl; secondary = refl })
-untouched servers (entry ∷ entries) s p all cell row is none =
-    by_bool (touches s entry row)
-    (λ on. let f : places_from (after s entry) entries row + 1 ≡ 0 =
-    sym (ap (λ b. if b then places_from (after s entry) entries row + 1 else places_from (after s entry) entries row) on) ∙ none in absurd (omega arith))
-    (λ off.
-    let plain = all entry (inl refl) in
-    let next = (entering servers s entry p plain).plain in
-    let more = λ (other : Command) (h : In other entries). all other (inr h) in
-    let rest : places_from (after s entry) entries row ≡ 0 =
-    sym (ap (λ b. if b then places_from (after s entry) entries row + 1 else places_from (after s entry) entries row) off) ∙ none in
-    elim (entry_stays servers s p cell row is entry plain off) [
-      | inl one ↦ elim (untouched servers entries (after s entry) next more cell row one.same rest) [
-        | inl later ↦ inl (stays_on cell row s (after s entry) _ one later)
-        | inr gone ↦ inr gone
-      ]
-      | inr gone ↦ inr (still_retired servers (after s entry) next entries more cell gone)
-    ])
+pub places_left : (servers : ℕ) (log : List Command) (entry : Command) (row : LinkRow) → touches (state_after servers log) entry row ≡ false
+    → places_from (start servers) (log ++ entry ∷ []) row ≡ places_from (start servers) log row
+places_left servers log entry row off =
+    let e : places_from (start servers) (log ++ entry ∷ []) row ≡ places_from (start servers) log row + 0 =
+    places_on row (start servers) log (entry ∷ []) ∙ ap (λ b. places_from (start servers) log row + (if b then 1 else 0)) off in
+    omega arith
 
 -- two logs at one place of a link say the same of it
 pub same_place : (servers : ℕ) (front whole : List Command) (cell : Cell) (row : LinkRow) → HasProperTuples servers whole → IsPrefix front whole
@@ -329,9 +280,22 @@ pub same_place : (servers : ℕ) (front whole : List Command) (cell : Cell) (row
     → places_from (start servers) whole row ≡ places_from (start servers) front row
     → StaysSo cell row (state_after servers front) (state_after servers whole) ⊎ HasDied (state_after servers whole) cell
 same_place servers front whole cell row all prefix is same =
-    let e = places_of_both servers front whole row prefix in
-    let none : places_from (state_after servers front) prefix.later row ≡ 0 = omega arith in
-    subst (λ t. StaysSo cell row (state_after servers front) t ⊎ HasDied t cell)
-    (sym (ap (state_after servers) prefix.is ∙ fold-append after (start servers) front prefix.later))
-    (untouched servers prefix.later (state_after servers front) (log_plain servers front (front_plain servers front whole all prefix))
-    (λ command h. all command (subst (In command) (sym prefix.is) (in_later command front prefix.later h))) cell row is none)
+    by_entries servers front whole all prefix (λ log. Stays) step (inl (record { same = is; primary = refl; secondary = refl }))
+  where
+    Stays : State → Type 0
+    Stays t = StaysSo cell row (state_after servers front) t ⊎ HasDied t cell
+
+    step : (it : NextEntry servers front whole) → Stays (state_after servers it.until) → Stays (after (state_after servers it.until) it.entry)
+    step it (inr gone) = inr (retired_next servers front whole all prefix it cell gone)
+    step it (inl one) =
+        let off : touches (state_after servers it.until) it.entry row ≡ false = by_bool (touches (state_after servers it.until) it.entry row)
+        (λ on.
+        let more = places_touched servers it.until it.entry row on in
+        let before = places_grow servers front it.until row it.following in
+        let later = places_grow servers (it.until ++ it.entry ∷ []) whole row it.stands in
+        absurd (omega arith))
+        (λ off. off) in
+        elim (log_entry_stays servers it.until it.entry cell row it.plain it.proper one.same off) [
+          | inl two ↦ inl (stays_on cell row (state_after servers front) (state_after servers it.until) _ one two)
+          | inr gone ↦ inr gone
+        ]

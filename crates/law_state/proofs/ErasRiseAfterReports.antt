@@ -1,36 +1,33 @@
 -- An era rises after reports: while a server stays In as one incarnation, the active fence that holds a cell's writes awaits its report.
-use Rattle.law_state.proofs.Imports.{[], if◌then◌else◌, ◌&&◌, ◌++◌, ◌+◌, ◌<◌, ◌==◌, ◌||◌, ◌∙◌, ◌∷◌, ◌≡◌, ◌≢◌, ◌≤◌, ◌⊎◌, All, Bool, Caught, Cell, Command}
-use Rattle.law_state.proofs.Imports.{DiskRow, Drained, Fence, FenceKind, Hold, In, IsPrefix, Join, Leave, List, MakeDisk, Moved, New, No, None, Old, Region}
-use Rattle.law_state.proofs.Imports.{Snap, Some, StartMove, State, Verdict, View, Whole, Witness, Writes, act, after, all_noted, ap, append_assoc, arith}
-use Rattle.law_state.proofs.Imports.{awaits, by_bool, by_test, false, fold, fold-append, head, held, holds, in_later, inl, inr, is_all_held, is_head, is_new}
-use Rattle.law_state.proofs.Imports.{is_of, is_some, is_tuple, is_up, is_up_as, is_writes_held, latest, length, links_of, list_any, may_join, named, nat_eq}
-use Rattle.law_state.proofs.Imports.{not, number_itself, option_map_or, passed, queued, ready, refl, region_of, replicate, row_fenced, row_frozen, row_moving}
-use Rattle.law_state.proofs.Imports.{row_noted, same_numbers, same_or_apart, same_some, servers_in, settled, settled_none, settled_one, slice_get}
-use Rattle.law_state.proofs.Imports.{some_or_none, start, state_after, subst, sym, told, true, true_false, unwrap_or, view-effect, with_disk, with_fence}
-use Rattle.law_state.proofs.Imports.{with_link, with_move, ℕ}
+use Rattle.law_state.proofs.Imports.{[], if◌then◌else◌, ◌&&◌, ◌++◌, ◌+◌, ◌<◌, ◌==◌, ◌||◌, ◌∙◌, ◌∷◌, ◌≡◌, ◌≢◌, ◌≤◌, ◌⊎◌, All, Bool, Cell, Command, DiskRow}
+use Rattle.law_state.proofs.Imports.{Drained, Fence, FenceKind, Hold, IsPrefix, Leave, List, New, No, None, Old, Region, Some, State, Verdict, View, Whole}
+use Rattle.law_state.proofs.Imports.{Writes, act, after, all_noted, ap, arith, awaits, by_bool, false, fold-append, head, held, holds, inl, inr, is_all_held}
+use Rattle.law_state.proofs.Imports.{is_head, is_of, is_tuple, is_up, is_up_as, is_writes_held, length, links_of, list_any, named, nat_eq, number_itself}
+use Rattle.law_state.proofs.Imports.{option_map_or, passed, queued, ready, refl, region_of, replicate, row_fenced, row_frozen, row_moving, row_noted}
+use Rattle.law_state.proofs.Imports.{same_numbers, same_or_apart, same_some, servers_in, settled, settled_none, settled_one, slice_get, some_or_none, start}
+use Rattle.law_state.proofs.Imports.{state_after, subst, sym, told, true, true_false, unwrap_or, view-effect, with_disk, with_fence, with_link, with_move, ℕ}
 use Rattle.spec_rules.specs.State.{is_in}
 use Rattle.law_state.specs.Epochs.{HasReported, HasReportedBy}
 use Rattle.law_state.specs.Homes.{epoch_at, era_at, new_stage, old_stage, stage_at, stage_of}
 use Rattle.law_state.specs.Plain.{HasProperTuple, HasProperTuples}
 use Rattle.law_state.specs.Tables.{IsForSnapshot, IsSettledState, Of_disk, Of_region}
-use Rattle.law_state.proofs.Ages.{between, in_once, in_up}
-use Rattle.law_state.proofs.Caughts.{act_caught}
-use Rattle.law_state.proofs.EntriesOnlyAdd.{acting, entering, folding, log_plain}
+use Rattle.law_state.proofs.Ages.{in_once, in_up}
+use Rattle.law_state.proofs.EntriesOnlyAdd.{acting, log_plain}
 use Rattle.law_state.proofs.Eras.{HasRows, IsKept, era_low, fenced_apart, holds_before, kept_by_place, kept_by_stage, lives, low_now, rows_of, stage_now}
 use Rattle.law_state.proofs.Eras.{stage_was}
 use Rattle.law_state.proofs.Fences.{Acted, IsReady, IsUnsettled, head_awaiting, head_after, head_get, head_queued, head_reported, none_ready, present_waits}
 use Rattle.law_state.proofs.Fences.{ready_by, waits_still}
-use Rattle.law_state.proofs.Joins.{joined_by}
 use Rattle.law_state.proofs.Leaves.{left_by}
 use Rattle.law_state.proofs.MapsAreAdded.{making}
-use Rattle.law_state.proofs.MovesOfDisks.{IsNoting, act_moved, act_note, act_start, at_row, begins, known, low_map, moved_state, noted_state, noting, onward}
-use Rattle.law_state.proofs.MovesOfDisks.{over, row_now}
+use Rattle.law_state.proofs.MovesOfDisks.{IsNoting, at_row, begins, known, low_map, moved_state, noted_state, noting, onward, over, row_now}
 use Rattle.law_state.proofs.LinksAreNoted.{keeps_old}
 use Rattle.law_state.proofs.FencesPass.{in_settled, one_passed, passed_beside, passed_here, passing, region_beside, region_here, region_row}
 use Rattle.law_state.proofs.ListLookups.{get_front, get_replicate}
 use Rattle.law_state.proofs.DiskRowChanges.{beside, here, here_now}
-use Rattle.law_state.proofs.SnapsQueueFences.{act_drained, act_snap, none_of}
 use Rattle.law_state.proofs.Steady.{front_plain, log_below}
+use Rattle.law_state.proofs.EntryByEntry.{NextEntry, by_entries, in_between, settled_there}
+use Rattle.law_state.proofs.EntryOutcomes.{Begins, Ends, Leaves, Makes, Moves_on, Notes, Outcome, Queues, Reports, outcome}
+use Rattle.law_state.proofs.Stages.{low_region}
 use Rattle.global_tables.specs.View as view
 
 -- which holds of fences count: those of writes, by which eras rise, or those of reads too, which fences for regions have alone
@@ -181,30 +178,14 @@ module _ (which : Hold → Bool) (every : which All ≡ true) (nothing : which N
     holds : which (held s cell) ≡ true
 
   -- a server that is In, and that the active fence awaits where it holds the cell
-  record AwaitedServer : Type 0 where
-    servers : ℕ
-    s : State
-    p : IsSettledState servers s
-    n : ℕ
-    inc : ℕ
-    cell : Cell
-    seated : is_up_as s n inc ≡ true
-    awaited : IsAwaited s n cell
-    low : 1 ≤ stage_at s cell
-    high : stage_at s cell ≤ 2
-
-  module _ (it : AwaitedServer) where
-    open it use {servers, s, p, n, inc, cell, seated, awaited, low, high}
-
+  module _ (servers : ℕ) (s : State) (p : IsSettledState servers s) (n inc : ℕ) (cell : Cell) (seated : is_up_as s n inc ≡ true)
+      (awaited : IsAwaited s n cell) (low : 1 ≤ stage_at s cell) (high : stage_at s cell ≤ 2) where
     -- what an entry comes to
     abbrev Comes : Command → State → Type 0
     Comes entry t = is_up_as t n inc ≡ true → IsStill s n cell t ⊎ IsReport s entry n inc cell
 
     abbrev u : IsUnsettled servers s
     u = p.unsettled
-
-    same_state : IsStill s n cell s
-    same_state = still_itself s n cell awaited low high
 
     -- where the active fence is the one before, or awaits all, and the cell is kept
     goes_on : (t : State) (acted : Acted servers s t) → IsKept servers s t u acted cell low high
@@ -258,9 +239,6 @@ module _ (which : Hold → Bool) (every : which All ≡ true) (nothing : which N
       where
         fresh : (length s.maps == cell.map) ≡ false
         fresh = by_bool (length s.maps == cell.map) (λ t. let e = same_numbers (length s.maps) cell.map t in absurd (omega arith)) (λ f. f)
-
-        low_region : (block : ℕ) → region_of block < 16
-        low_region block = omega arith
 
     begun_still : (disk tuple : List ℕ) (row : DiskRow) → named s.disks.rows disk ≡ Some row → row.moving ≡ None → is_tuple servers tuple ≡ true
         → IsStill s n cell (with_move s tuple row.id)
@@ -363,58 +341,32 @@ module _ (which : Hold → Bool) (every : which All ≡ true) (nothing : which N
           }))
     ]
 
-    comes : (entry : Command) → HasProperTuple servers entry → Comes entry (act entry s)
-    comes (Join server later blank) plain =
-        by_test (Comes (Join server later blank)) (may_join (slice_get s.view.members server) later) (joined_by s server later blank) s
-        (λ may still. inl (record { awaited = awaited; epoch = λ on. refl; low = low; high = high })) (λ no still. inl same_state)
-    comes (Leave server last) plain =
-        by_test (Comes (Leave server last)) (is_up_as s server last) (left_by s server) s
-        (λ now still. inl (left_awaited s server n inc cell still low high)) (λ no still. inl same_state)
-    comes (Caught of link holder holder_inc other other_inc) plain =
-        act_caught (Comes (Caught of link holder holder_inc other other_inc)) s of link holder holder_inc other other_inc
-        (λ acts still. inl (record { awaited = awaited; epoch = λ on. refl; low = low; high = high })) (λ still. inl same_state)
-    comes (MakeDisk client seq name tuple) plain =
-        by_test (Comes (MakeDisk client seq name tuple)) (not (is_new seq (latest s client))) s _
-        (λ old still. inl same_state)
-        (λ new. by_test (Comes (MakeDisk client seq name tuple)) (is_some (named s.disks.rows name))
-        (told s client seq Verdict.Exists) (told (with_disk s name tuple) client seq Verdict.Ok)
-        (λ there still. inl (told_still s client seq Verdict.Exists same_state))
-        (λ none still. inl (told_still (with_disk s name tuple) client seq Verdict.Ok (made_still name tuple (none_of _ none) plain))))
-    comes (Snap client seq disk name) plain =
-        act_snap (Comes (Snap client seq disk name)) s client seq disk name
-        (λ old still. inl same_state)
-        (λ new none still. inl (told_still s client seq Verdict.NoDisk same_state))
-        (λ new row found taken still. inl (told_still s client seq Verdict.Exists same_state))
-        (λ new row found free still. inl (record {
-          awaited = λ fence e on. elim (heads_queued s.view (Whole row.id name client seq) refl refl fence e) [
-            | inl old ↦ awaited fence old on
-            | inr waits ↦ waits
-          ];
-          epoch = λ on. refl;
-          low = low;
-          high = high;
-        }))
-    comes (StartMove client seq disk tuple) plain =
-        act_start (Comes (StartMove client seq disk tuple)) s client seq disk tuple
-        (λ old still. inl same_state)
-        (λ new none still. inl (told_still s client seq Verdict.NoDisk same_state))
-        (λ new row found busy still. inl (told_still s client seq Verdict.Moving same_state))
-        (λ new row found quiet still. inl (told_still (with_move s tuple row.id) client seq Verdict.Ok (begun_still disk tuple row found quiet plain)))
-    comes (Drained server last fence) plain =
-        act_drained (Comes (Drained server last fence)) s server last fence (λ still. inl same_state) (reports server last fence)
-    comes (Moved of region link) plain =
-        act_moved (Comes (Moved of region link)) servers s p of region link (λ still. inl same_state)
-        (λ h. act_note servers s p of region link h (Comes (Moved of region link))
-        (λ some still. inl (noted_alone of region link h some))
-        (λ every more still. inl (next_waits of region link h every more))
-        (λ every last still. inl (move_over of region link h every last)))
-    comes (Witness client seq turn) plain = λ still. inl same_state
+    comes : (entry : Command) (t : State) → Outcome servers s p entry t → Comes entry t
+    comes _ _ (Leaves server last now) still = inl (left_awaited s server n inc cell still low high)
+    comes _ _ (Makes client seq name tuple fresh proper) still =
+        inl (told_still (with_disk s name tuple) client seq Verdict.Ok (made_still name tuple fresh proper))
+    comes _ _ (Queues client seq disk name row found free) still = inl (record {
+      awaited = λ fence e on. elim (heads_queued s.view (Whole row.id name client seq) refl refl fence e) [
+        | inl old ↦ awaited fence old on
+        | inr waits ↦ waits
+      ];
+      epoch = λ on. refl;
+      low = low;
+      high = high;
+    })
+    comes _ _ (Begins client seq disk tuple row found quiet proper) still =
+        inl (told_still (with_move s tuple row.id) client seq Verdict.Ok (begun_still disk tuple row found quiet proper))
+    comes _ _ (Reports server last fence active up) still = reports server last fence active up still
+    comes _ _ (Notes of region link h some) still = inl (noted_alone of region link h some)
+    comes _ _ (Moves_on of region link h every more) still = inl (next_waits of region link h every more)
+    comes _ _ (Ends of region link h every last) still = inl (move_over of region link h every last)
+    comes _ _ _ still = inl (record { awaited = awaited; epoch = λ on. refl; low = low; high = high })
 
     enters : (entry : Command) → HasProperTuple servers entry → Comes entry (after s entry)
     enters entry plain still =
         let t = act entry s in
         let on : is_up_as t n inc ≡ true = sym (in_settled t n inc) ∙ still in
-        elim (comes entry plain on) [
+        elim (comes entry t (outcome servers s p entry plain) on) [
           | inr report ↦ inr report
           | inl h ↦ (
               let k = settles_still servers t (acting servers s entry p plain).plain n cell h.awaited (in_up t n inc on) h.low h.high in
@@ -423,94 +375,34 @@ module _ (which : Hold → Bool) (every : which All ≡ true) (nothing : which N
 
   -- ### A log
 
-  -- of these entries one is such a report
-  record IsReportAmong (s : State) (entries : List Command) (n inc : ℕ) (cell : Cell) : Type 0 where
-    before : List Command
-    fence : ℕ
-    rest : List Command
-    lies : entries ≡ before ++ Drained n inc fence ∷ rest
-    seated : is_up_as (fold after s before) n inc ≡ true
-    holds : which (held (fold after s before) cell) ≡ true
+  module _ (servers : ℕ) (front whole : List Command) (n inc : ℕ) (cell : Cell) (all : HasProperTuples servers whole) (prefix : IsPrefix front whole)
+      (is : is_up_as (state_after servers front) n inc ≡ true) (end : is_up_as (state_after servers whole) n inc ≡ true) where
+    -- the cell is as it was after these entries, or one of them is such a report
+    abbrev StillOrReported : State → Type 0
+    StillOrReported t = IsStill (state_after servers front) n cell t ⊎ HasReportedBy which servers front whole n inc cell
 
-  -- after one entry more
-  later_report : (s : State) (entry : Command) (entries : List Command) (n inc : ℕ) (cell : Cell) → IsReportAmong (after s entry) entries n inc cell
-      → IsReportAmong s (entry ∷ entries) n inc cell
-  later_report s entry entries n inc cell c =
-      record { before = entry ∷ c.before; fence = c.fence; rest = c.rest; lies = ap (λ es. entry ∷ es) c.lies; seated = c.seated; holds = c.holds }
-
-  -- the cell is as it was after these entries, or one of them is such a report
-  abbrev StillOrReport : State → List Command → (n inc : ℕ) → Cell → Type 0
-  StillOrReport s entries n inc cell = IsStill s n cell (fold after s entries) ⊎ IsReportAmong s entries n inc cell
-
-  still_or_report : (servers : ℕ) (entries : List Command) (s : State) → IsSettledState servers s → HasProperTuples servers entries → (n inc : ℕ) (cell : Cell)
-      → is_up_as s n inc ≡ true → is_up_as (fold after s entries) n inc ≡ true → IsAwaited s n cell → 1 ≤ stage_at s cell → stage_at s cell ≤ 2
-      → StillOrReport s entries n inc cell
-  unfolding In
-  still_or_report servers [] s p plainly n inc cell is end awaited low high = inl (still_itself s n cell awaited low high)
-  still_or_report servers (entry ∷ rest) s p plainly n inc cell is end awaited low high =
-      let plain = plainly entry (inl refl) in
-      let more = λ (other : Command) (h : In other rest). plainly other (inr h) in
-      let t = after s entry in
-      let step = entering servers s entry p plain in
-      let later = folding servers rest t step.plain more in
-      let still = between s t (fold after t rest) n inc (step.grown.ages n) (later.grown.ages n) is end in
-      elim (enters (record {
-        servers = servers;
-        s = s;
-        p = p;
-        n = n;
-        inc = inc;
-        cell = cell;
-        seated = is;
-        awaited = awaited;
-        low = low;
-        high = high;
-      }) entry plain still) [
-        | inr report ↦ inr (record {
-          before = [];
-          fence = report.fence;
-          rest = rest;
-          lies = ap (λ e. e ∷ rest) report.is;
-          seated = is;
-          holds = report.holds;
-        })
-        | inl h ↦ elim (still_or_report servers rest t step.plain more n inc cell still end h.awaited h.low h.high) [
+    still_or_reported : (it : NextEntry servers front whole) → StillOrReported (state_after servers it.until)
+        → StillOrReported (after (state_after servers it.until) it.entry)
+    still_or_reported it (inr reported) = inr reported
+    still_or_reported it (inl h) =
+        let ups = in_between servers front whole all prefix it n inc is end in
+        elim (enters servers (state_after servers it.until) (settled_there servers front whole all prefix it) n inc cell ups.0 h.awaited h.low h.high
+        it.entry it.proper ups.1) [
           | inl k ↦ inl (record { awaited = k.awaited; epoch = λ on. k.epoch on ∙ h.epoch on; low = k.low; high = k.high })
-          | inr report ↦ inr (later_report s entry rest n inc cell report)
+          | inr report ↦ inr (record {
+            until = it.until;
+            fence = report.fence;
+            following = it.following;
+            stands = subst (λ e. IsPrefix (it.until ++ e ∷ []) whole) report.is it.stands;
+            seated = ups.0;
+            holds = report.holds;
+          })
         ]
-      ]
 
-  module _ (servers : ℕ) (front whole : List Command) (n inc : ℕ) (cell : Cell) (all : HasProperTuples servers whole) (prefix : IsPrefix front whole) where
-    whole_is : state_after servers whole ≡ fold after (state_after servers front) prefix.later
-    whole_is = ap (state_after servers) prefix.is ∙ fold-append after (start servers) front prefix.later
-
-    reported_by : IsReportAmong (state_after servers front) prefix.later n inc cell → HasReportedBy which servers front whole n inc cell
-    reported_by c =
-        let until_is : state_after servers (front ++ c.before) ≡ fold after (state_after servers front) c.before =
-        fold-append after (start servers) front c.before in
-        record {
-          until = front ++ c.before;
-          fence = c.fence;
-          following = record { later = c.before; is = refl };
-          stands = record {
-            later = c.rest;
-            is = prefix.is ∙ ap (λ xs. front ++ xs) c.lies ∙ sym (append_assoc front c.before (Drained n inc c.fence ∷ c.rest))
-                ∙ sym (append_assoc (front ++ c.before) (Drained n inc c.fence ∷ []) c.rest);
-          };
-          seated = ap (λ (t : State). is_up_as t n inc) until_is ∙ c.seated;
-          holds = ap (λ (t : State). which (held t cell)) until_is ∙ c.holds;
-        }
-
-    still_by : is_up_as (state_after servers front) n inc ≡ true → is_up_as (state_after servers whole) n inc ≡ true
-        → IsAwaited (state_after servers front) n cell → 1 ≤ stage_at (state_after servers front) cell → stage_at (state_after servers front) cell ≤ 2
-        → IsStill (state_after servers front) n cell (state_after servers whole) ⊎ HasReportedBy which servers front whole n inc cell
-    still_by is end awaited low high =
-        elim (still_or_report servers prefix.later (state_after servers front) (log_plain servers front (front_plain servers front whole all prefix))
-        (λ c h. all c (subst (In c) (sym prefix.is) (in_later c front prefix.later h))) n inc cell is
-        (sym (ap (λ (t : State). is_up_as t n inc) whole_is) ∙ end) awaited low high) [
-          | inl still ↦ inl (subst (IsStill (state_after servers front) n cell) (sym whole_is) still)
-          | inr report ↦ inr (reported_by report)
-        ]
+    still_by : IsAwaited (state_after servers front) n cell → 1 ≤ stage_at (state_after servers front) cell
+        → stage_at (state_after servers front) cell ≤ 2 → StillOrReported (state_after servers whole)
+    still_by awaited low high =
+        by_entries servers front whole all prefix (λ log. StillOrReported) still_or_reported (inl (still_itself (state_after servers front) n cell awaited low high))
 
   -- what is so after a Leave that acts
   left_still : (servers : ℕ) (s : State) → IsSettledState servers s → (other other_inc n inc : ℕ) (cell : Cell) → is_up_as s other other_inc ≡ true

@@ -7,7 +7,7 @@ use Rattle.law_state.proofs.Imports.{same_numbers, slice_get, some_or_none, sour
 use Rattle.law_state.specs.Homes.{HasStage, HasTwin, era_by, new_stage, old_stage, stage_at, stage_of, stage_under}
 use Rattle.law_state.specs.Tables.{HasHome, IsRowAt}
 use Rattle.law_state.proofs.Owners.{home, home_of, kept_by, left_by, mover_is, no_home, owner_is, stage_in, stage_is}
-use Rattle.law_state.proofs.Stages.{new_most, stage_most}
+use Rattle.law_state.proofs.Stages.{new_most, stage_most, fenced_old}
 
 -- ### Eras
 
@@ -187,11 +187,6 @@ module _ (s : State) (at_rows : (i : ℕ) (row : DiskRow) → slice_get s.disks.
   fenced_new Fenced e = refl
   fenced_new New e = absurd (omega arith)
 
-  fenced_old : (r : RegionState) → old_stage r ≡ 3 → r ≡ Fenced
-  fenced_old Old e = absurd (omega arith)
-  fenced_old Fenced e = refl
-  fenced_old New e = absurd (omega arith)
-
   -- a region that is on its way has a move
   on_move : (o : Option Move) → move_region region o ≡ Fenced → (move : Move) × (o ≡ Some move)
   on_move None e = true_false refl (ap is_fenced (sym e))
@@ -199,9 +194,6 @@ module _ (s : State) (at_rows : (i : ℕ) (row : DiskRow) → slice_get s.disks.
 
   old_least : (r : RegionState) → 2 ≤ old_stage r
   old_least r = omega arith
-
-  new_most_two : (r : RegionState) → new_stage r ≤ 2
-  new_most_two r = new_most r
 
   -- a cell of this map of the row, by how far its region is
   home_stage : (h : HasRow) (other : Cell) → home s other.map ≡ Some h.row → (b : Bool) → (h.row.map == other.map) ≡ b → has_map other.map h.row ≡ true
@@ -247,7 +239,7 @@ module _ (s : State) (at_rows : (i : ℕ) (row : DiskRow) → slice_get s.disks.
     | inl h ↦ by_bool (h.row.map == cell.map)
         (λ own.
         let is = home_stage h cell h.is true own (ap (λ b. b || leaves cell.map h.row.moving) own) in
-        let high = new_most_two (move_region region h.row.moving) in
+        let high = new_most (move_region region h.row.moving) in
         absurd (omega arith))
         (λ other. by_bool (leaves cell.map h.row.moving)
         (λ left. (h, other, left, fenced_old (move_region region h.row.moving) (sym (home_stage h cell h.is false other (λ i. other i || left i)) ∙ e)))

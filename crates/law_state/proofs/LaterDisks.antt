@@ -5,7 +5,7 @@ use Rattle.law_state.proofs.Imports.{number_itself, refl, same_name, same_some, 
 use Rattle.law_state.proofs.Imports.{true, zero, ℕ}
 use Rattle.law_state.specs.Tables.{IsGrown, IsLaterDisk, IsSettledState}
 use Rattle.law_state.proofs.Owners.{disk_on, map_made, no_owner}
-use Rattle.law_state.proofs.ListLookups.{found_at, get_in, get_last, get_within, in_get}
+use Rattle.law_state.proofs.ListLookups.{found_at, get_in, get_last, get_within, in_get, get_drop}
 use Rattle.law_state.proofs.Steady.{found, owned_or_none, unlinked, viewed}
 use Rattle.spec_rules.specs.State as rules
 
@@ -47,12 +47,6 @@ module _ (servers : ℕ) (s : State) (p : IsSettledState servers s) where
   -- a cell past the last map has none
   pub past_link : (cell : Cell) → length s.maps ≤ cell.map → cell_link s cell ≡ None
   past_link cell le = unlinked servers s p cell (no_owner s p.rows p.homes cell.map (slice_get_past s.maps cell.map le))
-
-get_drop : {A : Type 0} (n : ℕ) (xs : List A) (i : ℕ) (x : A) → slice_get (drop n xs) i ≡ Some x → slice_get xs (n + i) ≡ Some x
-get_drop zero xs i x e = subst (λ k. slice_get xs k ≡ Some x) (let f : i ≡ 0 + i = omega arith in f) e
-get_drop (suc n) [] i x e = none_some refl e
-get_drop (suc n) (y ∷ xs) i x e =
-    subst (λ k. slice_get (y ∷ xs) k ≡ Some x) (let f : suc (n + i) ≡ suc n + i = omega arith in f) (get_drop n xs i x e)
 
 -- the disks that were made since
 abbrev pub later_rows : (earlier later : State) → List DiskRow

@@ -1,5 +1,7 @@
 pub mod Imports
 pub mod ListLookups
+pub mod TestFacts
+pub mod Fronts
 pub mod Ages
 pub mod NewMapLinks
 pub mod Stages
@@ -15,10 +17,12 @@ pub mod Caughts
 pub mod MapsAreAdded
 pub mod SnapsQueueFences
 pub mod MovesOfDisks
+pub mod EntryOutcomes
 pub mod FencesPass
 pub mod EntriesOnlyAdd
 pub mod CellsByLinkRows
 pub mod Steady
+pub mod EntryByEntry
 pub mod Disks
 pub mod Eras
 pub mod LinksAreNoted

@@ -1,36 +1,31 @@
 -- Links are noted one by one, each after its own Moved: what of this a state says, that stands in its log.
-use Rattle.law_state.proofs.Imports.{[], if◌then◌else◌, ◌&&◌, ◌++◌, ◌+◌, ◌<◌, ◌==◌, ◌||◌, ◌∙◌, ◌∷◌, ◌≡◌, ◌≤◌, ◌⊎◌, Bool, Caught, Cell, Command, DiskRow}
-use Rattle.law_state.proofs.Imports.{Drained, Fence, Fenced, In, IsPrefix, Join, Leave, List, MakeDisk, MapRow, Move, Moved, New, None, Old, Option, Region}
-use Rattle.law_state.proofs.Imports.{RegionState, Snap, Some, StartMove, State, Witness, act, after, all_noted, ap, append_assoc, arith, both_true, by_bool}
-use Rattle.law_state.proofs.Imports.{by_test, disk_of, false, fold, has_link, inl, inr, is_fenced, is_new, is_noted, is_some, is_tuple, is_up_as, latest}
-use Rattle.law_state.proofs.Imports.{leaves, length, links_of, list_all, list_any, may_join, move_fenced, move_region, mover, named, nat_eq, nat_tests}
-use Rattle.law_state.proofs.Imports.{none_some, not, noted_in, number_itself, option_and_then, option_map, option_map_or, range_with_len, refl, region_of}
+use Rattle.law_state.proofs.Imports.{[], if◌then◌else◌, ◌&&◌, ◌++◌, ◌+◌, ◌<◌, ◌==◌, ◌||◌, ◌∙◌, ◌∷◌, ◌≡◌, ◌≤◌, ◌⊎◌, Bool, Cell, Command, DiskRow, Fence}
+use Rattle.law_state.proofs.Imports.{Fenced, IsPrefix, List, MakeDisk, MapRow, Move, Moved, New, None, Old, Option, Region, RegionState, Some, StartMove}
+use Rattle.law_state.proofs.Imports.{State, act, after, all_noted, ap, arith, both_true, by_bool, disk_of, false, has_link, inl, inr, is_fenced, is_noted}
+use Rattle.law_state.proofs.Imports.{is_tuple, leaves, length, links_of, list_all, list_any, move_fenced, move_region, mover, named, nat_eq, nat_tests}
+use Rattle.law_state.proofs.Imports.{none_some, noted_in, number_itself, option_and_then, option_map, option_map_or, range_with_len, refl, region_of}
 use Rattle.law_state.proofs.Imports.{row_fenced, row_frozen, row_moving, row_noted, same_numbers, same_or_apart, same_some, settled, slice_get}
-use Rattle.law_state.proofs.Imports.{slice_get_within, slice_set, some_or_none, source, start, state_after, subst, suc, sym, told, true, true_false, tuple_of}
+use Rattle.law_state.proofs.Imports.{slice_get_within, slice_set, some_or_none, source, start, state_after, subst, suc, sym, true, true_false, tuple_of}
 use Rattle.law_state.proofs.Imports.{unwrap_or, with_disk, with_fence, with_link, with_move, zero, ℕ}
 use Rattle.law_state.specs.Homes.{new_stage, old_stage, stage_at, stage_of}
 use Rattle.law_state.specs.NotedLinks.{HasMovedIn}
 use Rattle.law_state.specs.Plain.{HasProperTuple, HasProperTuples}
 use Rattle.law_state.specs.Tables.{IsSettledState, Of_disk, Of_region}
-use Rattle.law_state.proofs.Caughts.{act_caught}
-use Rattle.law_state.proofs.EntriesOnlyAdd.{acting, entering, log_plain, start_plain}
+use Rattle.law_state.proofs.EntriesOnlyAdd.{acting, log_plain}
 use Rattle.law_state.proofs.Eras.{fenced_apart}
 use Rattle.law_state.proofs.Fences.{Acted, IsUnsettled, head_get, ready_by}
 use Rattle.law_state.proofs.Homes.{leaving_row, row_or_none, source_of, HasRow}
-use Rattle.law_state.proofs.Joins.{joined_by}
-use Rattle.law_state.proofs.Leaves.{left_by}
 use Rattle.law_state.proofs.MapsAreAdded.{map_on, new_map, row_last, same_home}
-use Rattle.law_state.proofs.MovesOfDisks.{IsNoting, act_moved, act_note, act_start, at_row, begins, known, move_then, moved_state, noted_state, noting}
-use Rattle.law_state.proofs.MovesOfDisks.{on_way, onward, over, row_now}
+use Rattle.law_state.proofs.MovesOfDisks.{IsNoting, at_row, begins, known, move_then, moved_state, noted_state, noting, on_way, onward, over, row_now}
 use Rattle.law_state.proofs.Owners.{disk_on, home, mover_is, no_home, stage_in, stage_is, left_by as left_by_row}
 use Rattle.law_state.proofs.FencesPass.{framed_itself, framed_passed, here_row, one_passed, passed_beside, passed_here, passing, region_beside, region_here}
 use Rattle.law_state.proofs.FencesPass.{region_row, settled_keeps}
 use Rattle.law_state.proofs.ListLookups.{get_last, get_replicate, get_set_beside, get_set_here}
 use Rattle.law_state.proofs.DiskRowChanges.{beside, here, here_now}
-use Rattle.law_state.proofs.SnapsQueueFences.{act_drained, act_snap, none_of}
 use Rattle.law_state.proofs.Steady.{front_plain, log_grown}
-use Rattle.law_state.proofs.Stages.{Over, Same, Under, fenced_next, new_most, of_most, side_of}
-use Rattle.global_tables.specs.declared.disk.Verdict.TheVariants as Verdict
+use Rattle.law_state.proofs.Stages.{Over, Same, Under, fenced_next, new_most, of_most, side_of, high_new, low_region, left_move, fenced_old}
+use Rattle.law_state.proofs.EntryByEntry.{NextEntry, by_entries, settled_there}
+use Rattle.law_state.proofs.EntryOutcomes.{Begins, Ends, Makes, Moves_on, Notes, Outcome, outcome}
 use Rattle.law_state.proofs.MapsAreAdded as making
 
 -- ### Lists of links
@@ -100,13 +95,8 @@ three_left : (cell : Cell) (row : DiskRow) → stage_of cell row ≡ 3 → ((row
 three_left cell row e = by_bool (row.map == cell.map)
     (λ own. let low = own_low cell row own in absurd (omega arith))
     (λ other. by_bool (leaves cell.map row.moving)
-    (λ left. (other, left, by (move_region (region_of cell.block) row.moving) (sym (old_value cell row other left) ∙ e)))
+    (λ left. (other, left, fenced_old (move_region (region_of cell.block) row.moving) (sym (old_value cell row other left) ∙ e)))
     (λ out. let four = gone_value cell row other out in absurd (omega arith)))
-  where
-    by : (r : RegionState) → old_stage r ≡ 3 → r ≡ Fenced
-    by Old f = absurd (omega arith)
-    by Fenced f = refl
-    by New f = absurd (omega arith)
 
 -- ### A link is noted
 
@@ -155,9 +145,6 @@ module _ (servers : ℕ) (s : State) (p : IsSettledState servers s) (of region l
           let e = old_value cell then_row other (ap (leaves cell.map) is ∙ leaving) in
           let two : old_stage (move_region (region_of cell.block) then_row.moving) ≡ 2 = ap old_stage (ap (move_region (region_of cell.block)) is ∙ at) in
           omega arith
-
-      low_region : (block : ℕ) → region_of block < 16
-      low_region block = omega arith
 
       two_zero : new_stage New ≡ new_stage Old → new_stage Fenced ≡ new_stage Old
       two_zero e = absurd (omega arith)
@@ -269,9 +256,6 @@ begun_comes cell link links new row still (inr retired) = by_bool (new == cell.m
     let four = retired.0 in
     absurd (omega arith))
     (λ out. inr (gone_value cell row out (ap (leaves cell.map) still), retired.1)))
-  where
-    low_region : (block : ℕ) → region_of block < 16
-    low_region block = omega arith
 
 -- ### A state
 
@@ -469,77 +453,40 @@ module _ (servers : ℕ) (s : State) (p : IsSettledState servers s) (cell : Cell
             ])
       ]
 
-  acts : (entry : Command) → HasProperTuple servers entry → Enters entry (act entry s)
-  acts (Join server inc blank) plain = by_test (Enters (Join server inc blank)) (may_join (slice_get s.view.members server) inc)
-      (joined_by s server inc blank) s
-      (λ may. same_tables _ _ refl refl) (λ no. same_tables _ _ refl refl)
-  acts (Leave server inc) plain = by_test (Enters (Leave server inc)) (is_up_as s server inc) (left_by s server) s
-      (λ now. same_tables _ _ refl refl) (λ no. same_tables _ _ refl refl)
-  acts (Caught of at holder holder_inc other other_inc) plain =
-      act_caught (Enters (Caught of at holder holder_inc other other_inc)) s of at holder holder_inc other other_inc
-      (λ acts. same_tables _ _ refl refl) (same_tables _ _ refl refl)
-  acts (MakeDisk client seq name tuple) plain =
-      by_test (Enters (MakeDisk client seq name tuple)) (not (is_new seq (latest s client))) s _ (λ old. same_tables _ _ refl refl)
-      (λ new. by_test (Enters (MakeDisk client seq name tuple)) (is_some (named s.disks.rows name))
-      (told s client seq Verdict.Exists) (told (with_disk s name tuple) client seq Verdict.Ok)
-      (λ there. same_tables _ _ refl refl)
-      (λ none f. makes (MakeDisk client seq name tuple) name tuple (none_of _ none) plain (record { row = f.row; is = f.is; so = f.so })))
-  acts (Snap client seq disk name) plain =
-      act_snap (Enters (Snap client seq disk name)) s client seq disk name (λ old. same_tables _ _ refl refl)
-      (λ new none. same_tables _ _ refl refl) (λ new row found taken. same_tables _ _ refl refl) (λ new row found free. same_tables _ _ refl refl)
-  acts (StartMove client seq disk tuple) plain =
-      act_start (Enters (StartMove client seq disk tuple)) s client seq disk tuple (λ old. same_tables _ _ refl refl)
-      (λ new none. same_tables _ _ refl refl) (λ new row found busy. same_tables _ _ refl refl)
-      (λ new row found still f. begins_so (StartMove client seq disk tuple) disk tuple row found still plain (record { row = f.row; is = f.is; so = f.so }))
-  acts (Drained server inc fence) plain =
-      act_drained (Enters (Drained server inc fence)) s server inc fence (same_tables _ _ refl refl) (λ head up. same_tables _ _ refl refl)
-  acts (Moved of region last) plain =
-      act_moved (Enters (Moved of region last)) servers s p of region last (same_tables _ _ refl refl)
-      (λ h. act_note servers s p of region last h (Enters (Moved of region last))
-      (λ some. notes of region last h (noted_state servers s p of region last h) (noting servers s p of region last h some) refl refl)
-      (λ every more. notes of region last h (with_fence (noted_state servers s p of region last h) (Region h.row.id (region + 1)))
-      (onward servers s p of region last h every more) refl refl)
-      (λ every end. notes of region last h (moved_state servers s p of region last h every end) (over servers s p of region last h every end) refl refl))
-  acts (Witness client seq turn) plain = same_tables _ _ refl refl
+  acts : (entry : Command) (t : State) → Outcome servers s p entry t → Enters entry t
+  acts _ _ (Makes client seq name tuple fresh proper) f =
+      makes (MakeDisk client seq name tuple) name tuple fresh proper (record { row = f.row; is = f.is; so = f.so })
+  acts _ _ (Begins client seq disk tuple row found still proper) f =
+      begins_so (StartMove client seq disk tuple) disk tuple row found still proper (record { row = f.row; is = f.is; so = f.so })
+  acts _ _ (Notes of region last h some) f =
+      notes of region last h (noted_state servers s p of region last h) (noting servers s p of region last h some) refl refl f
+  acts _ _ (Moves_on of region last h every more) f =
+      notes of region last h (with_fence (noted_state servers s p of region last h) (Region h.row.id (region + 1)))
+      (onward servers s p of region last h every more) refl refl f
+  acts _ _ (Ends of region last h every end) f =
+      notes of region last h (moved_state servers s p of region last h every end) (over servers s p of region last h every end) refl refl f
+  acts _ _ _ f = same_tables _ _ refl refl f
 
   enters : (entry : Command) → HasProperTuple servers entry → Enters entry (after s entry)
-  enters entry plain f = acts entry plain
+  enters entry plain f = acts entry (act entry s) (outcome servers s p entry plain)
       (settled_filled servers (act entry s) (acting servers s entry p plain).plain cell link (record { row = f.row; is = f.is; so = f.so }))
 
 -- ### A log
 
-record IsMovedAmong (s : State) (entries : List Command) (cell : Cell) (link : ℕ) : Type 0 where
-  before : List Command
-  rest : List Command
-  lies : entries ≡ before ++ Moved cell.map (region_of cell.block) link ∷ rest
-  leaves : stage_at (fold after s before) cell ≡ 3
-
-moved_among : (servers : ℕ) (entries : List Command) (s : State) → IsSettledState servers s → HasProperTuples servers entries → (cell : Cell) (link : ℕ)
-    → IsFilledAt (fold after s entries) cell link → IsFilledAt s cell link ⊎ IsMovedAmong s entries cell link
-unfolding In
-moved_among servers [] s p all cell link f = inl f
-moved_among servers (entry ∷ rest) s p all cell link f =
-    let plain = all entry (inl refl) in
-    let more = λ (other : Command) (h : In other rest). all other (inr h) in
-    let t = after s entry in
-    elim (moved_among servers rest t (entering servers s entry p plain).plain more cell link f) [
-      | inr c ↦ inr (record { before = entry ∷ c.before; rest = c.rest; lies = ap (λ es. entry ∷ es) c.lies; leaves = c.leaves })
-      | inl g ↦ elim (enters servers s p cell link entry plain g) [
-        | inl h ↦ inl h
-        | inr m ↦ inr (record { before = []; rest = rest; lies = ap (λ e. e ∷ rest) m.is; leaves = m.leaves })
-      ]
-    ]
-
 log_filled : (servers : ℕ) (whole : List Command) → HasProperTuples servers whole → (cell : Cell) (link : ℕ) → IsFilledAt (state_after servers whole) cell link
     → HasMovedIn servers whole cell link
-log_filled servers whole all cell link f = elim (moved_among servers whole (start servers) (start_plain servers) all cell link f) [
-  | inl h ↦ none_some refl h.is
-  | inr c ↦ record {
-    until = c.before;
-    stands = record { later = c.rest; is = c.lies ∙ sym (append_assoc c.before (Moved cell.map (region_of cell.block) link ∷ []) c.rest) };
-    leaves = c.leaves;
-  }
-]
+log_filled servers whole all cell link f = by_entries servers [] whole all prefix (λ log t. IsFilledAt t cell link → HasMovedIn servers whole cell link) step
+    (λ h. none_some refl h.is) f
+  where
+    prefix : IsPrefix [] whole
+    prefix = record { later = whole; is = refl }
+
+    step : (it : NextEntry servers [] whole) → (IsFilledAt (state_after servers it.until) cell link → HasMovedIn servers whole cell link)
+        → IsFilledAt (after (state_after servers it.until) it.entry) cell link → HasMovedIn servers whole cell link
+    step it so g = elim (enters servers (state_after servers it.until) (settled_there servers [] whole all prefix it) cell link it.entry it.proper g) [
+      | inl h ↦ so h
+      | inr m ↦ record { until = it.until; stands = subst (λ e. IsPrefix (it.until ++ e ∷ []) whole) m.is it.stands; leaves = m.leaves }
+    ]
 
 -- a cell that has a stage has a disk
 has_row : (servers : ℕ) (s : State) (p : IsSettledState servers s) (cell : Cell) → 1 ≤ stage_at s cell → HasRow s p.rows p.homes cell
@@ -599,7 +546,7 @@ log_twins servers front whole cell old all prefix from one two =
     let map_is : h.row.map ≡ cell.map =
     ap (λ (c : Cell). c.map) (same_some (sym (ap (option_map (λ (r : DiskRow). record { map = r.map; block = o.0.block })) mover) ∙ o.2)) in
     let later = g.rows h.place h.row h.stands in
-    let m = moved_from h.row.moving l.2 in
+    let m = left_move h.row.moving o.0.map l.2 in
     let moving = h.so.moving m.0 m.1 in
     let lt : o.0.map < h.row.map = (let e = m.2 in let f = moving.old in omega arith) in
     let there = λ (of : ℕ) (e : disk_of s.maps of ≡ Some h.place).
@@ -620,12 +567,3 @@ log_twins servers front whole cell old all prefix from one two =
     let b = new_is in omega arith) in
     value ∙ ap (λ k. old_stage (move_region (region_of k) later.now.moving)) o.3.block ∙ ap old_stage region)
     (λ out. gone_value o.0 later.now other out))
-  where
-    moved_from : {of : ℕ} (o : Option Move) → leaves of o ≡ true → (move : Move) × (o ≡ Some move) × (move.old_map ≡ of)
-    moved_from None e = true_false e refl
-    moved_from {of} (Some move) e = (move, refl, same_numbers move.old_map of e)
-
-    high_new : (r : RegionState) → 2 ≤ new_stage r → r ≡ New
-    high_new Old e = absurd (omega arith)
-    high_new Fenced e = absurd (omega arith)
-    high_new New e = refl

@@ -1,7 +1,7 @@
 -- What stands at a place of a list, and what is found first.
-use Rattle.law_state.proofs.Imports.{[], ◌&&◌, ◌++◌, ◌<◌, ◌∙◌, ◌∷◌, ◌≡◌, ◌≢◌, ◌⊎◌, Bool, In, List, None, Some, ap, arith, by_bool, cond, false, find, inl}
-use Rattle.law_state.proofs.Imports.{inr, length, map, nat_eq, none_some, number_itself, option_map, pointwise, refl, replicate, same_some, slice_get}
-use Rattle.law_state.proofs.Imports.{slice_set, subst, suc, sym, true, zero, ℕ}
+use Rattle.law_state.proofs.Imports.{[], ◌&&◌, ◌++◌, ◌+◌, ◌<◌, ◌∙◌, ◌∷◌, ◌≡◌, ◌≢◌, ◌⊎◌, Bool, In, List, None, Some, ap, arith, by_bool, cond, drop, false}
+use Rattle.law_state.proofs.Imports.{filter, find, inl, inr, length, map, nat_eq, none_some, number_itself, option_map, pointwise, refl, replicate, same_some}
+use Rattle.law_state.proofs.Imports.{slice_get, slice_set, subst, suc, sym, true, zero, ℕ}
 
 pub get_front : {A : Type 0} (xs ys : List A) (i : ℕ) (x : A) → slice_get xs i ≡ Some x → slice_get (xs ++ ys) i ≡ Some x
 get_front [] ys i x e = none_some refl e
@@ -101,3 +101,19 @@ get_replicate (suc n) (suc i) x lt = get_replicate n i x (omega arith)
 pub text_itself : (xs : List ℕ) → pointwise nat_eq xs xs ≡ true
 text_itself [] = refl
 text_itself (x ∷ xs) = ap (λ b. b && pointwise nat_eq xs xs) (number_itself x) ∙ text_itself xs
+
+pub get_drop : {A : Type 0} (n : ℕ) (xs : List A) (i : ℕ) (x : A) → slice_get (drop n xs) i ≡ Some x → slice_get xs (n + i) ≡ Some x
+get_drop zero xs i x e = subst (λ k. slice_get xs k ≡ Some x) (let f : i ≡ 0 + i = omega arith in f) e
+get_drop (suc n) [] i x e = none_some refl e
+get_drop (suc n) (y ∷ xs) i x e =
+    subst (λ k. slice_get (y ∷ xs) k ≡ Some x) (let f : suc (n + i) ≡ suc n + i = omega arith in f) (get_drop n xs i x e)
+
+pub in_filter : {A : Type 0} (q : A → Bool) (xs : List A) (x : A) → In x (filter q xs) → In x xs × (q x ≡ true)
+unfolding In
+in_filter q [] x h = absurd h
+in_filter {A} q (y ∷ xs) x h = by_bool (q y)
+    (λ t. elim (subst (λ b. In x (cond b (y ∷ filter q xs) (filter q xs))) t h) [
+      | inl e ↦ (inl e, ap q e ∙ t)
+      | inr old ↦ (let k = in_filter q xs x old in (inr k.0, k.1))
+    ])
+    (λ f. let k = in_filter q xs x (subst (λ b. In x (cond b (y ∷ filter q xs) (filter q xs))) f h) in (inr k.0, k.1))

@@ -1,7 +1,7 @@
 -- A StartMove gives a disk a new map, and queues a fence for its first region. A Moved notes a link; after the last link of the old map the
 -- region is at the new one, and the next one waits, or the move is over and the links of the old map are gone.
-use Rattle.law_state.proofs.Imports.{[], if◌then◌else◌, ◌+◌, ◌<◌, ◌==◌, ◌||◌, ◌∙◌, ◌∷◌, ◌≡◌, ◌≢◌, ◌≤◌, ◌⊎◌, Bool, Cell, DiskRow, Err, Fence, Fenced, In}
-use Rattle.law_state.proofs.Imports.{LinkRow, List, MapRow, Move, Moved, New, None, Ok, Old, Option, Region, Result, Some, StartMove, State, Verdict, act}
+use Rattle.law_state.proofs.Imports.{[], if◌then◌else◌, ◌+◌, ◌<◌, ◌==◌, ◌||◌, ◌∙◌, ◌∷◌, ◌≡◌, ◌≢◌, ◌≤◌, ◌⊎◌, Bool, Cell, DiskRow, Err, Fence, Fenced, LinkRow}
+use Rattle.law_state.proofs.Imports.{List, MapRow, Move, Moved, New, None, Ok, Old, Option, Region, Result, Some, StartMove, State, Verdict, act}
 use Rattle.law_state.proofs.Imports.{after_region, all_noted, ap, append-nil, arith, both_true, by_bool, by_test, completes, cond, disk_at, disk_of, dropped}
 use Rattle.law_state.proofs.Imports.{false, filter, find, has_map, inl, inr, is_fenced, is_link, is_new, is_some, is_tuple, latest, leaves, length, link_at}
 use Rattle.law_state.proofs.Imports.{links_of, move_begun, move_done, move_of, move_region, move_target, moved_by, mover, named, nat_lt, nat_tests, none_some}
@@ -16,7 +16,7 @@ use Rattle.law_state.proofs.Fences.{Acted, AreQueued, IsUnsettled, fence_kept, r
 use Rattle.law_state.proofs.GrownStates.{grown_on, same_row}
 use Rattle.law_state.proofs.MapsAreAdded.{map_on, mapping, new_map}
 use Rattle.law_state.proofs.Owners.{disk_at_is, disk_on, home, kept_by, owner_is, row_at_on, stage_in, stage_is, stages_later}
-use Rattle.law_state.proofs.ListLookups.{found_at}
+use Rattle.law_state.proofs.ListLookups.{found_at, in_filter}
 use Rattle.law_state.proofs.DiskRowChanges.{beside, fence_then, here, here_now, homes_now, many_rows, names_now, owner_before, owner_then, row_known}
 use Rattle.law_state.proofs.DiskRowChanges.{row_later, rowing, rows_later, rows_now, was_row}
 use Rattle.law_state.proofs.SnapsQueueFences.{none_of}
@@ -199,14 +199,10 @@ module _ (servers : ℕ) (s : State) (p : IsSettledState servers s) (disk tuple 
   fences_then = region_queued unqueued row.id 0 old_fences moving_row begun none_waits
       (disk_at_is begun_state.disks.rows (λ i r e. (all_rows i r e).id) row.id ∙ row_now) refl shape_begun
 
-  none_by : (o : Option DiskRow) → is_some o ≡ false → o ≡ None
-  none_by None e = refl
-  none_by (Some x) e = true_false refl e
-
   pub begins : Acted servers s begun_state
   begins = mapping servers s p tuple row.id proper begun_state.disks.rows s.disks.made begun_state.view.queue begun_state.view.queued
-      (λ of m e none. none_by (owner begun_state of) (same_owner of m e ∙ ap is_some none))
-      (λ of m e none. none_by (owner s of) (sym (same_owner of m e) ∙ ap is_some none)) owned
+      (λ of m e none. none_of (owner begun_state of) (same_owner of m e ∙ ap is_some none))
+      (λ of m e none. none_of (owner s of) (sym (same_owner of m e) ∙ ap is_some none)) owned
       all_rows homes_then (names_now servers s q row.id row known (row_moving new) later) later_rows
       (p.made ∙ sym (many_rows servers s q row.id row known (row_moving new)))
       (let e = many_rows servers s q row.id row known (row_moving new) in omega arith) fences_then
@@ -271,16 +267,6 @@ find_gone p q (x ∷ xs) drops = by_bool (q x)
     (λ t. ap (λ b. find p (cond b (x ∷ filter q xs) (filter q xs))) t
     ∙ ap (λ b. cond b (Some x) (find p (filter q xs))) (by_bool (p x) (λ on. true_false t (drops x on)) (λ f. f)) ∙ find_gone p q xs drops)
     (λ out. ap (λ b. find p (cond b (x ∷ filter q xs) (filter q xs))) out ∙ find_gone p q xs drops)
-
-in_filter : {A : Type 0} (q : A → Bool) (xs : List A) (x : A) → In x (filter q xs) → In x xs × (q x ≡ true)
-unfolding In
-in_filter q [] x h = absurd h
-in_filter {A} q (y ∷ xs) x h = by_bool (q y)
-    (λ t. elim (subst (λ b. In x (cond b (y ∷ filter q xs) (filter q xs))) t h) [
-      | inl e ↦ (inl e, ap q e ∙ t)
-      | inr old ↦ (let k = in_filter q xs x old in (inr k.0, k.1))
-    ])
-    (λ f. let k = in_filter q xs x (subst (λ b. In x (cond b (y ∷ filter q xs) (filter q xs))) f h) in (inr k.0, k.1))
 
 -- ### A link is noted
 
@@ -578,7 +564,3 @@ module _ (servers : ℕ) (s : State) (p : IsSettledState servers s) (of region l
         ages = λ n. no_less (age_of s n);
       };
     }
-
-  -- whatever it comes to
-  pub noting_acts : Acted servers s (note s of h.row.id region link)
-  noting_acts = act_note (Acted servers s) noting onward over

@@ -6,6 +6,7 @@ use Rattle.law_state.proofs.Imports.{sym, true, true_false, ℕ}
 use Rattle.law_state.specs.Homes.{epoch_at, stage_at, stage_by, stage_of, stage_under}
 use Rattle.law_state.specs.Tables.{HasHome, HasLaterDisk, IsRowAt}
 use Rattle.law_state.proofs.ListLookups.{find_here, find_none}
+use Rattle.law_state.proofs.NewMapLinks.{or_true}
 
 -- the row of the disk for which the map was made
 abbrev pub home : State → ℕ → Option DiskRow
@@ -114,11 +115,7 @@ module _ (s : State) (at : (i : ℕ) (row : DiskRow) → slice_get s.disks.rows 
 
   -- and so is the disk that is on its way from it
   pub mover_is : (of : ℕ) → mover s of ≡ option_and_then (left_by of) (home s of)
-  mover_is of = found_home (λ (row : DiskRow). leaves of row.moving) of (λ i row e t. stands of i row e (or_left (row.map == of) (leaves of row.moving) t))
-    where
-      or_left : (a b : Bool) → b ≡ true → (a || b) ≡ true
-      or_left true b t = refl
-      or_left false b t = t
+  mover_is of = found_home (λ (row : DiskRow). leaves of row.moving) of (λ i row e t. stands of i row e (or_true (row.map == of) (leaves of row.moving) t))
 
   -- a disk that has the map is its owner
   pub owned : (of i : ℕ) (row : DiskRow) → slice_get s.disks.rows i ≡ Some row → has_map of row ≡ true → owner s of ≡ Some row

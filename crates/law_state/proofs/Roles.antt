@@ -15,6 +15,7 @@ use Rattle.law_state.proofs.Ages.{in_up, out_same}
 use Rattle.law_state.proofs.Leaves.{either_true}
 use Rattle.law_state.proofs.NewMapLinks.{or_true}
 use Rattle.law_state.proofs.Steady.{front_plain, log_below, log_steady}
+use Rattle.law_state.proofs.TestFacts.{same_only}
 
 pub primary_is_one : (row : LinkRow) (n : ℕ) → row.primary ≡ n → has_server n row ≡ true
 primary_is_one row n e = ap (λ b. b || row.secondary == n) (ap (λ k. k == n) e ∙ number_itself n)
@@ -38,9 +39,6 @@ holder_is_one state cell n b = elim b.linked.served [
     | inr at ↦ secondary_is_one b.row n (at.1 ∙ same_only (sym so ∙ b.so))
   ]
 ]
-  where
-    same_only : {h k : ℕ} {a b : Bool} → Only h a ≡ Only k b → h ≡ k
-    same_only e = cc
 
 module _ (earlier later : State) (was : IsSteady earlier) (now : IsSteady later) (below : IsBelow earlier later) where
   -- the later row of a link that a server serves, which is still In: in Both, or the server holds it alone; or its map is retired

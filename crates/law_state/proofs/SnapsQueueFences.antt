@@ -71,21 +71,8 @@ act_drained P s server inc fence none acts =
 -- ### The queue
 
 -- a snapshot that is asked for, of a disk that has none of this name, nor one that waits
-pub record NewSnapshot : Type 0 where
-  pub servers : ℕ
-  pub s : State
-  pub p : IsSettledState servers s
-  pub client : ℕ
-  pub seq : ℕ
-  pub disk : List ℕ
-  pub name : List ℕ
-  pub row : DiskRow
-  pub found : named s.disks.rows disk ≡ Some row
-  pub free : is_taken s name row ≡ false
-
-module _ (it : NewSnapshot) where
-  open it use {servers, s, p, client, seq, disk, name, row, found, free}
-
+module _ (servers : ℕ) (s : State) (p : IsSettledState servers s) (client seq : ℕ) (disk name : List ℕ) (row : DiskRow)
+    (found : named s.disks.rows disk ≡ Some row) (free : is_taken s name row ≡ false) where
   abbrev t : State
   t = with_fence s (Whole row.id name client seq)
 

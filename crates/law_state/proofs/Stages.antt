@@ -1,8 +1,8 @@
 -- How far a cell is by the row of its disk, and the regions of a move: each goes forward alone.
 use Rattle.law_state.proofs.Imports.{if◌then◌else◌, ◌+◌, ◌<◌, ◌==◌, ◌||◌, ◌∙◌, ◌≡◌, ◌≤◌, Bool, Cell, DiskRow, Fenced, List, Move, New, None, Old, Option}
 use Rattle.law_state.proofs.Imports.{RegionState, Some, State, ap, arith, by_test, false, inl, inr, is_fenced, is_some, leaves, length-replicate, length-set}
-use Rattle.law_state.proofs.Imports.{move_region, owner, refl, region_of, replicate, same_or_apart, slice_get, slice_get_within, slice_set, some_or_none}
-use Rattle.law_state.proofs.Imports.{subst, suc, sym, true, true_false, tuple_of, unwrap_or, zero, ℕ}
+use Rattle.law_state.proofs.Imports.{move_region, owner, refl, region_of, replicate, same_numbers, same_or_apart, slice_get, slice_get_within, slice_set}
+use Rattle.law_state.proofs.Imports.{some_or_none, subst, suc, sym, true, true_false, tuple_of, unwrap_or, zero, ℕ}
 use Rattle.law_state.specs.Homes.{new_stage, old_stage, stage_at, stage_by, stage_of, stage_under}
 use Rattle.law_state.specs.Tables.{IsShape}
 use Rattle.law_state.proofs.ListLookups.{get_replicate, get_set_beside, get_set_here}
@@ -13,6 +13,24 @@ pub new_most : (region : RegionState) → new_stage region ≤ 2
 new_most Old = omega arith
 new_most Fenced = omega arith
 new_most New = omega arith
+
+pub fenced_old : (r : RegionState) → old_stage r ≡ 3 → r ≡ Fenced
+fenced_old Old e = absurd (omega arith)
+fenced_old Fenced e = refl
+fenced_old New e = absurd (omega arith)
+
+pub high_new : (r : RegionState) → 2 ≤ new_stage r → r ≡ New
+high_new Old e = absurd (omega arith)
+high_new Fenced e = absurd (omega arith)
+high_new New e = refl
+
+pub low_region : (block : ℕ) → region_of block < 16
+low_region block = omega arith
+
+-- the move from a map
+pub left_move : (o : Option Move) (of : ℕ) → leaves of o ≡ true → (move : Move) × (o ≡ Some move) × (move.old_map ≡ of)
+left_move None of e = true_false e refl
+left_move (Some move) of e = (move, refl, same_numbers move.old_map of e)
 
 under_most : (cell : Cell) (row : DiskRow) → stage_under cell row ≤ 4
 under_most cell row =

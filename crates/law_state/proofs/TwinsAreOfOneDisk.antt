@@ -1,9 +1,9 @@
 -- The two cells of a move are of one disk, so of one epoch; and while the move goes on neither has another one.
-use Rattle.law_state.proofs.Imports.{if◌then◌else◌, ◌<◌, ◌==◌, ◌∙◌, ◌≡◌, ◌≤◌, Bool, Cell, Command, DiskRow, Fenced, IsPrefix, List, Move, New, None, Old}
-use Rattle.law_state.proofs.Imports.{Option, RegionState, Some, State, ap, arith, by_bool, disk_of, false, has_map, inl, inr, leaves, move_region, none_some}
-use Rattle.law_state.proofs.Imports.{number_itself, option_and_then, option_map, refl, region_of, same_numbers, same_some, slice_get, source, source_in}
-use Rattle.law_state.proofs.Imports.{state_after, subst, sym, target, true, true_false, ℕ}
-use Rattle.law_state.specs.Homes.{epoch_at, new_stage, old_stage, stage_at, stage_of}
+use Rattle.law_state.proofs.Imports.{if◌then◌else◌, ◌<◌, ◌==◌, ◌∙◌, ◌≡◌, ◌≤◌, Bool, Cell, Command, DiskRow, IsPrefix, List, Move, New, None, Option, Some}
+use Rattle.law_state.proofs.Imports.{State, ap, arith, by_bool, disk_of, false, has_map, inl, inr, leaves, move_region, none_some, number_itself}
+use Rattle.law_state.proofs.Imports.{option_and_then, option_map, refl, region_of, same_numbers, same_some, slice_get, source, source_in, state_after, subst}
+use Rattle.law_state.proofs.Imports.{sym, target, true, ℕ}
+use Rattle.law_state.specs.Homes.{epoch_at, old_stage, stage_at, stage_of}
 use Rattle.law_state.specs.Plain.{HasProperTuples}
 use Rattle.law_state.specs.Tables.{HasLaterDisk, IsSettledState, IsRowAt}
 use Rattle.law_state.proofs.EntriesOnlyAdd.{log_plain}
@@ -11,6 +11,7 @@ use Rattle.law_state.proofs.Homes.{row_or_none}
 use Rattle.law_state.proofs.Owners.{disk_on, epoch_in, epoch_is, kept_by, left_by, mover_is, no_home, owner_is, stage_in, stage_is}
 use Rattle.law_state.proofs.LinksAreNoted.{gone_value, old_value, own_value}
 use Rattle.law_state.proofs.Steady.{front_plain, log_grown}
+use Rattle.law_state.proofs.Stages.{high_new, left_move}
 
 -- the disk's move is from the old cell's map to the new cell's
 pub record IsMoved (s : State) (old new : Cell) : Type 0 where
@@ -23,10 +24,6 @@ pub record IsMoved (s : State) (old new : Cell) : Type 0 where
   pub map_is : row.map ≡ new.map
   pub less : old.map < row.map
   pub block : new.block ≡ old.block
-
-left_move : (o : Option Move) (of : ℕ) → leaves of o ≡ true → (move : Move) × (o ≡ Some move) × (move.old_map ≡ of)
-left_move None of e = true_false e refl
-left_move (Some move) of e = (move, refl, same_numbers move.old_map of e)
 
 -- a disk moves from one map at a time
 one_left : (o : Option Move) (a b : ℕ) → leaves a o ≡ true → leaves b o ≡ true → a ≡ b
@@ -154,11 +151,6 @@ module _ (servers : ℕ) (front whole : List Command) (plain : HasProperTuples s
       let less : other.map < one.row.map = subst (λ k. other.map < k) (two.map_is ∙ sym one.map_is) two.less in
       let back = l.0.so.back other.map less (ap (λ (r : DiskRow). leaves other.map r.moving) l.1 ∙ two.left) in
       cells_same other old (one_left one.row.moving other.map old.map back.1 one.left) (sym two.block ∙ one.block)
-
-  high_new : (r : RegionState) → 2 ≤ new_stage r → r ≡ New
-  high_new Old e = absurd (omega arith)
-  high_new Fenced e = absurd (omega arith)
-  high_new New e = refl
 
   -- they stay of one disk
   pub twins_later : (old new : Cell) → IsMoved earlier old new → epoch_at later new ≡ epoch_at later old

@@ -13,7 +13,7 @@ use Rattle.law_steps.specs.DidStep.{Heard}
 use Rattle.law_steps.specs.DidClient.{Turned, Says, Of_the_log, A_write, A_read, OnlySays, IsSame, WasSent, As_it_was, Anew, StaysOpen, IsReason, By_verdict}
 use Rattle.law_steps.specs.DidClient.{By_witness, IsJudged, Stops_it, Stops_at, Fails_it, Starts_it, Blanks_it, Has_no_space, Is_settled, Goes_on, Is_told}
 use Rattle.law_steps.specs.DidClient.{Begins, Reads, Ends, Shown, Judges}
-use Rattle.law_steps.proofs.Fronts.{front_itself, front_same, front_more, front_on}
+use Rattle.law_state.proofs.Fronts.{front_itself, front_same, front_more, front_on}
 use Rattle.petal_msg.specs.declared.body.Body.TheVariants as body
 use Rattle.petal_msg.specs.declared.letter.Actor.TheVariants as actor
 use Rattle.petal_msg.specs.declared.operation.Ending.TheVariants as ending

@@ -14,7 +14,7 @@ use Rattle.law_steps.specs.Ready.{AreFirm, Rests}
 use Rattle.law_steps.proofs.MovesAreOfComingCells.{next_comes}
 use Rattle.law_steps.proofs.FillsByJobs.{Stood, Writes, Fills, SaysFill, Is_other, Is_next, did_come, did_fills, is_fill, is_filling, logged_said}
 use Rattle.law_steps.proofs.FillsByJobs.{other_subject}
-use Rattle.law_steps.proofs.Fronts.{below_itself, front_on}
+use Rattle.law_state.proofs.Fronts.{below_itself, front_on}
 use Rattle.law_steps.proofs.KindsInHistories.{firm_now, happens, own_plain, proposed_pairs, rests_next}
 use Rattle.law_steps.proofs.Letters.{said}
 use Rattle.law_steps.proofs.ClientLetters.{is_ask, turned_asks}

@@ -13,7 +13,7 @@ use Rattle.law_steps.specs.Ready.{IsReady, IsRising, Ready, Rests, AreFirm}
 use Rattle.law_steps.proofs.Subjects.{copies_rise, unheld_stays}
 use Rattle.law_steps.proofs.TablesOfPuts.{rising_filter}
 use Rattle.law_steps.proofs.WhoLeads.{led_by_link, live_stage, stage_live}
-use Rattle.law_steps.proofs.Fronts.{below_on}
+use Rattle.law_state.proofs.Fronts.{below_on}
 use Rattle.law_steps.specs.RestingCopies.{AreResting}
 use Rattle.law_steps.proofs.CopiesRest.{ballot_rests, did_rests, resting_equal}
 use Rattle.law_steps.proofs.RestAfterEntries.{log_rests, none_rest}

@@ -18,7 +18,6 @@ pub mod Subjects
 pub mod OperationsRest
 pub mod Restages
 pub mod ClientLetters
-pub mod Fronts
 pub mod LogJobs
 pub mod ClientStepKinds
 pub mod IdleServers

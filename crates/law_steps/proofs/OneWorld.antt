@@ -10,7 +10,7 @@ use Rattle.law_steps.specs.DidStep.{AreQueued}
 use Rattle.law_steps.specs.Ready.{IsReady, Rests}
 use Rattle.law_steps.specs.Operations.{AtRest}
 use Rattle.law_steps.proofs.WhoLeads.{link_alone, live_stage, stage_live}
-use Rattle.law_steps.proofs.Fronts.{front_itself, front_long, front_more, front_on}
+use Rattle.law_state.proofs.Fronts.{front_itself, front_long, front_more, front_on}
 use Rattle.law_steps.proofs.HeldBackForCaughts.{held_as_flag}
 
 pub past_max : (clock got stamp : ℕ) → max clock got + 1 ≤ stamp → clock < stamp

@@ -8,7 +8,7 @@ use Rattle.law_steps.proofs.Imports.{option_map_or, other_in, other_of, refl, sa
 use Rattle.law_steps.proofs.Imports.{touches_cell, true, true_false, unwrap_or, up_some, ℕ}
 use Rattle.spec_state.specs.State.{start}
 use Rattle.law_steps.specs.RestingCopies.{AreResting}
-use Rattle.law_steps.proofs.Fronts.{front_more}
+use Rattle.law_state.proofs.Fronts.{front_more}
 use Rattle.law_steps.proofs.WhoLeads.{live_stage}
 use Rattle.law_steps.proofs.CopiesRest.{row_named}
 

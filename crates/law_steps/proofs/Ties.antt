@@ -7,7 +7,7 @@ use Rattle.law_steps.proofs.Imports.{state_after, subst, sym, true, true_false, 
 use Rattle.spec_state.specs.State.{start}
 use Rattle.law_state.proofs.GrownStates.{alone_not_both}
 use Rattle.law_steps.specs.Ties.{StaysAloneOrCaught, StaysInBoth}
-use Rattle.law_steps.proofs.Fronts.{front_long, front_more, front_on, one_front}
+use Rattle.law_state.proofs.Fronts.{front_long, front_more, front_on, one_front}
 use Rattle.law_steps.proofs.KindsInHistories.{runs_at}
 use Rattle.law_steps.proofs.HeldBackForCaughts.{held_as_flag}
 

@@ -1,7 +1,11 @@
 -- Fronts of the log, and what stands below what.
-use Rattle.law_steps.proofs.Imports.{[], ◌++◌, ◌∙◌, ◌∷◌, ◌≡◌, ◌≤◌, Command, IsBelow, IsPrefix, List, State, age_of, ap, append-nil, append_assoc, arith, drop}
-use Rattle.law_steps.proofs.Imports.{epoch_at, era_at, goes_on_itself, goes_on_on, inl, inr, length, length-append, no_less, refl, same_some, slice_get}
-use Rattle.law_steps.proofs.Imports.{stage_at, sym}
+use Rattle.law_state.proofs.Imports.{[], ◌++◌, ◌∙◌, ◌∷◌, ◌≡◌, ◌≤◌, Command, IsPrefix, List, State, ap, append-nil, append_assoc, arith, drop, inl, inr}
+use Rattle.law_state.proofs.Imports.{length, length-append, refl, same_some, slice_get, sym}
+use Rattle.law_state.specs.Ages.{age_of}
+use Rattle.law_state.specs.Homes.{epoch_at, era_at, stage_at}
+use Rattle.law_state.specs.LaterStates.{IsBelow}
+use Rattle.law_state.proofs.Ages.{no_less}
+use Rattle.law_state.proofs.GrownStates.{goes_on_itself, goes_on_on}
 
 pub front_itself : (log : List Command) → IsPrefix log log
 front_itself log = record { later = []; is = sym (append-nil log) }
