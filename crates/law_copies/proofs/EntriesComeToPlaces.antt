@@ -1,19 +1,18 @@
 -- An entry that a server applies: of each cell the server comes to a new place with nothing in memory of it, or it stays where it was.
-use Rattle.law_copies.proofs.Imports.{[], ◌++◌, ◌+◌, ◌∙◌, ◌∷◌, ◌≡◌, ◌≤◌, ◌⊎◌, Both, By_caught, By_join, By_leave, Caught, Cell, Command, HasProperTuple}
+use Rattle.law_copies.proofs.Imports.{[], ◌++◌, ◌+◌, ◌∙◌, ◌∷◌, ◌≡◌, ◌≤◌, ◌⊎◌, Both, Busy, By_caught, By_join, By_leave, Caught, Cell, Command, HasProperTuple}
 use Rattle.law_copies.proofs.Imports.{HasProperTuples, HasStarted, In, IsCaughtBy, IsPrefix, IsSteady, LastCopy, LinkRow, List, None, PairState, Pairs}
-use Rattle.law_copies.proofs.Imports.{Pending, Some, State, StaysSo, after, alone_not_both, ap, arith, at, both_before, by_bool, cell_cmp, cell_link}
-use Rattle.law_copies.proofs.Imports.{chosen_log, copying_on, crossed, false, front_itself, front_more, front_plain, held_as_flag, id_of, in_later, in_once}
-use Rattle.law_copies.proofs.Imports.{inl, inr, is_in, is_the_one, last_copy, left_not_both, left_row, length, link_cmp, link_led_by, live, live_stage}
-use Rattle.law_copies.proofs.Imports.{log_entry_stays, log_steady, log_touched, no_progress, none_some, option_and_then, other_of, pending_on, refl, row_lead}
-use Rattle.law_copies.proofs.Imports.{row_named, same_or_apart, same_some, server_state, some_or_none, stage_at, stage_live, state_after, subst, sym, touches}
-use Rattle.law_copies.proofs.Imports.{true, true_false, unwrap_or, ℕ}
+use Rattle.law_copies.proofs.Imports.{Pending, Some, Stale, State, StaysSo, after, alone_not_both, ap, arith, at, both_before, by_bool, cell_cmp, cell_link}
+use Rattle.law_copies.proofs.Imports.{chain_in, chosen_log, copying_on, crossed, false, front_itself, front_more, front_plain, has_mark, held_as_flag, id_of}
+use Rattle.law_copies.proofs.Imports.{in_later, in_once, inl, inr, is_in, is_the_one, last_copy, left_not_both, left_row, length, link_cmp, link_led_by, live}
+use Rattle.law_copies.proofs.Imports.{live_stage, log_entry_stays, log_steady, log_touched, mark_on, nat_cmp, no_progress, none_some, option_and_then}
+use Rattle.law_copies.proofs.Imports.{other_of, pending_on, refl, row_lead, row_named, same_or_apart, same_some, server_state, some_or_none, stage_at}
+use Rattle.law_copies.proofs.Imports.{stage_live, state_after, subst, sym, touches, true, true_false, unwrap_or, ℕ}
 use Rattle.law_copies.specs.GoodCopies.{IsUnheard}
 use Rattle.law_copies.specs.Pair.{HaveMarks}
 use Rattle.law_copies.specs.Visits.{AliveIn, IsLinked, place_by, with_stores}
 use Rattle.law_copies.proofs.AtEntry.{AtEntry}
 use Rattle.law_copies.proofs.NewcomersRememberNothing.{IsFresh}
 use Rattle.law_copies.proofs.ServedAtLaterFronts.{same_only}
-use Rattle.law_copies.proofs.LeadsFindMarks.{same_have}
 use Rattle.law_copies.proofs.PlacesByFronts.{below_at, linked_alive, place_of_later, place_touched, place_untouched, places_up, rows_later, state_next}
 use Rattle.law_copies.proofs.RolesOfWorkers.{cell_map}
 use Rattle.law_copies.proofs.WorkedCell.{above_none}
@@ -235,5 +234,9 @@ module _ (it : AtEntry) where
       let born = ((rests.pending k).staged cell op was).born in
       let most = (live_stage (state_after setting.servers next) cell on).1 in
       let up = stages_up cell in
-      same_have earlier old.pairs.pending old.store new.store left.chains left.marks (good.marks k (inl runs)) cell op
-      (stage_live earlier cell born (omega arith)) was
+      let had = good.marks k (inl runs) cell op (stage_live earlier cell born (omega arith)) was in
+      record {
+        busy = λ e. ap (has_mark (mark_on Busy cell)) left.marks ∙ had.busy e;
+        stale = λ e. ap (has_mark (mark_on Stale cell)) left.marks ∙ had.stale e;
+        lacks = λ fill unput. ap (λ t. at nat_cmp (chain_in t cell) op.key.epoch) left.chains ∙ had.lacks fill unput;
+      }

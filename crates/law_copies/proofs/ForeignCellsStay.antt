@@ -1,21 +1,12 @@
 -- A job leaves a cell whose link the server is not of, or that has no link.
-use Rattle.law_copies.proofs.Imports.{◌<◌, ◌∙◌, ◌≡◌, ◌⊎◌, Asks_page, Begins_copy, Body, Both, ByBoth, ByNone, ByOne, By_filler, By_holder, By_lead, By_other}
-use Rattle.law_copies.proofs.Imports.{By_read, By_second, By_sweep, Cell, Did, DidHolder, DidOther, Finds_it_full, Goes_on_copying, Ignores, IsBothRow}
-use Rattle.law_copies.proofs.Imports.{IsHeld, IsInBoth, IsLinked, IsSteady, JobContext, JobResult, LinkRow, Lost, None, Option, PairState, Refuses, Some}
-use Rattle.law_copies.proofs.Imports.{Tidies, Turns_page, ap, arith, by_bool, cell_holder, cell_link, retired_second, false, has_server, holder_of, inl, inr}
-use Rattle.law_copies.proofs.Imports.{is_alone, is_second, is_the_one, leads_link, link_led_by, live, live_stage, none_some, of_read, option_and_then}
-use Rattle.law_copies.proofs.Imports.{other_of, primary_is_one, refl, row_lead, same_some, second, second_by, secondary_is_one, stage_at, subst, sym, true}
-use Rattle.law_copies.proofs.Imports.{true_false, ℕ}
+use Rattle.law_copies.proofs.Imports.{◌<◌, ◌∙◌, ◌≡◌, ◌⊎◌, Body, Both, ByBoth, ByNone, ByOne, By_holder, By_lead, By_other, By_second, Cell, Did, IsBothRow}
+use Rattle.law_copies.proofs.Imports.{IsHeld, IsInBoth, IsLinked, IsSteady, JobContext, JobResult, LinkRow, Lost, None, PairState, Some, ap, arith, by_bool}
+use Rattle.law_copies.proofs.Imports.{cell_holder, cell_link, retired_second, false, has_server, holder_of, inl, inr, is_alone, is_second, is_the_one}
+use Rattle.law_copies.proofs.Imports.{leads_link, link_led_by, live, live_stage, none_some, option_and_then, other_of, primary_is_one, row_lead, same_some}
+use Rattle.law_copies.proofs.Imports.{second, second_by, secondary_is_one, stage_at, sym, true, true_false, ℕ}
 use Rattle.law_copies.specs.LoneSteps.{IsBare, IsFit, IsNotOf, KeepsCell, KeepsRest}
-use Rattle.law_copies.proofs.OwnPartFrames.{keeps_itself}
-use Rattle.law_copies.proofs.RolesOfWorkers.{IsHeldHere, alone_both, begun_held, copying_held, holder_lives, holder_works, not_both, only_alone, other_alone}
-use Rattle.law_copies.proofs.RolesOfWorkers.{other_lives, other_row, page_held, taken_held}
-use Rattle.law_copies.proofs.WorkedCell.{Away, IsHeldBy, IsLedHere, IsSo, filler_beside, holder_beside, holder_cell, lead_beside, lead_cell, lead_leads}
-use Rattle.law_copies.proofs.WorkedCell.{led_alive, other_beside, other_cell, other_held, page_cell, second_beside, second_follows, sweep_beside}
-
-pub away : (P : Cell → Type 0) (q : Cell) → (P q → ⊥) → (o : Option Cell) → IsSo P o → Away q o
-away P q not_so None so = tt
-away P q not_so (Some cell) so = λ e. not_so (subst P (sym e) so)
+use Rattle.law_copies.proofs.RolesOfWorkers.{IsHeldHere, RoleIn, alone_both, idle_both, led_alive, not_both, only_alone, other_alone, other_row, role_keeps}
+use Rattle.law_copies.proofs.RolesOfWorkers.{role_rest}
 
 -- a cell with a second server is live
 pub second_live : (here : JobContext) (cell : Cell) → is_second here.state here.me cell ≡ true → live here.state cell ≡ true
@@ -29,96 +20,44 @@ pub record IsIdleAt (here : JobContext) (q : Cell) : Type 0 where
   pub no_holder : IsHeldHere here q → ⊥
   pub no_other : (holder : ℕ) → cell_holder here q ≡ Some holder → ⊥
 
--- what a job is to a cell that the server neither leads nor is the second of: it leaves the cell, or is one of copies
-pub data IsBeside (heard : Body → Type 0) (here : JobContext) (own : PairState) (q : Cell) (done : JobResult) : Type 0 where
-  Is_kept : KeepsCell q own done.own → IsBeside heard here own q done
-  Of_holder : DidHolder heard here own done → IsBeside heard here own q done
-  Of_other : DidOther heard here own done → IsBeside heard here own q done
+module _ (heard : Body → Type 0) (here : JobContext) (own : PairState) (fit : IsFit heard here own) (q : Cell) where
+  -- a cell that is not live yet keeps what a server has of it: what is worked on was live
+  module _ (unborn : stage_at here.state q ≡ 0) where
+    not_live : live here.state q ≡ true → ⊥
+    not_live on = let up = (live_stage here.state q on).0 in absurd (omega arith)
 
-pub beside : (heard : Body → Type 0) (here : JobContext) (own : PairState) → IsFit heard here own → (q : Cell) → (IsLedHere heard here own q → ⊥)
-    → (is_second here.state here.me q ≡ true → ⊥) → stage_at here.state q < 4 → (done : JobResult) → Did heard here own done
-    → IsBeside heard here own q done
-beside heard here own fit q no_lead no_second alive = by
-  where
-    by : (done : JobResult) → Did heard here own done → IsBeside heard here own q done
-    by _ Ignores = Is_kept (keeps_itself q own)
-    by _ (Refuses to said is why because) = Is_kept (keeps_itself q own)
-    by _ (By_read done d) = Is_kept (subst (KeepsCell q own) (sym (of_read heard here own done d).same) (keeps_itself q own))
-    by _ (By_lead done d) = Is_kept (lead_beside heard here own fit.ready done d q
-        (away (IsLedHere heard here own) q no_lead (lead_cell heard here own done d) (lead_leads heard here own fit.ready done d)))
-    by _ (By_second done d) = Is_kept (second_beside heard here own done d q
-        (λ e. no_second (subst (λ (c : Cell). is_second here.state here.me c ≡ true) (sym e) (second_follows heard here own done d))))
-    by _ (By_holder done d) = Of_holder d
-    by _ (By_other done d) = Of_other d
-    by _ (By_filler done d) = Is_kept (filler_beside heard here own done d q)
-    by _ (By_sweep done d) = Is_kept (sweep_beside heard here own done d q alive (fit.bare q))
+    unworked : (done : JobResult) (did : Did heard here own done) → RoleIn heard here own fit done did q → ⊥
+    unworked _ (By_lead done d) led = let up = led.born in absurd (omega arith)
+    unworked _ (By_second done d) so = not_live (second_live here q so)
+    unworked _ (By_holder done d) held = not_live held.lives
+    unworked _ (By_other done d) held = not_live held.lives
+    unworked _ _ none = none
 
--- a cell that is not live yet keeps what a server has of it: what is worked on was live
-module _ (heard : Body → Type 0) (here : JobContext) (own : PairState) (fit : IsFit heard here own) (q : Cell) (unborn : stage_at here.state q ≡ 0) where
-  not_live : live here.state q ≡ true → ⊥
-  not_live on = let up = (live_stage here.state q on).0 in absurd (omega arith)
+    pub unborn_keeps : (done : JobResult) → Did heard here own done → KeepsCell q own done.own
+    unborn_keeps done did =
+        role_keeps heard here own fit q (omega arith) done did (unworked done did) (λ idle. not_live (idle_both here own q idle).1)
 
-  pub unborn_keeps : (done : JobResult) → Did heard here own done → KeepsCell q own done.own
-  unborn_keeps done did = elim (beside heard here own fit q (λ led. let up = led.born in absurd (omega arith)) (λ e. not_live (second_live here q e))
-      (omega arith) done did) [
-        | Is_kept kept ↦ kept
-        | Of_holder d ↦ holder_beside heard here own done d q
-            (away (λ c. live here.state c ≡ true) q not_live (holder_cell heard here own done d) (holder_lives heard here own fit done d))
-        | Of_other d ↦ other_beside heard here own done d q
-            (away (λ c. live here.state c ≡ true) q not_live (other_cell heard here own done d) (other_lives heard here own fit done d))
-      ]
+    -- what it has then is what it had
+    pub unborn_bare : (done : JobResult) → Did heard here own done → IsBare done.own q
+    unborn_bare done d =
+        let k = unborn_keeps done d in
+        let bare = fit.bare q unborn in
+        record { chain = k.rest.chain ∙ bare.chain; marks = λ kind. k.marks kind ∙ bare.marks kind }
 
-  -- what it has then is what it had
-  pub unborn_bare : (done : JobResult) → Did heard here own done → IsBare done.own q
-  unborn_bare done d =
-      let k = unborn_keeps done d in
-      let bare = fit.bare q unborn in
-      record { chain = k.rest.chain ∙ bare.chain; marks = λ kind. k.marks kind ∙ bare.marks kind }
+  module _ (idle : IsIdleAt here q) (alive : stage_at here.state q < 4) (done : JobResult) (did : Did heard here own done) where
+    aside : (done : JobResult) (did : Did heard here own done) → RoleIn heard here own fit done did q → ⊥
+    aside _ (By_lead done d) led = idle.no_lead (led_alive here q alive led)
+    aside _ (By_second done d) so = idle.no_second so
+    aside _ (By_holder done d) held = idle.no_holder held
+    aside _ (By_other done d) other = idle.no_other other.holder other.held
+    aside _ _ none = none
 
-module _ (heard : Body → Type 0) (here : JobContext) (own : PairState) (fit : IsFit heard here own) (q : Cell) (idle : IsIdleAt here q)
-    (alive : stage_at here.state q < 4) where
-  other_keeps : (done : JobResult) (d : DidOther heard here own done) → KeepsCell q own done.own
-  other_keeps done d = other_beside heard here own done d q
-      (away (IsHeldBy heard here own) q (λ h. idle.no_other h.holder h.held) (other_cell heard here own done d)
-      (other_held heard here own done d))
+    -- where the cell's link isn't in Both; and where it is, an old mark may go
+    pub did_keeps : (IsBothRow here.state q → ⊥) → KeepsCell q own done.own
+    did_keeps no_both = role_keeps heard here own fit q alive done did (aside done did) (λ old. no_both (idle_both here own q old).0)
 
-  aside : (done : JobResult) → Did heard here own done → IsBeside heard here own q done
-  aside = beside heard here own fit q (λ led. idle.no_lead (led_alive heard here own q alive led)) idle.no_second alive
-
-  -- where the cell's link isn't in Both
-  module _ (no_both : IsBothRow here.state q → ⊥) where
-    holder_keeps : (done : JobResult) (d : DidHolder heard here own done) → KeepsCell q own done.own
-    holder_keeps done d = holder_beside heard here own done d q
-        (away (λ cell. IsHeldHere here cell ⊎ IsBothRow here.state cell) q
-        (λ w. elim w [ inl held ↦ idle.no_holder held | inr both ↦ no_both both ])
-        (holder_cell heard here own done d) (holder_works heard here own fit done d))
-
-    pub did_keeps : (done : JobResult) → Did heard here own done → KeepsCell q own done.own
-    did_keeps done did = elim (aside done did) [ Is_kept kept ↦ kept | Of_holder d ↦ holder_keeps done d | Of_other d ↦ other_keeps done d ]
-
-  -- and where it is, an old mark may go
-  held_away : (o : Option Cell) → IsSo (IsHeldHere here) o → Away q o
-  held_away o so = away (IsHeldHere here) q idle.no_holder o so
-
-  holder_rest : (done : JobResult) (d : DidHolder heard here own done) → KeepsRest q own done.own
-  holder_rest _ (Asks_page id row other held fresh) = (keeps_itself q own).rest
-  holder_rest _ (Turns_page id row other after block h held fresh at) =
-      (holder_beside heard here own _ (Turns_page id row other after block h held fresh at) q
-      (held_away (page_cell row block) (page_held heard here own fit id row other after block h held.is held.other_is))).rest
-  holder_rest done (Begins_copy id row other cell _ held next step) =
-      (holder_beside heard here own done (Begins_copy id row other cell _ held next step) q
-      (held_away (Some cell) (begun_held heard here own fit id row other cell held next))).rest
-  holder_rest done (Goes_on_copying cell now copy _ taken step) =
-      (holder_beside heard here own done (Goes_on_copying cell now copy _ taken step) q
-      (held_away (Some cell) (taken_held heard here own fit cell now copy taken))).rest
-  holder_rest _ (Finds_it_full cell copy h is trimmed lt) =
-      (holder_beside heard here own _ (Finds_it_full cell copy h is trimmed lt) q
-      (held_away (Some cell) (copying_held heard here own fit cell copy is))).rest
-  holder_rest _ (Tidies id row block kind is both idle_is left) =
-      record { chain = refl; pending = refl; copying = refl; last = refl; followed = refl }
-
-  pub did_rest : (done : JobResult) → Did heard here own done → KeepsRest q own done.own
-  did_rest done did = elim (aside done did) [ Is_kept kept ↦ kept.rest | Of_holder d ↦ holder_rest done d | Of_other d ↦ (other_keeps done d).rest ]
+    pub did_rest : KeepsRest q own done.own
+    did_rest = role_rest heard here own fit q alive done did (aside done did)
 
 -- ### Who is idle at a cell
 
@@ -201,14 +140,11 @@ module _ (here : JobContext) (steady : IsSteady here.state) (cell : Cell) where
   not_of_idle (inl none) = unlinked_idle none
   not_of_idle (inr stranger) = stranger_idle stranger.0 stranger.1 stranger.2
 
-module _ (heard : Body → Type 0) (here : JobContext) (own : PairState) (fit : IsFit heard here own) (cell : Cell) (alive : stage_at here.state cell < 4) where
-  pub stranger_keeps : IsNotOf here cell → (done : JobResult) → Did heard here own done → KeepsRest cell own done.own
-  stranger_keeps not_of = did_rest heard here own fit cell (not_of_idle here fit.steady cell not_of) alive
+module _ (heard : Body → Type 0) (here : JobContext) (own : PairState) (fit : IsFit heard here own) (cell : Cell) (alive : stage_at here.state cell < 4)
+    (done : JobResult) (did : Did heard here own done) where
+  pub unlinked_keeps : cell_link here.state cell ≡ None → KeepsCell cell own done.own
+  unlinked_keeps none = did_keeps heard here own fit cell (unlinked_idle here fit.steady cell none) alive done did (λ both. none_some none both.is)
 
-  pub unlinked_keeps : cell_link here.state cell ≡ None → (done : JobResult) → Did heard here own done → KeepsCell cell own done.own
-  unlinked_keeps none = did_keeps heard here own fit cell (unlinked_idle here fit.steady cell none) alive (λ both. none_some none both.is)
-
-  pub lost_keeps : (row : LinkRow) → cell_link here.state cell ≡ Some row → row.state ≡ Lost → (done : JobResult) → Did heard here own done
-      → KeepsCell cell own done.own
+  pub lost_keeps : (row : LinkRow) → cell_link here.state cell ≡ Some row → row.state ≡ Lost → KeepsCell cell own done.own
   lost_keeps row is lost =
-      did_keeps heard here own fit cell (lost_idle here fit.steady cell row is lost) alive (lost_not_row here fit.steady cell row is lost)
+      did_keeps heard here own fit cell (lost_idle here fit.steady cell row is lost) alive done did (lost_not_row here fit.steady cell row is lost)

@@ -1,29 +1,27 @@
 -- Each job of the holder of a link keeps a cell of it.
-use Rattle.law_copies.proofs.Imports.{◌+◌, ◌<◌, ◌∙◌, ◌≡◌, ◌≢◌, ◌≤◌, Asks_page, Asks_to_trim, Begins, Begins_copy, Body, Both, By_filler, By_holder, By_lead}
+use Rattle.law_copies.proofs.Imports.{◌+◌, ◌<◌, ◌∙◌, ◌≡◌, ◌≢◌, ◌≤◌, Asks_page, Asks_to_trim, Begins, Begins_copy, Body, By_filler, By_holder, By_lead}
 use Rattle.law_copies.proofs.Imports.{By_other, By_read, By_second, By_sweep, Cell, Closes_copy, Copies, CopyStep, Copy_as_is, Copy_synced, Copy_trimmed}
-use Rattle.law_copies.proofs.Imports.{Copying, Did, DidHolder, DidOther, DidSecond, Drops_entry, Finds_it_full, Goes_on, Goes_on_copying, Goes_on_trimming}
-use Rattle.law_copies.proofs.Imports.{Ignores, IsCopying, IsHeldWith, Is_copied_to, Is_trimmed, JobContext, JobResult, LastCopy, LinkId, LinkRow, None}
-use Rattle.law_copies.proofs.Imports.{Option, PairState, Pairs, Post, Progress, Refuses, Says, Sends, Some, Stale, TakenCopy, Tidies, TrimStep, Turns_page}
-use Rattle.law_copies.proofs.Imports.{Unmarks_copied, about, above, ap, arith, at, begins_copy, by_bool, cell_at, cell_cmp, cell_gone, cell_gone_apart}
-use Rattle.law_copies.proofs.Imports.{cell_holder, cell_link, cell_same, chain_in, closed_pairs, closed_store, closes, copying_on, eq_by_cmp, false}
-use Rattle.law_copies.proofs.Imports.{first_copy, first_last, id_of, idle_mark, inl, inr, is_second, length, letters_of_job, link_cmp, link_named, link_of}
-use Rattle.law_copies.proofs.Imports.{of_filler, of_holder, of_other, of_read, of_second, of_sweep, progress_beside, progress_on, refl, same_block}
-use Rattle.law_copies.proofs.Imports.{same_cell_or_apart, same_id, same_some, silent, some_or_none, subst, sym, true, true_false, turned, with_copied}
-use Rattle.law_copies.proofs.Imports.{with_copying, with_full, with_last_copy, with_mark_on, with_page, without_copying, ℕ}
+use Rattle.law_copies.proofs.Imports.{Copying, Did, DidHolder, DidOther, Drops_entry, Finds_it_full, Goes_on, Goes_on_copying, Goes_on_trimming, IsCopying}
+use Rattle.law_copies.proofs.Imports.{IsHeldWith, Is_copied_to, Is_trimmed, JobContext, JobResult, LastCopy, LinkId, LinkRow, None, Option, PairState, Pairs}
+use Rattle.law_copies.proofs.Imports.{Post, Progress, Says, Sends, Some, Stale, TakenCopy, Tidies, TrimStep, Turns_page, Unmarks_copied, about, above, ap}
+use Rattle.law_copies.proofs.Imports.{arith, at, begins_copy, by_bool, cell_at, cell_cmp, cell_gone, cell_gone_apart, cell_holder, cell_link, cell_same}
+use Rattle.law_copies.proofs.Imports.{chain_in, closed_pairs, closed_store, closes, copying_on, did_count, eq_by_cmp, false, first_copy, first_last}
+use Rattle.law_copies.proofs.Imports.{holder_cell, id_of, inl, inr, length, letters_of_job, link_cmp, link_named, link_of, none_some, of_filler, of_holder}
+use Rattle.law_copies.proofs.Imports.{of_read, of_second, of_sweep, page_cell, progress_beside, progress_on, refl, same_block, same_cell_or_apart, same_id}
+use Rattle.law_copies.proofs.Imports.{same_some, silent, some_or_none, subst, sym, true, true_false, turned, with_copied, with_copying, with_full}
+use Rattle.law_copies.proofs.Imports.{with_last_copy, with_mark_on, with_page, without_copying, ℕ}
 use Rattle.law_copies.specs.CopyProgress.{AreCopying, IsLeft, IsTold}
 use Rattle.law_copies.specs.LoneSteps.{HolderKeeps, IsHolding, KeepsCell}
-use Rattle.law_copies.proofs.ForeignCellsStay.{away}
 use Rattle.law_copies.proofs.BlocksOnLinks.{on_block}
 use Rattle.law_copies.proofs.EmptyCellsHaveNoChain.{has_entry}
-use Rattle.law_copies.proofs.OwnPartFrames.{copied_alike, copying_beside, keeps_itself}
+use Rattle.law_copies.proofs.OwnPartFrames.{copied_alike, copying_beside, keeps_between, keeps_itself}
 use Rattle.law_copies.proofs.HolderChanges.{HolderStep, step_on}
 use Rattle.law_copies.proofs.LeftToCopy.{IsNext, next_is}
 use Rattle.law_copies.proofs.CopiesGoOn.{IsOnward, begun_onward, closed_onward, copied_itself, ended_onward, going_onward, onward_by, onward_tables}
 use Rattle.law_copies.proofs.HolderPace.{IsPaced, link_itself, paced_beside, paced_copied}
 use Rattle.law_copies.proofs.CopyLetters.{telling}
-use Rattle.law_copies.proofs.RolesOfWorkers.{alone_not_row, alone_not_second, cell_map, holder_not_other, idle_on, kept_lives, named_id, one_named, page_on}
-use Rattle.law_copies.proofs.WorkedCell.{Away, IsHeldBy, copy_step_beside, filler_beside, holder_beside, holder_cell, other_beside, other_cell, other_held}
-use Rattle.law_copies.proofs.WorkedCell.{page_cell, second_beside, second_follows, sweep_beside}
+use Rattle.law_copies.proofs.RolesOfWorkers.{RoleIn, alone_not_second, cell_map, holder_not_other, kept_lives, named_id, one_named, page_on, role_keeps}
+use Rattle.law_copies.proofs.WorkedCell.{cell_apart_from}
 use Rattle.petal_msg.specs.declared.body.Body.TheVariants as body
 use Rattle.law_copies.proofs.CopyMoves as moves
 use Rattle.law_copies.proofs.HolderSteps as steps
@@ -115,18 +113,20 @@ module _ (heard : Body → Type 0) (here : JobContext) (links : ℕ) (row : Link
 
     -- ### Copies
 
-    holder_apart : (done : JobResult) (d : DidHolder heard here own done) → Away cell (holder_cell heard here own done d)
-        → IsPaced row own done.own → IsOnward links row cell own done.own
-        → Step done
-    holder_apart done d apart paced onward = kept done (holder_beside heard here own done d cell apart) (of_holder heard here own done d).next paced onward
+    beside : (done : JobResult) (d : DidHolder heard here own done) → holder_cell heard here own done d ≢ Some cell → KeepsCell cell own done.own
+    beside done d ne = cell_apart_from heard here own f.fit.ready cell f.alive (f.fit.bare cell) done (By_holder done d) ne
+        (writes.no_idle heard here links row vo own cell f)
+
+    holder_apart : (done : JobResult) (d : DidHolder heard here own done) → holder_cell heard here own done d ≢ Some cell
+        → IsPaced row own done.own → IsOnward links row cell own done.own → Step done
+    holder_apart done d ne paced onward = kept done (beside done d ne) (of_holder heard here own done d).next paced onward
 
     -- a cell's row is the link's, where it is this cell
     page_apart : (id : LinkId) (r : LinkRow) (after block : Option ℕ) → heard (body.Hello id.map id.link after block)
-        → link_named here.state id ≡ Some r
-        → eq_by_cmp link_cmp (id_of row) (id_of r) ≡ false → Away cell (page_cell r block)
-    page_apart id r after None h named apart = tt
+        → link_named here.state id ≡ Some r → eq_by_cmp link_cmp (id_of row) (id_of r) ≡ false → page_cell r block ≢ Some cell
+    page_apart id r after None h named apart = λ e. none_some refl e
     page_apart id r after (Some block) h named apart = λ e.
-        let on : cell_link here.state cell ≡ Some r = ap (cell_link here.state) e ∙ page_on heard here own f.fit id r after block h named in
+        let on : cell_link here.state cell ≡ Some r = ap (cell_link here.state) (sym (same_some e)) ∙ (page_on heard here own f.fit id r after block h named).0 in
         let same : row ≡ r = same_some (sym f.is ∙ on) in
         true_false (ap (λ (x : LinkRow). eq_by_cmp link_cmp (id_of row) (id_of x)) (sym same) ∙ link_itself (id_of row)) apart
 
@@ -190,14 +190,22 @@ module _ (heard : Body → Type 0) (here : JobContext) (links : ℕ) (row : Link
       | inr ne ↦ apart ne
     ]
 
+    -- a copy of another cell is taken up
+    record IsTakenUp (c : Cell) (now : PairState) (copy : Copying) : Type 0 where
+      step : HolderStep heard links row cell vo own now
+      kept : KeepsCell cell own now
+      is : copying_on now c ≡ Some copy
+
     taken_with : (c : Cell) → cell ≢ c → (was : Copying) → copying_on own c ≡ Some was → (new : Copying)
-        → HolderStep heard links row cell vo own (with_copying own c new) × (copying_on (with_copying own c new) c ≡ Some new)
-    taken_with c ne was is new = (
-      steps.kept_step heard f.old (with_copying own c new) (copying_beside own c cell ne new) (omega arith)
-          (record { paged = refl; after = refl; flag = refl })
-          (going_onward here.state links row cell f.is f.links_are c ne own was new is),
-      cell_same own.copies.pending c new,
-    )
+        → IsTakenUp c (with_copying own c new) new
+    taken_with c ne was is new =
+        let k = copying_beside own c cell ne new in
+        record {
+          step = steps.kept_step heard f.old (with_copying own c new) k (omega arith) (record { paged = refl; after = refl; flag = refl })
+              (going_onward here.state links row cell f.is f.links_are c ne own was new is);
+          kept = k;
+          is = cell_same own.copies.pending c new;
+        }
 
     -- the pages of its link are done
     taken_paged : (c : Cell) (now : PairState) (copy : Copying) → TakenCopy heard own c now copy
@@ -212,35 +220,33 @@ module _ (heard : Body → Type 0) (here : JobContext) (links : ℕ) (row : Link
         record { paged = p.paged; after = p.after; flag = p.flag }
     step_paced now c copy _ _ = record { paged = refl; after = refl; flag = refl }
 
-    -- a copy of another cell is taken up
-    taken_apart : (c : Cell) → cell ≢ c → (now : PairState) (copy : Copying) → TakenCopy heard own c now copy
-        → HolderStep heard links row cell vo own now × (copying_on now c ≡ Some copy)
-    taken_apart c ne _ _ (Copy_as_is copy is) = (itself cell own f.old, is)
+    taken_apart : (c : Cell) → cell ≢ c → (now : PairState) (copy : Copying) → TakenCopy heard own c now copy → IsTakenUp c now copy
+    taken_apart c ne _ _ (Copy_as_is copy is) = record { step = itself cell own f.old; kept = keeps_itself cell own; is = is }
     taken_apart c ne _ _ (Copy_trimmed copy h is fresh) = taken_with c ne copy is (record copy { trimmed = true })
     taken_apart c ne _ _ (Copy_synced copy h is trimmed lt) = taken_with c ne copy is (record copy { index = copy.index + 1 })
 
     -- and does its next step
     step_apart : (c : Cell) → cell ≢ c → (now : PairState) → AreCopying links row cell (Some now) vo → (copy : Copying) → copying_on now c ≡ Some copy
         → (of : LinkRow) → cell_link here.state c ≡ Some of → (progress_on now of).paged ≡ true → (done : JobResult)
-        → CopyStep here now c copy done → HolderStep heard links row cell vo now done.own
-    step_apart c ne now old copy is of of_is paged _ (Unmarks_copied kind synced left) =
-        steps.kept_step heard old _ (copy_step_beside heard here own now c copy _ cell ne (Unmarks_copied kind synced left))
-        (omega arith) (record { paged = refl; after = refl; flag = refl })
+        → KeepsCell cell now done.own → CopyStep here now c copy done → HolderStep heard links row cell vo now done.own
+    step_apart c ne now old copy is of of_is paged _ k (Unmarks_copied kind synced left) =
+        steps.kept_step heard old _ k (omega arith) (record { paged = refl; after = refl; flag = refl })
         (onward_tables links row cell now _ refl refl (record { paged = refl; after = refl; flag = refl }))
-    step_apart c ne now old copy is of of_is paged _ (Closes_copy synced left) =
+    step_apart c ne now old copy is of of_is paged _ k (Closes_copy synced left) =
         let onward = closed_onward here.state links row cell f.is f.links_are c ne now (old.ordered now refl) copy is of of_is paged in
-        steps.kept_step heard old _ (copy_step_beside heard here own now c copy _ cell ne (Closes_copy synced left))
+        steps.kept_step heard old _ k
         (let e = ap (λ (p : Pairs). p.next) (closed_pairs here now c) in omega arith) (step_paced now c copy _ (Closes_copy synced left))
         (record { late = onward.late; yet = onward.yet; others = onward.others; page = onward.page })
-    step_apart c ne now old copy is of of_is paged _ _ = itself cell now old
+    step_apart c ne now old copy is of of_is paged _ k _ = itself cell now old
 
     goes_apart : (c : Cell) → cell ≢ c → (now : PairState) (copy : Copying) (done : JobResult) → TakenCopy heard own c now copy
         → CopyStep here now c copy done → Step done
     goes_apart c ne now copy done taken step =
         let one = taken_apart c ne now copy taken in
         let of = taken_paged c now copy taken in
-        step_on heard links row cell vo own now done.own one.0
-        (step_apart c ne now one.0.copying copy one.1 of.0 of.1 of.2 done step)
+        let k = beside done (Goes_on_copying c now copy done taken step) (λ e. ne (sym (same_some e))) in
+        step_on heard links row cell vo own now done.own one.step
+        (step_apart c ne now one.step.copying copy one.is of.0 of.1 of.2 done (keeps_between cell own now done.own one.kept k) step)
 
     -- a copy that begins asks first
     begun_own : (c : Cell) (done : JobResult) → CopyStep here (begins_copy own c) c (first_copy own.pairs.next) done → done.own ≡ begins_copy own c
@@ -249,18 +255,9 @@ module _ (heard : Body → Type 0) (here : JobContext) (links : ℕ) (row : Link
     begun_own c _ (Unmarks_copied kind synced left) = true_false synced.trimmed refl
     begun_own c _ (Closes_copy synced left) = true_false synced.trimmed refl
 
-    tidied_apart : (id : LinkId) (r : LinkRow) (block : ℕ) → link_named here.state id ≡ Some r → r.state ≡ Both
-        → idle_mark here.state r own ≡ Some block → cell ≢ cell_at r block
-    tidied_apart id r block named both idle_is e = alone_not_row here f.fit.steady cell row f.is here.me (writes.mine heard here links row vo own cell f)
-        (record {
-          row = r;
-          is = ap (cell_link here.state) e ∙ idle_on heard here own f.fit id r block named idle_is;
-          both = both;
-        })
-
     holder_step : (done : JobResult) → DidHolder heard here own done → Step done
     holder_step _ (Asks_page id r other held fresh) = let same = same_paced own refl refl in
-        holder_apart _ (Asks_page id r other held fresh) tt same.0 same.1
+        holder_apart _ (Asks_page id r other held fresh) (λ e. none_some refl e) same.0 same.1
     holder_step _ (Turns_page id r other after block h held fresh at) = turns_page id r other after block h held fresh at
     holder_step done (Begins_copy id r other c _ held next step) =
         let n = next_is here.state id r own held.is c next in
@@ -269,7 +266,7 @@ module _ (heard : Body → Type 0) (here : JobContext) (links : ℕ) (row : Link
         let same : r ≡ row = same_some (sym n.is ∙ g.is) in
         begins_at c g (subst (λ (x : LinkRow). IsNext here.state x own c) same n) done step)
         (λ ne. let begun = sym (begun_own c done step) in
-        holder_apart done (Begins_copy id r other c _ held next step) ne
+        holder_apart done (Begins_copy id r other c _ held next step) (λ e. ne (sym (same_some e)))
         (subst (IsPaced row own) begun (record { paged = refl; after = refl; flag = refl }))
         (subst (IsOnward links row cell own) begun
         (begun_onward here.state links row cell f.is f.links_are c ne own r n (kept_lives heard here own f.fit cell f.alive))))
@@ -278,10 +275,10 @@ module _ (heard : Body → Type 0) (here : JobContext) (links : ℕ) (row : Link
     holder_step _ (Finds_it_full c copy h is trimmed lt) = copy_either c (silent (with_full (without_copying own c) true))
         (λ g. full_at c g copy is trimmed lt)
         (λ ne. let onward = ended_onward here.state links row cell f.is f.links_are c ne own in
-        holder_apart _ (Finds_it_full c copy h is trimmed lt) ne (record { paged = refl; after = refl; flag = refl })
+        holder_apart _ (Finds_it_full c copy h is trimmed lt) (λ e. ne (sym (same_some e))) (record { paged = refl; after = refl; flag = refl })
         (record { late = onward.late; yet = onward.yet; others = onward.others; page = onward.page }))
     holder_step _ (Tidies id r block kind is both idle_is left) =
-        holder_apart _ (Tidies id r block kind is both idle_is left) (tidied_apart id r block is both idle_is)
+        holder_apart _ (Tidies id r block kind is both idle_is left) (λ e. none_some refl e)
         (record { paged = refl; after = refl; flag = refl })
         (onward_tables links row cell own _ refl refl (record { paged = refl; after = refl; flag = refl }))
 
@@ -301,43 +298,37 @@ module _ (heard : Body → Type 0) (here : JobContext) (links : ℕ) (row : Link
     other_copies done (Goes_on_trimming c holder last _ held is step) = trim_copies own c last holder done step
     other_copies _ _ = (refl, refl)
 
-    other_step : (done : JobResult) → DidOther heard here own done → Step done
-    other_step done d =
-        let apart = away (IsHeldBy heard here own) cell
-        (λ h. holder_not_other here f.fit.steady cell row f.is (writes.mine heard here links row vo own cell f) h.holder h.held)
-        (other_cell heard here own done d) (other_held heard here own done d) in
-        let copies = other_copies done d in
-        let paced = same_paced done.own copies.0 copies.1 in
-        kept done (other_beside heard here own done d cell apart) (of_other heard here own done d).next paced.0 paced.1
+    -- ### All of them
 
-    second_step : (done : JobResult) → DidSecond heard here own done → Step done
-    second_step done d =
-        let frame = of_second heard here own done d in
-        let paced = same_paced done.own (ap (λ (c : Copies). c.progress) frame.copies) (ap (λ (c : Copies). c.pending) frame.copies) in
-        kept done
-        (second_beside heard here own done d cell
-        (λ e. alone_not_second here f.fit.steady cell row f.is here.me (writes.mine heard here links row vo own cell f)
-        (subst (λ (c : Cell). is_second here.state here.me c ≡ true) (sym e) (second_follows heard here own done d))))
-        (let e = frame.next in omega arith) paced.0 paced.1
+    not_held : {A : Type 0} (holder : ℕ) → cell_holder here cell ≡ Some holder → A
+    not_held holder held = holder_not_other here f.fit.steady cell row f.is (writes.mine heard here links row vo own cell f) holder held
+
+    -- the cell is not worked on, and nothing is changed of copies at the holder
+    unworked : (done : JobResult) (did : Did heard here own done) → (RoleIn heard here own f.fit done did cell → ⊥)
+        → done.own.copies.progress ≡ own.copies.progress → done.own.copies.pending ≡ own.copies.pending → Step done
+    unworked done did no_role progress pending =
+        let paced = same_paced done.own progress pending in
+        kept done (role_keeps heard here own f.fit cell f.alive done did no_role (writes.no_idle heard here links row vo own cell f))
+        (did_count heard here own done did) paced.0 paced.1
+
+    same_copies : (done : JobResult) (did : Did heard here own done) → (RoleIn heard here own f.fit done did cell → ⊥)
+        → done.own.copies ≡ own.copies → Step done
+    same_copies done did no_role same = unworked done did no_role (ap (λ (c : Copies). c.progress) same) (ap (λ (c : Copies). c.pending) same)
 
     did_step : (done : JobResult) → Did heard here own done → Step done
-    did_step _ Ignores = itself cell own f.old
-    did_step _ (Refuses to said is why because) = itself cell own f.old
-    did_step done (By_read _ d) =
-        subst (λ (x : PairState). HolderStep heard links row cell vo own x) (sym (of_read heard here own done d).same) (itself cell own f.old)
     did_step done (By_lead _ d) = writes.lead_step heard here links row vo own cell f done d
-    did_step done (By_second _ d) = second_step done d
+    did_step done (By_second _ d) = same_copies done (By_second done d)
+        (λ so. alone_not_second here f.fit.steady cell row f.is here.me (writes.mine heard here links row vo own cell f) so)
+        (of_second heard here own done d).copies
     did_step done (By_holder _ d) = holder_step done d
-    did_step done (By_other _ d) = other_step done d
+    did_step done (By_other _ d) =
+        let same = other_copies done d in
+        unworked done (By_other done d) (λ by. not_held by.holder by.held) same.0 same.1
     did_step done (By_filler _ d) =
-        let frame = of_filler heard here own done d in
-        let paced = same_paced done.own frame.progress frame.pending in
-        kept done (filler_beside heard here own done d cell) (let e = ap (λ (p : Pairs). p.next) frame.pairs in omega arith) paced.0 paced.1
-    did_step done (By_sweep _ d) =
-        let frame = of_sweep heard here own done d in
-        let paced = same_paced done.own (ap (λ (c : Copies). c.progress) frame.copies) (ap (λ (c : Copies). c.pending) frame.copies) in
-        kept done (sweep_beside heard here own done d cell f.alive (f.fit.bare cell)) (let e = ap (λ (p : Pairs). p.next) frame.pairs in omega arith)
-        paced.0 paced.1
+        let frame = of_filler heard here own done d in unworked done (By_filler done d) (λ none. none) frame.progress frame.pending
+    did_step done (By_sweep _ d) = same_copies done (By_sweep done d) (λ none. none) (of_sweep heard here own done d).copies
+    did_step done (By_read _ d) = same_copies done (By_read done d) (λ none. none) (ap (λ (o : PairState). o.copies) (of_read heard here own done d).same)
+    did_step done did = itself cell own f.old
 
     -- the copy of which a letter tells is under way after the job
     under_way : (now : PairState) (copy : Copying) → IsCopying heard here own cell now copy → copying_on now cell ≡ Some copy
@@ -345,9 +336,6 @@ module _ (heard : Body → Type 0) (here : JobContext) (links : ℕ) (row : Link
     under_way _ _ (Goes_on _ _ (Copy_as_is copy is)) = is
     under_way _ _ (Goes_on _ _ (Copy_trimmed copy h is fresh)) = cell_same own.copies.pending cell (record copy { trimmed = true })
     under_way _ _ (Goes_on _ _ (Copy_synced copy h is trimmed lt)) = cell_same own.copies.pending cell (record copy { index = copy.index + 1 })
-
-    not_held : {A : Type 0} (holder : ℕ) → cell_holder here cell ≡ Some holder → A
-    not_held holder held = holder_not_other here f.fit.steady cell row f.is (writes.mine heard here links row vo own cell f) holder held
 
     says_told : (new : PairState) → AreCopying links row cell (Some new) vo → (post : Post) → Says heard here own new post
         → (about post.body).cell ≡ Some cell → IsTold row (Some new) vo post.body

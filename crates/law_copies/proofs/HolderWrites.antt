@@ -1,20 +1,20 @@
 -- Each write of the holder of a link keeps a cell of it.
-use Rattle.law_copies.proofs.Imports.{[], ◌+◌, ◌∙◌, ◌≡◌, ◌≢◌, ◌≤◌, ◌⊎◌, Asks_for, Body, Busy, By_lead, Cell, Closes, Closes_alone, Copies, DidLead, Gives_up}
-use Rattle.law_copies.proofs.Imports.{Goes_on_retired, Has_fill, Has_no_room, IsMarked, IsRising, IsTaken, Is_full, JobContext, JobResult, LinkRow, Marks}
-use Rattle.law_copies.proofs.Imports.{Marks_alone, None, Opens, Opens_alone, Opens_fill, Opens_fill_alone, Option, PairState, Pending, Puts, Puts_alone}
-use Rattle.law_copies.proofs.Imports.{Repeats, Some, Stale, Store, Taken, Unmarks, Unmarks_alone, ap, arith, cell_of, chain_in, chain_put, copying_on}
-use Rattle.law_copies.proofs.Imports.{did_count, ends, false, fill_operation, gives_back, has_proposed, held_as_flag, id_of, in_both, inl, inr, is_alone}
-use Rattle.law_copies.proofs.Imports.{is_flagged, is_marked, live, mark_kept, marks, nat_cmp, of_ending, of_lead, operation, pending_on, puts, refl}
-use Rattle.law_copies.proofs.Imports.{same_cell_or_apart, stage_live, stale_kept, subst, sym, taking, true, true_false, unmarks, version_of, with_opened}
-use Rattle.law_copies.proofs.Imports.{with_ticket, without_pending, ℕ}
+use Rattle.law_copies.proofs.Imports.{[], ◌+◌, ◌∙◌, ◌≡◌, ◌≢◌, ◌≤◌, ◌⊎◌, Body, Busy, By_lead, Cell, Closes, Closes_alone, Copies, DidLead, Gives_up}
+use Rattle.law_copies.proofs.Imports.{Goes_on_retired, IsIdle, IsMarked, IsRising, IsTaken, JobContext, JobResult, LinkRow, Marks, Marks_alone, None, Opens}
+use Rattle.law_copies.proofs.Imports.{Opens_alone, Opens_fill, Opens_fill_alone, Option, PairState, Pending, Puts, Puts_alone, Some, Stale, Store, Taken}
+use Rattle.law_copies.proofs.Imports.{Unmarks, Unmarks_alone, ap, arith, cell_of, chain_in, chain_put, copying_on, did_count, ends, false, fill_operation}
+use Rattle.law_copies.proofs.Imports.{gives_back, has_proposed, held_as_flag, id_of, in_both, inl, inr, is_alone, is_flagged, is_marked, lead_cell, live}
+use Rattle.law_copies.proofs.Imports.{mark_kept, marks, nat_cmp, none_some, of_ending, of_lead, operation, pending_on, puts, refl, same_cell_or_apart}
+use Rattle.law_copies.proofs.Imports.{same_some, stage_live, stale_kept, subst, sym, taking, true, true_false, unmarks, version_of, with_opened, with_ticket}
+use Rattle.law_copies.proofs.Imports.{without_pending, ℕ}
 use Rattle.law_copies.specs.LoneSteps.{IsHolding, KeepsCell}
 use Rattle.law_copies.proofs.EmptyCellsHaveNoChain.{no_entries}
 use Rattle.law_copies.proofs.HolderChanges.{HolderStep}
 use Rattle.law_copies.proofs.CopiesGoOn.{IsOnward, onward_tables}
 use Rattle.law_copies.proofs.HolderPace.{IsPaced, paced_table}
 use Rattle.law_copies.proofs.EpochsRise.{did_rising}
-use Rattle.law_copies.proofs.RolesOfWorkers.{alone_not_in_both, only_alone}
-use Rattle.law_copies.proofs.WorkedCell.{Away, lead_beside, lead_cell}
+use Rattle.law_copies.proofs.RolesOfWorkers.{alone_not_in_both, alone_not_row, idle_both, only_alone}
+use Rattle.law_copies.proofs.WorkedCell.{cell_apart_from}
 use Rattle.petal_msg.specs.declared.operation.Ending.TheVariants as ending
 use Rattle.law_copies.proofs.HolderSteps as steps
 
@@ -121,9 +121,9 @@ module _ (heard : Body → Type 0) (here : JobContext) (links : ℕ) (row : Link
     pub at_cell : (c : Cell) → cell ≡ c → IsHolding heard here links row c own vo
     at_cell c e = subst (λ (q : Cell). IsHolding heard here links row q own vo) e f
 
-    not_in_both : {A : Type 0} (c : Cell) → cell ≡ c → in_both here.state c ≡ true → A
-    not_in_both c e both = alone_not_in_both here f.fit.steady cell row f.is here.me mine
-        (subst (λ (q : Cell). in_both here.state q ≡ true) (sym e) both)
+    -- it has no idle mark, which is of a link in Both
+    pub no_idle : IsIdle here own cell → ⊥
+    no_idle idle = alone_not_row here f.fit.steady cell row f.is here.me mine (idle_both here own cell idle).0
 
     pub kept : (done : JobResult) → KeepsCell cell own done.own → own.pairs.next ≤ done.own.pairs.next → IsPaced row own done.own
         → IsOnward links row cell own done.own → Step done
@@ -137,57 +137,48 @@ module _ (heard : Body → Type 0) (here : JobContext) (links : ℕ) (row : Link
 
     -- ### Writes
 
-    lead_apart : (done : JobResult) (d : DidLead heard here own done) → Away cell (lead_cell heard here own done d) → Step done
-    lead_apart done d apart =
+    lead_apart : (done : JobResult) (d : DidLead heard here own done) → lead_cell heard here own done d ≢ Some cell → Step done
+    lead_apart done d ne =
         let copies = (of_lead heard here own done d).copies in
         let paced = same_paced done.own (ap (λ (c : Copies). c.progress) copies) (ap (λ (c : Copies). c.pending) copies) in
-        kept done (lead_beside heard here own f.fit.ready done d cell apart) (did_count heard here own done (By_lead done d)) paced.0 paced.1
+        kept done (cell_apart_from heard here own f.fit.ready cell f.alive (f.fit.bare cell) done (By_lead done d) ne no_idle)
+        (did_count heard here own done (By_lead done d)) paced.0 paced.1
 
     -- at the cell of the operation, or apart from it
-    either : (c : Cell) (to : PairState) → (IsHolding heard here links row c own vo → HolderStep heard links row c vo own to)
-        → (cell ≢ c → HolderStep heard links row cell vo own to) → HolderStep heard links row cell vo own to
-    either c to here_it apart = elim (same_cell_or_apart cell c) [
-      | inl e ↦ subst (λ (q : Cell). HolderStep heard links row q vo own to) (sym e) (here_it (at_cell c e))
-      | inr ne ↦ apart ne
+    either : (c : Cell) (done : JobResult) (d : DidLead heard here own done) → lead_cell heard here own done d ≡ Some c
+        → (cell ≡ c → IsHolding heard here links row c own vo → HolderStep heard links row c vo own done.own) → Step done
+    either c done d is here_it = elim (same_cell_or_apart cell c) [
+      | inl e ↦ subst (λ (q : Cell). HolderStep heard links row q vo own done.own) (sym e) (here_it e (at_cell c e))
+      | inr ne ↦ lead_apart done d (λ e. ne (same_some (sym e ∙ is)))
     ]
 
-    both_not : (c : Cell) (to : PairState) → in_both here.state c ≡ true → (cell ≢ c → HolderStep heard links row cell vo own to)
-        → HolderStep heard links row cell vo own to
-    both_not c to both apart = elim (same_cell_or_apart cell c) [ inl e ↦ not_in_both c e both | inr ne ↦ apart ne ]
+    both_not : (c : Cell) (done : JobResult) (d : DidLead heard here own done) → lead_cell heard here own done d ≡ Some c → in_both here.state c ≡ true
+        → Step done
+    both_not c done d is both = either c done d is (λ e g. alone_not_in_both here f.fit.steady cell row f.is here.me mine
+        (subst (λ (q : Cell). in_both here.state q ≡ true) (sym e) both))
 
     rises : (done : JobResult) → DidLead heard here own done → (c : Cell) → IsRising nat_cmp (chain_in done.own.store.chains c)
     rises done d c = did_rising heard here own f.fit.rising done (By_lead done d) c
 
     pub lead_step : (done : JobResult) → DidLead heard here own done → Step done
-    lead_step _ (Asks_for posts h) = lead_apart _ (Asks_for posts h) tt
-    lead_step _ (Repeats want last h lead is e) = lead_apart _ (Repeats want last h lead is e) tt
-    lead_step _ (Is_full want new no_room) = lead_apart _ (Is_full want new no_room) tt
-    lead_step _ (Gives_up op h is reserved put) = either op.cell _ (gives_up_at op is)
-        (λ ne. lead_apart _ (Gives_up op h is reserved put) ne)
-    lead_step _ (Opens want new both) = both_not want.cell _ both (λ ne. lead_apart _ (Opens want new both) ne)
-    lead_step _ (Marks op h is both stage) = both_not op.cell _ both (λ ne. lead_apart _ (Marks op h is both stage) ne)
-    lead_step _ (Puts op is both stage) = both_not op.cell _ both (λ ne. lead_apart _ (Puts op is both stage) ne)
-    lead_step _ (Unmarks op h is both stage) = both_not op.cell _ both (λ ne. lead_apart _ (Unmarks op h is both stage) ne)
-    lead_step _ (Closes op is both stage) = both_not op.cell _ both (λ ne. lead_apart _ (Closes op is both stage) ne)
-    lead_step _ (Opens_alone want new alone) =
-        either want.cell _ (opens_at (operation here own.pairs.next want) new.uncopied new.unheld) (λ ne. lead_apart _ (Opens_alone want new alone) ne)
-    lead_step _ (Marks_alone now op taken alone fresh) =
-        either op.cell _ (λ g. marks_at now op taken g (rises _ (Marks_alone now op taken alone fresh) op.cell))
-        (λ ne. lead_apart _ (Marks_alone now op taken alone fresh) ne)
-    lead_step _ (Puts_alone now op taken alone stale put) =
-        either op.cell _ (λ g. puts_at now op taken g stale (rises _ (Puts_alone now op taken alone stale put) op.cell))
-        (λ ne. lead_apart _ (Puts_alone now op taken alone stale put) ne)
-    lead_step _ (Unmarks_alone now op taken alone stale put busy) =
-        either op.cell _ (λ g. unmarks_at now op taken g stale (rises _ (Unmarks_alone now op taken alone stale put busy) op.cell))
-        (λ ne. lead_apart _ (Unmarks_alone now op taken alone stale put busy) ne)
-    lead_step _ (Closes_alone now op taken alone stale put free) =
-        either op.cell _ (λ g. closes_at now op taken g (rises _ (Closes_alone now op taken alone stale put free) op.cell))
-        (λ ne. lead_apart _ (Closes_alone now op taken alone stale put free) ne)
-    lead_step _ (Opens_fill moving new room both) = both_not (cell_of moving.key) _ both (λ ne. lead_apart _ (Opens_fill moving new room both) ne)
-    lead_step _ (Opens_fill_alone moving new room alone) =
-        either (cell_of moving.key) _ (opens_at (fill_operation here own.pairs.next moving) new.uncopied new.unheld)
-        (λ ne. lead_apart _ (Opens_fill_alone moving new room alone) ne)
-    lead_step _ (Has_fill moving there) = lead_apart _ (Has_fill moving there) tt
-    lead_step _ (Has_no_room moving new no_room) = lead_apart _ (Has_no_room moving new no_room) tt
-    lead_step _ (Goes_on_retired now op taken off) = either op.cell _ (λ g. true_false (lives now op taken g) off)
-        (λ ne. lead_apart _ (Goes_on_retired now op taken off) ne)
+    lead_step _ (Gives_up op h is reserved put) = either op.cell _ (Gives_up op h is reserved put) refl (λ e g. gives_up_at op is g)
+    lead_step _ (Opens want new both) = both_not want.cell _ (Opens want new both) refl both
+    lead_step _ (Marks op h is both stage) = both_not op.cell _ (Marks op h is both stage) refl both
+    lead_step _ (Puts op is both stage) = both_not op.cell _ (Puts op is both stage) refl both
+    lead_step _ (Unmarks op h is both stage) = both_not op.cell _ (Unmarks op h is both stage) refl both
+    lead_step _ (Closes op is both stage) = both_not op.cell _ (Closes op is both stage) refl both
+    lead_step _ (Opens_alone want new alone) = either want.cell _ (Opens_alone want new alone) refl
+        (λ e g. opens_at (operation here own.pairs.next want) new.uncopied new.unheld g)
+    lead_step _ (Marks_alone now op taken alone fresh) = either op.cell _ (Marks_alone now op taken alone fresh) refl
+        (λ e g. marks_at now op taken g (rises _ (Marks_alone now op taken alone fresh) op.cell))
+    lead_step _ (Puts_alone now op taken alone stale put) = either op.cell _ (Puts_alone now op taken alone stale put) refl
+        (λ e g. puts_at now op taken g stale (rises _ (Puts_alone now op taken alone stale put) op.cell))
+    lead_step _ (Unmarks_alone now op taken alone stale put busy) = either op.cell _ (Unmarks_alone now op taken alone stale put busy) refl
+        (λ e g. unmarks_at now op taken g stale (rises _ (Unmarks_alone now op taken alone stale put busy) op.cell))
+    lead_step _ (Closes_alone now op taken alone stale put free) = either op.cell _ (Closes_alone now op taken alone stale put free) refl
+        (λ e g. closes_at now op taken g (rises _ (Closes_alone now op taken alone stale put free) op.cell))
+    lead_step _ (Opens_fill moving new room both) = both_not (cell_of moving.key) _ (Opens_fill moving new room both) refl both
+    lead_step _ (Opens_fill_alone moving new room alone) = either (cell_of moving.key) _ (Opens_fill_alone moving new room alone) refl
+        (λ e g. opens_at (fill_operation here own.pairs.next moving) new.uncopied new.unheld g)
+    lead_step _ (Goes_on_retired now op taken off) = either op.cell _ (Goes_on_retired now op taken off) refl (λ e g. true_false (lives now op taken g) off)
+    lead_step done d = lead_apart done d (λ e. none_some refl e)

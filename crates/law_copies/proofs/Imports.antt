@@ -11,39 +11,36 @@ pub use Rattle.law_state.proofs.Imports.{joins_blank, left_state, length, length
 pub use Rattle.law_state.proofs.Imports.{not_true, number_itself, option_and_then, option_map, option_map_or, refl, row_lead, same_numbers, same_or_apart}
 pub use Rattle.law_state.proofs.Imports.{same_some, second, secondary, slice_get, slice_get-map, slice_get_within, some_or_none, state_lead, subst, sym}
 pub use Rattle.law_state.proofs.Imports.{touches, true, true_false, unwrap_or, ℕ}
-pub use Rattle.law_log.proofs.Imports.{if◌then◌else◌, ◌||◌, Acted, Action, AreSteps, Ask, Blank, Block, Body, Copies, Copying, Retired, Ending, Entry, Equal}
-pub use Rattle.law_log.proofs.Imports.{FollowProgress, Firm, HasProperTuple, HasProperTuples, IsSettledState, IsSound, JobContext, JobResult, Key, LastCopy, LastOp}
-pub use Rattle.law_log.proofs.Imports.{Letter, Life, Log, NextCopy, Pending, Post, Reaction, Script, Step, Stored, Wait, about, above, acts, all_put_apart}
-pub use Rattle.law_log.proofs.Imports.{awake, begins_copy, blanked, cell_at, cell_holder, cell_of, chain_in, client_sender, closes, copying_on, ended, ends}
-pub use Rattle.law_log.proofs.Imports.{eq_by_cmp, fill_operation, finishes, gives_back, has_proposed, holds_link, id_of, idle_mark, is_eq, is_flagged}
-pub use Rattle.law_log.proofs.Imports.{is_logged, is_second, is_under_way, key_at, last_copy, link_named, log_plain, map, moved_as, nat_cmp, nat_cmp_total}
-pub use Rattle.law_log.proofs.Imports.{no_progress, opened, other_in, pending_on, post_of, progress_on, proposed, put_apart, put_same, puts_entry, raised}
-pub use Rattle.law_log.proofs.Imports.{ranked, reacts, same_block, sender, server_state, setting_of, silent, stamped, start, state_in, stays, subject_of}
-pub use Rattle.law_log.proofs.Imports.{tells, tied_itself, wakes, with_copied, with_copying, with_full, with_last_copy, with_opened, with_page, with_progress}
-pub use Rattle.law_log.proofs.Imports.{without_copying, without_pending, world_after}
+pub use Rattle.law_log.proofs.Imports.{if◌then◌else◌, ◌||◌, Acted, AreSteps, Ask, Blank, Block, Body, Copies, Copying, Ending, Entry, Equal, Firm}
+pub use Rattle.law_log.proofs.Imports.{HasProperTuple, HasProperTuples, IsSettledState, IsSound, JobContext, JobResult, Key, LastCopy, LastOp, Letter, Life}
+pub use Rattle.law_log.proofs.Imports.{Log, NextCopy, Pending, Post, Reaction, Script, Step, Stored, Wait, about, above, acts, all_put_apart, awake}
+pub use Rattle.law_log.proofs.Imports.{begins_copy, blanked, cell_at, cell_holder, cell_of, chain_in, client_sender, closes, copying_on, ended, ends}
+pub use Rattle.law_log.proofs.Imports.{eq_by_cmp, fill_operation, gives_back, has_proposed, holds_link, id_of, is_eq, is_flagged, is_logged, is_second}
+pub use Rattle.law_log.proofs.Imports.{is_under_way, key_at, last_copy, link_named, log_plain, map, moved_as, nat_cmp, nat_cmp_total, no_progress, other_in}
+pub use Rattle.law_log.proofs.Imports.{pending_on, post_of, progress_on, proposed, put_apart, put_same, puts_entry, raised, ranked, reacts, same_block}
+pub use Rattle.law_log.proofs.Imports.{sender, server_state, setting_of, silent, stamped, start, state_in, stays, subject_of, tells, tied_itself, wakes}
+pub use Rattle.law_log.proofs.Imports.{with_copied, with_copying, with_full, with_last_copy, with_opened, with_page, with_progress, without_copying}
+pub use Rattle.law_log.proofs.Imports.{without_pending, world_after}
 unfoldable pub use Rattle.law_log.proofs.Imports.{next_copy, put_at}
 pub use Rattle.law_steps.specs.Imports.{Busy, IsBelow, MarkKind, Nothing, Paired, Sender, Stage, Stale, StaysSo, Subject, Table, before_blanks, cell_cmp}
-pub use Rattle.law_steps.specs.Imports.{crossed, epochs_beyond, epochs_of, follows, holder_of, least, letters_of, live, marked_blocks, marks, next_stage}
-pub use Rattle.law_steps.specs.Imports.{operation, puts, settled_by, stage_at, unmarks, with_last, with_paired, with_pending, with_reserved, without_retired}
-pub use Rattle.law_steps.specs.Imports.{without_entry, without_mark_on}
+pub use Rattle.law_steps.specs.Imports.{crossed, epochs_beyond, epochs_of, follows, holder_of, least, letters_of, live, marked_blocks, marks, operation, puts}
+pub use Rattle.law_steps.specs.Imports.{settled_by, stage_at, unmarks, with_last, with_paired, with_pending, with_reserved, without_entry, without_mark_on}
 pub use Rattle.law_steps.proofs.Imports.{ByBoth, ByNone, ByOne, Chain, Greater, HasDied, HasStarted, IsCaughtStill, IsSteady, Less, Logged, Mark, Ordering}
 pub use Rattle.law_steps.proofs.Imports.{Pairs, Store, alone_row, at-empty, at-where, blocks_left, cell_apart, cell_cmp_same, cell_cmp_total, cell_gone}
 pub use Rattle.law_steps.proofs.Imports.{cell_gone_apart, cell_same, dies, either_false, ends_cell, ends_link, found_at, front_plain, history_grows}
 pub use Rattle.law_steps.proofs.Imports.{history_is_firm, in_once, is_asked, is_at, is_clients, is_kept_on, is_link_under_way, is_none, is_on, needs_full_copy}
 pub use Rattle.law_steps.proofs.Imports.{lesser, log_alone, log_below, log_steady, lookup, max, next_block, no_copies, out_has_stopped, progress_beside}
 pub use Rattle.law_steps.proofs.Imports.{progress_here, row_in_both, same_caught, same_id, same_place, settling, so_both, stage_most, stored_blocks}
-pub use Rattle.law_steps.proofs.Imports.{touches_cell, up_some, version_of, who_is_in_has_begun, with_entry, with_mark_at, with_mark_on, with_ticket}
+pub use Rattle.law_steps.proofs.Imports.{touches_cell, up_some, version_of, who_is_in_has_begun, with_mark_at, with_mark_on, with_ticket}
 unfoldable pub use Rattle.law_steps.proofs.Imports.{put, without}
-pub use Rattle.law_jobs.specs.Imports.{IsHeldWith, IsOfCopy, Taken, TakenCopy, copying, first_copy, first_last, progress, waiting}
-pub use Rattle.law_jobs.proofs.Imports.{Asks_for, Asks_page, Asks_to_trim, Begins_copy, By_filler, By_holder, By_lead, By_other, By_read, By_second, By_sweep}
-pub use Rattle.law_jobs.proofs.Imports.{Closes, Closes_alone, Closes_copy, CopyStep, Copy_as_is, Copy_synced, Copy_trimmed, Declines, Did, DidFiller}
-pub use Rattle.law_jobs.proofs.Imports.{DidHolder, DidLead, DidOther, DidSecond, DidSweep, Drops_entry, Finds_it_full, Follows, Gives_up, Goes_on_copying}
-pub use Rattle.law_jobs.proofs.Imports.{Goes_on_retired, Goes_on_trimming, Handled, Happens, Has_entry, Has_fill, Has_no_room, Has_no_slot, Ignores}
-pub use Rattle.law_jobs.proofs.Imports.{Is_copied_to, Is_full, Is_trimmed, Marks, Marks_alone, Opens, Opens_alone, Opens_fill, Opens_fill_alone, OtherReply}
-pub use Rattle.law_jobs.proofs.Imports.{Promises, Puts, Puts_alone, Puts_entry, Refuses, Repeats, Replies, Rests, Sends, Sets_apart, Sweeps, Tidies, TrimStep}
-pub use Rattle.law_jobs.proofs.Imports.{Turns_page, Unmarks, Unmarks_alone, Unmarks_copied, always_firm, at_apart, at_same, chains_at, is_mark, is_marked}
-pub use Rattle.law_jobs.proofs.Imports.{last_happens, mark_on, of_read, of_sweep, own_place, rests_after, row_named, same_cell_or_apart, same_mark}
-pub use Rattle.law_jobs.proofs.Imports.{start_rests, taking, world_more}
+pub use Rattle.law_jobs.specs.Imports.{Begins_copy, By_holder, By_lead, By_other, By_second, Closes, Closes_alone, Did, DidHolder, DidLead, DidOther}
+pub use Rattle.law_jobs.specs.Imports.{DidSecond, Finds_it_full, Follows, Gives_up, Goes_on_copying, Goes_on_retired, Goes_on_trimming, IsHeldWith, IsOfCopy}
+pub use Rattle.law_jobs.specs.Imports.{Is_copied_to, Marks, Marks_alone, Opens, Opens_alone, Opens_fill, Opens_fill_alone, Puts, Puts_alone, Puts_entry}
+pub use Rattle.law_jobs.specs.Imports.{Sets_apart, Taken, TakenCopy, Turns_page, Unmarks, Unmarks_alone, first_copy, first_last, progress}
+pub use Rattle.law_jobs.proofs.Imports.{Asks_page, Asks_to_trim, By_filler, By_read, By_sweep, Closes_copy, CopyStep, Copy_as_is, Copy_synced, Copy_trimmed}
+pub use Rattle.law_jobs.proofs.Imports.{Declines, Drops_entry, Handled, Happens, Is_trimmed, Promises, Refuses, Replies, Rests, Sends, Tidies, TrimStep}
+pub use Rattle.law_jobs.proofs.Imports.{Unmarks_copied, always_firm, at_apart, at_same, chains_at, is_mark, is_marked, last_happens, mark_on, of_read}
+pub use Rattle.law_jobs.proofs.Imports.{of_sweep, own_place, rests_after, row_named, same_cell_or_apart, same_mark, start_rests, taking, world_more}
 pub use Rattle.law_copies.specs.Imports.{AtRest, IsMarked, IsReady, IsRising, IsToBeCopied, WasStarted, blank_joins_in, is_between, kept_store, no_pairs}
 pub use Rattle.law_copies.specs.Imports.{one_put_ahead, with_store}
 pub use Rattle.std.proofs.lemmas.Bool.{cases_lt}
@@ -53,14 +50,17 @@ pub use Rattle.busy_marks.specs.Marks.{has_mark}
 pub use Rattle.law_jobs.proofs.ChainsApart.{chain_apart, chain_put, closed_pairs, closed_store, copied_chains, drop_apart, drop_none, gone_apart, gone_chain}
 pub use Rattle.law_jobs.proofs.ChainsApart.{page_chains}
 pub use Rattle.law_jobs.proofs.CountsGrow.{did_count}
-pub use Rattle.law_jobs.proofs.JobsAreEffects.{job_keeps}
+pub use Rattle.law_jobs.proofs.JobsAreEffects.{at_keeps, effects_at, job_keeps}
 pub use Rattle.law_jobs.proofs.JobsKeepChains.{chains_keep}
 pub use Rattle.law_jobs.proofs.JobsSay.{letters_of_job}
-pub use Rattle.law_jobs.proofs.MarksApart.{mark_beside, mark_kept, mark_there, stale_kept, unmark_apart, unmark_beside, unmark_none}
+pub use Rattle.law_jobs.proofs.MarksApart.{mark_beside, mark_kept, mark_there, stale_kept, unmark_beside, unmark_none}
 pub use Rattle.law_jobs.proofs.Runs.{At, OneMore, Run, before_part, by_run, firm_in, grown_in, happened_in, longer, more_of, run_of, setting_in, since}
-pub use Rattle.law_jobs.specs.Effects.{Counts, Effect, IsCopiedFor, Is_begun, Is_copied, Is_further, May, applied}
+pub use Rattle.law_jobs.specs.Effects.{Counts, Drops, Effect, Ends_copy, Idle, IsAt, IsCopiedFor, IsIdle, IsPutAt, Is_begun, Is_copied, Is_further, May}
+pub use Rattle.law_jobs.specs.Effects.{Of_key, Of_operation, Sets, applied}
+pub use Rattle.law_jobs.specs.Imports.{last_on}
 pub use Rattle.law_jobs.specs.Sayings.{Asks_copy, Asks_slot, Begins, Ends_fill, Goes_on, Has_copy, Has_slot, IsCopying, Is_sync_full, Is_synced, Moves}
 pub use Rattle.law_jobs.specs.Sayings.{Moves_on, Says, Syncs, Tells_page, Trims}
+pub use Rattle.law_jobs.specs.Worked.{holder_cell, lead_cell, other_cell, page_cell, second_cell, worked}
 pub use Rattle.law_log.proofs.BallotFlags.{flag_put}
 pub use Rattle.law_log.proofs.LogInHistories.{chosen_caught_was}
 pub use Rattle.law_state.proofs.BlankJoins.{counts_joins, joined_counts, joins_grow, joins_on}
@@ -86,19 +86,18 @@ pub use Rattle.law_state.specs.LinkRows.{IsLater}
 pub use Rattle.law_state.specs.Steady.{IsLinked}
 pub use Rattle.law_steps.proofs.ClientLetters.{turned_asks}
 pub use Rattle.law_steps.proofs.CopiesRest.{among_least, cell_left, in_none, on_row, same_cell}
-pub use Rattle.law_steps.proofs.CopyFrames.{of_holder, of_other}
+pub use Rattle.law_steps.proofs.CopyFrames.{of_holder}
 pub use Rattle.law_steps.proofs.FillsByJobs.{Fills, Stood, Writes, did_come}
 pub use Rattle.law_state.proofs.Fronts.{below_itself, front_itself, front_long, front_more, front_on, front_within, one_front}
 pub use Rattle.law_steps.proofs.HeldBackForCaughts.{held_as_flag}
 pub use Rattle.law_steps.proofs.IdleServers.{logged_apart}
 pub use Rattle.law_steps.proofs.InvertHolder.{untrue}
 pub use Rattle.law_steps.proofs.InvertLead.{is_copying}
-pub use Rattle.law_steps.proofs.KindsInHistories.{own_steady}
 pub use Rattle.law_steps.proofs.Letters.{said}
 pub use Rattle.law_steps.proofs.ListPlaces.{parted}
 pub use Rattle.law_steps.proofs.LogHistories.{chosen_join_acts, join_has_begun, join_was_wanted}
 pub use Rattle.law_steps.proofs.OneWorld.{proposed_as}
-pub use Rattle.law_steps.proofs.OperationsRest.{did_ready, put_put}
+pub use Rattle.law_steps.proofs.OperationsRest.{did_ready}
 pub use Rattle.law_steps.proofs.Records.{none_before_none, split_last}
 pub use Rattle.law_steps.proofs.Subjects.{of_ending, of_filler, of_lead, of_second, told_own}
 pub use Rattle.law_steps.proofs.TablesOfPuts.{at_row, put_rises, without_rises}
@@ -109,7 +108,6 @@ pub use Rattle.law_steps.proofs.WhoLeads.{lead_links, led_by_link, live_stage, s
 pub use Rattle.law_steps.specs.DidSecond.{with_tickets}
 pub use Rattle.law_steps.specs.DidStep.{Blanks, By_ballot, By_entry, By_job, Ends, Fails, Goes, IsBallotFor, IsSeatedOrMute, Serves, Serving, Starts, Stays}
 pub use Rattle.law_steps.specs.DidStep.{Turns, Wakes, Worked, served_so, shown_so, stopped_so, without_rev}
-pub use Rattle.law_steps.specs.DidSweep.{cell_swept}
 pub use Rattle.law_steps.specs.Operations.{putting}
 pub use Rattle.law_steps.specs.ProposedCommands.{WasReturning}
 pub use Rattle.law_steps.specs.WakingServers.{AllMayWake}

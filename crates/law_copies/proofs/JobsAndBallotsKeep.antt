@@ -53,7 +53,7 @@ module _ (it : AtSeat) where
     heard = Handled w k;
     here = here;
     own = own;
-    steady = seated.steady it;
+    fit = seated.fit it;
     cell = cell;
     row = row;
     is_row = is;
@@ -69,17 +69,16 @@ module _ (it : AtSeat) where
       let fit = seated.fit it in
       let rising = seated.rising it in
       let filled = seated.filled it in
-      let marks = seated.marks it in
       let idle = seated.idle_copies it in
       record {
         lead = λ cell row second is alive both leads ok known.
-            lead_step (in_both cell row is alive both) leads second (rests.pending k) marks idle rising fit.bare ok known done did;
+            lead_step (in_both cell row is alive both) leads second idle ok known done did;
         second = λ cell row first is alive both follows ok known.
-            second_step (in_both cell row is alive both) follows first (rests.pending k) rising fit.bare ok known done did;
+            second_step (in_both cell row is alive both) follows first ok known done did;
         holder = λ cell row other f. holders.holds (Handled w k) here (links_at cell) row other own cell f done did;
         other = λ cell row holder f. others.follows f done did;
-        unlinked = λ cell none alive. unlinked_keeps (Handled w k) here own fit cell alive none done did;
-        lost = λ cell row is alive lost. lost_keeps (Handled w k) here own fit cell alive row is lost done did;
+        unlinked = λ cell none alive. unlinked_keeps (Handled w k) here own fit cell alive done did none;
+        lost = λ cell row is alive lost. lost_keeps (Handled w k) here own fit cell alive done did row is lost;
         silent = λ cell not_of. idle_silent (Handled w k) here own fit cell (not_of_idle here steady cell not_of) done did;
         lives = λ post i between cell of. did_lives (Handled w k) here own fit cell done did post i between of;
         copied = λ cell last is. did_copied (Handled w k) here own fit cell done did last is;
@@ -93,7 +92,7 @@ module _ (it : AtSeat) where
         rising = did_rising (Handled w k) here own rising done did;
         filled = did_filled (Handled w k) here own filled done did;
         counts = did_count (Handled w k) here own done did;
-        marks = (job_marked (Handled w k) here own steady (rests.pending k) marks idle done did).marks;
+        marks = (job_marked (Handled w k) here own fit idle done did).marks;
         unheard = λ cell unborn unheard. record {
           bare = unborn_bare (Handled w k) here own fit cell unborn done did;
           last = (unborn_keeps (Handled w k) here own fit cell unborn done did).rest.followed ∙ unheard.last;

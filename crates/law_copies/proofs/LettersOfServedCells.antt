@@ -2,16 +2,14 @@
 use Rattle.law_copies.proofs.Imports.{◌∙◌, ◌≡◌, ◌⊎◌, Asks_copy, Asks_slot, Begins, Body, Cell, Copying, Did, Effect, Ends_fill, Entry, Goes_on, Has_copy}
 use Rattle.law_copies.proofs.Imports.{Has_slot, In, IsCopiedFor, IsCopying, IsOfCopy, Is_begun, Is_copied, Is_further, Is_sync_full, Is_synced, JobContext}
 use Rattle.law_copies.proofs.Imports.{JobResult, LastCopy, May, Moves, Moves_on, PairState, Pending, Post, Says, Some, Syncs, Tells_page, Trims, about, ap}
-use Rattle.law_copies.proofs.Imports.{applied, by_bool, cell_apart, cell_of, retired_second, ended, false, follows, inl, inr, is_between, is_lead, is_second}
-use Rattle.law_copies.proofs.Imports.{job_keeps, last_copy, lead_links, leads_link, letters_of_job, live, logged_apart, none_some, pending_on, refl}
-use Rattle.law_copies.proofs.Imports.{same_cell_or_apart, same_some, second, subject_of, subst, sym, true, true_false, ℕ}
+use Rattle.law_copies.proofs.Imports.{applied, by_bool, cell_apart, cell_holder, cell_of, retired_second, ended, false, follows, inl, inr, is_between, is_lead}
+use Rattle.law_copies.proofs.Imports.{is_second, job_keeps, last_copy, lead_links, leads_link, letters_of_job, live, logged_apart, none_some, pending_on}
+use Rattle.law_copies.proofs.Imports.{refl, same_cell_or_apart, same_some, second, subject_of, subst, sym, true, true_false, ℕ}
 use Rattle.law_jobs.specs.Sayings.{Ends}
 use Rattle.law_copies.specs.LoneSteps.{IsFit}
 use Rattle.law_copies.proofs.ForeignCellsStay.{IsIdleAt, second_live}
-use Rattle.law_copies.proofs.LeftToCopy.{next_is}
 use Rattle.law_copies.proofs.MuteLettersTellNothing.{ended_mute, moved_mute}
-use Rattle.law_copies.proofs.RolesOfWorkers.{IsHeldHere, begun_held, entry_lives, taken_held, taken_lives}
-use Rattle.law_copies.proofs.WorkedCell.{IsHeldBy}
+use Rattle.law_copies.proofs.RolesOfWorkers.{IsHeldBy, IsHeldHere, begun_held, entry_held, taken_held}
 use Rattle.petal_msg.specs.declared.body.Body.TheVariants as body
 use Rattle.law_jobs.specs.Sayings as says
 
@@ -19,13 +17,19 @@ module _ (heard : Body → Type 0) (here : JobContext) (own : PairState) where
   -- the cell is live, and the server has to do with it
   pub record IsSpoken (cell : Cell) : Type 0 where
     pub lives : live here.state cell ≡ true
-    pub role : (leads_link here.state here.me cell ≡ true) ⊎ (is_second here.state here.me cell ≡ true) ⊎ IsHeldHere here cell ⊎ IsHeldBy heard here own cell
+    pub role : (leads_link here.state here.me cell ≡ true) ⊎ (is_second here.state here.me cell ≡ true) ⊎ IsHeldHere here cell ⊎ IsHeldBy here cell
 
   led_spoken : (cell : Cell) → is_lead here.state here.me cell ≡ true → IsSpoken cell
   led_spoken cell lead = let led = lead_links here.state here.me cell lead in record { lives = led.0; role = inl led.1 }
 
   second_spoken : (cell : Cell) → is_second here.state here.me cell ≡ true → IsSpoken cell
   second_spoken cell so = record { lives = second_live here cell so; role = inr (inl so) }
+
+  holder_spoken : (cell : Cell) → IsHeldHere here cell → IsSpoken cell
+  holder_spoken cell held = record { lives = held.lives; role = inr (inr (inl held)) }
+
+  other_spoken : (cell : Cell) → IsHeldBy here cell → IsSpoken cell
+  other_spoken cell held = record { lives = held.lives; role = inr (inr (inr held)) }
 
   module _ (fit : IsFit heard here own) (q : Cell) where
     -- ### What is remembered of copies
@@ -64,16 +68,11 @@ module _ (heard : Body → Type 0) (here : JobContext) (own : PairState) where
         by_second cell to so = by_bool (live here.state cell) (λ on. on) (λ off. none_some (retired_second here.state cell off) so)
 
     copying_spoken : (cell : Cell) (now : PairState) (copy : Copying) → IsCopying heard here own cell now copy → IsSpoken cell
-    copying_spoken cell _ _ (Begins id row other held next) = record {
-      lives = (next_is here.state id row own held.is cell next).lives;
-      role = inr (inr (inl (begun_held heard here own fit id row other cell held next)));
-    }
-    copying_spoken cell _ _ (Goes_on now copy taken) =
-        record { lives = taken_lives heard here own fit cell now copy taken; role = inr (inr (inl (taken_held heard here own fit cell now copy taken))) }
+    copying_spoken cell _ _ (Begins id row other held next) = holder_spoken cell (begun_held heard here own fit id row other cell held next)
+    copying_spoken cell _ _ (Goes_on now copy taken) = holder_spoken cell (taken_held heard here own fit cell now copy taken)
 
     entry_spoken : (entry : Entry) (holder : ℕ) (last : LastCopy) → IsOfCopy heard here own entry holder last → IsSpoken (cell_of entry.key)
-    entry_spoken entry holder last of =
-        record { lives = entry_lives heard here own fit entry holder last of; role = inr (inr (inr (record { holder = holder; held = of.held }))) }
+    entry_spoken entry holder last of = other_spoken (cell_of entry.key) (entry_held heard here own fit entry holder last of)
 
     may_speak : (new : PairState) → IsLive new → (post : Post) → Says heard here own new post → (about post.body).cell ≡ Some q → MaySpeak post.body
     may_speak new lives _ (says.Refuses to said is busy held) e = inl (ap is_between is.refused)
@@ -91,10 +90,8 @@ module _ (heard : Body → Type 0) (here : JobContext) (own : PairState) where
     may_speak new lives _ (Trims cell copy to copies fresh so) e = inr (spoken cell (copying_spoken cell new copy copies) e)
     may_speak new lives _ (says.Is_trimmed cell last holder held is none) e =
         let same : cell ≡ q = same_some e in
-        inr (record {
-          lives = lives last (subst (λ (c : Cell). last_copy new c ≡ Some last) same is);
-          role = inr (inr (inr (subst (IsHeldBy heard here own) same (record { holder = holder; held = held }))));
-        })
+        let on = lives last (subst (λ (c : Cell). last_copy new c ≡ Some last) same is) in
+        inr (other_spoken q (record { lives = on; holder = holder; held = subst (λ (c : Cell). cell_holder here c ≡ Some holder) same held }))
     may_speak new lives _ (Syncs cell copy row to copies trimmed spot so) e = inr (spoken cell (copying_spoken cell new copy copies) e)
     may_speak new lives _ (Is_synced entry holder last later of is number lt) e = inr (spoken (cell_of entry.key) (entry_spoken entry holder last of) e)
     may_speak new lives _ (Is_sync_full entry holder last same of spot full) e = inr (spoken (cell_of entry.key) (entry_spoken entry holder last of) e)

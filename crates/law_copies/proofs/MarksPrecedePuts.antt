@@ -3,15 +3,15 @@ use Rattle.law_copies.proofs.Imports.{[], ◌++◌, ◌∙◌, ◌∷◌, ◌≡
 use Rattle.law_copies.proofs.Imports.{Handled, Happens, IsMarked, IsSeatedOrMute, IsSound, JobResult, List, MarksFirst, Record, Rests, Script, Server, Serves}
 use Rattle.law_copies.proofs.Imports.{Serving, Setting, State, Stays, Step, Store, Turns, Wakes, World, always_firm, ap, append_assoc, before_part}
 use Rattle.law_copies.proofs.Imports.{below_itself, blanked, chain_in, chosen_log, chosen_state, counted, crossed, history_is_firm, inl, inr, is_in, kept}
-use Rattle.law_copies.proofs.Imports.{last_happens, leads_link, live, own_place, own_steady, put_apart, put_at, put_same, refl, rests_after, same_or_apart}
-use Rattle.law_copies.proofs.Imports.{server_state, setting_of, settling, start, start_rests, stays, subst, sym, true, true_false, world_after, world_more, ℕ}
+use Rattle.law_copies.proofs.Imports.{last_happens, leads_link, live, own_place, put_apart, put_at, put_same, refl, rests_after, same_or_apart, server_state}
+use Rattle.law_copies.proofs.Imports.{setting_of, settling, start, start_rests, stays, subst, sym, true, true_false, world_after, world_more, ℕ}
 use Rattle.law_copies.specs.GoodCopies.{Good}
 use Rattle.law_copies.proofs.AtSeat.{AtSeat, IsAtWork}
 use Rattle.law_copies.proofs.AtWork.{at_work}
 use Rattle.law_copies.proofs.BallotsFindAllCopied.{ballot_alike}
 use Rattle.law_copies.proofs.CopiesInHistories.{good_after}
 use Rattle.law_copies.proofs.LeadsFindMarks.{job_marked}
-use Rattle.law_copies.proofs.PlacesBeforeJobs.{idle_copies}
+use Rattle.law_copies.proofs.PlacesBeforeJobs.{fit, idle_copies}
 use Rattle.law_copies.proofs.PlacesBeforeJobs as seated
 
 module _ (setting : Setting) (records : List Record) (w : World) (firm : Firm setting w) (rests : Rests setting w)
@@ -32,8 +32,7 @@ module _ (setting : Setting) (records : List Record) (w : World) (firm : Firm se
       → IsMarked (w.servers k).own.store cell
   job_first k done runs did (inl seat) cell on lead changed =
       let at = works k runs seat in
-      (job_marked (Handled w k) (own_place setting w k) (w.servers k).own (own_steady setting w firm k) (rests.pending k)
-      (seated.marks (at_seat k at))
+      (job_marked (Handled w k) (own_place setting w k) (w.servers k).own (fit (at_seat k at))
       (idle_copies (at_seat k at)) done did).first cell on lead changed
   job_first k done runs did (inr apart) cell on lead changed = absurd (changed (ap (λ o. chain_in o.store.chains cell) apart.same))
 

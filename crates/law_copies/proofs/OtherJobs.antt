@@ -1,13 +1,12 @@
 -- Each job of the other server of a link that one server holds alone keeps a cell of it.
-use Rattle.law_copies.proofs.Imports.{◌<◌, ◌∙◌, ◌≡◌, ◌⊎◌, Begins, Body, Cell, Copying, Did, DidHolder, DidOther, Drops_entry, Entry, Goes_on}
-use Rattle.law_copies.proofs.Imports.{Goes_on_trimming, In, IsBothRow, IsCopying, IsMarked, IsOfCopy, Is_copied_to, Is_trimmed, JobContext, JobResult}
-use Rattle.law_copies.proofs.Imports.{LastCopy, LinkRow, List, MarkKind, Option, PairState, Post, Puts_entry, Replies, Says, Some, Store, TrimStep, about}
-use Rattle.law_copies.proofs.Imports.{above, ap, arith, cell_of, chain_in, filter, first_last, inl, inr, is_alone, is_marked, is_on, last_copy}
-use Rattle.law_copies.proofs.Imports.{letters_of_job, marked_blocks, other_of, puts_entry, refl, same_cell_or_apart, same_some, subst, sym, true}
-use Rattle.law_copies.proofs.Imports.{with_last_copy, ℕ}
+use Rattle.law_copies.proofs.Imports.{◌<◌, ◌∙◌, ◌≡◌, ◌≢◌, ◌⊎◌, Begins, Body, By_holder, By_lead, By_other, By_second, Cell, Copying, Did, DidOther}
+use Rattle.law_copies.proofs.Imports.{Drops_entry, Entry, Goes_on, Goes_on_trimming, In, IsCopying, IsIdle, IsMarked, IsOfCopy, Is_copied_to, Is_trimmed}
+use Rattle.law_copies.proofs.Imports.{JobContext, JobResult, LastCopy, LinkRow, List, MarkKind, Option, PairState, Post, Puts_entry, Replies, Says, Some}
+use Rattle.law_copies.proofs.Imports.{Store, TrimStep, about, above, ap, arith, cell_of, chain_in, filter, first_last, inl, inr, is_alone, is_marked, is_on}
+use Rattle.law_copies.proofs.Imports.{last_copy, letters_of_job, marked_blocks, other_cell, other_of, puts_entry, refl, same_cell_or_apart, same_some, subst}
+use Rattle.law_copies.proofs.Imports.{sym, true, with_last_copy, ℕ}
 use Rattle.law_copies.specs.CopyProgress.{AreCopying, IsPage, IsTold, IsUpTo}
 use Rattle.law_copies.specs.LoneSteps.{IsFollowing, KeepsCell, OtherKeeps, StaysTold, IsLeftBy}
-use Rattle.law_copies.proofs.ForeignCellsStay.{away, beside, Is_kept, Of_holder, Of_other}
 use Rattle.law_copies.proofs.OtherServerChanges.{CopiedEntry}
 use Rattle.law_copies.proofs.OwnPartFrames.{keeps_itself}
 use Rattle.law_copies.proofs.LastCopies.{past_last, past_of, stays_told, to_put, to_trimmed}
@@ -15,9 +14,9 @@ use Rattle.law_copies.proofs.LeftToCopy.{among_marked, least_below, on_itself}
 use Rattle.law_copies.proofs.EpochsRise.{did_rising}
 use Rattle.law_copies.proofs.ChainsRise.{in_kept}
 use Rattle.law_copies.proofs.CopyLetters.{page_after, page_block, page_link, page_map, page_sent, telling}
-use Rattle.law_copies.proofs.RolesOfWorkers.{IsHeldHere, IsOtherOf, alone_not_row, alone_not_second, holder_works, kept_lives, named_id, one_named}
-use Rattle.law_copies.proofs.RolesOfWorkers.{other_alone, other_not_alone, other_not_leading, other_row, begun_held, taken_held}
-use Rattle.law_copies.proofs.WorkedCell.{Away, holder_beside, holder_cell, led_alive, other_beside, other_cell}
+use Rattle.law_copies.proofs.RolesOfWorkers.{IsHeldHere, IsOtherOf, RoleIn, alone_not_row, alone_not_second, begun_held, idle_both, kept_lives, led_alive}
+use Rattle.law_copies.proofs.RolesOfWorkers.{named_id, one_named, other_alone, other_not_alone, other_not_leading, other_row, role_keeps, taken_held}
+use Rattle.law_copies.proofs.WorkedCell.{cell_apart_from}
 use Rattle.petal_msg.specs.declared.body.Body.TheVariants as body
 use Rattle.law_copies.proofs.OtherServerChanges as following
 
@@ -111,8 +110,8 @@ module _ {heard : Body → Type 0} {here : JobContext} {links : ℕ} {row : Link
         (ap (λ (r : LinkRow). is_alone here.me r.state) (same_some (sym f.is ∙ h.is))
         ∙ other_alone here.state here.me h.other h.row h.other_is)
 
-    no_both : IsBothRow here.state cell → ⊥
-    no_both b = alone_not_row here f.fit.steady cell row f.is (other_of here.me row) mine.alone b
+    no_idle : IsIdle here own cell → ⊥
+    no_idle idle = alone_not_row here f.fit.steady cell row f.is (other_of here.me row) mine.alone (idle_both here own cell idle).0
 
     stays : (new : PairState) → KeepsCell cell own new → Stays new
     stays new k = record {
@@ -122,15 +121,10 @@ module _ {heard : Body → Type 0} {here : JobContext} {links : ℕ} {row : Link
       changes = inl k.rest.chain;
     }
 
-    holder_here : (done : JobResult) → DidHolder heard here own done → Stays done.own
-    holder_here done d = stays done.own
-        (holder_beside heard here own done d cell
-        (away (λ c. IsHeldHere here c ⊎ IsBothRow here.state c) cell
-        (λ w. elim w [ inl held ↦ no_holder held | inr both ↦ no_both both ])
-        (holder_cell heard here own done d) (holder_works heard here own f.fit done d)))
-
-    other_apart : (done : JobResult) (d : DidOther heard here own done) → Away cell (other_cell heard here own done d) → Stays done.own
-    other_apart done d apart = stays done.own (other_beside heard here own done d cell apart)
+    -- where the last copy is of another cell
+    other_apart : (done : JobResult) (d : DidOther heard here own done) → other_cell heard here own done d ≢ Some cell → Stays done.own
+    other_apart done d ne =
+        stays done.own (cell_apart_from heard here own f.fit.ready cell f.alive (f.fit.bare cell) done (By_other done d) ne no_idle)
 
     other_here : (done : JobResult) → DidOther heard here own done → Stays done.own
     other_here _ (Replies to said reply) = stays own (keeps_itself cell own)
@@ -139,28 +133,31 @@ module _ {heard : Body → Type 0} {here : JobContext} {links : ℕ} {row : Link
           (λ last is. newer last (subst (λ (x : Cell). last_copy own x ≡ Some last) e is))
           (subst (λ (x : Cell). TrimStep (with_last_copy own x (first_last number epochs)) x (first_last number epochs) holder done)
           (sym e) step)
-      | inr ne ↦ other_apart done (Is_copied_to number c epochs holder _ h held newer step) ne
+      | inr ne ↦ other_apart done (Is_copied_to number c epochs holder _ h held newer step) (λ e. ne (sym (same_some e)))
     ]
     other_here done (Goes_on_trimming c holder last _ held is step) = elim (same_cell_or_apart cell c) [
       | inl e ↦ trims_here links row cell vh own own refl f.old (λ said told t. t) last (subst (λ (x : Cell). last_copy own x ≡ Some last) (sym e) is)
           holder done (subst (λ (x : Cell). TrimStep own x last holder done) (sym e) step)
-      | inr ne ↦ other_apart done (Goes_on_trimming c holder last _ held is step) ne
+      | inr ne ↦ other_apart done (Goes_on_trimming c holder last _ held is step) (λ e. ne (sym (same_some e)))
     ]
     other_here _ (Puts_entry entry holder last of at room) = elim (same_cell_or_apart cell (cell_of entry.key)) [
       | inl e ↦ subst (λ (x : Cell). IsFollowing heard here links row x vh own
           → StaysHere links row x vh own (puts_entry own entry last holder true).own) (sym e)
           (λ g. puts_here entry holder last g of at) f
-      | inr ne ↦ other_apart _ (Puts_entry entry holder last of at room) ne
+      | inr ne ↦ other_apart _ (Puts_entry entry holder last of at room) (λ e. ne (sym (same_some e)))
     ]
 
+    unworked : (done : JobResult) (did : Did heard here own done) → (RoleIn heard here own f.fit done did cell → ⊥) → Stays done.own
+    unworked done did no_role = stays done.own (role_keeps heard here own f.fit cell f.alive done did no_role no_idle)
+
     here_by : (done : JobResult) → Did heard here own done → Stays done.own
-    here_by done did = elim (beside heard here own f.fit cell
-        (λ led. other_not_leading here f.fit.steady cell row f.is f.by f.held (led_alive heard here own cell f.alive led))
-        (λ e. alone_not_second here f.fit.steady cell row f.is (other_of here.me row) mine.alone e) f.alive done did) [
-          | Is_kept kept ↦ stays done.own kept
-          | Of_holder d ↦ holder_here done d
-          | Of_other d ↦ other_here done d
-        ]
+    here_by _ (By_lead done d) = unworked done (By_lead done d)
+        (λ led. other_not_leading here f.fit.steady cell row f.is f.by f.held (led_alive here cell f.alive led))
+    here_by _ (By_second done d) = unworked done (By_second done d)
+        (λ so. alone_not_second here f.fit.steady cell row f.is (other_of here.me row) mine.alone so)
+    here_by _ (By_holder done d) = unworked done (By_holder done d) no_holder
+    here_by _ (By_other done d) = other_here done d
+    here_by done did = unworked done did (λ none. none)
 
     -- ### Letters
 

@@ -1,9 +1,6 @@
 -- Small changes of a server's own part, and what each leaves of other cells.
-use Rattle.law_copies.proofs.Imports.{◌∙◌, ◌≡◌, ◌≢◌, Cell, Copying, FollowProgress, Key, LastCopy, LinkRow, List, Mark, MarkKind, None, Option, PairState, Pending, Some}
-use Rattle.law_copies.proofs.Imports.{Stored, above, ap, at, by_test, cell_apart, cell_cmp, cell_gone_apart, cell_of, chain_apart, chain_in, drop_apart}
-use Rattle.law_copies.proofs.Imports.{has_mark, mark_beside, mark_on, progress_on, refl, unmark_beside, with_copied, with_copying, with_entry, with_last}
-use Rattle.law_copies.proofs.Imports.{with_last_copy, with_mark_on, with_pending, with_progress, without_copying, without_entry, without_mark_on}
-use Rattle.law_copies.proofs.Imports.{without_pending, ℕ}
+use Rattle.law_copies.proofs.Imports.{◌∙◌, ◌≡◌, ◌≢◌, Cell, Copying, LinkRow, List, Mark, None, Option, PairState, Some, above, ap, at, by_test, cell_apart}
+use Rattle.law_copies.proofs.Imports.{cell_cmp, chain_in, has_mark, mark_on, progress_on, refl, sym, with_copied, with_copying, with_progress, ℕ}
 use Rattle.law_copies.specs.LoneSteps.{KeepsCell}
 
 -- the same pairs, copies, chains and marks
@@ -31,97 +28,24 @@ pub keeps_itself : (q : Cell) (own : PairState) → KeepsCell q own own
 keeps_itself q own = keeps_alike q own own
     (record { pending = refl; followed = refl; copying = refl; last = refl; chains = refl; marks = refl })
 
-pub keeps_on : (q : Cell) (a b c : PairState) → KeepsCell q a b → KeepsCell q b c → KeepsCell q a c
-keeps_on q a b c k l = record {
+-- what stays in a first change and in both stays in the second
+pub keeps_between : (q : Cell) (a b c : PairState) → KeepsCell q a b → KeepsCell q a c → KeepsCell q b c
+keeps_between q a b c k l = record {
   rest = record {
-    chain = l.rest.chain ∙ k.rest.chain;
-    pending = l.rest.pending ∙ k.rest.pending;
-    copying = l.rest.copying ∙ k.rest.copying;
-    last = l.rest.last ∙ k.rest.last;
-    followed = l.rest.followed ∙ k.rest.followed;
+    chain = l.rest.chain ∙ sym k.rest.chain;
+    pending = l.rest.pending ∙ sym k.rest.pending;
+    copying = l.rest.copying ∙ sym k.rest.copying;
+    last = l.rest.last ∙ sym k.rest.last;
+    followed = l.rest.followed ∙ sym k.rest.followed;
   };
-  marks = λ kind. l.marks kind ∙ k.marks kind;
+  marks = λ kind. l.marks kind ∙ sym (k.marks kind);
 }
 
-module _ (own : PairState) (cell q : Cell) (ne : q ≢ cell) where
-  pub pending_beside : (op : Pending) → op.cell ≡ cell → KeepsCell q own (with_pending own op)
-  pending_beside op is = record {
-    rest = record {
-      chain = refl;
-      pending = cell_apart own.pairs.pending op.cell op q (λ e. ne (e ∙ is));
-      copying = refl;
-      last = refl;
-      followed = refl;
-    };
-    marks = λ kind. refl;
-  }
-
-  pub ended_beside : KeepsCell q own (without_pending own cell)
-  ended_beside = record {
-    rest = record { chain = refl; pending = cell_gone_apart own.pairs.pending cell q ne; copying = refl; last = refl; followed = refl };
-    marks = λ kind. refl;
-  }
-
-  pub followed_beside : (number : ℕ) (far : FollowProgress) → KeepsCell q own (with_last own cell number far)
-  followed_beside number far = record {
-    rest = record {
-      chain = refl;
-      pending = refl;
-      copying = refl;
-      last = refl;
-      followed = cell_apart own.pairs.last cell (record { op = number; progress = far }) q ne;
-    };
-    marks = λ kind. refl;
-  }
-
-  pub copying_beside : (copy : Copying) → KeepsCell q own (with_copying own cell copy)
-  copying_beside copy = record {
-    rest = record { chain = refl; pending = refl; copying = cell_apart own.copies.pending cell copy q ne; last = refl; followed = refl };
-    marks = λ kind. refl;
-  }
-
-  pub copied_beside : KeepsCell q own (without_copying own cell)
-  copied_beside = record {
-    rest = record { chain = refl; pending = refl; copying = cell_gone_apart own.copies.pending cell q ne; last = refl; followed = refl };
-    marks = λ kind. refl;
-  }
-
-  pub last_beside : (last : LastCopy) → KeepsCell q own (with_last_copy own cell last)
-  last_beside last = record {
-    rest = record { chain = refl; pending = refl; copying = refl; last = cell_apart own.copies.last cell last q ne; followed = refl };
-    marks = λ kind. refl;
-  }
-
-  pub entry_beside : (key : Key) (stored : Stored) → cell_of key ≡ cell
-      → KeepsCell q own (record own { store = with_entry own.store key stored })
-  entry_beside key stored is = record {
-    rest = record {
-      chain = chain_apart own.store.chains (cell_of key) _ q (λ e. ne (e ∙ is));
-      pending = refl;
-      copying = refl;
-      last = refl;
-      followed = refl;
-    };
-    marks = λ kind. refl;
-  }
-
-  pub dropped_beside : (key : Key) → cell_of key ≡ cell → KeepsCell q own (record own { store = without_entry own.store key })
-  dropped_beside key is = record {
-    rest = record { chain = drop_apart own.store key q (λ e. ne (e ∙ is)); pending = refl; copying = refl; last = refl; followed = refl };
-    marks = λ kind. refl;
-  }
-
-  pub marked_beside : (kind : MarkKind) → KeepsCell q own (record own { store = with_mark_on own.store kind cell })
-  marked_beside kind = record {
-    rest = record { chain = refl; pending = refl; copying = refl; last = refl; followed = refl };
-    marks = λ other. mark_beside own.store kind other cell q ne;
-  }
-
-  pub unmarked_beside : (kind : MarkKind) → KeepsCell q own (record own { store = without_mark_on own.store kind cell })
-  unmarked_beside kind = record {
-    rest = record { chain = refl; pending = refl; copying = refl; last = refl; followed = refl };
-    marks = λ other. unmark_beside own.store kind other cell q ne;
-  }
+pub copying_beside : (own : PairState) (cell q : Cell) → q ≢ cell → (copy : Copying) → KeepsCell q own (with_copying own cell copy)
+copying_beside own cell q ne copy = record {
+  rest = record { chain = refl; pending = refl; copying = cell_apart own.copies.pending cell copy q ne; last = refl; followed = refl };
+  marks = λ kind. refl;
+}
 
 -- how far a link is changes no cell
 pub copied_alike : (o : Option LinkRow) (own : PairState) (block : ℕ) → IsAlikeOwn own (with_copied o own block)

@@ -1,18 +1,21 @@
--- What a server that works on a cell is to the cell's link: it can't be what else it is not.
-use Rattle.law_copies.proofs.Imports.{◌&&◌, ◌<◌, ◌==◌, ◌∙◌, ◌≡◌, ◌⊎◌, Asks_page, Begins_copy, Block, Body, Both, Busy, Cell, Copy_as_is, Copy_synced}
-use Rattle.law_copies.proofs.Imports.{Copy_trimmed, Copying, DidHolder, DidOther, Entry, Finds_it_full, Goes_on_copying, Goes_on_trimming, Has_entry}
-use Rattle.law_copies.proofs.Imports.{Has_no_slot, IsBothRow, IsHeldWith, IsOfCopy, IsSteady, Is_copied_to, JobContext, JobResult, LastCopy, LinkId, LinkRow}
-use Rattle.law_copies.proofs.Imports.{None, Only, Option, OtherReply, PairState, Puts_entry, Replies, Some, Stale, State, TakenCopy, Tidies, Turns_page}
-use Rattle.law_copies.proofs.Imports.{about, among_least, ap, both_row, both_true, by_test, cell_at, cell_holder, cell_link, cell_of, copying_on, filter}
-use Rattle.law_copies.proofs.Imports.{found_at, holder_of, id_of, idle_mark, in_both, inl, inr, is_alone, is_link, is_second, is_the_one, is_under_way, is_up}
-use Rattle.law_copies.proofs.Imports.{leads_link, link_led_by, link_named, live, marked_blocks, next_copy, none_some, not, on_row, option_and_then, other_in}
-use Rattle.law_copies.proofs.Imports.{other_of, refl, row_lead, row_named, same_numbers, same_or_apart, same_some, second, second_by, stage_at, stage_live}
-use Rattle.law_copies.proofs.Imports.{subst, sym, true, true_false, ℕ}
-use Rattle.law_copies.specs.LoneSteps.{IsFit}
+-- What a server is to a cell, which can't be what else it is not; and as what it works on one.
+use Rattle.law_copies.proofs.Imports.{◌&&◌, ◌<◌, ◌==◌, ◌∙◌, ◌≡◌, ◌≤◌, Begins_copy, Block, Body, Both, Busy, By_holder, By_lead, By_other, By_second, Cell}
+use Rattle.law_copies.proofs.Imports.{Closes, Closes_alone, Copy_as_is, Copy_synced, Copy_trimmed, Copying, Did, DidHolder, DidLead, DidOther, DidSecond}
+use Rattle.law_copies.proofs.Imports.{Entry, Finds_it_full, Follows, Gives_up, Goes_on_copying, Goes_on_retired, Goes_on_trimming, Idle, IsBothRow, IsHeldWith}
+use Rattle.law_copies.proofs.Imports.{IsIdle, IsOfCopy, IsSteady, Is_copied_to, JobContext, JobResult, LastCopy, LinkId, LinkRow, Marks, Marks_alone, None}
+use Rattle.law_copies.proofs.Imports.{Only, Opens, Opens_alone, Opens_fill, Opens_fill_alone, Option, PairState, Pending, Puts, Puts_alone, Puts_entry}
+use Rattle.law_copies.proofs.Imports.{Sets_apart, Some, Stale, State, Taken, TakenCopy, Turns_page, Unmarks, Unmarks_alone, among_least, ap, both_row}
+use Rattle.law_copies.proofs.Imports.{both_true, by_test, cell_at, cell_holder, cell_link, cell_of, copying_on, filter, found_at, holder_cell, holder_of}
+use Rattle.law_copies.proofs.Imports.{id_of, in_both, inl, inr, is_alone, is_lead, is_link, is_second, is_the_one, is_under_way, is_up, lead_cell, lead_links}
+use Rattle.law_copies.proofs.Imports.{leads_link, link_led_by, link_named, live, live_stage, marked_blocks, next_copy, none_some, not, on_row}
+use Rattle.law_copies.proofs.Imports.{option_and_then, other_cell, other_in, other_of, page_cell, pending_on, refl, row_lead, row_named, same_numbers}
+use Rattle.law_copies.proofs.Imports.{same_or_apart, same_some, second, second_by, second_cell, stage_at, stage_live, subst, sym, taking, true, true_false}
+use Rattle.law_copies.proofs.Imports.{worked, ℕ}
+use Rattle.law_copies.specs.LoneSteps.{IsFit, KeepsCell, KeepsRest}
 use Rattle.law_copies.proofs.LeftToCopy.{HasAny, marked_on, next_is, on_itself}
 use Rattle.law_copies.proofs.OtherIsNotHolder.{held_not_leading, other_apart}
 use Rattle.law_copies.proofs.ChainsRise.{in_left}
-use Rattle.law_copies.proofs.WorkedCell.{IsSo, above_none, holder_cell, other_cell, page_cell}
+use Rattle.law_copies.proofs.WorkedCell.{above_none, cell_apart_from, rest_apart}
 use Rattle.petal_msg.specs.declared.body.Body.TheVariants as body
 pub use Rattle.law_copies.proofs.OtherIsNotHolder.{IsOtherOf, alone_both, only_alone, other_row}
 
@@ -93,30 +96,54 @@ module _ (here : JobContext) (steady : IsSteady here.state) (cell : Cell) (row :
             (let f : Only here.me held.whole ≡ Both = sym held.so ∙ ap (λ (r : LinkRow). r.state) same ∙ b.0.so in absurd cc)
       ]
 
--- ### Why a holder works on a cell
+-- ### Why a server works on a cell
 
--- the server holds the cell's link alone, and the other one is In
+-- the cell has been live, and while it is, the server leads its link
+pub record IsLedHere (here : JobContext) (cell : Cell) : Type 0 where
+  pub born : 1 ≤ stage_at here.state cell
+  pub leads : live here.state cell ≡ true → leads_link here.state here.me cell ≡ true
+
+-- of one that is not retired the server leads the link
+pub led_alive : (here : JobContext) (cell : Cell) → stage_at here.state cell < 4 → IsLedHere here cell → leads_link here.state here.me cell ≡ true
+led_alive here cell alive led = led.leads (stage_live here.state cell led.born alive)
+
+led_here : (here : JobContext) (cell : Cell) → is_lead here.state here.me cell ≡ true → IsLedHere here cell
+led_here here cell lead =
+    let led = lead_links here.state here.me cell lead in
+    record { born = (live_stage here.state cell led.0).0; leads = λ on. led.1 }
+
+-- the cell is live, and the server holds its link alone, while the other one is In
 pub record IsHeldHere (here : JobContext) (cell : Cell) : Type 0 where
+  pub lives : live here.state cell ≡ true
   pub row : LinkRow
   pub is : cell_link here.state cell ≡ Some row
   pub other : ℕ
   pub other_is : other_in here.state here.me row ≡ Some other
 
-module _ (heard : Body → Type 0) (here : JobContext) (own : PairState) (fit : IsFit heard here own) where
-  -- a page that was heard is of a cell of the link
-  pub page_on : (id : LinkId) (row : LinkRow) (after : Option ℕ) (block : ℕ) → heard (body.Hello id.map id.link after (Some block))
-      → link_named here.state id ≡ Some row → cell_link here.state (cell_at row block) ≡ Some row
-  page_on id row after block h named =
-      let id_is = named_id here.state id row named in
-      let said : heard (body.Hello row.map id.link after (Some block)) =
-      subst (λ m. heard (body.Hello m id.link after (Some block))) (sym (ap (λ (l : LinkId). l.map) id_is)) h in
-      let of_link = fit.pages (cell_at row block) id.link after said in
-      let map_is : of_link.row.map ≡ id.map = sym (cell_map here.state (cell_at row block) of_link.row of_link.is)
-      ∙ ap (λ (l : LinkId). l.map) id_is in
-      let same : of_link.row ≡ row = one_named here.state (cell_at row block) of_link.row id row of_link.is named
-      (λ i. record { map = map_is i; link = of_link.link_is i }) in
-      of_link.is ∙ ap Some same
+-- another server holds it
+pub record IsHeldBy (here : JobContext) (cell : Cell) : Type 0 where
+  pub lives : live here.state cell ≡ true
+  pub holder : ℕ
+  pub held : cell_holder here cell ≡ Some holder
 
+-- if there is a cell, it is so
+abbrev IsSo : (Cell → Type 0) → Option Cell → Type 0
+IsSo P None = Unit {0}
+IsSo P (Some cell) = P cell
+
+so_at : (P : Cell → Type 0) (at : Option Cell) → IsSo P at → (q : Cell) → at ≡ Some q → P q
+so_at P None so q e = none_some refl e
+so_at P (Some cell) so q e = subst P (same_some e) so
+
+-- an idle mark is on a live cell of a link in Both
+pub idle_both : (here : JobContext) (own : PairState) (cell : Cell) → IsIdle here own cell → IsBothRow here.state cell × (live here.state cell ≡ true)
+idle_both here own _ (Idle id row block named both idle) =
+    let i = among_least (filter (λ b. not (is_under_way own (cell_at row b))) (marked_blocks here.state row own)) block idle in
+    let marked = marked_on here.state id row own block named
+    (in_left (λ b. not (is_under_way own (cell_at row b))) (marked_blocks here.state row own) block i).0 in
+    (record { row = row; is = marked.is; both = both }, marked.lives)
+
+module _ (heard : Body → Type 0) (here : JobContext) (own : PairState) (fit : IsFit heard here own) where
   -- of a cell that is not retired the server has something only where it is live
   pub kept_lives : (cell : Cell) → stage_at here.state cell < 4 → HasAny own cell → live here.state cell ≡ true
   kept_lives cell alive any = elim (same_or_apart (stage_at here.state cell) 0) [
@@ -128,98 +155,120 @@ module _ (heard : Body → Type 0) (here : JobContext) (own : PairState) (fit : 
     | inr ne ↦ stage_live here.state cell (above_none (stage_at here.state cell) ne) alive
   ]
 
+  -- ### As the lead
+
+  op_leads : (cell : Cell) (op : Pending) → pending_on own cell ≡ Some op → IsLedHere here cell
+  op_leads cell op is = let staged = fit.ready.staged cell op is in record { born = staged.born; leads = staged.leads }
+
+  taken_leads : (now : PairState) (op : Pending) → Taken own now op → IsLedHere here op.cell
+  taken_leads now op taken = let k = taking own now op taken in op_leads op.cell k.old k.was
+
+  lead_leads : (done : JobResult) (d : DidLead heard here own done) → IsSo (IsLedHere here) (lead_cell heard here own done d)
+  lead_leads _ (Gives_up op h is reserved put) = op_leads op.cell op is
+  lead_leads _ (Opens want new both) = led_here here want.cell new.lead
+  lead_leads _ (Marks op h is both stage) = op_leads op.cell op is
+  lead_leads _ (Puts op is both stage) = op_leads op.cell op is
+  lead_leads _ (Unmarks op h is both stage) = op_leads op.cell op is
+  lead_leads _ (Closes op is both stage) = op_leads op.cell op is
+  lead_leads _ (Opens_alone want new alone) = led_here here want.cell new.lead
+  lead_leads _ (Marks_alone now op taken alone fresh) = taken_leads now op taken
+  lead_leads _ (Puts_alone now op taken alone stale put) = taken_leads now op taken
+  lead_leads _ (Unmarks_alone now op taken alone stale put busy) = taken_leads now op taken
+  lead_leads _ (Closes_alone now op taken alone stale put free) = taken_leads now op taken
+  lead_leads _ (Opens_fill moving new room both) = led_here here (cell_of moving.key) new.lead
+  lead_leads _ (Opens_fill_alone moving new room alone) = led_here here (cell_of moving.key) new.lead
+  lead_leads _ (Goes_on_retired now op taken off) = taken_leads now op taken
+  lead_leads _ _ = tt
+
+  -- ### As the second server
+
+  second_follows : (done : JobResult) (d : DidSecond heard here own done)
+      → IsSo (λ cell. is_second here.state here.me cell ≡ true) (second_cell heard here own done d)
+  second_follows _ (Sets_apart number cell tickets h s le) = s
+  second_follows _ (Follows number key version bytes h s is) = s
+  second_follows _ _ = tt
+
+  -- ### As the holder
+
   pub copying_held : (cell : Cell) (copy : Copying) → copying_on own cell ≡ Some copy → IsHeldHere here cell
-  copying_held cell copy is = let r = fit.resting.copying cell copy is
-      in record { row = r.row; is = r.is; other = r.other; other_is = r.other_is }
+  copying_held cell copy is =
+      let r = fit.resting.copying cell copy is in record { lives = r.live; row = r.row; is = r.is; other = r.other; other_is = r.other_is }
 
   pub taken_held : (cell : Cell) (now : PairState) (copy : Copying) → TakenCopy heard own cell now copy → IsHeldHere here cell
   taken_held cell _ _ (Copy_as_is copy is) = copying_held cell copy is
   taken_held cell _ _ (Copy_trimmed copy h is fresh) = copying_held cell copy is
   taken_held cell _ _ (Copy_synced copy h is trimmed lt) = copying_held cell copy is
 
-  pub page_held : (id : LinkId) (row : LinkRow) (other : ℕ) (after block : Option ℕ) → heard (body.Hello id.map id.link after block)
-      → link_named here.state id ≡ Some row → other_in here.state here.me row ≡ Some other → IsSo (IsHeldHere here) (page_cell row block)
-  page_held id row other after None h named other_is = tt
-  page_held id row other after (Some block) h named other_is =
-      record { row = row; is = page_on id row after block h named; other = other; other_is = other_is }
-
   pub begun_held : (id : LinkId) (row : LinkRow) (other : ℕ) (cell : Cell) → IsHeldWith here id row other
-      → next_copy here.state row own ≡ Block cell
-      → IsHeldHere here cell
+      → next_copy here.state row own ≡ Block cell → IsHeldHere here cell
   begun_held id row other cell held next =
-      record { row = row; is = (next_is here.state id row own held.is cell next).is; other = other; other_is = held.other_is }
+      let n = next_is here.state id row own held.is cell next in
+      record { lives = n.lives; row = row; is = n.is; other = other; other_is = held.other_is }
 
-  -- an idle mark is on a cell of its link
-  pub idle_on : (id : LinkId) (row : LinkRow) (block : ℕ) → link_named here.state id ≡ Some row → idle_mark here.state row own ≡ Some block
-      → cell_link here.state (cell_at row block) ≡ Some row
-  idle_on id row block named idle =
-      let i = among_least (filter (λ b. not (is_under_way own (cell_at row b))) (marked_blocks here.state row own)) block idle in
-      (marked_on here.state id row own block named
-      (in_left (λ b. not (is_under_way own (cell_at row b))) (marked_blocks here.state row own) block i).0).is
-
-  abbrev IsWorked : Cell → Type 0
-  IsWorked cell = IsHeldHere here cell ⊎ IsBothRow here.state cell
-
-  page_worked : (o : Option Cell) → IsSo (IsHeldHere here) o → IsSo IsWorked o
-  page_worked None held = tt
-  page_worked (Some cell) held = inl held
-
-  pub holder_works : (done : JobResult) (d : DidHolder heard here own done) → IsSo IsWorked (holder_cell heard here own done d)
-  holder_works _ (Asks_page id row other held fresh) = tt
-  holder_works _ (Turns_page id row other after block h held fresh at) =
-      page_worked (page_cell row block) (page_held id row other after block h held.is held.other_is)
-  holder_works _ (Begins_copy id row other cell _ held next step) =
-      inl (begun_held id row other cell held next)
-  holder_works _ (Goes_on_copying cell now copy _ taken step) = inl (taken_held cell now copy taken)
-  holder_works _ (Finds_it_full cell copy h is trimmed lt) = inl (copying_held cell copy is)
-  holder_works _ (Tidies id row block kind is both idle left) = inr (record { row = row; is = idle_on id row block is idle; both = both })
-
-  -- ### What is worked on is live
-
-  pub entry_lives : (entry : Entry) (holder : ℕ) (last : LastCopy) → IsOfCopy heard here own entry holder last
-      → live here.state (cell_of entry.key) ≡ true
-  entry_lives entry holder last of =
-      fit.lives (body.Sync entry.op entry.key entry.stored.version entry.index entry.stored.bytes) of.said refl (cell_of entry.key) refl
-
-  pub copying_lives : (cell : Cell) (copy : Copying) → copying_on own cell ≡ Some copy → live here.state cell ≡ true
-  copying_lives cell copy is = (fit.resting.copying cell copy is).live
-
-  pub taken_lives : (cell : Cell) (now : PairState) (copy : Copying) → TakenCopy heard own cell now copy → live here.state cell ≡ true
-  taken_lives cell _ _ (Copy_as_is copy is) = copying_lives cell copy is
-  taken_lives cell _ _ (Copy_trimmed copy h is fresh) = copying_lives cell copy is
-  taken_lives cell _ _ (Copy_synced copy h is trimmed lt) = copying_lives cell copy is
-
-  page_lives : (id : LinkId) (row : LinkRow) (after block : Option ℕ) → heard (body.Hello id.map id.link after block)
-      → link_named here.state id ≡ Some row → IsSo (λ c. live here.state c ≡ true) (page_cell row block)
-  page_lives id row after None h named = tt
-  page_lives id row after (Some block) h named =
+  -- a page that was heard is of a live cell of the link
+  pub page_on : (id : LinkId) (row : LinkRow) (after : Option ℕ) (block : ℕ) → heard (body.Hello id.map id.link after (Some block))
+      → link_named here.state id ≡ Some row → (cell_link here.state (cell_at row block) ≡ Some row) × (live here.state (cell_at row block) ≡ true)
+  page_on id row after block h named =
       let id_is = named_id here.state id row named in
       let said : heard (body.Hello row.map id.link after (Some block)) =
       subst (λ m. heard (body.Hello m id.link after (Some block))) (sym (ap (λ (l : LinkId). l.map) id_is)) h in
-      (fit.pages (cell_at row block) id.link after said).lives
+      let of_link = fit.pages (cell_at row block) id.link after said in
+      let map_is : of_link.row.map ≡ id.map = sym (cell_map here.state (cell_at row block) of_link.row of_link.is)
+      ∙ ap (λ (l : LinkId). l.map) id_is in
+      let same : of_link.row ≡ row = one_named here.state (cell_at row block) of_link.row id row of_link.is named
+      (λ i. record { map = map_is i; link = of_link.link_is i }) in
+      (of_link.is ∙ ap Some same, of_link.lives)
 
-  idle_lives : (id : LinkId) (row : LinkRow) (block : ℕ) → link_named here.state id ≡ Some row → idle_mark here.state row own ≡ Some block
-      → live here.state (cell_at row block) ≡ true
-  idle_lives id row block named idle =
-      let i = among_least (filter (λ b. not (is_under_way own (cell_at row b))) (marked_blocks here.state row own)) block idle in
-      (marked_on here.state id row own block named
-      (in_left (λ b. not (is_under_way own (cell_at row b))) (marked_blocks here.state row own) block i).0).lives
+  page_held : (id : LinkId) (row : LinkRow) (other : ℕ) (after block : Option ℕ) → heard (body.Hello id.map id.link after block)
+      → IsHeldWith here id row other → IsSo (IsHeldHere here) (page_cell row block)
+  page_held id row other after None h held = tt
+  page_held id row other after (Some block) h held =
+      let on = page_on id row after block h held.is in record { lives = on.1; row = row; is = on.0; other = other; other_is = held.other_is }
 
-  pub holder_lives : (done : JobResult) (d : DidHolder heard here own done) → IsSo (λ c. live here.state c ≡ true) (holder_cell heard here own done d)
-  holder_lives _ (Asks_page id row other held fresh) = tt
-  holder_lives _ (Turns_page id row other after block h held fresh at) = page_lives id row after block h held.is
-  holder_lives _ (Begins_copy id row other cell _ held next step) = (next_is here.state id row own held.is cell next).lives
-  holder_lives _ (Goes_on_copying cell now copy _ taken step) = taken_lives cell now copy taken
-  holder_lives _ (Finds_it_full cell copy h is trimmed lt) = copying_lives cell copy is
-  holder_lives _ (Tidies id row block kind is both idle left) = idle_lives id row block is idle
+  holder_holds : (done : JobResult) (d : DidHolder heard here own done) → IsSo (IsHeldHere here) (holder_cell heard here own done d)
+  holder_holds _ (Turns_page id row other after block h held fresh at) = page_held id row other after block h held
+  holder_holds _ (Begins_copy id row other cell _ held next step) = begun_held id row other cell held next
+  holder_holds _ (Goes_on_copying cell now copy _ taken step) = taken_held cell now copy taken
+  holder_holds _ (Finds_it_full cell copy h is trimmed lt) = copying_held cell copy is
+  holder_holds _ _ = tt
 
-  reply_lives : (to : Option ℕ) (said : Body) → OtherReply heard here own to said → IsSo (λ c. live here.state c ≡ true) (about said).cell
-  reply_lives _ _ (Has_entry entry holder last of lt) = entry_lives entry holder last of
-  reply_lives _ _ (Has_no_slot entry holder last of at full) = entry_lives entry holder last of
-  reply_lives _ _ _ = tt
+  -- ### As the other server
 
-  pub other_lives : (done : JobResult) (d : DidOther heard here own done) → IsSo (λ c. live here.state c ≡ true) (other_cell heard here own done d)
-  other_lives _ (Replies to said reply) = reply_lives to said reply
-  other_lives _ (Is_copied_to number cell epochs holder _ h held newer step) = fit.lives (body.Trim number cell epochs) h refl cell refl
-  other_lives _ (Goes_on_trimming cell holder last _ held is step) = fit.copied cell last is
-  other_lives _ (Puts_entry entry holder last of at room) = entry_lives entry holder last of
+  pub entry_held : (entry : Entry) (holder : ℕ) (last : LastCopy) → IsOfCopy heard here own entry holder last → IsHeldBy here (cell_of entry.key)
+  entry_held entry holder last of = record {
+    lives = fit.lives (body.Sync entry.op entry.key entry.stored.version entry.index entry.stored.bytes) of.said refl (cell_of entry.key) refl;
+    holder = holder;
+    held = of.held;
+  }
+
+  other_held : (done : JobResult) (d : DidOther heard here own done) → IsSo (IsHeldBy here) (other_cell heard here own done d)
+  other_held _ (Is_copied_to number cell epochs holder _ h held newer step) =
+      record { lives = fit.lives (body.Trim number cell epochs) h refl cell refl; holder = holder; held = held }
+  other_held _ (Goes_on_trimming cell holder last _ held is step) = record { lives = fit.copied cell last is; holder = holder; held = held }
+  other_held _ (Puts_entry entry holder last of at room) = entry_held entry holder last of
+  other_held _ _ = tt
+
+  -- ### As any of them
+
+  -- as what a server works on a cell in a job
+  abbrev pub RoleIn : (done : JobResult) → Did heard here own done → Cell → Type 0
+  RoleIn _ (By_lead done d) q = IsLedHere here q
+  RoleIn _ (By_second done d) q = is_second here.state here.me q ≡ true
+  RoleIn _ (By_holder done d) q = IsHeldHere here q
+  RoleIn _ (By_other done d) q = IsHeldBy here q
+  RoleIn _ _ q = ⊥
+
+  pub role : (done : JobResult) (did : Did heard here own done) (q : Cell) → worked heard here own done did ≡ Some q → RoleIn done did q
+  role _ (By_lead done d) q = so_at (IsLedHere here) (lead_cell heard here own done d) (lead_leads done d) q
+  role _ (By_second done d) q = so_at (λ cell. is_second here.state here.me cell ≡ true) (second_cell heard here own done d) (second_follows done d) q
+  role _ (By_holder done d) q = so_at (IsHeldHere here) (holder_cell heard here own done d) (holder_holds done d) q
+  role _ (By_other done d) q = so_at (IsHeldBy here) (other_cell heard here own done d) (other_held done d) q
+  role _ _ q = λ e. none_some refl e
+
+  -- a cell on which it doesn't work it leaves as it is
+  module _ (q : Cell) (alive : stage_at here.state q < 4) (done : JobResult) (did : Did heard here own done) (no_role : RoleIn done did q → ⊥) where
+    pub role_rest : KeepsRest q own done.own
+    role_rest = rest_apart heard here own fit.ready q alive (fit.bare q) done did (λ e. no_role (role done did q e))
+
+    pub role_keeps : (IsIdle here own q → ⊥) → KeepsCell q own done.own
+    role_keeps = cell_apart_from heard here own fit.ready q alive (fit.bare q) done did (λ e. no_role (role done did q e))

@@ -1,21 +1,18 @@
 -- What each step of one of the two servers of a cell in Both keeps of the cell.
-use Rattle.law_copies.proofs.Imports.{◌+◌, ◌<◌, ◌∙◌, ◌≡◌, ◌≢◌, ◌≤◌, ◌⊎◌, Asks_copy, Asks_slot, Body, By_filler, By_holder, By_lead, By_other, By_read}
-use Rattle.law_copies.proofs.Imports.{By_second, By_sweep, Cell, Copying, Declines, Did, DidLead, DidSecond, Ends_fill, Fills, Follows, Has_copy, Has_slot}
-use Rattle.law_copies.proofs.Imports.{Ignores, IsReady, JobResult, Key, List, Moves, Moves_on, None, PairState, Pairs, Pending, Post, Promises, Refuses, Says}
-use Rattle.law_copies.proofs.Imports.{Sets_apart, Some, Stage, Stood, Store, Writes, about, ap, arith, at, cell_cmp, cell_of, cell_same, chain_apart}
-use Rattle.law_copies.proofs.Imports.{chain_in, copying_on, did_come, did_ready, ended, follows, has_proposed, inl, inr, is_between, is_clients, is_lead}
-use Rattle.law_copies.proofs.Imports.{is_the, lead_links, leads_link, letters_of_job, nat_cmp, of_filler, of_holder, of_lead, of_other, of_read, of_second}
-use Rattle.law_copies.proofs.Imports.{of_sweep, option_and_then, pending_on, progress, refl, row_lead, same_cell_or_apart, same_numbers, same_some, stage_at}
-use Rattle.law_copies.proofs.Imports.{stage_live, state_lead, subject_of, subst, sym, tells, told_own, true, true_false, with_last, with_tickets, ℕ}
+use Rattle.law_copies.proofs.Imports.{◌+◌, ◌<◌, ◌∙◌, ◌≡◌, ◌≢◌, ◌≤◌, ◌⊎◌, Asks_copy, Asks_slot, Body, By_holder, By_lead, By_other, By_second, Cell, Copying}
+use Rattle.law_copies.proofs.Imports.{Declines, Did, DidSecond, Ends_fill, Fills, Follows, Has_copy, Has_slot, JobResult, Key, List, Moves, Moves_on, None}
+use Rattle.law_copies.proofs.Imports.{PairState, Pending, Post, Promises, Refuses, Says, Sets_apart, Some, Stage, Stood, Writes, about, ap, arith, at}
+use Rattle.law_copies.proofs.Imports.{cell_cmp, cell_of, cell_same, chain_apart, chain_in, copying_on, did_come, did_count, did_ready, ended, follows, inl}
+use Rattle.law_copies.proofs.Imports.{inr, is_between, is_clients, is_lead, is_the, lead_links, leads_link, letters_of_job, nat_cmp, option_and_then}
+use Rattle.law_copies.proofs.Imports.{pending_on, progress, refl, row_lead, same_cell_or_apart, same_numbers, same_some, stage_live, state_lead, subject_of}
+use Rattle.law_copies.proofs.Imports.{subst, sym, tells, told_own, true, true_false, with_last, with_tickets, ℕ}
 use Rattle.law_copies.specs.BothSteps.{LacksFill, LeadKeeps, SecondKeeps}
-use Rattle.law_copies.specs.Pair.{AreCopies, HaveMarks, IsRecalled, Keeps, Known, PairOk, pair_of, ceiling_of}
-use Rattle.law_copies.specs.LoneSteps.{IsBare}
+use Rattle.law_copies.specs.Pair.{AreCopies, IsRecalled, Keeps, Known, PairOk, pair_of, ceiling_of}
 use Rattle.law_copies.proofs.CellInBoth.{CellInBoth}
 use Rattle.law_copies.proofs.MuteLettersTellNothing.{logged_known, known_mute, ended_mute, moved_mute}
-use Rattle.law_copies.proofs.ForeignCellsStay.{away}
 use Rattle.law_copies.proofs.LeadsFindMarks.{job_marked}
-use Rattle.law_copies.proofs.EpochsRise.{AreRising, did_rising}
-use Rattle.law_copies.proofs.WorkedCell.{IsLedHere, lead_beside, lead_cell, lead_leads, sweep_beside}
+use Rattle.law_copies.proofs.EpochsRise.{did_rising}
+use Rattle.law_copies.proofs.RolesOfWorkers.{IsLedHere, RoleIn, led_alive, role_rest}
 use Rattle.petal_msg.specs.declared.body.Body.TheVariants as body
 use Rattle.petal_msg.specs.declared.operation.FollowProgress.TheVariants as follow_progress
 use Rattle.law_copies.specs.Pair as pair
@@ -25,15 +22,12 @@ use Rattle.law_copies.proofs.SecondKeepsCopies as follow
 use Rattle.law_copies.proofs.BesideTwins as beside
 
 module _ (it : CellInBoth) where
-  open it use {heard, here, own, steady, cell, row, is_row, alive, both_row}
+  open it use {heard, here, own, fit, cell, row, is_row, alive, both_row}
 
   -- ### The first server
 
   module _ (leads : row.primary ≡ here.me) where
-    module _ (second : PairState) (ready : IsReady here.state here.me (has_proposed here.state own) own.pairs.pending)
-        (marks : HaveMarks here.state own.pairs.pending own.store)
-        (idle : (q : Cell) (copy : Copying) → copying_on own q ≡ Some copy → pending_on own q ≡ None) (rising : AreRising own.store.chains)
-        (bare : (q : Cell) → stage_at here.state q ≡ 0 → IsBare own q)
+    module _ (second : PairState) (idle : (q : Cell) (copy : Copying) → copying_on own q ≡ Some copy → pending_on own q ≡ None)
         (ok : PairOk (pair_of own second cell))
         (known : (said : Body) → heard said → (about said).cell ≡ Some cell → Known (pair_of own second cell) said) where
       abbrev Kept : PairState → Type 0
@@ -41,29 +35,19 @@ module _ (it : CellInBoth) where
 
       kept_off : (new : PairState) → chain_in new.store.chains cell ≡ chain_in own.store.chains cell
           → at cell_cmp new.pairs.pending cell ≡ at cell_cmp own.pairs.pending cell → own.pairs.next ≤ new.pairs.next → Kept new
-      kept_off = lead.off it ready second ok known
+      kept_off = lead.off it second ok known
+
+      unworked : (done : JobResult) (did : Did heard here own done) → (RoleIn heard here own fit done did cell → ⊥) → Kept done.own
+      unworked done did no_role =
+          let rest = role_rest heard here own fit cell alive done did no_role in
+          kept_off done.own rest.chain rest.pending (did_count heard here own done did)
 
       step_kept : (done : JobResult) → Did heard here own done → Kept done.own
-      step_kept _ Ignores = kept_off own refl refl (omega arith)
-      step_kept _ (Refuses to said is why because) = kept_off own refl refl (omega arith)
-      step_kept _ (By_read done d) = subst Kept (sym (of_read heard here own done d).same) (kept_off own refl refl (omega arith))
-      step_kept _ (By_lead done d) = lead.lead_keeps it ready second ok known done d
-      step_kept _ (By_second done d) =
-          let frame = of_second heard here own done d in
-          kept_off done.own (beside.second_chain it leads done d) (ap (λ t. at cell_cmp t cell) frame.pending) (let next = frame.next in omega arith)
-      step_kept _ (By_holder done d) =
-          let frame = of_holder heard here own done d in
-          kept_off done.own (beside.holder_chain it done d) (ap (λ t. at cell_cmp t cell) frame.pending) frame.next
-      step_kept _ (By_other done d) =
-          let frame = of_other heard here own done d in
-          kept_off done.own (beside.other_chain it done d) (ap (λ t. at cell_cmp t cell) frame.pending) frame.next
-      step_kept _ (By_filler done d) =
-          let frame = of_filler heard here own done d in
-          kept_off done.own (ap (λ (t : Store). chain_in t.chains cell) frame.store) (ap (λ (p : Pairs). at cell_cmp p.pending cell) frame.pairs)
-          (let next = ap (λ (p : Pairs). p.next) frame.pairs in omega arith)
-      step_kept _ (By_sweep done d) =
-          let rest = (sweep_beside heard here own done d cell alive (bare cell)).rest in
-          kept_off done.own rest.chain rest.pending (let next = ap (λ (p : Pairs). p.next) (of_sweep heard here own done d).pairs in omega arith)
+      step_kept _ (By_lead done d) = lead.lead_keeps it second ok known done d
+      step_kept _ (By_second done d) = unworked done (By_second done d) (λ so. beside.second_apart it leads cell so refl)
+      step_kept _ (By_holder done d) = unworked done (By_holder done d) (beside.not_held_here it)
+      step_kept _ (By_other done d) = unworked done (By_other done d) (beside.not_held_by it)
+      step_kept done did = unworked done did (λ none. none)
 
       -- ### What it says
 
@@ -78,7 +62,7 @@ module _ (it : CellInBoth) where
       first_says new _ (says.Opens op to l both none is number next so) e = below_ceiling new op is (same_some e)
       first_says new _ (Asks_slot op to same is stage so) e = below_ceiling new op (ap (λ (o : PairState). pending_on o op.cell) same ∙ is) (same_some e)
       first_says new _ (Asks_copy op to same is stage so) e =
-          let there : op.cell ≡ cell = sym (ready.staged op.cell op is).keyed ∙ same_some e in
+          let there : op.cell ≡ cell = sym (fit.ready.staged op.cell op is).keyed ∙ same_some e in
           inl (record {
             op = op;
             is = ap (λ (o : PairState). at cell_cmp o.pairs.pending cell) same ∙ ap (at cell_cmp own.pairs.pending) (sym there) ∙ is;
@@ -104,11 +88,11 @@ module _ (it : CellInBoth) where
       still_recalled : (done : JobResult) → Did heard here own done → (op : Pending) → at cell_cmp done.own.pairs.pending cell ≡ Some op
           → IsRecalled op done.own.store cell
       still_recalled done did op is =
-          let staged = (did_ready heard here own ready done did).staged cell op is in
+          let staged = (did_ready heard here own fit.ready done did).staged cell op is in
           let on = stage_live here.state cell staged.born alive in
           record {
             rests = staged.stage on (beside.cell_both it);
-            marks = (job_marked heard here own steady ready marks idle done did).marks cell op on is;
+            marks = (job_marked heard here own fit idle done did).marks cell op on is;
           }
 
       -- of an entry that moves the second server has nothing still, and of a new one it has nothing, since the first one has not
@@ -137,7 +121,7 @@ module _ (it : CellInBoth) where
             recalled = still_recalled done did;
             lacks = still_lacks done did;
             says = λ post i e. first_says done.own post (letters_of_job heard here own done did post i) e;
-            rising = λ rises. did_rising heard here own rising done did cell;
+            rising = λ rises. did_rising heard here own fit.rising done did cell;
           }
 
   -- ### The second server
@@ -150,44 +134,36 @@ module _ (it : CellInBoth) where
         (sym (ap (λ o. is_the (option_and_then (row_lead here.state) o) here.me) is_row ∙ ap
         (λ x. is_the (state_lead here.state row.primary x) here.me) both_row)
         ∙ leads) in
-        (steady.linked cell row is_row).apart (first ∙ sym follows_it)
+        (fit.steady.linked cell row is_row).apart (first ∙ sym follows_it)
 
-    led_not : IsLedHere heard here own cell → ⊥
-    led_not led = leads_not (led.leads (stage_live here.state cell led.born alive))
+    led_not : IsLedHere here cell → ⊥
+    led_not led = leads_not (led_alive here cell alive led)
 
     -- it leads other cells
     lead_apart : (q : Cell) → is_lead here.state here.me q ≡ true → cell ≢ q
     lead_apart q l e = leads_not (subst (λ (c : Cell). leads_link here.state here.me c ≡ true) (sym e) (lead_links here.state here.me q l).1)
 
-    module _ (first : PairState) (ready : IsReady here.state here.me (has_proposed here.state own) own.pairs.pending) (rising : AreRising own.store.chains)
-        (bare : (q : Cell) → stage_at here.state q ≡ 0 → IsBare own q)
-        (ok : PairOk (pair_of first own cell)) (known : (said : Body) → heard said → (about said).cell ≡ Some cell → Known (pair_of first own cell) said) where
+    module _ (first : PairState) (ok : PairOk (pair_of first own cell))
+        (known : (said : Body) → heard said → (about said).cell ≡ Some cell → Known (pair_of first own cell) said) where
       op_apart : (op : Pending) → pending_on own op.cell ≡ Some op → cell ≢ op.cell
       op_apart op is e =
-          let staged = ready.staged op.cell op is in
-          led_not (subst (IsLedHere heard here own) (sym e) (record { born = staged.born; leads = staged.leads }))
-
-      lead_chain : (done : JobResult) → DidLead heard here own done → chain_in done.own.store.chains cell ≡ chain_in own.store.chains cell
-      lead_chain done d =
-          (lead_beside heard here own ready done d cell
-          (away (IsLedHere heard here own) cell led_not (lead_cell heard here own done d) (lead_leads heard here own ready done d))).rest.chain
+          let staged = fit.ready.staged op.cell op is in
+          led_not (subst (IsLedHere here) (sym e) (record { born = staged.born; leads = staged.leads }))
 
       -- it follows, or copy and last operation stay
       abbrev Stays : PairState → Type 0
       Stays new = (chain_in new.store.chains cell ≡ chain_in own.store.chains cell) × (at cell_cmp new.pairs.last cell ≡ at cell_cmp own.pairs.last cell)
 
+      unfollowed : (done : JobResult) (did : Did heard here own done) → (RoleIn heard here own fit done did cell → ⊥)
+          → DidSecond heard here own done ⊎ Stays done.own
+      unfollowed done did no_role = let rest = role_rest heard here own fit cell alive done did no_role in inr (rest.chain, rest.followed)
+
       follows_or_stays : (done : JobResult) → Did heard here own done → DidSecond heard here own done ⊎ Stays done.own
-      follows_or_stays _ Ignores = inr (refl, refl)
-      follows_or_stays _ (Refuses to said is why because) = inr (refl, refl)
-      follows_or_stays _ (By_read done d) = inr (subst Stays (sym (of_read heard here own done d).same) (refl, refl))
-      follows_or_stays _ (By_lead done d) = inr (lead_chain done d, ap (λ t. at cell_cmp t cell) (of_lead heard here own done d).last)
+      follows_or_stays _ (By_lead done d) = unfollowed done (By_lead done d) led_not
       follows_or_stays _ (By_second done d) = inl d
-      follows_or_stays _ (By_holder done d) = inr (beside.holder_chain it done d, ap (λ t. at cell_cmp t cell) (of_holder heard here own done d).last)
-      follows_or_stays _ (By_other done d) = inr (beside.other_chain it done d, ap (λ t. at cell_cmp t cell) (of_other heard here own done d).last)
-      follows_or_stays _ (By_filler done d) =
-          let frame = of_filler heard here own done d in
-          inr (ap (λ (t : Store). chain_in t.chains cell) frame.store, ap (λ (p : Pairs). at cell_cmp p.last cell) frame.pairs)
-      follows_or_stays _ (By_sweep done d) = let rest = (sweep_beside heard here own done d cell alive (bare cell)).rest in inr (rest.chain, rest.followed)
+      follows_or_stays _ (By_holder done d) = unfollowed done (By_holder done d) (beside.not_held_here it)
+      follows_or_stays _ (By_other done d) = unfollowed done (By_other done d) (beside.not_held_by it)
+      follows_or_stays done did = unfollowed done did (λ none. none)
 
       step_follows : (done : JobResult) → Did heard here own done → Keeps (pair_of first own cell) (pair_of first done.own cell)
       step_follows done did = elim (follows_or_stays done did) [
@@ -201,7 +177,7 @@ module _ (it : CellInBoth) where
           → Known (pair_of first new cell) post.body
       second_says new _ (says.Opens op to l both none is number next so) e = absurd (lead_apart op.cell l (sym (same_some e)))
       second_says new _ (Asks_slot op to same is stage so) e = absurd (op_apart op is (sym (same_some e)))
-      second_says new _ (Asks_copy op to same is stage so) e = absurd (op_apart op is (sym (same_some e) ∙ (ready.staged op.cell op is).keyed))
+      second_says new _ (Asks_copy op to same is stage so) e = absurd (op_apart op is (sym (same_some e) ∙ (fit.ready.staged op.cell op is).keyed))
       second_says new _ (Has_slot number q to s is so) e =
           let far : pair.far (pair_of first new cell) ≡ number + number = ap progress (ap (at cell_cmp new.pairs.last) (sym (same_some e)) ∙ is) in omega arith
       second_says new _ (says.Has_no_slot number q to same h s found so) e = known (body.Reserve number q) h e
@@ -261,5 +237,5 @@ module _ (it : CellInBoth) where
             keeps = keeps;
             lacks = step_lacks done did keeps.grows.onward;
             says = λ post i e. second_says done.own post (letters_of_job heard here own done did post i) e;
-            rising = λ rises. did_rising heard here own rising done did cell;
+            rising = λ rises. did_rising heard here own fit.rising done did cell;
           }

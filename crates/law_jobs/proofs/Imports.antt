@@ -14,7 +14,11 @@ pub use Rattle.law_steps.specs.Imports.{with_paired, with_pending, with_reserved
 pub use Rattle.law_steps.proofs.Imports.{Chain, Mark, Store, cell_apart, cell_gone, cell_gone_apart, cell_same, history_grows, history_is_firm, version_of}
 pub use Rattle.law_steps.proofs.Imports.{with_mark_at, with_mark_on}
 unfoldable pub use Rattle.law_steps.proofs.Imports.{put, without}
-pub use Rattle.law_jobs.specs.Imports.{AreSteps, IsNextKey, IsSound, Script, Taken, TakenCopy, far_of, first_last, progress, setting_of, start}
+pub use Rattle.law_jobs.specs.Imports.{AreSteps, Begins_copy, By_holder, By_lead, By_other, By_second, Closes, Closes_alone, Did, DidHolder, DidLead}
+pub use Rattle.law_jobs.specs.Imports.{DidOther, DidSecond, Finds_it_full, Follows, Gives_up, Goes_on_copying, Goes_on_retired, Goes_on_trimming, IsNextKey}
+pub use Rattle.law_jobs.specs.Imports.{IsSound, Is_copied_to, Marks, Marks_alone, Opens, Opens_alone, Opens_fill, Opens_fill_alone, Puts, Puts_alone}
+pub use Rattle.law_jobs.specs.Imports.{Puts_entry, Script, Sets_apart, Taken, TakenCopy, Turns_page, Unmarks, Unmarks_alone, far_of, first_last, progress}
+pub use Rattle.law_jobs.specs.Imports.{setting_of, start}
 pub use Rattle.std.specs.Prelude.{◌+◌, ◌-◌}
 pub use Rattle.busy_marks.proofs.Orders.{is_mark}
 pub use Rattle.busy_marks.proofs.Sets.{is_set, set_apart, set_keeps, unset_apart, unset_back}
@@ -30,17 +34,15 @@ pub use Rattle.law_steps.proofs.Subjects.{of_read, of_sweep}
 pub use Rattle.law_steps.proofs.TakenUpAlone.{taking}
 pub use Rattle.law_steps.proofs.WhoLeads.{retired_second}
 pub use Rattle.law_steps.proofs.WorldsAreFirm.{always_firm}
-pub use Rattle.law_steps.specs.Did.{By_filler, By_holder, By_lead, By_other, By_read, By_second, By_sweep, Did, Ignores, Refuses}
+pub use Rattle.law_steps.specs.Did.{By_filler, By_read, By_sweep, Ignores, Refuses}
 pub use Rattle.law_steps.specs.DidFiller.{DidFiller, Is_filled, Is_out_of_slots}
-pub use Rattle.law_steps.specs.DidHolder.{Asks_page, Asks_to_trim, Begins_copy, Closes_copy, CopyStep, Copy_as_is, Copy_synced, Copy_trimmed, DidHolder}
-pub use Rattle.law_steps.specs.DidHolder.{Finds_it_full, Goes_on_copying, Sends, Tidies, Turns_page, Unmarks_copied}
-pub use Rattle.law_steps.specs.DidLead.{A_copied_entry, A_copy, A_page, A_slot, A_trim, An_entry_to_move, As_it_is, As_told, Asks, Asks_for, Closes}
-pub use Rattle.law_steps.specs.DidLead.{Closes_alone, DidLead, Gives_up, Goes_on_retired, Has_fill, Has_no_room, Is_full, Marks, Marks_alone, Of_the_log, Opens}
-pub use Rattle.law_steps.specs.DidLead.{Opens_alone, Opens_fill, Opens_fill_alone, Puts, Puts_alone, Repeats, Unmarks, Unmarks_alone, told}
-pub use Rattle.law_steps.specs.DidOther.{Answers_page, DidOther, Drops_entry, Goes_on_trimming, Has_entry, Has_no_slot, Is_copied_to, Is_trimmed, OtherReply}
-pub use Rattle.law_steps.specs.DidOther.{Puts_entry, Replies, TrimStep}
+pub use Rattle.law_steps.specs.DidHolder.{Asks_page, Asks_to_trim, Closes_copy, CopyStep, Copy_as_is, Copy_synced, Copy_trimmed, Sends, Tidies}
+pub use Rattle.law_steps.specs.DidHolder.{Unmarks_copied}
+pub use Rattle.law_steps.specs.DidLead.{A_copied_entry, A_copy, A_page, A_slot, A_trim, An_entry_to_move, As_it_is, As_told, Asks, Asks_for, Has_fill}
+pub use Rattle.law_steps.specs.DidLead.{Has_no_room, Is_full, Of_the_log, Repeats, told}
+pub use Rattle.law_steps.specs.DidOther.{Answers_page, Drops_entry, Has_entry, Has_no_slot, Is_trimmed, OtherReply, Replies, TrimStep}
 pub use Rattle.law_steps.specs.DidRead.{DidRead, Not_here, Shows}
-pub use Rattle.law_steps.specs.DidSecond.{Declines, DidSecond, Follows, Promises, Sets_apart}
+pub use Rattle.law_steps.specs.DidSecond.{Declines, Promises}
 pub use Rattle.law_steps.specs.DidStep.{Handled, Happens, own_place}
 pub use Rattle.law_steps.specs.DidSweep.{DidSweep, Sweeps}
 pub use Rattle.law_steps.specs.Ready.{Ready, Rests}

@@ -14,7 +14,8 @@ use Rattle.law_jobs.proofs.Imports.{with_pending, with_progress, with_reserved, 
 use Rattle.law_jobs.proofs.ChainsApart.{entry_put}
 use Rattle.law_jobs.specs.Effects.{Effect, applied, May, Becomes, As_it_was, Then, Alone_has, Both_have, By_operation, For_a_fill, For_a_write, Had_no_slot}
 use Rattle.law_jobs.specs.Effects.{HasEnded, Is_retired, Is_declined, IsFilledAs, IsOpening, IsPutFor, IsSetFor, Is_begun, Is_further, Is_opened, Goes_on}
-use Rattle.law_jobs.specs.Effects.{Has_put, An_operation, A_lead, A_copy}
+use Rattle.law_jobs.specs.Effects.{Has_put, An_operation, A_lead, A_copy, BecomesAt, Idle, IsAt, IsPutAt, Of_key, Of_operation}
+use Rattle.law_jobs.specs.Worked.{holder_cell, lead_cell, other_cell, page_cell, second_cell, worked}
 use Rattle.busy_marks.specs.declared.marks.MarkKind.TheVariants as mark
 use Rattle.petal_msg.specs.declared.retired.Retired.TheVariants as retired
 use Rattle.petal_msg.specs.declared.operation.Action.TheVariants as action
@@ -24,64 +25,68 @@ use Rattle.petal_msg.specs.declared.operation.OpKind.TheVariants as kind
 use Rattle.law_jobs.specs.Effects as effect
 
 module _ (heard : Body → Type 0) (here : JobContext) (own : PairState) where
-  abbrev To : PairState → Type 0
-  To now = Becomes heard here own now
+  abbrev To : Option Cell → PairState → Type 0
+  To cell now = BecomesAt heard here own cell now
+
+  abbrev At : Pending → PairState → Type 0
+  At op now = To (Some op.cell) now
 
   -- ### The lead
 
-  taken_to : (now : PairState) (op : Pending) → Taken own now op → To now
+  taken_to : (now : PairState) (op : Pending) → Taken own now op → At op now
   taken_to _ _ (As_it_is op is) = As_it_was
   taken_to _ _ (As_told op reserved paired is) = Then own (effect.Sets (told op reserved paired)) As_it_was
-      (Goes_on op (record op.stage { reserved = reserved; paired = paired }) is refl, refl)
+      (Goes_on op (record op.stage { reserved = reserved; paired = paired }) is refl, refl) refl
 
   chains_taken : (now : PairState) (op : Pending) → Taken own now op → now.store.chains ≡ own.store.chains
   chains_taken _ _ (As_it_is op is) = refl
   chains_taken _ _ (As_told op reserved paired is) = refl
 
   ends_to : (now : PairState) (op : Pending) (how : Ending) → HasEnded heard here own op how → pending_on now op.cell ≡ None
-      → now.pairs.finished ≡ own.pairs.finished → To now → To (ends here now op op.kind how).own
+      → now.pairs.finished ≡ own.pairs.finished → At op now → At op (ends here now op op.kind how).own
   ends_to now op how ended none same so = by op.kind refl
     where
-      by : (of : OpKind) → op.kind ≡ of → To (ends here now op of how).own
-      by kind.Write e = Then now (effect.Finishes op.client (record { seq = op.seq; ending = how })) so (By_operation op how ended e none, same)
+      by : (of : OpKind) → op.kind ≡ of → At op (ends here now op of how).own
+      by kind.Write e = Then now (effect.Finishes op.client (record { seq = op.seq; ending = how })) so (By_operation op how ended e none, same) tt
       by kind.Fill e = so
       by kind.Copy e = so
 
-  closes_to : (now : PairState) (op : Pending) → HasEnded heard here own op ending.Written → now.pairs.finished ≡ own.pairs.finished → To now
-      → To (ends here (without_pending now op.cell) op op.kind ending.Written).own
+  closes_to : (now : PairState) (op : Pending) → HasEnded heard here own op ending.Written → now.pairs.finished ≡ own.pairs.finished → At op now
+      → At op (ends here (without_pending now op.cell) op op.kind ending.Written).own
   closes_to now op ended same so =
-      ends_to (without_pending now op.cell) op ending.Written ended (cell_gone now.pairs.pending op.cell) same (Then now (effect.Closes op.cell) so tt)
+      ends_to (without_pending now op.cell) op ending.Written ended (cell_gone now.pairs.pending op.cell) same (Then now (effect.Closes op.cell) so tt refl)
 
   flag_put : (stage : Stage) (which : MarkKind) (is : Bool) → (with_flag stage which is).put ≡ stage.put
   flag_put stage mark.Busy is = refl
   flag_put stage mark.Stale is = refl
 
   marks_to : (now : PairState) (op : Pending) (which : MarkKind) → pending_on now op.cell ≡ Some op → now.pairs.finished ≡ own.pairs.finished
-      → To now → To (with_pending (applied now (effect.Marks which op.cell)) (with_mark_at op which true))
+      → At op now → At op (with_pending (applied now (effect.Marks which op.cell)) (with_mark_at op which true))
   marks_to now op which there same so =
-      Then (applied now (effect.Marks which op.cell)) (effect.Sets (with_mark_at op which true)) (Then now (effect.Marks which op.cell) so tt)
-      (Goes_on op (with_flag op.stage which true) there (flag_put op.stage which true), same)
+      Then (applied now (effect.Marks which op.cell)) (effect.Sets (with_mark_at op which true)) (Then now (effect.Marks which op.cell) so tt refl)
+      (Goes_on op (with_flag op.stage which true) there (flag_put op.stage which true), same) refl
 
   unmarks_to : (now : PairState) (op : Pending) (which : MarkKind) → pending_on now op.cell ≡ Some op → now.pairs.finished ≡ own.pairs.finished
-      → To now → To (with_pending (applied now (effect.Unmarks which op.cell)) (with_mark_at op which false))
+      → At op now → At op (with_pending (applied now (effect.Unmarks which op.cell)) (with_mark_at op which false))
   unmarks_to now op which there same so =
-      Then (applied now (effect.Unmarks which op.cell)) (effect.Sets (with_mark_at op which false)) (Then now (effect.Unmarks which op.cell) so tt)
-      (Goes_on op (with_flag op.stage which false) there (flag_put op.stage which false), same)
+      Then (applied now (effect.Unmarks which op.cell)) (effect.Sets (with_mark_at op which false)) (Then now (effect.Unmarks which op.cell) so tt (inl refl))
+      (Goes_on op (with_flag op.stage which false) there (flag_put op.stage which false), same) refl
 
-  opened_to : (op : Pending) → IsOpening heard here own op → To (with_opened own op)
+  opened_to : (op : Pending) → IsOpening heard here own op → At op (with_opened own op)
   opened_to op opening =
       let counted = applied own effect.Counts in
       let set = applied counted (effect.Sets op) in
       Then set (effect.Holds_slots (own.store.tickets + 1))
-      (Then counted (effect.Sets op) (Then own effect.Counts As_it_was tt) (Is_opened op opening refl, refl)) tt
+      (Then counted (effect.Sets op) (Then own effect.Counts As_it_was tt tt) (Is_opened op opening refl, refl) refl) tt tt
 
-  puts_to : (now : PairState) (op : Pending) → Taken own now op → To (puts now op).own
+  puts_to : (now : PairState) (op : Pending) → Taken own now op → At op (puts now op).own
   puts_to now op taken =
       let version = version_of (chain_in now.store.chains op.cell) + 1 in
       let stored : Stored = record { version = version; bytes = op.bytes } in
       Then (applied now (effect.Puts op.key stored)) (effect.Sets (record op { version = version; stage = record op.stage { put = true } }))
-      (Then now (effect.Puts op.key stored) (taken_to now op taken) (for_taken now op taken version, chains_taken now op taken))
-      (put_taken now op taken version stored, (taking own now op taken).finished)
+      (Then now (effect.Puts op.key stored) (taken_to now op taken) (for_taken now op taken version, chains_taken now op taken)
+      (of_taken now op taken))
+      (put_taken now op taken version stored, (taking own now op taken).finished) refl
     where
       put_taken : (now : PairState) (op : Pending) → Taken own now op → (version : ℕ) (stored : Stored)
           → IsSetFor heard here own (applied now (effect.Puts op.key stored)) (record op { version = version; stage = record op.stage { put = true } })
@@ -96,25 +101,29 @@ module _ (heard : Body → Type 0) (here : JobContext) (own : PairState) where
       for_taken _ _ (As_it_is op is) version = An_operation op version is
       for_taken _ _ (As_told op reserved paired is) version = An_operation op version is
 
-  drops_to : (now : PairState) (op : Pending) → To now → To (gives_up now op)
+      of_taken : (now : PairState) (op : Pending) → Taken own now op → IsPutAt own (Some op.cell) op.key
+      of_taken _ _ (As_it_is op is) = Of_operation op is
+      of_taken _ _ (As_told op reserved paired is) = Of_operation op is
+
+  drops_to : (now : PairState) (op : Pending) → At op now → At op (gives_up now op)
   drops_to now op so =
-      let closed = Then now (effect.Closes op.cell) so tt in
-      by_test To op.stage.put (without_pending now op.cell) (gives_back (without_pending now op.cell)) (λ put. closed)
-      (λ fresh. Then (without_pending now op.cell) (effect.Holds_slots (now.store.tickets - 1)) closed tt)
+      let closed = Then now (effect.Closes op.cell) so tt refl in
+      by_test (At op) op.stage.put (without_pending now op.cell) (gives_back (without_pending now op.cell)) (λ put. closed)
+      (λ fresh. Then (without_pending now op.cell) (effect.Holds_slots (now.store.tickets - 1)) closed tt tt)
 
   marks_taken : (now : PairState) (op : Pending) → Taken own now op → (which : MarkKind)
-      → To (with_pending (applied now (effect.Marks which op.cell)) (with_mark_at op which true))
+      → At op (with_pending (applied now (effect.Marks which op.cell)) (with_mark_at op which true))
   marks_taken now op taken which = let t = taking own now op taken in marks_to now op which t.there t.finished (taken_to now op taken)
 
   unmarks_taken : (now : PairState) (op : Pending) → Taken own now op → (which : MarkKind)
-      → To (with_pending (applied now (effect.Unmarks which op.cell)) (with_mark_at op which false))
+      → At op (with_pending (applied now (effect.Unmarks which op.cell)) (with_mark_at op which false))
   unmarks_taken now op taken which = let t = taking own now op taken in unmarks_to now op which t.there t.finished (taken_to now op taken)
 
   closes_taken : (now : PairState) (op : Pending) → Taken own now op → HasEnded heard here own op ending.Written
-      → To (ends here (without_pending now op.cell) op op.kind ending.Written).own
+      → At op (ends here (without_pending now op.cell) op op.kind ending.Written).own
   closes_taken now op taken ended = closes_to now op ended (taking own now op taken).finished (taken_to now op taken)
 
-  acts_to : (now : PairState) (op : Pending) → Taken own now op → live here.state op.cell ≡ false → (next : Action) → To (acts here now op next).own
+  acts_to : (now : PairState) (op : Pending) → Taken own now op → live here.state op.cell ≡ false → (next : Action) → At op (acts here now op next).own
   acts_to now op taken off action.Reserve = taken_to now op taken
   acts_to now op taken off (action.Mark which) = marks_taken now op taken which
   acts_to now op taken off action.Put = puts_to now op taken
@@ -123,25 +132,25 @@ module _ (heard : Body → Type 0) (here : JobContext) (own : PairState) where
   acts_to now op taken off action.Answer = closes_taken now op taken (Is_retired now op taken off)
   acts_to now op taken off action.Drop = drops_to now op (taken_to now op taken)
 
-  opens_alone_to : (op : Pending) → IsOpening heard here own op → To (marks (with_opened own op) op mark.Stale).own
+  opens_alone_to : (op : Pending) → IsOpening heard here own op → At op (marks (with_opened own op) op mark.Stale).own
   opens_alone_to op opening =
       marks_to (with_opened own op) op mark.Stale (cell_same own.pairs.pending op.cell op) refl (opened_to op opening)
 
-  lead_to : (done : JobResult) → DidLead heard here own done → To done.own
+  lead_to : (done : JobResult) (d : DidLead heard here own done) → To (lead_cell heard here own done d) done.own
   lead_to _ (Is_full want new full) =
-      Then own (effect.Finishes want.client (record { seq = want.seq; ending = ending.Full })) As_it_was (Had_no_slot want new full new.none, refl)
+      Then own (effect.Finishes want.client (record { seq = want.seq; ending = ending.Full })) As_it_was (Had_no_slot want new full new.none, refl) tt
   lead_to _ (Gives_up op h is reserved put) =
       let closed = without_pending own op.cell in
       ends_to (gives_back closed) op ending.Full (Is_declined op h is reserved put) (cell_gone own.pairs.pending op.cell) refl
-      (Then closed (effect.Holds_slots (own.store.tickets - 1)) (Then own (effect.Closes op.cell) As_it_was tt) tt)
+      (Then closed (effect.Holds_slots (own.store.tickets - 1)) (Then own (effect.Closes op.cell) As_it_was tt refl) tt tt)
   lead_to _ (Opens want new both) = opened_to (operation here own.pairs.next want) (For_a_write want new)
   lead_to _ (Marks op h is both stage) =
       marks_to (with_pending own (with_reserved op)) (with_reserved op) mark.Busy (cell_same own.pairs.pending op.cell (with_reserved op)) refl
-      (Then own (effect.Sets (with_reserved op)) As_it_was (Goes_on op (record op.stage { reserved = true }) is refl, refl))
+      (Then own (effect.Sets (with_reserved op)) As_it_was (Goes_on op (record op.stage { reserved = true }) is refl, refl) refl)
   lead_to _ (Puts op is both stage) = puts_to own op (As_it_is op is)
   lead_to _ (Unmarks op h is both stage) =
       unmarks_to (with_pending own (with_paired op)) (with_paired op) mark.Busy (cell_same own.pairs.pending op.cell (with_paired op)) refl
-      (Then own (effect.Sets (with_paired op)) As_it_was (Goes_on op (record op.stage { paired = true }) is refl, refl))
+      (Then own (effect.Sets (with_paired op)) As_it_was (Goes_on op (record op.stage { paired = true }) is refl, refl) refl)
   lead_to _ (Closes op is both stage) = closes_to own op (Both_have op is both stage) refl As_it_was
   lead_to _ (Opens_alone want new alone) = opens_alone_to (operation here own.pairs.next want) (For_a_write want new)
   lead_to _ (Marks_alone now op taken alone fresh) = marks_taken now op taken mark.Stale
@@ -155,112 +164,124 @@ module _ (heard : Body → Type 0) (here : JobContext) (own : PairState) where
 
   -- ### The second server
 
-  tells_to : (now : PairState) (cell : Cell) (number : ℕ) (how : FollowProgress) → To now → To (tells here now cell number how).own
-  tells_to now cell number follow_progress.Reserved so = so
-  tells_to now cell number follow_progress.Replicated so = so
+  tells_to : (at : Option Cell) (now : PairState) (cell : Cell) (number : ℕ) (how : FollowProgress) → To at now → To at (tells here now cell number how).own
+  tells_to at now cell number follow_progress.Reserved so = so
+  tells_to at now cell number follow_progress.Replicated so = so
 
-  second_to : (done : JobResult) → DidSecond heard here own done → To done.own
+  second_to : (done : JobResult) (d : DidSecond heard here own done) → To (second_cell heard here own done d) done.own
   second_to _ (Sets_apart number cell tickets h is le) =
       Then (applied own (effect.Holds_slots tickets)) (effect.Follows cell (record { op = number; progress = follow_progress.Reserved }))
-      (Then own (effect.Holds_slots tickets) As_it_was tt) le
-  second_to _ (Promises number cell how s is) = tells_to own cell number how As_it_was
+      (Then own (effect.Holds_slots tickets) As_it_was tt tt) le refl
+  second_to _ (Promises number cell how s is) = tells_to None own cell number how As_it_was
   second_to _ (Follows number key version bytes h s is) =
       let stored : Stored = record { version = version_of (chain_in own.store.chains (cell_of key)) + 1; bytes = bytes } in
       Then (applied own (effect.Puts key stored)) (effect.Follows (cell_of key) (record { op = number; progress = follow_progress.Replicated }))
-      (Then own (effect.Puts key stored) As_it_was (A_lead number key version stored.version bytes h, refl))
-      (let was : progress (last_on own (cell_of key)) ≡ number + number = ap progress is in omega arith)
+      (Then own (effect.Puts key stored) As_it_was (A_lead number key version stored.version bytes h, refl) (Of_key key))
+      (let was : progress (last_on own (cell_of key)) ≡ number + number = ap progress is in omega arith) refl
   second_to _ _ = As_it_was
 
   -- ### Copies
 
-  copied_to : (cell : Cell) (row : Option LinkRow) → cell_link here.state cell ≡ row → (now : PairState) (block : ℕ) → To now → To (with_copied row now block)
-  copied_to cell None is now block so = so
-  copied_to cell (Some row) is now block so =
+  copied_to : (cell : Cell) (row : Option LinkRow) → cell_link here.state cell ≡ row → (at : Option Cell) (now : PairState) (block : ℕ)
+      → To at now → To at (with_copied row now block)
+  copied_to cell None is at now block so = so
+  copied_to cell (Some row) is at now block so =
       let progress = record (progress_on now row) { copied = Some block } in
-      by_test To (above (progress_on now row).copied block) (with_progress now row progress) now
-      (λ t. Then now (effect.Moves_on row progress) so (id_of row, row_named here.state cell row is)) (λ t. so)
+      by_test (To at) (above (progress_on now row).copied block) (with_progress now row progress) now
+      (λ t. Then now (effect.Moves_on row progress) so (id_of row, row_named here.state cell row is) tt) (λ t. so)
 
-  copy_step_to : (now : PairState) (cell : Cell) (copy : Copying) (done : JobResult) → CopyStep here now cell copy done → To now → To done.own
-  copy_step_to now cell copy _ (Unmarks_copied which synced left) so = Then now (effect.Unmarks which cell) so tt
+  copy_step_to : (now : PairState) (cell : Cell) (copy : Copying) (done : JobResult) → CopyStep here now cell copy done
+      → To (Some cell) now → To (Some cell) done.own
+  copy_step_to now cell copy _ (Unmarks_copied which synced left) so = Then now (effect.Unmarks which cell) so tt (inl refl)
   copy_step_to now cell copy _ (Closes_copy synced left) so =
       Then _ (effect.Is_full false)
-      (copied_to cell (cell_link here.state cell) refl (without_copying now cell) cell.block (Then now (effect.Ends_copy cell) so tt))
-      (λ e. true_false e refl)
+      (copied_to cell (cell_link here.state cell) refl (Some cell) (without_copying now cell) cell.block (Then now (effect.Ends_copy cell) so tt refl))
+      (λ e. true_false e refl) tt
   copy_step_to now cell copy _ _ so = so
 
-  pub copy_to : (cell : Cell) (now : PairState) (copy : Copying) → TakenCopy heard own cell now copy → To now
+  pub copy_to : (cell : Cell) (now : PairState) (copy : Copying) → TakenCopy heard own cell now copy → To (Some cell) now
   copy_to cell _ _ (Copy_as_is copy is) = As_it_was
-  copy_to cell _ _ (Copy_trimmed copy h is fresh) = Then own (effect.Copies cell (record copy { trimmed = true })) As_it_was tt
-  copy_to cell _ _ (Copy_synced copy h is trimmed lt) = Then own (effect.Copies cell (record copy { index = copy.index + 1 })) As_it_was tt
+  copy_to cell _ _ (Copy_trimmed copy h is fresh) = Then own (effect.Copies cell (record copy { trimmed = true })) As_it_was tt refl
+  copy_to cell _ _ (Copy_synced copy h is trimmed lt) = Then own (effect.Copies cell (record copy { index = copy.index + 1 })) As_it_was tt refl
 
-  pub begun_to : (cell : Cell) → To (begins_copy own cell)
+  pub begun_to : (cell : Cell) → To (Some cell) (begins_copy own cell)
   begun_to cell =
       Then (applied own effect.Counts) (effect.Copies cell (record { op = own.pairs.next; trimmed = false; index = 0 }))
-      (Then own effect.Counts As_it_was tt) tt
+      (Then own effect.Counts As_it_was tt tt) tt refl
 
-  page_to : (id : LinkId) (row : LinkRow) → link_named here.state id ≡ Some row → (block : Option ℕ) → To (with_page own row (progress_on own row) block)
-  page_to id row is None = Then own (effect.Moves_on row (record (progress_on own row) { paged = true })) As_it_was (id, is)
+  page_to : (id : LinkId) (row : LinkRow) → link_named here.state id ≡ Some row → (block : Option ℕ)
+      → To (page_cell row block) (with_page own row (progress_on own row) block)
+  page_to id row is None = Then own (effect.Moves_on row (record (progress_on own row) { paged = true })) As_it_was (id, is) tt
   page_to id row is (Some block) =
       Then (applied own (effect.Marks mark.Stale (cell_at row block))) (effect.Moves_on row (record (progress_on own row) { after = Some block }))
-      (Then own (effect.Marks mark.Stale (cell_at row block)) As_it_was tt) (id, is)
+      (Then own (effect.Marks mark.Stale (cell_at row block)) As_it_was tt refl) (id, is) tt
 
-  holder_to : (done : JobResult) → DidHolder heard here own done → To done.own
+  holder_to : (done : JobResult) (d : DidHolder heard here own done) → To (holder_cell heard here own done d) done.own
   holder_to _ (Turns_page id row other after block h held fresh at) = page_to id row held.is block
   holder_to done (Begins_copy id row other cell _ held next step) =
       copy_step_to _ cell _ done step (begun_to cell)
   holder_to done (Goes_on_copying cell now copy _ taken step) = copy_step_to now cell copy done step (copy_to cell now copy taken)
   holder_to _ (Finds_it_full cell copy h is trimmed lt) =
-      Then (without_copying own cell) (effect.Is_full true) (Then own (effect.Ends_copy cell) As_it_was tt)
-      (λ e. inl (record { cell = cell; copy = copy; said = h; copying = is; trimmed = trimmed; left = lt }))
-  holder_to _ (Tidies id row block which is both idle left) = Then own (effect.Unmarks which (cell_at row block)) As_it_was tt
+      Then (without_copying own cell) (effect.Is_full true) (Then own (effect.Ends_copy cell) As_it_was tt refl)
+      (λ e. inl (record { cell = cell; copy = copy; said = h; copying = is; trimmed = trimmed; left = lt })) tt
+  holder_to _ (Tidies id row block which is both idle left) = Then own (effect.Unmarks which (cell_at row block)) As_it_was tt (inr (inr (Idle id row block is both idle)))
   holder_to _ _ = As_it_was
 
-  trim_to : (now : PairState) (cell : Cell) (last : LastCopy) (holder : ℕ) (done : JobResult) → TrimStep now cell last holder done → To now
-      → (now.store.chains ≡ own.store.chains) × (now.pairs.pending ≡ own.pairs.pending) → To done.own
+  trim_to : (now : PairState) (cell : Cell) (last : LastCopy) (holder : ℕ) (done : JobResult) → TrimStep now cell last holder done → To (Some cell) now
+      → (now.store.chains ≡ own.store.chains) × (now.pairs.pending ≡ own.pairs.pending) → To (Some cell) done.own
   trim_to now cell last holder _ (Is_trimmed none) so same = so
-  trim_to now cell last holder _ (Drops_entry epoch epochs is) so same = Then now (effect.Drops (key_at cell epoch)) so same
+  trim_to now cell last holder _ (Drops_entry epoch epochs is) so same = Then now (effect.Drops (key_at cell epoch)) so same (inl refl)
 
-  other_to : (done : JobResult) → DidOther heard here own done → To done.own
+  other_to : (done : JobResult) (d : DidOther heard here own done) → To (other_cell heard here own done d) done.own
   other_to done (Is_copied_to number cell epochs holder _ h held newer step) =
-      trim_to _ cell _ holder done step (Then own (effect.Is_copied cell (first_last number epochs)) As_it_was (Is_begun number epochs h)) (refl, refl)
+      trim_to _ cell _ holder done step (Then own (effect.Is_copied cell (first_last number epochs)) As_it_was (Is_begun number epochs h) refl) (refl, refl)
   other_to done (Goes_on_trimming cell holder last _ held is step) = trim_to own cell last holder done step As_it_was (refl, refl)
   other_to _ (Puts_entry entry holder last of_copy at room) =
       let apart = applied own (effect.Holds_slots (own.store.tickets + 1)) in
       Then (applied apart (effect.Puts entry.key entry.stored)) (effect.Is_copied (cell_of entry.key) (record last { index = last.index + 1 }))
-      (Then apart (effect.Puts entry.key entry.stored) (Then own (effect.Holds_slots (own.store.tickets + 1)) As_it_was tt) (A_copy entry of_copy.said, refl))
-      (Is_further last (last.index + 1) of_copy.last_is)
+      (Then apart (effect.Puts entry.key entry.stored) (Then own (effect.Holds_slots (own.store.tickets + 1)) As_it_was tt tt) (A_copy entry of_copy.said, refl)
+      (Of_key entry.key)) (Is_further last (last.index + 1) of_copy.last_is) refl
   other_to _ _ = As_it_was
 
   -- ### Moves and sweeps
 
-  filler_to : (done : JobResult) → DidFiller heard here own done → To done.own
+  filler_to : (done : JobResult) → DidFiller heard here own done → To None done.own
   filler_to _ (Is_filled key row posts h next fills) =
       let to : Key = record { map = row.map; block = key.block; epoch = key.epoch } in
       let filled : IsFilledAs heard here own row to = record { key = key; told = h; next = next; is = refl } in
-      Then (applied own (effect.Fills row to)) (effect.Is_full false) (Then own (effect.Fills row to) As_it_was (filled, refl)) (λ e. true_false e refl)
+      Then (applied own (effect.Fills row to)) (effect.Is_full false) (Then own (effect.Fills row to) As_it_was (filled, refl) tt) (λ e. true_false e refl) tt
   filler_to _ (Is_out_of_slots key row h next) =
-      Then own (effect.Is_full true) As_it_was (λ e. inr (record { key = key; row = row; said = h; next = next }))
+      Then own (effect.Is_full true) As_it_was (λ e. inr (record { key = key; row = row; said = h; next = next })) tt
 
-  sweep_to : (done : JobResult) → DidSweep here own done → To done.own
-  sweep_to _ (Sweeps (retired.Key key) seated next off) = Then own (effect.Drops key) As_it_was (refl, refl)
-  sweep_to _ (Sweeps (retired.Mark which cell) seated next off) = Then own (effect.Unmarks which cell) As_it_was tt
+  sweep_to : (done : JobResult) → DidSweep here own done → To None done.own
+  sweep_to _ (Sweeps (retired.Key key) seated next off) = Then own (effect.Drops key) As_it_was (refl, refl) (inr off)
+  sweep_to _ (Sweeps (retired.Mark which cell) seated next off) = Then own (effect.Unmarks which cell) As_it_was tt (inr (inl off))
+
+  pub effects_at : (done : JobResult) (did : Did heard here own done) → BecomesAt heard here own (worked heard here own done did) done.own
+  effects_at _ Ignores = As_it_was
+  effects_at _ (Refuses to said is why held) = As_it_was
+  effects_at _ (By_read done d) = subst (To None) (sym (of_read heard here own done d).same) As_it_was
+  effects_at _ (By_lead done d) = lead_to done d
+  effects_at _ (By_second done d) = second_to done d
+  effects_at _ (By_holder done d) = holder_to done d
+  effects_at _ (By_other done d) = other_to done d
+  effects_at _ (By_filler done d) = filler_to done d
+  effects_at _ (By_sweep done d) = sweep_to done d
 
   pub effects_of : (done : JobResult) → Did heard here own done → Becomes heard here own done.own
-  effects_of _ Ignores = As_it_was
-  effects_of _ (Refuses to said is why held) = As_it_was
-  effects_of _ (By_read done d) = subst To (sym (of_read heard here own done d).same) As_it_was
-  effects_of _ (By_lead done d) = lead_to done d
-  effects_of _ (By_second done d) = second_to done d
-  effects_of _ (By_holder done d) = holder_to done d
-  effects_of _ (By_other done d) = other_to done d
-  effects_of _ (By_filler done d) = filler_to done d
-  effects_of _ (By_sweep done d) = sweep_to done d
+  effects_of done did = (worked heard here own done did, effects_at done did)
+
+  -- what each effect at this cell keeps, a job there keeps
+  module _ (P : PairState → Type 0) (begun : P own) (cell : Option Cell)
+      (each : (now : PairState) (e : Effect) → May heard here own now e → IsAt here own cell e → P now → P (applied now e)) where
+    pub at_keeps : (now : PairState) → BecomesAt heard here own cell now → P now
+    at_keeps _ As_it_was = begun
+    at_keeps _ (Then now e before may at) = each now e may at (at_keeps now before)
 
   -- what each effect keeps, the job keeps
   module _ (P : PairState → Type 0) (each : (now : PairState) (e : Effect) → May heard here own now e → P now → P (applied now e)) (begun : P own) where
     pub all_keep : (now : PairState) → Becomes heard here own now → P now
-    all_keep _ As_it_was = begun
-    all_keep _ (Then now e before may) = each now e may (all_keep now before)
+    all_keep now so = at_keeps P begun so.0 (λ now e may at. each now e may) now so.1
 
     pub job_keeps : (done : JobResult) → Did heard here own done → P done.own
     job_keeps done did = all_keep done.own (effects_of done did)

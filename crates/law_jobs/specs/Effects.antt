@@ -1,11 +1,11 @@
 -- Of what a job is made: effects, each on one place of a server's own part, with what was so when it was had.
-use Rattle.law_jobs.specs.Imports.{Body, Cell, Copying, Ending, Entry, Finished, Full, IsNew, IsNewFill, IsNextKey, JobContext, Key, LastCopy, LastOp, LinkId}
-use Rattle.law_jobs.specs.Imports.{LinkRow, MarkKind, Moving, PairState, Pending, Progress, Stage, Stored, Table, Taken, Wanted, Write, Written, answering}
-use Rattle.law_jobs.specs.Imports.{at, cell_cmp, cell_of, chain_in, copying_on, far_of, fill_operation, first_last, free_of, in_both, is_alone_on, last_copy}
-use Rattle.law_jobs.specs.Imports.{last_on, link_named, live, operation, pending_on, progress, put, with_copying, with_entry, with_filled, with_full}
-use Rattle.law_jobs.specs.Imports.{with_last_copy, with_mark_on, with_pending, with_progress, without_copying, without_entry, without_mark_on}
-use Rattle.law_jobs.specs.Imports.{without_pending}
-use Rattle.std.specs.Prelude.{◌+◌, ◌<◌, ◌≡◌, ◌≤◌, ◌⊎◌, Bool, List, None, Some, false, is_some, length, true, ℕ}
+use Rattle.law_jobs.specs.Imports.{Body, Both, Cell, Copying, Ending, Entry, Finished, Full, IsNew, IsNewFill, IsNextKey, JobContext, Key, LastCopy, LastOp}
+use Rattle.law_jobs.specs.Imports.{LinkId, LinkRow, MarkKind, Moving, PairState, Pending, Progress, Stage, Stored, Table, Taken, Wanted, Write, Written}
+use Rattle.law_jobs.specs.Imports.{answering, at, cell_at, cell_cmp, cell_of, chain_in, copying_on, far_of, fill_operation, first_last, free_of, idle_mark}
+use Rattle.law_jobs.specs.Imports.{in_both, is_alone_on, last_copy, last_on, link_named, live, operation, pending_on, progress, put, with_copying, with_entry}
+use Rattle.law_jobs.specs.Imports.{with_filled, with_full, with_last_copy, with_mark_on, with_pending, with_progress, without_copying, without_entry}
+use Rattle.law_jobs.specs.Imports.{without_mark_on, without_pending}
+use Rattle.std.specs.Prelude.{◌+◌, ◌<◌, ◌≡◌, ◌≤◌, ◌⊎◌, Bool, List, None, Option, Some, false, is_some, length, true, ℕ}
 use Rattle.std.specs.Ordering.{nat_cmp}
 use Rattle.petal_msg.specs.declared.body.Body.TheVariants as body
 
@@ -136,7 +136,35 @@ May heard here own now (Moves_on row moved) = (id : LinkId) × (link_named here.
 May heard here own now (Fills row key) = IsFilledAs heard here own row key × (now.filled ≡ own.filled)
 May heard here own now _ = Unit {0}
 
--- what a server's own part may become by effects, one after the other
-pub data Becomes (heard : Body → Type 0) (here : JobContext) (own : PairState) : PairState → Type 0 where
-  As_it_was : Becomes heard here own own
-  Then : (now : PairState) (effect : Effect) → Becomes heard here own now → May heard here own now effect → Becomes heard here own (applied now effect)
+-- an old mark of the cell, on a link in Both, which nothing that is under way needs
+pub data IsIdle (here : JobContext) (own : PairState) : Cell → Type 0 where
+  Idle : (id : LinkId) (row : LinkRow) (block : ℕ) → link_named here.state id ≡ Some row → row.state ≡ Both
+      → idle_mark here.state row own ≡ Some block → IsIdle here own (cell_at row block)
+
+-- an entry is put on its cell, or on that of its operation
+pub data IsPutAt (own : PairState) : Option Cell → Key → Type 0 where
+  Of_key : (key : Key) → IsPutAt own (Some (cell_of key)) key
+  Of_operation : (op : Pending) → pending_on own op.cell ≡ Some op → IsPutAt own (Some op.cell) op.key
+
+-- each effect on a cell is on the one on which the job works; but idle marks, and what is left of a cell that is no longer live, go on any
+abbrev pub IsAt : JobContext → PairState → Option Cell → Effect → Type 0
+IsAt here own at (Sets op) = at ≡ Some op.cell
+IsAt here own at (Closes cell) = at ≡ Some cell
+IsAt here own at (Follows cell last) = at ≡ Some cell
+IsAt here own at (Puts key stored) = IsPutAt own at key
+IsAt here own at (Drops key) = (at ≡ Some (cell_of key)) ⊎ (live here.state (cell_of key) ≡ false)
+IsAt here own at (Marks kind cell) = at ≡ Some cell
+IsAt here own at (Unmarks kind cell) = (at ≡ Some cell) ⊎ (live here.state cell ≡ false) ⊎ IsIdle here own cell
+IsAt here own at (Copies cell copy) = at ≡ Some cell
+IsAt here own at (Ends_copy cell) = at ≡ Some cell
+IsAt here own at (Is_copied cell last) = at ≡ Some cell
+IsAt here own at _ = Unit {0}
+
+-- what a server's own part may become by effects, one after the other, in a job that works on this cell or none
+pub data BecomesAt (heard : Body → Type 0) (here : JobContext) (own : PairState) (cell : Option Cell) : PairState → Type 0 where
+  As_it_was : BecomesAt heard here own cell own
+  Then : (now : PairState) (effect : Effect) → BecomesAt heard here own cell now → May heard here own now effect → IsAt here own cell effect
+      → BecomesAt heard here own cell (applied now effect)
+
+abbrev pub Becomes : (heard : Body → Type 0) → JobContext → (own now : PairState) → Type 0
+Becomes heard here own now = (cell : Option Cell) × BecomesAt heard here own cell now

@@ -2,20 +2,23 @@
 pub use Rattle.law_state.specs.Imports.{Cell, LinkId, LinkRow, PairState, Progress, Setting, World, is_lead}
 unfoldable pub use Rattle.law_state.specs.Imports.{at}
 pub use Rattle.law_steps.specs.Imports.{Actor, Block, Body, Copying, Ending, Entry, Finished, JobContext, Key, LastCopy, LastOp, MarkKind, Moving, Pending}
-pub use Rattle.law_steps.specs.Imports.{Post, Stage, Stored, Table, Wanted, above, begins_copy, bytes_of, cell_cmp, cell_holder, cell_of, chain_in, coming}
-pub use Rattle.law_steps.specs.Imports.{copying_on, ended, entry_at, epochs_beyond, epochs_of, fill_operation, first, free_of, holder_of, in_both}
-pub use Rattle.law_steps.specs.Imports.{is_alone_on, is_logged, is_second, key_at, last_copy, last_on, least, link_named, live, marked_blocks, old_lead}
-pub use Rattle.law_steps.specs.Imports.{operation, other_in, page_wanted, pending_on, progress_on, second, subject_of, with_copying, with_filled, with_full}
-pub use Rattle.law_steps.specs.Imports.{with_last_copy, with_pending, without_copying, without_entry, without_mark_on, without_pending}
+pub use Rattle.law_steps.specs.Imports.{Post, Stage, Stored, Table, Wanted, above, begins_copy, bytes_of, cell_at, cell_cmp, cell_holder, cell_of, chain_in}
+pub use Rattle.law_steps.specs.Imports.{coming, copying_on, ended, entry_at, epochs_beyond, epochs_of, fill_operation, first, free_of, holder_of, idle_mark}
+pub use Rattle.law_steps.specs.Imports.{in_both, is_alone_on, is_logged, is_second, key_at, last_copy, last_on, least, link_named, live, marked_blocks}
+pub use Rattle.law_steps.specs.Imports.{old_lead, operation, other_in, page_wanted, pending_on, progress_on, second, subject_of, with_copying, with_filled}
+pub use Rattle.law_steps.specs.Imports.{with_full, with_last_copy, with_pending, without_copying, without_entry, without_mark_on, without_pending}
 unfoldable pub use Rattle.law_steps.specs.Imports.{next_copy}
+pub use Rattle.law_log.proofs.Imports.{JobResult}
 pub use Rattle.law_state.specs.Histories.{AreSteps, IsSound, Record, Script, setting_of, start, world_after}
-pub use Rattle.law_steps.specs.Did.{IsBusy, IsHeldBack, IsRefusal}
+pub use Rattle.law_state.specs.Imports.{Both}
+pub use Rattle.law_steps.specs.Did.{By_holder, By_lead, By_other, By_second, Did, IsBusy, IsHeldBack, IsRefusal}
 pub use Rattle.law_steps.specs.DidFiller.{IsNextKey, filled_to}
-pub use Rattle.law_steps.specs.DidHolder.{IsHeldWith, TakenCopy, first_copy}
-pub use Rattle.law_steps.specs.DidLead.{IsFilled, IsNew, IsNewFill, IsNextFill, Taken, other_on}
-pub use Rattle.law_steps.specs.DidOther.{IsOfCopy, first_last}
+pub use Rattle.law_steps.specs.DidHolder.{Begins_copy, DidHolder, Finds_it_full, Goes_on_copying, IsHeldWith, TakenCopy, Turns_page, first_copy}
+pub use Rattle.law_steps.specs.DidLead.{Closes, Closes_alone, DidLead, Gives_up, Goes_on_retired, IsFilled, IsNew, IsNewFill, IsNextFill, Marks, Marks_alone}
+pub use Rattle.law_steps.specs.DidLead.{Opens, Opens_alone, Opens_fill, Opens_fill_alone, Puts, Puts_alone, Taken, Unmarks, Unmarks_alone, other_on}
+pub use Rattle.law_steps.specs.DidOther.{DidOther, Goes_on_trimming, IsOfCopy, Is_copied_to, Puts_entry, first_last}
 pub use Rattle.law_steps.specs.DidRead.{IsReadable}
-pub use Rattle.law_steps.specs.DidSecond.{FoundNoSlot}
+pub use Rattle.law_steps.specs.DidSecond.{DidSecond, Follows, FoundNoSlot, Sets_apart}
 pub use Rattle.law_steps.specs.Operations.{answering, copying, far_of, progress, waiting}
 pub use Rattle.petal_msg.specs.declared.operation.Ending.TheVariants.{Full, Written}
 pub use Rattle.petal_msg.specs.declared.operation.OpKind.TheVariants.{Fill, Write}
