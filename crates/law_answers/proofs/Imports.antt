@@ -45,7 +45,7 @@ pub use Rattle.law_copies.proofs.Imports.{Asks_slot, At, Blanks, By_ballot, By_e
 pub use Rattle.law_copies.proofs.Imports.{Moves, Moves_on, OneMore, Read_asked, Run, Serves, Serving, Stays, Turns, Wakes, Worked, Write_asked, applied}
 pub use Rattle.law_copies.proofs.Imports.{at_row, before_part, below_itself, both_row, by_run, cases_lt, did_count, firm_in, first_state, front_itself}
 pub use Rattle.law_copies.proofs.Imports.{front_long, front_on, grown_in, happened_in, in_get, in_map, job_keeps, letters_of_job, longer, more_of, none_of}
-pub use Rattle.law_copies.proofs.Imports.{one_front, own_steady, primary_is_one, put_rises, run_of, said, served_so, setting_in, shown_so, since, stopped_so}
+pub use Rattle.law_copies.proofs.Imports.{one_front, primary_is_one, put_rises, run_of, said, served_so, setting_in, shown_so, since, stopped_so}
 pub use Rattle.law_copies.proofs.Imports.{turned_asks, without_rev}
 pub use Rattle.law_requests.specs.Imports.{line_by}
 pub use Rattle.law_requests.proofs.Imports.{A_read, A_write, Anew, Answered, As_it_was, Begins, Blanks_it, By_operation, By_verdict, By_witness, Fails_it}
@@ -128,3 +128,4 @@ pub use Rattle.spec_rules.specs.Jobs.{shown}
 pub use Rattle.spec_rules.specs.World.{Blanked, Booted, Boots, Control, Deed, IsAnswered, IsDone, IsFree, IsGlanceDue, IsSettleGlance, MayDeliver, MayGlance}
 pub use Rattle.spec_rules.specs.World.{MayStop, StepResult, Stopped, Stops, controls, glanced_in, state_at}
 pub use Rattle.spec_state.specs.Command.{mover_in}
+pub use Rattle.law_steps.proofs.KindsInHistories.{own_steady}

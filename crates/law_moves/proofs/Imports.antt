@@ -37,7 +37,7 @@ pub use Rattle.law_jobs.proofs.Imports.{same_cell_or_apart, same_itself, same_on
 pub use Rattle.law_copies.specs.Imports.{WasStarted, blank_joins_in, is_between, kept_store, one_put_ahead}
 pub use Rattle.law_copies.proofs.Imports.{At, BeforeBlank, Blanks, By_ballot, By_caught, By_entry, By_job, By_join, By_leave, Effect, Ends, Fails, Fills}
 pub use Rattle.law_copies.proofs.Imports.{Goes, HasJoinedSince, IsCaughtBy, IsInBoth, IsSeatedOrMute, May, Serves, Serving, Starts, Stays, Stood, Turns}
-pub use Rattle.law_copies.proofs.Imports.{Wakes, Worked, Writes, applied, before_part, below_itself, by_run, cell_swept, chain_apart, chain_put}
+pub use Rattle.law_copies.proofs.Imports.{Wakes, Worked, Writes, applied, before_part, below_itself, by_run, chain_apart, chain_put}
 pub use Rattle.law_copies.proofs.Imports.{chosen_caught_was, copied_chains, counted, counted_by, did_come, drop_apart, drop_none, either_true, first_by}
 pub use Rattle.law_copies.proofs.Imports.{first_state, front_itself, front_long, front_more, front_on, front_within, happened_in, in_none, job_keeps}
 pub use Rattle.law_copies.proofs.Imports.{joined_counts, joined_since, kept, kept_by, letters_of_job, link_led_by, live_stage, log_both_place, log_grown}
@@ -103,3 +103,4 @@ pub use Rattle.spec_paxos.specs.Chosen.{chosen_from, vote_place}
 pub use Rattle.spec_rules.specs.State.{leaving}
 pub use Rattle.spec_rules.specs.World.{begins_to_leave, chain_that_counts, frozen_by}
 pub use Rattle.spec_state.specs.CellState.{lead}
+pub use Rattle.law_steps.specs.DidSweep.{cell_swept}

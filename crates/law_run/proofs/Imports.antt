@@ -50,8 +50,8 @@ pub use Rattle.law_copies.proofs.Imports.{Fails, Goes, HasJoinedSince, IsLater, 
 pub use Rattle.law_copies.proofs.Imports.{Turns, Wakes, Worked, alone_by, at_row, before_part, both_row, by_run, cases_lt, chain_apart, chain_put}
 pub use Rattle.law_copies.proofs.Imports.{chosen_caught_was, counted, counted_by, either_true, firm_in, front_itself, front_long, front_more, front_on}
 pub use Rattle.law_copies.proofs.Imports.{get_in, grown_in, held_as_flag, in_get, in_map, in_none, is_at_work, kept, kept_by, lead_links, letters_of_job}
-pub use Rattle.law_copies.proofs.Imports.{live_stage, log_grown, log_lost, log_touched, longer, may_wake, of_ending, of_filler, of_holder, of_other}
-pub use Rattle.law_copies.proofs.Imports.{of_second, one_before, one_front, other_between, own_steady, places_grow, primary_is_one, put_rises, putting}
+pub use Rattle.law_copies.proofs.Imports.{live_stage, log_grown, log_lost, log_touched, longer, may_wake, of_ending, of_filler, of_holder}
+pub use Rattle.law_copies.proofs.Imports.{of_second, one_before, one_front, other_between, places_grow, primary_is_one, put_rises, putting}
 pub use Rattle.law_copies.proofs.Imports.{row_joined, run_of, said, second_by, secondary_is_one, served_so, setting_in, shown_so, stopped_so, turned_asks}
 pub use Rattle.law_copies.proofs.Imports.{without_rev}
 pub use Rattle.law_requests.specs.Imports.{done_to, line_by}
@@ -170,3 +170,5 @@ pub use Rattle.spec_rules.proofs.Settled.{IsSettling}
 pub use Rattle.spec_rules.specs.Clients.{counts}
 pub use Rattle.spec_rules.specs.Store.{or_else}
 pub use Rattle.spec_state.specs.CellState.{named_cell, named_map, old_map, read_cell, read_map}
+pub use Rattle.law_steps.proofs.CopyFrames.{of_other}
+pub use Rattle.law_steps.proofs.KindsInHistories.{own_steady}
