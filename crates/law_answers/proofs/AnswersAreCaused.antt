@@ -1,19 +1,21 @@
--- Each answer has its cause: by induction on the history, in view of the log at its end.
-use Rattle.law_answers.proofs.Imports.{[], if◌then◌else◌, ◌++◌, ◌+◌, ◌<◌, ◌==◌, ◌∙◌, ◌∷◌, ◌≡◌, ◌≤◌, Answer, AreCaused, AreRising, Asked, Begins, Blanks}
-use Rattle.law_answers.proofs.Imports.{Blanks_it, Body, Bool, By_verdict, By_witness, CauseOf, Client, Command, Ending, Ends, Fails_it, Goes_on, Happens}
-use Rattle.law_answers.proofs.Imports.{HasProperTuples, HasVerdict, HasWitness, Has_no_space, Heard, In, IsJudged, IsPrefix, IsReason, IsSame, IsSeenAs}
-use Rattle.law_answers.proofs.Imports.{Is_settled, Is_told, Judges, Latest, Letter, Line, List, None, Option, Reaction, Reads, Request, Run, Serves, Setting}
-use Rattle.law_answers.proofs.Imports.{Shown, Sight, Some, Starts_it, State, StaysOpen, Stops_at, Stops_it, Turned, Turns, WasTold, Witness, World, after}
-use Rattle.law_answers.proofs.Imports.{all_put, answer_of, ap, append_assoc, arith, below_itself, between, both_true, by_run, by_test, chosen_log}
-use Rattle.law_answers.proofs.Imports.{chosen_state, command_of, false, firm_in, first_at_start, first_state, front_itself, front_on, grown_in, happened_in}
-use Rattle.law_answers.proofs.Imports.{in_get, inl, inr, is_in, is_read, is_snap, is_witness, is_write, latest, length, length-append, lines_of, log_below}
-use Rattle.law_answers.proofs.Imports.{log_plain, log_steady, longer, may_answer, named, none_some, put_same, refl, refusal, same_numbers, same_some}
-use Rattle.law_answers.proofs.Imports.{setting_in, setting_of, slice_get, state_after, state_at, still_sent, subst, suc, sym, take, take-append_seam, true}
-use Rattle.law_answers.proofs.Imports.{true_false, verdict_answer, verdict_for, with_answer, zero, ℕ}
+-- Each answer has its cause, by the step that gave it, in view of the log at the end of the history.
+use Rattle.law_answers.proofs.Imports.{[], ◌++◌, ◌+◌, ◌<◌, ◌==◌, ◌∙◌, ◌∷◌, ◌≡◌, ◌≤◌, Actor, Answer, AreCaused, AreRising, Asked, Begins}
+use Rattle.law_answers.proofs.Imports.{Blanks_it, Body, Bool, By_verdict, By_witness, CauseOf, Client, Command, Ending, Ends, Fails_it, Firm, Goes_on}
+use Rattle.law_answers.proofs.Imports.{HasProperTuples, HasVerdict, HasWitness, Has_no_space, Heard, In, IsJudged, IsPrefix, IsReason, IsSeenAs, Is_settled}
+use Rattle.law_answers.proofs.Imports.{Is_told, Judges, Line, List, MayActor, None, OneMore, Option, Reaction, Reads, Request, Run, Setting, Shown, Sight}
+use Rattle.law_answers.proofs.Imports.{Some, Starts_it, State, Step, Stops_at, Stops_it, Turned, WasTold, Witness, World, after, answer_of, ap, append_assoc}
+use Rattle.law_answers.proofs.Imports.{arith, asking_after, at_moment, between, both_true, by_test, chosen_log, chosen_state, client_state, client_step}
+use Rattle.law_answers.proofs.Imports.{client_turns, command_of, false, firm_in, firm_then, first_at_start, first_state, follows_in, front_on, history_grows}
+use Rattle.law_answers.proofs.Imports.{in_get, is_in, is_read, is_snap, is_witness, is_write, latest, length, length-append, lines_of, log_below, log_plain}
+use Rattle.law_answers.proofs.Imports.{log_steady, longer, may_answer, named, next_line, none_some, put_same, reacts, refl, refusal, same_numbers, same_some}
+use Rattle.law_answers.proofs.Imports.{setting_of, slice_get, state_after, state_at, stays_sent, step, stepped_in, subst, suc, sym, take, take-append_seam}
+use Rattle.law_answers.proofs.Imports.{true, true_false, verdict_for, zero, ℕ}
+use Rattle.law_answers.proofs.Lines.{IsOpenFor, open_for}
+use Rattle.law_answers.proofs.AnswersFitRequests.{verdict_said, cause_fits, read_may, refusal_fits, verdict_fits, write_may}
+use Rattle.law_answers.proofs.AnsweredOnce.{WasAnswered, was_answered}
 use Rattle.law_answers.specs.AskedCommands.{AreAsked, asker}
 use Rattle.law_answers.proofs.LinesHavePlaces.{line_at, one_client, one_place}
 use Rattle.law_answers.proofs.CommandsWereAsked.{commands_are_asked}
-use Rattle.law_answers.proofs.AnswersFitRequests.{cause_fits, read_may, refusal_fits, verdict_fits, write_may}
 use Rattle.law_answers.proofs.OldNumbersStayOld.{judged_low}
 use Rattle.law_answers.proofs.Verdicts.{has_at, judged_at_once, judged_first, judged_made, placed_before, placed_first}
 use Rattle.law_answers.proofs.RequestsStayDone.{plain_front}
@@ -52,15 +54,6 @@ no_command_write c seq (request.Disk name tuple) h = absurd (cc)
 no_command_write c seq (request.Snap name snap) h = absurd (cc)
 no_command_write c seq (request.Move name tuple) h = absurd (cc)
 no_command_write c seq _ h = refl
-
--- the open request is that of a line
-pub record IsOpenFor (lines : List Line) (c : ℕ) (asked : Asked) : Type 0 where
-  pub before : ℕ
-  pub line : Line
-  pub is : slice_get (lines_of lines c) before ≡ Some line
-  pub line_is : asked.line ≡ line.number
-  pub seq_is : asked.seq ≡ before + 1
-  pub request_is : asked.request ≡ line.request
 
 module _ (setting : Setting) (last : World) (plain : HasProperTuples setting.servers (chosen_log setting last))
     (commands : AreAsked setting.lines (chosen_log setting last)) where
@@ -187,47 +180,7 @@ module _ (setting : Setting) (last : World) (plain : HasProperTuples setting.ser
             fits = refusal_fits (state_after setting.servers upto) asked.saw_missing asked.request given so;
           }))
 
-  -- ### A step
-
-  pub record Kept (w : World) : Type 0 where
-    pub answers : (number : ℕ) (given : Answer) → In (number, given) w.answers → HasCause number given
-    pub open_for : (c : ℕ) (asked : Asked) → (w.clients c).asked ≡ Some asked → IsOpenFor setting.lines c asked
-    pub told : (c : ℕ) (asked : Asked) → (w.clients c).asked ≡ Some asked → asked.saw_missing ≡ true → WasTold last c asked.seq
-
-  -- what a client's step leaves and answers
-  record Reacted (c : ℕ) (reacted : Reaction) : Type 0 where
-    open_for : (asked : Asked) → reacted.client.asked ≡ Some asked → IsOpenFor setting.lines c asked
-    told : (asked : Asked) → reacted.client.asked ≡ Some asked → asked.saw_missing ≡ true → WasTold last c asked.seq
-    answered : (number : ℕ) (given : Answer) → reacted.answer ≡ Some (number, given) → HasCause number given
-
-  open_same : (rev c : ℕ) (old new : Asked) → IsSame rev old new → IsOpenFor setting.lines c old → IsOpenFor setting.lines c new
-  open_same rev c old new same o = record {
-    before = o.before;
-    line = o.line;
-    is = o.is;
-    line_is = same.line ∙ o.line_is;
-    seq_is = same.seq ∙ o.seq_is;
-    request_is = same.request ∙ o.request_is;
-  }
-
-  stays_open : (rev c : ℕ) (old new : Option Asked) → StaysOpen rev old new
-      → ((asked : Asked) → old ≡ Some asked → IsOpenFor setting.lines c asked) → (asked : Asked) → new ≡ Some asked → IsOpenFor setting.lines c asked
-  stays_open rev c None None stays before asked e = none_some refl e
-  stays_open rev c None (Some new) stays before asked e = absurd stays
-  stays_open rev c (Some old) None stays before asked e = none_some refl e
-  stays_open rev c (Some old) (Some new) stays before asked e =
-      subst (IsOpenFor setting.lines c) (same_some e) (open_same rev c old new stays (before old refl))
-
-  -- what was told of it stays so
-  stays_told : (rev c : ℕ) (old new : Option Asked) → StaysOpen rev old new
-      → ((asked : Asked) → old ≡ Some asked → asked.saw_missing ≡ true → WasTold last c asked.seq) → (asked : Asked) → new ≡ Some asked → asked.saw_missing ≡ true
-      → WasTold last c asked.seq
-  stays_told rev c None None stays before asked e told = none_some refl e
-  stays_told rev c None (Some new) stays before asked e told = absurd stays
-  stays_told rev c (Some old) None stays before asked e told = none_some refl e
-  stays_told rev c (Some old) (Some new) stays before asked e told =
-      let was : old.told ≡ true = sym stays.told ∙ ap (λ (a : Asked). a.saw_missing) (same_some e) ∙ told in
-      subst (λ (s : ℕ). WasTold last c s) (sym stays.seq ∙ ap (λ (a : Asked). a.seq) (same_some e)) (before old refl was)
+  -- ### A client's turn
 
   answer_given : (number line : ℕ) (given told : Answer) → (let pair : Option (ℕ × Answer) = Some (line, told) in pair) ≡ Some (number, given)
       → HasCause line told → HasCause number given
@@ -248,154 +201,46 @@ module _ (setting : Setting) (last : World) (plain : HasProperTuples setting.ser
   -- an answer that a glance gives needs no entry
   seen_cause : (state : State) (c : ℕ) (asked : Asked) (sight : Sight) (given : Answer) → IsSeenAs state asked sight given
       → CauseOf setting last c asked.seq asked.request (command_of c asked.seq asked.request) given
-  seen_cause state c asked sight given seen =
-      subst (λ a. CauseOf setting last c asked.seq asked.request (command_of c asked.seq asked.request) a) (sym (told seen).1)
-      (subst (λ r. CauseOf setting last c asked.seq r (command_of c asked.seq r) (told seen).0) (sym (asks seen).1) (none seen))
+  seen_cause state c asked sight given = by
     where
-      asks : IsSeenAs state asked sight given → (r : Request) × (asked.request ≡ r)
-      asks (Stops_it server is e) = (request.Stop server, is)
-      asks (Stops_at server at is e) = (request.StopAt server at, is)
-      asks (Fails_it server which kind at is e) = (request.Fault server which kind at, is)
-      asks (Starts_it server is e) = (request.Start server, is)
-      asks (Blanks_it server is e) = (request.Blank server, is)
-      asks (Has_no_space is full e) = (request.Settle, is)
-      asks (Is_settled is round seen all e) = (request.Settle, is)
+      so : (r : Request) (a : Answer) → asked.request ≡ r → given ≡ a → CauseOf setting last c asked.seq r (command_of c asked.seq r) a
+          → CauseOf setting last c asked.seq asked.request (command_of c asked.seq asked.request) given
+      so r a is e cause =
+          subst (λ a. CauseOf setting last c asked.seq asked.request (command_of c asked.seq asked.request) a) (sym e)
+          (subst (λ r. CauseOf setting last c asked.seq r (command_of c asked.seq r) a) (sym is) cause)
 
-      told : IsSeenAs state asked sight given → (a : Answer) × (given ≡ a)
-      told (Stops_it server is e) = (answer.Ok, e)
-      told (Stops_at server at is e) = (answer.Ok, e)
-      told (Fails_it server which kind at is e) = (answer.Ok, e)
-      told (Starts_it server is e) = ((if sight.running then answer.Ok else answer.Failed), e)
-      told (Blanks_it server is e) = ((if sight.running then answer.Ok else answer.Failed), e)
-      told (Has_no_space is full e) = (answer.NoSpace, e)
-      told (Is_settled is round seen all e) = (answer.Ok, e)
+      by : IsSeenAs state asked sight given → CauseOf setting last c asked.seq asked.request (command_of c asked.seq asked.request) given
+      by (Stops_it server is e) = so _ _ is e refl
+      by (Stops_at server at is e) = so _ _ is e refl
+      by (Fails_it server which kind at is e) = so _ _ is e refl
+      by (Starts_it server is e) = so _ _ is e
+          (by_test (CauseOf setting last c asked.seq (request.Start server) None) sight.running answer.Ok answer.Failed (λ t. refl) (λ t. refl))
+      by (Blanks_it server is e) = so _ _ is e
+          (by_test (CauseOf setting last c asked.seq (request.Blank server) None) sight.running answer.Ok answer.Failed (λ t. refl) (λ t. refl))
+      by (Has_no_space is full e) = so _ _ is e refl
+      by (Is_settled is round seen all e) = so _ _ is e refl
 
-      none : (s : IsSeenAs state asked sight given) → CauseOf setting last c asked.seq (asks s).0 (command_of c asked.seq (asks s).0) (told s).0
-      none (Stops_it server is e) = refl
-      none (Stops_at server at is e) = refl
-      none (Fails_it server which kind at is e) = refl
-      none (Starts_it server is e) =
-          by_test (CauseOf setting last c asked.seq (request.Start server) None) sight.running answer.Ok answer.Failed (λ t. refl) (λ t. refl)
-      none (Blanks_it server is e) =
-          by_test (CauseOf setting last c asked.seq (request.Blank server) None) sight.running answer.Ok answer.Failed (λ t. refl) (λ t. refl)
-      none (Has_no_space is full e) = refl
-      none (Is_settled is round seen all e) = refl
-
-  module _ (heard : ℕ → Body → Type 0) (c : ℕ) (hears : (rev seq : ℕ) → heard rev (body.NotHere seq) → WasTold last c seq) where
-    -- the same request, told that the new map has nothing
-    told_open : (asked : Asked) → IsOpenFor setting.lines c asked → IsOpenFor setting.lines c (record asked { saw_missing = true; old_way = true })
-    told_open asked o = record { before = o.before; line = o.line; is = o.is; line_is = o.line_is; seq_is = o.seq_is; request_is = o.request_is }
-
-    reacted_kept : (client : Client) (in_call : Bool) (reacted : Reaction)
-        → ((asked : Asked) → client.asked ≡ Some asked → IsOpenFor setting.lines c asked)
-        → ((asked : Asked) → client.asked ≡ Some asked → asked.saw_missing ≡ true → WasTold last c asked.seq)
-        → IsPrefix reacted.client.applied (chosen_log setting last) → Turned heard setting.servers setting.lines c client in_call reacted → Reacted c reacted
-    reacted_kept client _ _ before was part (Goes_on reacted seq stays says) = record {
-      open_for = stays_open _ c client.asked reacted.client.asked stays before;
-      told = stays_told _ c client.asked reacted.client.asked stays was;
-      answered = λ number given e. none_some says.unanswered e;
-    }
-    reacted_kept client _ _ before was part (Is_told reacted asked told is reads seq stays says) = record {
-      open_for = stays_open _ c _ reacted.client.asked stays (λ old e. subst (IsOpenFor setting.lines c) (same_some e) (told_open asked (before asked is)));
-      told = stays_told _ c _ reacted.client.asked stays
-          (λ old e t. subst (λ (a : Asked). WasTold last c a.seq) (same_some e) (hears asked.rev asked.seq told));
-      answered = λ number given e. none_some says.unanswered e;
-    }
-    reacted_kept client _ _ before was part (Begins reacted line asked next free seq now called says) = record {
-      open_for = λ other e. subst (IsOpenFor setting.lines c) (same_some (sym now ∙ e))
-          (let o : IsOpenFor setting.lines c asked = record {
-            before = client.seq;
-            line = line;
-            is = next;
-            line_is = called.line_is;
-            seq_is = called.seq_is;
-            request_is = called.request_is;
-          } in o);
-      told = λ other e t. true_false t (ap (λ (a : Asked). a.saw_missing) (same_some (sym e ∙ now)) ∙ called.untold);
-      answered = λ number given e. none_some says.unanswered e;
-    }
-    reacted_kept client _ _ before was part (Reads asked bytes told is read) = record {
-      open_for = λ other e. none_some refl e;
-      told = λ other e. none_some refl e;
-      answered = λ number given e.
-          answer_given number asked.line given (answer.Data bytes) e
-          (caused_by c asked (answer.Data bytes) (before asked is) (read_cause c asked.seq asked.request bytes read));
-    }
-    reacted_kept client _ _ before was part (Ends asked how told is write) = record {
-      open_for = λ other e. none_some refl e;
-      told = λ other e. none_some refl e;
-      answered = λ number given e.
-          answer_given number asked.line given (answer_of how) e
-          (caused_by c asked (answer_of how) (before asked is) (write_cause c asked.seq asked.request how write));
-    }
-    reacted_kept client _ _ before was part (Shown asked rev sight shown told is seen) = record {
-      open_for = λ other e. none_some refl e;
-      told = λ other e. none_some refl e;
-      answered = λ number given e.
-          answer_given number asked.line given shown e
-          (caused_by c asked shown (before asked is) (seen_cause _ c asked sight shown seen));
-    }
-    reacted_kept client _ _ before was part (Judges after asked told is gone seq judged) = record {
-      open_for = λ other e. none_some gone e;
-      told = λ other e. none_some gone e;
-      answered = λ number given e. answer_given number asked.line given told e
-          (judged_cause c client.applied after.applied asked told (before asked is) (was asked is) part judged);
-    }
-
-  more_answers : (given : Option (ℕ × Answer)) (so_far : List (ℕ × Answer)) → ((number : ℕ) (told : Answer) → In (number, told) so_far → HasCause number told)
-      → ((number : ℕ) (told : Answer) → given ≡ Some (number, told) → HasCause number told) → (number : ℕ) (told : Answer)
-      → In (number, told) (with_answer given so_far) → HasCause number told
-  unfolding In
-  more_answers None so_far before now number told h = before number told h
-  more_answers (Some given) so_far before now number told (inl is) = now number told (ap Some (sym is))
-  more_answers (Some given) so_far before now number told (inr h) = before number told h
-
-  pub step_keeps : (state : State) (w v : World) → Kept w → ((letter : Letter) → In letter w.sent → In letter last.sent)
-      → ((c : ℕ) → IsPrefix (v.clients c).applied (chosen_log setting last)) → Happens setting state w v
-      → Kept v
-  step_keeps state w _ kept sents parts (Serves n stamp what acted lt within unblanked serving) =
-      record { answers = kept.answers; open_for = kept.open_for; told = kept.told }
-  step_keeps state w _ kept sents parts (Blanks n stamp lt within rests) =
-      record { answers = kept.answers; open_for = kept.open_for; told = kept.told }
-  step_keeps state w _ kept sents parts (Turns c stamp in_call reacted lt small turned onward) =
-      let part : IsPrefix reacted.client.applied (chosen_log setting last) =
-      subst (λ (client : Client). IsPrefix client.applied (chosen_log setting last)) (put_same w.clients c reacted.client) (parts c) in
-      let hears : (rev seq : ℕ) → Heard w (actor.Client c) rev (body.NotHere seq) → WasTold last c seq =
-      λ rev seq h. record { letter = h.letter; sent = sents h.letter h.sent; to = h.own; is = h.is } in
-      let r = reacted_kept (Heard w (actor.Client c)) c hears (w.clients c) in_call reacted (kept.open_for c) (kept.told c) part turned in
-      record {
-        answers = more_answers reacted.answer w.answers kept.answers r.answered;
-        open_for = all_put w.clients c reacted.client
-            (λ k (client : Client). (asked : Asked) → client.asked ≡ Some asked → IsOpenFor setting.lines k asked) kept.open_for r.open_for;
-        told = all_put w.clients c reacted.client
-            (λ k (client : Client). (asked : Asked) → client.asked ≡ Some asked → asked.saw_missing ≡ true → WasTold last k asked.seq) kept.told r.told;
-      }
+  -- what a client answers has its cause
+  turn_caused : (heard : ℕ → Body → Type 0) (c : ℕ) (client : Client) (in_call : Bool) (reacted : Reaction)
+      → ((asked : Asked) → client.asked ≡ Some asked → IsOpenFor setting.lines c asked)
+      → ((asked : Asked) → client.asked ≡ Some asked → asked.saw_missing ≡ true → WasTold last c asked.seq)
+      → IsPrefix reacted.client.applied (chosen_log setting last) → Turned heard setting.servers setting.lines c client in_call reacted
+      → (number : ℕ) (given : Answer) → reacted.answer ≡ Some (number, given) → HasCause number given
+  turn_caused heard c client _ _ opened was part (Goes_on reacted seq stays says) number given e = none_some says.unanswered e
+  turn_caused heard c client _ _ opened was part (Is_told reacted asked told is reads seq stays says) number given e = none_some says.unanswered e
+  turn_caused heard c client _ _ opened was part (Begins reacted line asked next free seq now called says) number given e = none_some says.unanswered e
+  turn_caused heard c client _ _ opened was part (Reads asked bytes told is read) number given e =
+      answer_given number asked.line given (answer.Data bytes) e
+      (caused_by c asked (answer.Data bytes) (opened asked is) (read_cause c asked.seq asked.request bytes read))
+  turn_caused heard c client _ _ opened was part (Ends asked how told is write) number given e =
+      answer_given number asked.line given (answer_of how) e
+      (caused_by c asked (answer_of how) (opened asked is) (write_cause c asked.seq asked.request how write))
+  turn_caused heard c client _ _ opened was part (Shown asked rev sight shown told is seen) number given e =
+      answer_given number asked.line given shown e (caused_by c asked shown (opened asked is) (seen_cause _ c asked sight shown seen))
+  turn_caused heard c client _ _ opened was part (Judges after asked told is gone seq judged) number given e =
+      answer_given number asked.line given told e (judged_cause c client.applied after.applied asked told (opened asked is) (was asked is) part judged)
 
 -- ### Histories
-
--- in view of a world at which what the run has chosen stands at the front, and what it sent is sent
-abbrev KeptFor : Run → Type 0
-KeptFor run = (last : World) (plain : HasProperTuples run.script.servers (chosen_log (setting_in run) last))
-    (commands : AreAsked run.script.lines (chosen_log (setting_in run) last))
-    → IsPrefix (chosen_log (setting_in run) (after run)) (chosen_log (setting_in run) last)
-    → ((letter : Letter) → In letter (after run).sent → In letter last.sent) → Kept (setting_in run) last plain commands (after run)
-
-kept_in : (run : Run) → KeptFor run
-unfolding In
-kept_in =
-    by_run KeptFor
-    (λ script sound legal last plain commands upto sents. record {
-      answers = λ number told h. absurd h;
-      open_for = λ c asked e. none_some refl e;
-      told = λ c asked e. none_some refl e;
-    })
-    (λ it old last plain commands upto sents.
-    let setting = setting_in it.prior in
-    let state = chosen_state setting (after (longer it)) in
-    let before : (letter : Letter) → In letter (after it.prior).sent → In letter last.sent = λ letter i. sents letter (still_sent it letter i) in
-    step_keeps setting last plain commands state (after it.prior) (after (longer it))
-    (old last plain commands (front_on _ (chosen_log setting (after (longer it))) _ (grown_in it) upto) before) before
-    (λ c. front_on _ (chosen_log setting (after (longer it))) _ ((firm_in (longer it)).clients c) upto) (happened_in it state (below_itself state)))
 
 take_front : (log : List Command) (k : ℕ) → IsPrefix (take k log) log
 take_front [] zero = record { later = []; is = refl }
@@ -419,15 +264,43 @@ module _ (run : Run) where
   commands : AreAsked script.lines (chosen_log setting last)
   commands = commands_are_asked script records sound legal
 
-  kept_end : Kept setting last plain_end commands last
-  kept_end = kept_in run last plain_end commands (front_itself (chosen_log setting last)) (λ letter h. h)
+  module _ (number : ℕ) (given : Answer) (m : WasAnswered records (number, given)) where
+    abbrev it : OneMore
+    it = at_moment run m.moment
 
-  -- an open request is that of a line
-  pub open_after : (c : ℕ) (asked : Asked) → (last.clients c).asked ≡ Some asked → IsOpenFor script.lines c asked
-  open_after = kept_end.open_for
+    abbrev w : World
+    w = after it.prior
+
+    was_told : (c : ℕ) (asked : Asked) → (w.clients c).asked ≡ Some asked → asked.saw_missing ≡ true → WasTold last c asked.seq
+    was_told c asked e told =
+        let t = ((asking_after script m.front sound it.prior.legal).known.ways c asked e).told told in
+        record { letter = t.1.letter; sent = stays_sent run m.front (m.own ∷ m.following) m.is t.1.letter t.1.there; to = t.1.to; is = t.1.is }
+
+    by_step : (who : Actor) (what : Step) → MayActor who what setting w → Firm setting (step who what setting w m.own.stamp).world
+        → IsPrefix (chosen_log setting (step who what setting w m.own.stamp).world) (chosen_log setting last)
+        → (step who what setting w m.own.stamp).answer ≡ Some (number, given) → HasCause setting last plain_end commands number given
+    unfolding step
+    by_step (actor.Server n) what may firm grown e = none_some refl e
+    by_step (actor.Client c) what may firm grown e =
+        let reacted = client_step what (client_state setting w c) c (w.clients c) (next_line script.lines c (w.clients c)) in
+        let v = (reacts w c m.own.stamp reacted).world in
+        let applied = subst (λ (client : Client). IsPrefix client.applied (chosen_log setting v)) (put_same w.clients c reacted.client) (firm.clients c) in
+        turn_caused setting last plain_end commands (Heard w (actor.Client c)) c (w.clients c) _ reacted
+        (open_for script m.front sound it.prior.legal c) (was_told c) (front_on _ (chosen_log setting v) _ applied grown)
+        (client_turns setting w c what may.1).turned number given e
+
+    cause_of : HasCause setting last plain_end commands number given
+    cause_of =
+        by_step m.own.actor m.own.step (follows_in it).may.may (firm_then it)
+        (subst (λ (v : World). IsPrefix (chosen_log setting v) (chosen_log setting last)) (stepped_in it)
+        (history_grows script records sound legal (longer it).records m.following (m.is ∙ sym (append_assoc m.front (m.own ∷ []) m.following))))
+        (sym (follows_in it).answer ∙ m.answered)
+
+  has_cause : (number : ℕ) (given : Answer) → In (number, given) last.answers → HasCause setting last plain_end commands number given
+  has_cause number given i = cause_of number given (was_answered run (number, given) i)
 
   pub causes_after : AreRising script.lines → AreCaused setting last
-  causes_after rise line before given there told = by (kept_end.answers line.number given told)
+  causes_after rise line before given there told = by (has_cause line.number given told)
     where
       by : HasCause setting last plain_end commands line.number given
           → CauseOf setting last line.client (before + 1) line.request (command_of line.client (before + 1) line.request) given
@@ -445,7 +318,7 @@ module _ (run : Run) where
   pub fits_after : (line : Line) (given : Answer) → In line script.lines → In (line.number, given) last.answers
       → may_answer line.request given ≡ true
   fits_after line given there told =
-      let h = kept_end.answers line.number given told in
+      let h = has_cause line.number given told in
       let same : h.line ≡ line = sound.numbered h.line line (line_at script.lines h.client h.before h.line h.is).0 there h.number_is in
       subst (λ (l : Line). may_answer l.request given ≡ true) same
       (cause_fits setting last h.client (h.before + 1) h.line.request (command_of h.client (h.before + 1) h.line.request) given h.cause)
@@ -453,25 +326,16 @@ module _ (run : Run) where
   -- where every server still is In as its first incarnation, no answer is `Unavailable`
   pub never_unavailable_after : ((n : ℕ) → n < script.servers → is_in (chosen_state setting last) n 1 ≡ true) → (number : ℕ)
       → In (number, answer.Unavailable) last.answers → ⊥
-  never_unavailable_after ins number told = by (kept_end.answers number answer.Unavailable told)
+  never_unavailable_after ins number told = by (has_cause number answer.Unavailable told)
     where
-      verdicts : (v : Rattle.global_tables.specs.declared.disk.Verdict.Verdict) → verdict_answer v ≡ Some answer.Unavailable → ⊥
-      verdicts verdict.Ok e = absurd (cc)
-      verdicts verdict.Waiting e = absurd (cc)
-      verdicts verdict.Exists e = absurd (cc)
-      verdicts verdict.NoDisk e = absurd (cc)
-      verdicts verdict.Moving e = absurd (cc)
-
-      verdict_never : (seq : ℕ) (o : Option Latest) → verdict_for seq o ≡ Some answer.Unavailable → ⊥
-      verdict_never seq None e = absurd (cc)
-      verdict_never seq (Some row) e = test (row.seq == seq) e
-        where
-          test : (b : Bool) → (if b then verdict_answer row.verdict else None) ≡ Some answer.Unavailable → ⊥
-          test true e = verdicts row.verdict e
-          test false e = absurd (cc)
+      is_gone : Answer → Bool
+      is_gone answer.Unavailable = true
+      is_gone _ = false
 
       cause_never : (c seq : ℕ) (asked : Request) (o : Option Command) → CauseOf setting last c seq asked o answer.Unavailable → ⊥
-      cause_never c seq asked (Some command) h = verdict_never seq (latest (state_at setting last (h.judged + 1)) c) h.so
+      cause_never c seq asked (Some command) h =
+          true_false refl (verdict_said (λ g. is_gone g ≡ false) refl refl refl refl seq (latest (state_at setting last (h.judged + 1)) c)
+          answer.Unavailable h.so)
       cause_never c seq asked None h =
           let whole = chosen_log setting last in
           let front = take (h.place + 1) whole in

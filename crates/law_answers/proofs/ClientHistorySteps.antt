@@ -1,9 +1,9 @@
 -- A client's step of a history, as its open request, its letters and its answer see it.
-use Rattle.law_answers.proofs.Imports.{[], ◌+◌, ◌∙◌, ◌∷◌, ◌≡◌, ◌≤◌, Actor, Asked, Begins, Body, Bool, Call, Cell, Client, Deliver, Ends, Goes_on, Heard, In}
-use Rattle.law_answers.proofs.Imports.{IsAsked, Is_told, Judges, Letter, List, MayActor, MayClient, Reaction, Reads, Setting, Shown, Some, Step, Tick, Turned}
-use Rattle.law_answers.proofs.Imports.{Turning, World, ap, arith, client_sender, client_state, client_step, client_turns, false, front_long, inl, inr, is_ask}
-use Rattle.law_answers.proofs.Imports.{is_call, is_read, length, next_line, put_apart, put_same, reacts, refl, said, same_or_apart, state_after, step, subst}
-use Rattle.law_answers.proofs.Imports.{sym, true, true_false, turned_asks, ℕ}
+use Rattle.law_answers.proofs.Imports.{[], if◌then◌else◌, ◌+◌, ◌∙◌, ◌∷◌, ◌≡◌, ◌≤◌, Actor, Asked, Begins, Body, Bool, Call, Cell, Client, Deliver, Ends}
+use Rattle.law_answers.proofs.Imports.{Goes_on, Heard, In, IsAsked, Is_told, Judges, Letter, List, MayActor, MayClient, Reaction, Reads, Setting, Shown, Some}
+use Rattle.law_answers.proofs.Imports.{Step, Tick, Turned, Turning, World, ap, arith, client_sender, client_state, client_step, client_turns, false}
+use Rattle.law_answers.proofs.Imports.{front_long, inl, inr, is_ask, is_call, is_read, length, next_line, put_apart, put_same, reacts, refl, said}
+use Rattle.law_answers.proofs.Imports.{same_or_apart, state_after, step, subst, sym, true, true_false, turned_asks, ℕ}
 use Rattle.law_answers.proofs.ClientReadSteps.{As_before, Asks, HasWay, Is_called, Later, OnWay, Turns, Was_open, turned_answers, turned_asks_read}
 use Rattle.law_answers.proofs.ClientReadSteps.{turned_way}
 use Rattle.law_answers.proofs.OldMapByRevision.{Stays, heard_stays, tick_stays}
@@ -80,33 +80,25 @@ module _ (setting : Setting) (w : World) (c : ℕ) where
       (turned_way (H what) setting.lines c (w.clients c) new setting.servers (is_call what) (reacted_to what) t.turned (stays_so what may)
       (λ old e. let low = (asked old e).reached in omega arith) is)
 
-  -- its number never falls
-  seq_up : (in_call : Bool) (what : Step) (reacted : Reaction) → Turned (H what) setting.servers setting.lines c (w.clients c) in_call reacted
-      → (w.clients c).seq ≤ reacted.client.seq
-  seq_up _ what _ (Goes_on reacted same stays says) = omega arith
-  seq_up _ what _ (Is_told reacted asked told was reads same stays says) = omega arith
-  seq_up _ what _ (Begins reacted line asked next free same now called says) = omega arith
-  seq_up _ what _ (Reads asked bytes told was reads) = omega arith
-  seq_up _ what _ (Ends asked how told was writes) = omega arith
-  seq_up _ what _ (Shown asked rev sight given told was seen) = omega arith
-  seq_up _ what _ (Judges after asked given was gone same judged) = omega arith
+  -- its number is the next one after a call, and else stays
+  seq_is : (in_call : Bool) (what : Step) (reacted : Reaction) → Turned (H what) setting.servers setting.lines c (w.clients c) in_call reacted
+      → reacted.client.seq ≡ (w.clients c).seq + (if in_call then 1 else 0)
+  seq_is _ what _ (Goes_on reacted same stays says) = omega arith
+  seq_is _ what _ (Is_told reacted asked told was reads same stays says) = omega arith
+  seq_is _ what _ (Begins reacted line asked next free same now called says) = same
+  seq_is _ what _ (Reads asked bytes told was reads) = omega arith
+  seq_is _ what _ (Ends asked how told was writes) = omega arith
+  seq_is _ what _ (Shown asked rev sight given told was seen) = omega arith
+  seq_is _ what _ (Judges after asked given was gone same judged) = omega arith
 
-  -- a call has the next number
-  begun_seq : (in_call : Bool) (what : Step) (reacted : Reaction) → in_call ≡ true
-      → Turned (H what) setting.servers setting.lines c (w.clients c) in_call reacted → reacted.client.seq ≡ (w.clients c).seq + 1
-  begun_seq _ what _ e (Begins reacted line asked next free same now called says) = same
-  begun_seq _ what _ e (Goes_on reacted same stays says) = true_false e refl
-  begun_seq _ what _ e (Is_told reacted asked told was reads same stays says) = true_false e refl
-  begun_seq _ what _ e (Reads asked bytes told was reads) = true_false e refl
-  begun_seq _ what _ e (Ends asked how told was writes) = true_false e refl
-  begun_seq _ what _ e (Shown asked rev sight given told was seen) = true_false e refl
-  begun_seq _ what _ e (Judges after asked given was gone same judged) = true_false e refl
+  turned_seq : (what : Step) → MayClient what setting w c → (reacted_to what).client.seq ≡ (w.clients c).seq + (if is_call what then 1 else 0)
+  turned_seq what may = seq_is (is_call what) what (reacted_to what) (turns_so what may).turned
 
   pub call_seq : (number : ℕ) → MayClient (Call number) setting w c → (reacted_to (Call number)).client.seq ≡ (w.clients c).seq + 1
-  call_seq number may = begun_seq true (Call number) (reacted_to (Call number)) refl (turns_so (Call number) may).turned
+  call_seq number may = turned_seq (Call number) may
 
   own_seq : (what : Step) → MayClient what setting w c → (w.clients c).seq ≤ (reacted_to what).client.seq
-  own_seq what may = seq_up (is_call what) what (reacted_to what) (turns_so what may).turned
+  own_seq what may = let same = turned_seq what may in omega arith
 
   -- the letters that it sends for a read
   pub own_asks : (what : Step) → MayClient what setting w c → (stamp : ℕ) (letter : Letter) → In letter (reacts w c stamp (reacted_to what)).letters
@@ -141,8 +133,8 @@ module _ (setting : Setting) (w : World) (c : ℕ) where
   pub own_answers : (what : Step) → MayClient what setting w c → (number : ℕ) (bytes : List ℕ)
       → (reacted_to what).answer ≡ Some (number, answer.Data bytes) → IsAnswered what number bytes
   own_answers what may number bytes e =
-      let a = (turned_answers (H what) setting.servers setting.lines c (w.clients c) (is_call what) (reacted_to what) (turns_so what may).turned
-      number bytes e).0 in
+      let a = turned_answers (H what) setting.servers setting.lines c (w.clients c) (is_call what) (reacted_to what) (turns_so what may).turned
+      number bytes e in
       record { asked = a.asked; is = a.is; reads = a.reads; line_is = a.line_is; told = delivered what a.asked.rev (body.Data a.asked.seq bytes) a.told }
 
 -- ### Each step

@@ -1,11 +1,11 @@
 -- What a client's step makes of its open request, what it sends for a read, and which letter it answers with data.
-use Rattle.law_answers.proofs.Imports.{◌+◌, ◌<◌, ◌==◌, ◌||◌, ◌∙◌, ◌≡◌, ◌≤◌, A_read, A_write, Anew, Answer, As_it_was, Asked, Begins, Blanks_it, Body, Bool}
-use Rattle.law_answers.proofs.Imports.{By_verdict, By_witness, Cell, Client, Command, DiskView, Ending, Ends, Fails_it, Goes_on, Has_no_space, In, IsReason}
-use Rattle.law_answers.proofs.Imports.{IsSame, IsSeenAs, Is_settled, Is_told, Judges, Latest, Line, List, None, Of_the_log, Option, Post, Reaction, Reads}
-use Rattle.law_answers.proofs.Imports.{Request, Says, Shown, Sight, Some, Starts_it, State, StaysOpen, Stops_at, Stops_it, Turned, Verdict, WasSent}
-use Rattle.law_answers.proofs.Imports.{answer_of, ap, arith, by_bool, by_test, cell_asked, epoch_for, false, find, inl, inr, is_logged, is_read, is_some}
-use Rattle.law_answers.proofs.Imports.{is_unread, latest, lead, length, next_line, none_some, read_refusal, read_refusal_at, refl, refusal, same_or_apart}
-use Rattle.law_answers.proofs.Imports.{same_some, state_after, subject_of, subst, sym, true, true_false, verdict_answer, verdict_for, write_refusal, ℕ}
+use Rattle.law_answers.proofs.Imports.{◌+◌, ◌<◌, ◌∙◌, ◌≡◌, ◌≤◌, A_read, A_write, Anew, Answer, As_it_was, Asked, Begins, Blanks_it, Body, Bool, Cell, Client}
+use Rattle.law_answers.proofs.Imports.{DiskView, Ending, Ends, Fails_it, Goes_on, Has_no_space, In, IsSame, IsSeenAs, Is_settled, Is_told, Judges, Line, List}
+use Rattle.law_answers.proofs.Imports.{None, Of_the_log, Option, Post, Reaction, Reads, Says, Shown, Sight, Some, Starts_it, State, StaysOpen, Stops_at}
+use Rattle.law_answers.proofs.Imports.{Stops_it, Turned, answer_of, ap, arith, by_bool, by_test, cell_asked, false, find, inl, inr, is_logged, is_read}
+use Rattle.law_answers.proofs.Imports.{length, next_line, none_some, refl, same_or_apart, same_some, state_after, subject_of, subst, sym, true, true_false, ℕ}
+use Rattle.law_answers.proofs.AnswersFitRequests.{is_of_entry, reason_told}
+use Rattle.law_steps.specs.DidClient.{WasSent}
 use Rattle.law_answers.proofs.OldMapByRevision.{Stays}
 use Rattle.global_tables.specs.declared.disk.Verdict.TheVariants as verdict
 use Rattle.petal_msg.specs.declared.body.Body.TheVariants as body
@@ -140,49 +140,9 @@ abbrev is_data : Answer → Bool
 is_data (answer.Data bytes) = true
 is_data _ = false
 
-abbrev NoData : Option Answer → Type 0
-NoData o = (given : Answer) → o ≡ Some given → is_data given ≡ false
-
-no_data : (given : Answer) → is_data given ≡ false → NoData (Some given)
-no_data given none other e = ap is_data (sym (same_some e)) ∙ none
-
-none_given : NoData None
-none_given given e = none_some refl e
-
-verdict_no_data : (v : Verdict) → NoData (verdict_answer v)
-verdict_no_data verdict.Ok given e = no_data answer.Ok refl given e
-verdict_no_data verdict.Waiting given e = none_given given e
-verdict_no_data verdict.Exists given e = no_data answer.Exists refl given e
-verdict_no_data verdict.NoDisk given e = no_data answer.NoDisk refl given e
-verdict_no_data verdict.Moving given e = no_data answer.Moving refl given e
-
-latest_no_data : (seq : ℕ) (o : Option Latest) → NoData (verdict_for seq o)
-latest_no_data seq None = none_given
-latest_no_data seq (Some row) = by_test NoData (row.seq == seq) (verdict_answer row.verdict) None (λ t. verdict_no_data row.verdict) (λ f. none_given)
-
-refused_no_data : (state : State) (told : Bool) (asked : Request) → NoData (refusal state told asked)
-unfolding refusal
-refused_no_data state told (request.Write name block pattern) = by (find state name)
-  where
-    by : (o : Option DiskView) → NoData (write_refusal state o block)
-    by None = no_data answer.NoDisk refl
-    by (Some disk) = by_test NoData (is_some (lead state (cell_asked state disk block false))) None (Some answer.Unavailable) (λ t. none_given)
-        (λ f. no_data answer.Unavailable refl)
-refused_no_data state told (request.Read name snap block) = by (find state name)
-  where
-    at_epoch : (one other : Cell) (o : Option ℕ) → NoData (read_refusal_at state one other o)
-    at_epoch one other None = no_data answer.NoSnap refl
-    at_epoch one other (Some epoch) = by_test NoData (is_unread state one || is_unread state other) (Some answer.Unavailable) None
-        (λ t. no_data answer.Unavailable refl) (λ f. none_given)
-
-    by : (o : Option DiskView) → NoData (read_refusal state o snap block told)
-    by None = no_data answer.NoDisk refl
-    by (Some disk) = at_epoch (cell_asked state disk block false) (cell_asked state disk block told) (epoch_for state disk snap)
-refused_no_data state told _ = none_given
-
-reason_no_data : (c : ℕ) (asked : Asked) (given : Answer) (state : State) (entry : Command) → IsReason c asked given state entry → is_data given ≡ false
-reason_no_data c asked given state entry (By_verdict command own so) = latest_no_data asked.seq (latest state c) given so
-reason_no_data c asked given state entry (By_witness none is so) = refused_no_data state asked.saw_missing asked.request given so
+entry_no_data : (given : Answer) → is_of_entry given ≡ true → is_data given ≡ false
+entry_no_data (answer.Data bytes) e = true_false e refl
+entry_no_data _ e = refl
 
 seen_no_data : (state : State) (asked : Asked) (sight : Sight) (given : Answer) → IsSeenAs state asked sight given → is_data given ≡ false
 seen_no_data state asked sight given (Stops_it server is so) = ap is_data so
@@ -209,24 +169,22 @@ data_is one other e = cc
 
 pub turned_answers : (heard : ℕ → Body → Type 0) (servers : ℕ) (lines : List Line) (c : ℕ) (client : Client) (in_call : Bool) (reacted : Reaction)
     → Turned heard servers lines c client in_call reacted → (number : ℕ) (bytes : List ℕ) → reacted.answer ≡ Some (number, answer.Data bytes)
-    → AnswersRead heard client number bytes × (in_call ≡ false)
+    → AnswersRead heard client number bytes
 turned_answers heard servers lines c client _ _ (Goes_on reacted same stays says) number bytes e = none_some says.unanswered e
 turned_answers heard servers lines c client _ _ (Is_told reacted asked told was reads same stays says) number bytes e = none_some says.unanswered e
 turned_answers heard servers lines c client _ _ (Begins reacted line asked next free same now called says) number bytes e = none_some says.unanswered e
 turned_answers heard servers lines c client _ _ (Reads asked shown told was reads) number bytes e =
-    let both = same_some e in (
-      record {
-        asked = asked;
-        is = was;
-        reads = reads;
-        told = subst (λ bs. heard asked.rev (body.Data asked.seq bs)) (data_is shown bytes (ap (λ (x : ℕ × Answer). x.1) both)) told;
-        line_is = ap (λ (x : ℕ × Answer). x.0) both;
-      },
-      refl,
-    )
+    let both = same_some e in
+    record {
+      asked = asked;
+      is = was;
+      reads = reads;
+      told = subst (λ bs. heard asked.rev (body.Data asked.seq bs)) (data_is shown bytes (ap (λ (x : ℕ × Answer). x.1) both)) told;
+      line_is = ap (λ (x : ℕ × Answer). x.0) both;
+    }
 turned_answers heard servers lines c client _ _ (Ends asked how told was writes) number bytes e =
     other_answer asked.line number (answer_of how) bytes (ending_no_data how) e
 turned_answers heard servers lines c client _ _ (Shown asked rev sight given told was seen) number bytes e =
     other_answer asked.line number given bytes (seen_no_data _ asked sight given seen) e
 turned_answers heard servers lines c client _ _ (Judges after asked given was gone seq judged) number bytes e =
-    other_answer asked.line number given bytes (reason_no_data c asked given _ _ judged.reason) e
+    other_answer asked.line number given bytes (entry_no_data given (reason_told c asked given _ _ judged.reason)) e

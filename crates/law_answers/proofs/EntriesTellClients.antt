@@ -28,8 +28,16 @@ none_past s c high = ap (λ o. unwrap_or o None) (slice_get_past s.verdicts c hi
 many_told : (s : State) (d q : ℕ) (v : Verdict) → length (told s d q v).verdicts ≡ length s.verdicts
 many_told s d q v = length-set s.verdicts d (Some (record { seq = q; verdict = v }))
 
-told_itself : (s : State) (d c q : ℕ) (v : Verdict) → c ≡ d → c < length s.verdicts → latest (told s d q v) c ≡ Some (record { seq = q; verdict = v })
-told_itself s d c q v same low = subst (λ k. latest (told s k q v) c ≡ Some (record { seq = q; verdict = v })) same (told_here s c q v low)
+-- what a client was told last stays so, or it is the one that is told
+told_is : (s : State) (d c q : ℕ) (v : Verdict)
+    → (latest (told s d q v) c ≡ latest s c) ⊎ ((c ≡ d) × (latest (told s d q v) c ≡ Some (record { seq = q; verdict = v })))
+told_is s d c q v = elim (same_or_apart c d) [
+  | inr apart ↦ inl (told_beside s d c q v apart)
+  | inl same ↦ elim (cases_lt c (length s.verdicts)) [
+    | inl low ↦ inr (same, subst (λ k. latest (told s k q v) c ≡ Some (record { seq = q; verdict = v })) same (told_here s c q v low))
+    | inr high ↦ inl (none_past (told s d q v) c (let e = many_told s d q v in omega arith) ∙ sym (none_past s c high))
+  ]
+]
 
 -- who is told is answered so
 pub told_answers : (s : State) (c seq : ℕ) (v : Verdict) (given : Answer) → c < length s.verdicts → verdict_answer v ≡ Some given
@@ -48,12 +56,9 @@ told_now q seq v given h = by (q == seq) refl h
 -- what answers a client then answered it before, or it is the one that is told
 pub told_or : (s : State) (d c q seq : ℕ) (v : Verdict) (given : Answer) → verdict_for seq (latest (told s d q v) c) ≡ Some given
     → (verdict_for seq (latest s c) ≡ Some given) ⊎ ((d ≡ c) × (q ≡ seq) × (verdict_answer v ≡ Some given))
-told_or s d c q seq v given h = elim (same_or_apart c d) [
-  | inr apart ↦ inl (sym (ap (verdict_for seq) (told_beside s d c q v apart)) ∙ h)
-  | inl same ↦ elim (cases_lt c (length s.verdicts)) [
-    | inl low ↦ (let both = told_now q seq v given (sym (ap (verdict_for seq) (told_itself s d c q v same low)) ∙ h) in inr (sym same, both.0, both.1))
-    | inr high ↦ none_some (ap (verdict_for seq) (none_past (told s d q v) c (let e = many_told s d q v in omega arith))) h
-  ]
+told_or s d c q seq v given h = elim (told_is s d c q v) [
+  | inl e ↦ inl (sym (ap (verdict_for seq) e) ∙ h)
+  | inr now ↦ (let both = told_now q seq v given (sym (ap (verdict_for seq) now.1) ∙ h) in inr (sym now.0, both.0, both.1))
 ]
 
 not_below : (q r : ℕ) → r ≤ q → nat_lt q r ≡ false
@@ -90,25 +95,18 @@ onward_same : (q : ℕ) (last : Latest) → (last.seq == q) ≡ true → (r : �
 onward_same q last same r old = grind (arith, nat_tests)
 
 pub told_old : (s : State) (d c q seq : ℕ) (v : Verdict) → IsOnward s d q → is_new seq (latest s c) ≡ false → is_new seq (latest (told s d q v) c) ≡ false
-told_old s d c q seq v onward old = elim (same_or_apart c d) [
-  | inr apart ↦ ap (is_new seq) (told_beside s d c q v apart) ∙ old
-  | inl same ↦ elim (cases_lt c (length s.verdicts)) [
-    | inl low ↦ ap (is_new seq) (told_itself s d c q v same low)
-        ∙ not_below q seq (onward seq (ap (λ k. is_new seq (latest s k)) (sym same) ∙ old))
-    | inr high ↦ true_false (ap (is_new seq) (none_past s c high)) old
-  ]
+told_old s d c q seq v onward old = elim (told_is s d c q v) [
+  | inl e ↦ ap (is_new seq) e ∙ old
+  | inr now ↦ ap (is_new seq) now.1 ∙ not_below q seq (onward seq (ap (λ k. is_new seq (latest s k)) (sym now.0) ∙ old))
 ]
 
 -- what answers a client goes on to, until a later command of its own tells it
 pub told_stays : (s : State) (d c q seq : ℕ) (v : Verdict) (given : Answer) → is_new q (latest s d) ≡ true → verdict_for seq (latest s c) ≡ Some given
     → (verdict_for seq (latest (told s d q v) c) ≡ Some given) ⊎ (is_new (suc seq) (latest (told s d q v) c) ≡ false)
-told_stays s d c q seq v given new h = elim (same_or_apart c d) [
-  | inr apart ↦ inl (ap (verdict_for seq) (told_beside s d c q v apart) ∙ h)
-  | inl same ↦ elim (cases_lt c (length s.verdicts)) [
-    | inl low ↦ inr (ap (is_new (suc seq)) (told_itself s d c q v same low)
-        ∙ not_below q (suc seq) (later_than seq q (latest s c) given h (ap (λ k. is_new q (latest s k)) same ∙ new)))
-    | inr high ↦ none_some (ap (verdict_for seq) (none_past s c high)) h
-  ]
+told_stays s d c q seq v given new h = elim (told_is s d c q v) [
+  | inl e ↦ inl (ap (verdict_for seq) e ∙ h)
+  | inr now ↦ inr (ap (is_new (suc seq)) now.1
+      ∙ not_below q (suc seq) (later_than seq q (latest s c) given h (ap (λ k. is_new q (latest s k)) now.0 ∙ new)))
 ]
 
 -- ### What a command comes to
@@ -158,17 +156,14 @@ pub passed_stays : (s : State) (fence : Fence) (disk : ℕ) (name : List ℕ) (d
 passed_stays s fence disk name d c q seq given kind ok h =
     subst (λ k. verdict_for seq (latest (effect k (record s { view = passed s.view })) c) ≡ Some given) (sym kind)
     (passes (λ (t : State). verdict_for seq (latest t c) ≡ Some given) s disk name d q h
-    (λ last is same. elim (same_or_apart c d) [
-      | inr apart ↦ ap (verdict_for seq) (told_beside t d c q verdict.Ok apart) ∙ h
-      | inl one ↦ elim (cases_lt c (length s.verdicts)) [
-        | inl low ↦
-            let seq_is = judged_seq seq last given (ap (verdict_for seq) (sym (ap (latest s) one ∙ is)) ∙ h) in
-            let number : q ≡ seq = sym (same_numbers last.seq q same) ∙ seq_is in
-            ap (verdict_for seq) (told_itself t d c q verdict.Ok one low)
-            ∙ (λ i. if number i == seq then Some answer.Ok else None) ∙ (λ i. if number_itself seq i then Some answer.Ok else None)
-            ∙ ap Some (sym (ok (sym one) number))
-        | inr high ↦ none_some (ap (verdict_for seq) (none_past s c high)) h
-      ]
+    (λ last is same. elim (told_is t d c q verdict.Ok) [
+      | inl e ↦ ap (verdict_for seq) e ∙ h
+      | inr now ↦
+          let seq_is = judged_seq seq last given (ap (verdict_for seq) (sym (ap (latest s) now.0 ∙ is)) ∙ h) in
+          let number : q ≡ seq = sym (same_numbers last.seq q same) ∙ seq_is in
+          ap (verdict_for seq) now.1
+          ∙ (λ i. if number i == seq then Some answer.Ok else None) ∙ (λ i. if number_itself seq i then Some answer.Ok else None)
+          ∙ ap Some (sym (ok (sym now.0) number))
     ]))
   where
     t : State
@@ -246,7 +241,9 @@ passed_old s fence c seq old =
 
 -- what is told a client of this number is then old
 pub old_now : (s : State) (d c q seq : ℕ) (v : Verdict) → d ≡ c → q ≡ seq → c < length s.verdicts → is_new seq (latest (told s d q v) c) ≡ false
-old_now s d c q seq v same number low = ap (is_new seq) (told_itself s d c q v (sym same) low) ∙ not_below q seq (omega arith)
+old_now s d c q seq v same number low =
+    ap (is_new seq) (subst (λ k. latest (told s k q v) c ≡ Some (record { seq = q; verdict = v })) (sym same) (told_here s c q v low))
+    ∙ not_below q seq (omega arith)
 
 -- the client and number of a request's command
 asked_by : (d q c seq : ℕ) → (let pair : Option (ℕ × ℕ) = Some (d, q) in pair) ≡ Some (c, seq) → (d ≡ c) × (q ≡ seq)

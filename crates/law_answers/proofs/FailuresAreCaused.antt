@@ -1,11 +1,10 @@
 -- Which answers are `failed`, what answers a line that names a server, and why a boot leaves its server stopped.
-use Rattle.law_answers.proofs.Imports.{if◌then◌else◌, ◌==◌, ◌||◌, ◌∙◌, ◌≡◌, ◌≢◌, ◌⊎◌, Acted, Answer, Asked, Blanks_it, Bool, Boot, Booted, By_verdict}
-use Rattle.law_answers.proofs.Imports.{By_witness, Cell, Command, Deed, DiskView, Ending, Fails_it, Has_no_space, IsDone, IsReason, IsSeenAs, Is_settled}
-use Rattle.law_answers.proofs.Imports.{JobContext, Latest, List, None, Option, Request, Shown_by, Some, Starts_it, State, Stops_at, Stops_it, Verdict}
-use Rattle.law_answers.proofs.Imports.{WorkEnd, World, answer_of, ap, awake, boots, by_test, cell_asked, command_of, epoch_for, false, find, inl, inr}
-use Rattle.law_answers.proofs.Imports.{is_overfull, is_read, is_some, is_unread, is_write, latest, lead, names, none_some, raised, read_refusal}
-use Rattle.law_answers.proofs.Imports.{read_refusal_at, refl, refusal, same_some, stays, subst, sym, true, true_false, verdict_answer, verdict_for, wakes}
-use Rattle.law_answers.proofs.Imports.{write_refusal, ℕ}
+use Rattle.law_answers.proofs.Imports.{if◌then◌else◌, ◌∙◌, ◌≡◌, ◌≢◌, ◌⊎◌, Acted, Answer, Asked, Blanks_it, Bool, Boot, Booted, By_verdict, By_witness}
+use Rattle.law_answers.proofs.Imports.{Command, Deed, Ending, Fails_it, Has_no_space, IsDone, IsReason, IsSeenAs, Is_settled, JobContext, Option, Request}
+use Rattle.law_answers.proofs.Imports.{Shown_by, Some, Starts_it, State, Stops_at, Stops_it, WorkEnd, World, answer_of, ap, awake, boots, by_test, command_of}
+use Rattle.law_answers.proofs.Imports.{false, inl, inr, is_overfull, is_read, is_write, names, none_some, raised, refl, refusal, same_some, stays, subst, sym}
+use Rattle.law_answers.proofs.Imports.{true, true_false, wakes, ℕ}
+use Rattle.law_answers.proofs.AnswersFitRequests.{is_of_entry, reason_told}
 use Rattle.law_answers.specs.FailureCauses.{IsReasonToFail, Device_failed, Journal_full}
 use Rattle.law_answers.specs.Glances.{Tells}
 use Rattle.law_answers.specs.Lines.{AsksToBoot}
@@ -38,47 +37,13 @@ seen_failed state asked sight (Blanks_it server is e) = where_it_runs asked.requ
 seen_failed state asked sight (Has_no_space is full e) = let f : answer.Failed ≡ answer.NoSpace = e in absurd (cc)
 seen_failed state asked sight (Is_settled is round seen all e) = let f : answer.Failed ≡ answer.Ok = e in absurd (cc)
 
-verdict_not : (v : Verdict) → verdict_answer v ≢ Some answer.Failed
-verdict_not verdict.Ok e = absurd (cc)
-verdict_not verdict.Waiting e = absurd (cc)
-verdict_not verdict.Exists e = absurd (cc)
-verdict_not verdict.NoDisk e = absurd (cc)
-verdict_not verdict.Moving e = absurd (cc)
-
-verdict_for_not : (seq : ℕ) (o : Option Latest) → verdict_for seq o ≢ Some answer.Failed
-verdict_for_not seq None = λ e. absurd (cc)
-verdict_for_not seq (Some row) = by_test (λ o. o ≢ Some answer.Failed) (row.seq == seq) _ _ (λ t. verdict_not row.verdict) (λ t e. absurd (cc))
-
-write_not : (state : State) (o : Option DiskView) (block : ℕ) → write_refusal state o block ≢ Some answer.Failed
-write_not state None block = λ e. absurd (cc)
-write_not state (Some disk) block =
-    by_test (λ o. o ≢ Some answer.Failed) (is_some (lead state (cell_asked state disk block false))) _ _ (λ t e. absurd (cc)) (λ t e. absurd (cc))
-
-read_at_not : (state : State) (cell old : Cell) (o : Option ℕ) → read_refusal_at state cell old o ≢ Some answer.Failed
-read_at_not state cell old None = λ e. absurd (cc)
-read_at_not state cell old (Some epoch) =
-    by_test (λ o. o ≢ Some answer.Failed) (is_unread state cell || is_unread state old) _ _ (λ t e. absurd (cc)) (λ t e. absurd (cc))
-
-read_not : (state : State) (o : Option DiskView) (snap : Option (List ℕ)) (block : ℕ) (told : Bool)
-    → read_refusal state o snap block told ≢ Some answer.Failed
-read_not state None snap block told = λ e. absurd (cc)
-read_not state (Some disk) snap block told =
-    read_at_not state (cell_asked state disk block false) (cell_asked state disk block told) (epoch_for state disk snap)
-
-refusal_not : (state : State) (told : Bool) (asked : Request) → refusal state told asked ≢ Some answer.Failed
-unfolding refusal
-refusal_not state told (request.Write name block pattern) = write_not state (find state name) block
-refusal_not state told (request.Read name snap block) = read_not state (find state name) snap block told
-refusal_not state told _ = λ e. absurd (cc)
-
 pub ending_not : (how : Ending) → answer_of how ≢ answer.Failed
 ending_not ending.Written e = absurd (cc)
 ending_not ending.Full e = absurd (cc)
 
 pub reason_not : (c : ℕ) (asked : Asked) (given : Answer) (state : State) (entry : Command) → given ≡ answer.Failed
     → IsReason c asked given state entry → ⊥
-reason_not c asked given state entry e (By_verdict command own so) = verdict_for_not asked.seq (latest state c) (so ∙ ap Some e)
-reason_not c asked given state entry e (By_witness none is so) = refusal_not state asked.saw_missing asked.request (so ∙ ap Some e)
+reason_not c asked given state entry e reason = true_false (reason_told c asked given state entry reason) (ap is_of_entry e)
 
 -- ### What answers a line that names a server
 

@@ -1,20 +1,21 @@
 -- What the lines that name a server are answered by: each by its own glance, which tells what it saw. And why a start or a blank
 -- fails: its glance comes right after the boot that its line gave, and finds the server stopped.
-use Rattle.law_answers.proofs.Imports.{[], ◌++◌, ◌+◌, ◌<◌, ◌==◌, ◌∙◌, ◌∷◌, ◌≡◌, ◌≢◌, ◌⊎◌, Actor, Answer, AreRising, AreSteps, Arm, Asked, Begins, Blank}
+use Rattle.law_answers.proofs.Imports.{[], ◌++◌, ◌+◌, ◌<◌, ◌==◌, ◌∙◌, ◌∷◌, ◌≡◌, ◌≢◌, ◌≤◌, Actor, Answer, AreRising, AreSteps, Arm, Asked, Begins, Blank}
 use Rattle.law_answers.proofs.Imports.{Blanked, Bool, Boot, Booted, Call, Client, Control, Deed, Deliver, Ends, Glance, Goes_on, Heard, In, IsDone, IsFree}
-use Rattle.law_answers.proofs.Imports.{IsGlanceDue, IsMoment, IsSame, IsSeenAs, IsSettleGlance, IsSound, Is_told, Judges, Letter, Line, List, MayActor}
+use Rattle.law_answers.proofs.Imports.{IsGlanceDue, IsMoment, IsSeenAs, IsSettleGlance, IsSound, Is_told, Judges, Letter, Line, List, MayActor}
 use Rattle.law_answers.proofs.Imports.{MayGlance, MayServer, None, Option, Reaction, Reads, Record, Script, Server, Setting, Shown, Some, StaysOpen, Step}
-use Rattle.law_answers.proofs.Imports.{Stop, StopIn, Stopped, Tick, Turned, Work, WorkEnd, World, acts, all_put, ap, append-nil, append_assoc, arith, by_test}
-use Rattle.law_answers.proofs.Imports.{client_state, client_step, client_turns, controls, false, front_legal, glanced_in, here_of, in-append, inl, inr}
-use Rattle.law_answers.proofs.Imports.{lines_of, names, next_line, none_some, operator, put_apart, put_same, reacts, refl, same_numbers, same_some}
-use Rattle.law_answers.proofs.Imports.{server_state, server_step, setting_of, shown, slice_get, start, stays, step, subst, sym, true, true_false, with_answer}
-use Rattle.law_answers.proofs.Imports.{world_after, world_more, ℕ}
+use Rattle.law_answers.proofs.Imports.{Stop, StopIn, Stopped, Tick, Turned, Work, WorkEnd, World, acts, all_put, answer_of, ap, append-nil, append_assoc}
+use Rattle.law_answers.proofs.Imports.{arith, by_test, client_state, client_step, client_turns, controls, false, front_legal, glanced_in, here_of, in-append}
+use Rattle.law_answers.proofs.Imports.{inl, inr, lines_of, names, next_line, none_some, operator, put_apart, put_same, reacts, refl, same_numbers, same_some}
+use Rattle.law_answers.proofs.Imports.{server_state, server_step, setting_of, shown, slice_get, start, stays, step, subst, sym, true, true_false, world_after}
+use Rattle.law_answers.proofs.Imports.{world_more, ℕ}
+use Rattle.law_answers.proofs.Lines.{open_last, IsOpenFor, asks_to_boot, line_of, open_for}
+use Rattle.law_answers.proofs.ClientHistorySteps.{step_seq}
+use Rattle.law_answers.proofs.AnsweredOnce.{in_answers, pair_is}
 use Rattle.law_answers.proofs.LinesHavePlaces.{line_at, one_place}
 use Rattle.law_answers.specs.FailureCauses.{IsReasonToFail, HasReasonToFail}
 use Rattle.law_answers.specs.Glances.{IsGlance, Tells}
 use Rattle.law_answers.specs.Lines.{AsksToBoot}
-use Rattle.law_answers.proofs.AnswersAreCaused.{IsOpenFor}
-use Rattle.law_answers.proofs.Lines.{asks_to_boot, line_of, open_for}
 use Rattle.law_answers.proofs.LettersMuteOfRevisions.{IsMute, is_mute}
 use Rattle.law_answers.proofs.WhatLettersSay.{Mute, Rev, Sight, server_says, client_says}
 use Rattle.law_answers.proofs.FailuresAreCaused.{seen_failed, ending_not, reason_not, not_read, not_written, not_judged, glanced_at, AnsweredAs, seen_as}
@@ -78,7 +79,6 @@ module _ (script : Script) (records : List Record) (sound : IsSound script) (ris
     shows : (letter : Letter) (line round : ℕ) (running : Bool) (inc : ℕ) (full : Bool) → In letter w.sent
         → letter.body ≡ body.Seen line round running inc full → IsShown w letter line running
     hand : (n : ℕ) → w.control.hand ≡ Some (n, Booted) → IsBooted w n
-    newest : (c : ℕ) (asked : Asked) → (w.clients c).asked ≡ Some asked → asked.seq ≡ (w.clients c).seq
     answers : (number : ℕ) (given : Answer) → In (number, given) w.answers → IsSeen number given
 
   -- ### One step
@@ -93,6 +93,9 @@ module _ (script : Script) (records : List Record) (sound : IsSound script) (ris
 
     opened : (c : ℕ) (asked : Asked) → (w.clients c).asked ≡ Some asked → IsOpenFor lines c asked
     opened = open_for script front sound front_is_legal
+
+    newest : (c : ℕ) (asked : Asked) → (w.clients c).asked ≡ Some asked → asked.seq ≡ (w.clients c).seq
+    newest = open_last script front sound front_is_legal
 
     -- ### A server's step
 
@@ -126,7 +129,7 @@ module _ (script : Script) (records : List Record) (sound : IsSound script) (ris
         → IsShown w letter number running → IsShown (served n what) letter number running
     old_shown n (Glance l r) (inl may) letter number running s =
         let o = opened operator may.asked may.opened.is in
-        let newest = kept.newest operator may.asked may.opened.is in
+        let last = newest operator may.asked may.opened.is in
         let at = o.seq_is in
         shown_on (served n (Glance l r)) refl letter number running s (λ k named e.
         let place : s.place ≡ o.before = omega arith in
@@ -150,7 +153,7 @@ module _ (script : Script) (records : List Record) (sound : IsSound script) (ris
         → IsShown (served n (Glance l r)) letter line running
     new_due n l r who does may letter line running to same runs =
         let o = opened operator may.asked may.opened.is in
-        let newest = kept.newest operator may.asked may.opened.is in
+        let last = newest operator may.asked may.opened.is in
         let at = o.seq_is in
         let done = subst (λ q. IsDone q n (w.servers n).life.running w.control.hand) o.request_is may.done in
         record {
@@ -302,18 +305,10 @@ module _ (script : Script) (records : List Record) (sound : IsSound script) (ris
     server_keeps n what who does may = record {
       shows = server_shows n what who does may;
       hand = server_hand n what who does may;
-      newest = kept.newest;
       answers = kept.answers;
     }
 
     -- ### A client's step
-
-    kept_open : (rev : ℕ) (old new : Option Asked) → StaysOpen rev old new → (now : Asked) → new ≡ Some now
-        → (asked : Asked) × (old ≡ Some asked) × IsSame rev asked now
-    kept_open rev None None stays now e = none_some refl e
-    kept_open rev None (Some new) stays now e = absurd stays
-    kept_open rev (Some old) None stays now e = absurd stays
-    kept_open rev (Some old) (Some new) stays now e = (old, refl, subst (IsSame rev old) (same_some e) stays)
 
     -- the request is still open
     record StillOpen (asked : Asked) (client : Client) : Type 0 where
@@ -332,19 +327,15 @@ module _ (script : Script) (records : List Record) (sound : IsSound script) (ris
         by None is none = absurd none
         by (Some now) is same = record { now = now; is = is; line = same.line; request = same.request }
 
-    -- a client goes on, and a line that names a server stays open as long as that was not glanced at
-    record Goes (old new : Client) : Type 0 where
-      seq : (new.seq ≡ old.seq) ⊎ (new.seq ≡ old.seq + 1)
-      newest : (asked : Asked) → new.asked ≡ Some asked → asked.seq ≡ new.seq
-      stays : (asked : Asked) (n : ℕ) → old.asked ≡ Some asked → (names asked.request).server ≡ Some n → w.control.glanced ≢ Some asked.line
-          → StillOpen asked new
+    -- a line that names a server stays open as long as that was not glanced at
+    abbrev Stays : Client → Client → Type 0
+    Stays old new = (asked : Asked) (n : ℕ) → old.asked ≡ Some asked → (names asked.request).server ≡ Some n → w.control.glanced ≢ Some asked.line
+        → StillOpen asked new
 
-    goes_itself : (c : ℕ) → Goes (w.clients c) (w.clients c)
-    goes_itself c = record {
-      seq = inl refl;
-      newest = kept.newest c;
-      stays = λ asked n is named fresh. record { now = asked; is = is; line = refl; request = refl };
-    }
+    -- a client goes on, and what it answers is seen
+    record IsTurned (old : Client) (reacted : Reaction) : Type 0 where
+      stays : Stays old reacted.client
+      seen : (number : ℕ) (given : Answer) → reacted.answer ≡ Some (number, given) → IsSeen number given
 
     -- a client hears of its open line only once that was glanced at: so it is the operator, and the line the last that it called
     record IsOwn (letter : Letter) (c : ℕ) (asked : Asked) (running : Bool) : Type 0 where
@@ -359,7 +350,7 @@ module _ (script : Script) (records : List Record) (sound : IsSound script) (ris
     heard_own c asked rev round running inc full told is =
         let s = kept.shows told.letter asked.line round running inc full told.sent told.is in
         let o = opened c asked is in
-        let newest = kept.newest c asked is in
+        let last = newest c asked is in
         let at = o.seq_is in
         let to : actor.Client c ≡ actor.Client operator = sym told.own ∙ s.to in
         let same : c ≡ operator = cc in
@@ -380,19 +371,18 @@ module _ (script : Script) (records : List Record) (sound : IsSound script) (ris
         }
 
     -- what was shown stays so
-    shown_later : (v : World) → Goes (w.clients operator) (v.clients operator) → v.control ≡ w.control → (letter : Letter) (number : ℕ)
+    shown_later : (v : World) → (w.clients operator).seq ≤ (v.clients operator).seq → v.control ≡ w.control → (letter : Letter) (number : ℕ)
         (running : Bool) → IsShown w letter number running → IsShown v letter number running
-    shown_later v g same letter number running s =
+    shown_later v up same letter number running s =
         let called = s.called in
         record {
           to = s.to;
           place = s.place;
           of = s.of;
-          called = elim g.seq [ inl e ↦ omega arith | inr e ↦ omega arith ];
-          last = λ n named at. elim g.seq [
-            | inl e ↦ ap (λ (control : Control). control.glanced) same ∙ s.last n named (at ∙ e)
-            | inr e ↦ absurd (omega arith)
-          ];
+          called = omega arith;
+          last = λ n named at.
+              let still : (v.clients operator).seq ≡ (w.clients operator).seq = omega arith in
+              ap (λ (control : Control). control.glanced) same ∙ s.last n named (at ∙ still);
           fails = s.fails;
           glance = s.glance;
         }
@@ -405,53 +395,6 @@ module _ (script : Script) (records : List Record) (sound : IsSound script) (ris
           → (names asked.request).server ≡ Some n
       same_named asked other n is there named = ap (λ (x : Asked). (names x.request).server) (same_some (sym is ∙ there)) ∙ named
 
-      turned_goes : (in_call : Bool) (reacted : Reaction) → Turned (Heard w (actor.Client c)) setting.servers lines c client in_call reacted
-          → Goes client reacted.client
-      turned_goes _ _ (Goes_on reacted seq stays says) = record {
-        seq = inl seq;
-        newest = λ now e. let o = kept_open _ client.asked reacted.client.asked stays now e in o.2.seq ∙ kept.newest c o.0 o.1 ∙ sym seq;
-        stays = λ asked n is named fresh. still_open _ client.asked reacted.client stays asked is;
-      }
-      turned_goes _ _ (Is_told reacted asked told is read seq stays says) = record {
-        seq = inl seq;
-        newest = λ now e.
-            let o = kept_open _ (Some (record asked { saw_missing = true; old_way = true })) reacted.client.asked stays now e in
-            o.2.seq ∙ ap (λ (x : Asked). x.seq) (same_some (sym o.1)) ∙ kept.newest c asked is ∙ sym seq;
-        stays = λ other n there named fresh. absurd (not_read asked.request n (same_named asked other n is there named) read);
-      }
-      turned_goes _ _ (Begins reacted line asked next free seq now called says) = record {
-        seq = inr seq;
-        newest = λ new e. sym (ap (λ (x : Asked). x.seq) (same_some (sym now ∙ e))) ∙ called.seq_is ∙ sym seq;
-        stays = λ asked n is named fresh. none_some free is;
-      }
-      turned_goes _ _ (Reads asked bytes told is read) = record {
-        seq = inl refl;
-        newest = λ now e. none_some refl e;
-        stays = λ other n there named fresh. absurd (not_read asked.request n (same_named asked other n is there named) read);
-      }
-      turned_goes _ _ (Ends asked how told is write) = record {
-        seq = inl refl;
-        newest = λ now e. none_some refl e;
-        stays = λ other n there named fresh. absurd (not_written asked.request n (same_named asked other n is there named) write);
-      }
-      turned_goes _ _ (Shown asked rev sight given told is seen) = record {
-        seq = inl refl;
-        newest = λ now e. none_some refl e;
-        stays = λ other n there named fresh.
-            let h = heard_own c asked rev sight.round sight.running sight.inc sight.full told is in
-            absurd (fresh (h.glanced n (same_named asked other n is there named)
-            ∙ ap (λ (x : Asked). Some x.line) (same_some (sym is ∙ there))));
-      }
-      turned_goes _ _ (Judges after asked given is gone seq judged) = record {
-        seq = inl seq;
-        newest = λ now e. none_some gone e;
-        stays = λ other n there named fresh. absurd (not_judged c asked n given _ _ (same_named asked other n is there named) judged.reason);
-      }
-
-      pair_is : {line number : ℕ} {given told : Answer} → (let o : Option (ℕ × Answer) = Some (line, given) in o) ≡ Some (number, told)
-          → (line ≡ number) × (given ≡ told)
-      pair_is e = let f = same_some e in (ap (λ (x : ℕ × Answer). x.0) f, ap (λ (x : ℕ × Answer). x.1) f)
-
       -- the open request is that of the line of its number, and names the server that the line does
       asks_of : (asked : Asked) → client.asked ≡ Some asked → (line : Line) (n : ℕ) → In line lines → line.number ≡ asked.line
           → (names line.request).server ≡ Some n → (names asked.request).server ≡ Some n
@@ -460,68 +403,74 @@ module _ (script : Script) (records : List Record) (sound : IsSound script) (ris
           let same : o.line ≡ line = sound.numbered o.line line (line_at lines c o.before o.line o.is).0 there (sym o.line_is ∙ sym at) in
           ap (λ r. (names r).server) (o.request_is ∙ ap (λ (x : Line). x.request) same) ∙ named
 
-      -- where the open request names no server
-      unnamed : (asked : Asked) → client.asked ≡ Some asked → (number : ℕ) (given : Answer) → asked.line ≡ number → given ≢ answer.Failed
-          → ((n : ℕ) → (names asked.request).server ≡ Some n → ⊥) → IsSeen number given
-      unnamed asked is number given at well none = record {
-        fails = λ failed. absurd (well failed);
-        glance = λ line n there same named. absurd (none n (asks_of asked is line n there (same ∙ sym at) named));
+      silent : (reacted : Reaction) → reacted.answer ≡ None → Stays client reacted.client → IsTurned client reacted
+      silent reacted none stays = record { stays = stays; seen = λ number told e. none_some none e }
+
+      -- the open request, which names no server, is answered
+      closes : (asked : Asked) → client.asked ≡ Some asked → ((n : ℕ) → (names asked.request).server ≡ Some n → ⊥) → (reacted : Reaction)
+          (given : Answer) → reacted.answer ≡ Some (asked.line, given) → given ≢ answer.Failed → IsTurned client reacted
+      closes asked is none reacted given answers well = record {
+        stays = λ other n there named fresh. absurd (none n (same_named asked other n is there named));
+        seen = λ number told e.
+            let f = pair_is (sym answers ∙ e) in
+            record {
+              fails = λ failed. absurd (well (f.1 ∙ failed));
+              glance = λ line n there same named. absurd (none n (asks_of asked is line n there (same ∙ sym f.0) named));
+            };
       }
 
-      turned_seen : (in_call : Bool) (reacted : Reaction) → Turned (Heard w (actor.Client c)) setting.servers lines c client in_call reacted
-          → (number : ℕ) (told : Answer) → reacted.answer ≡ Some (number, told) → IsSeen number told
-      turned_seen _ _ (Goes_on reacted seq stays says) number told e = none_some says.unanswered e
-      turned_seen _ _ (Is_told reacted asked heard is read seq stays says) number told e = none_some says.unanswered e
-      turned_seen _ _ (Begins reacted line asked next free seq now called says) number told e = none_some says.unanswered e
-      turned_seen _ _ (Reads asked bytes heard is read) number told e =
-          let f = pair_is e in
-          unnamed asked is number told f.0 (λ failed. let g : answer.Data bytes ≡ answer.Failed = f.1 ∙ failed in absurd (cc))
-          (λ n named. not_read asked.request n named read)
-      turned_seen _ _ (Ends asked how heard is write) number told e =
-          let f = pair_is e in
-          unnamed asked is number told f.0 (λ failed. ending_not how (f.1 ∙ failed)) (λ n named. not_written asked.request n named write)
-      turned_seen _ _ (Shown asked rev sight given heard is seen) number told e =
-          let f = pair_is e in
+      turned : (in_call : Bool) (reacted : Reaction) → Turned (Heard w (actor.Client c)) setting.servers lines c client in_call reacted
+          → IsTurned client reacted
+      turned _ _ (Goes_on reacted seq stays says) =
+          silent reacted says.unanswered (λ asked n is named fresh. still_open _ client.asked reacted.client stays asked is)
+      turned _ _ (Is_told reacted asked heard is read seq stays says) =
+          silent reacted says.unanswered (λ other n there named fresh. absurd (not_read asked.request n (same_named asked other n is there named) read))
+      turned _ _ (Begins reacted line asked next free seq now called says) =
+          silent reacted says.unanswered (λ asked n is named fresh. none_some free is)
+      turned _ _ (Reads asked bytes heard is read) =
+          closes asked is (λ n named. not_read asked.request n named read) _ (answer.Data bytes) refl (λ failed. cc)
+      turned _ _ (Ends asked how heard is write) =
+          closes asked is (λ n named. not_written asked.request n named write) _ (answer_of how) refl (ending_not how)
+      turned _ _ (Shown asked rev sight given heard is seen) =
           let h = heard_own c asked rev sight.round sight.running sight.inc sight.full heard is in
           record {
-            fails = λ failed.
-                let off = seen_failed _ asked sight (subst (IsSeenAs _ asked sight) (f.1 ∙ failed) seen) in
-                subst Fails f.0 (h.fails off.server off.boots off.rests);
-            glance = λ line n there same named.
-                h.glance line n told there (same ∙ sym f.0) named
-                (seen_as _ asked sight told n (asks_of asked is line n there (same ∙ sym f.0) named)
-                (subst (IsSeenAs _ asked sight) f.1 seen));
+            stays = λ other n there named fresh.
+                absurd (fresh (h.glanced n (same_named asked other n is there named)
+                ∙ ap (λ (x : Asked). Some x.line) (same_some (sym is ∙ there))));
+            seen = λ number told e.
+                let f = pair_is e in
+                record {
+                  fails = λ failed.
+                      let off = seen_failed _ asked sight (subst (IsSeenAs _ asked sight) (f.1 ∙ failed) seen) in
+                      subst Fails f.0 (h.fails off.server off.boots off.rests);
+                  glance = λ line n there same named.
+                      h.glance line n told there (same ∙ sym f.0) named
+                      (seen_as _ asked sight told n (asks_of asked is line n there (same ∙ sym f.0) named)
+                      (subst (IsSeenAs _ asked sight) f.1 seen));
+                };
           }
-      turned_seen _ _ (Judges after asked given is gone seq judged) number told e =
-          let f = pair_is e in
-          unnamed asked is number told f.0 (λ failed. reason_not c asked given _ _ (f.1 ∙ failed) judged.reason)
-          (λ n named. not_judged c asked n given _ _ named judged.reason)
-
-    more_seen : (given : Option (ℕ × Answer)) → ((number : ℕ) (told : Answer) → given ≡ Some (number, told) → IsSeen number told)
-        → (number : ℕ) (told : Answer) → In (number, told) (with_answer given w.answers) → IsSeen number told
-    unfolding In
-    more_seen None now number told i = kept.answers number told i
-    more_seen (Some given) now number told (inl e) = now number told (ap Some (sym e))
-    more_seen (Some given) now number told (inr i) = kept.answers number told i
+      turned _ _ (Judges after asked given is gone seq judged) =
+          closes asked is (λ n named. not_judged c asked n given _ _ named judged.reason) _ given refl
+          (λ failed. reason_not c asked given _ _ failed judged.reason)
 
     client_keeps : (c : ℕ) (what : Step) → MayActor (actor.Client c) what setting w
         → Kept (step (actor.Client c) what setting w own.stamp).world
     unfolding step
     client_keeps c what may =
         let reacted = client_step what (client_state setting w c) c (w.clients c) (next_line lines c (w.clients c)) in
-        let turned = (client_turns setting w c what may.1).turned in
+        let t = turned c _ reacted (client_turns setting w c what may.1).turned in
         let v = (reacts w c own.stamp reacted).world in
-        let goes = all_put w.clients c reacted.client (λ k client. Goes (w.clients k) client) goes_itself
-        (turned_goes c _ reacted turned) in
-        let g = goes operator in
+        let stays = all_put w.clients c reacted.client (λ k client. Stays (w.clients k) client)
+        (λ k asked n is named fresh. record { now = asked; is = is; line = refl; request = refl }) t.stays operator in
+        let up = step_seq setting w (actor.Client c) what own.stamp may operator in
         record {
           shows = λ letter line round running inc full i e. elim (in-append letter _ w.sent i) [
             | inl new ↦ absurd (mute_not letter line round running inc full e (client_says setting w c what own.stamp may.1 letter new))
-            | inr old ↦ shown_later v g refl letter line running (kept.shows letter line round running inc full old e)
+            | inr old ↦ shown_later v up refl letter line running (kept.shows letter line round running inc full old e)
           ];
           hand = λ n e.
               let b = kept.hand n e in
-              let s = g.stays b.asked n b.is (boots_named b.asked.request n b.boots) b.fresh in
+              let s = stays b.asked n b.is (boots_named b.asked.request n b.boots) b.fresh in
               record {
                 asked = s.now;
                 is = s.is;
@@ -529,8 +478,10 @@ module _ (script : Script) (records : List Record) (sound : IsSound script) (ris
                 fresh = λ h. b.fresh (h ∙ ap Some s.line);
                 fails = λ rests. subst Fails (sym s.line) (b.fails rests);
               };
-          newest = λ k. (goes k).newest;
-          answers = more_seen reacted.answer (turned_seen c _ reacted turned);
+          answers = λ number told i. elim (in_answers reacted.answer w.answers (number, told) i) [
+            | inl now ↦ t.seen number told now
+            | inr old ↦ kept.answers number told old
+          ];
         }
 
     -- ### The record's step
@@ -554,7 +505,6 @@ module _ (script : Script) (records : List Record) (sound : IsSound script) (ris
   start_kept = record {
     shows = λ letter line round running inc full i e. absurd i;
     hand = λ n e. none_some refl e;
-    newest = λ c asked e. none_some refl e;
     answers = λ number given i. absurd i;
   }
 
@@ -582,7 +532,7 @@ module _ (script : Script) (records : List Record) (sound : IsSound script) (ris
   glanced_before line m there named letter round running inc full i e n later (inl may) =
       let s = all_kept.shows letter line.number round running inc full i e in
       let o = open_for script records sound legal operator may.asked may.opened.is in
-      let newest = all_kept.newest operator may.asked may.opened.is in
+      let newest = open_last script records sound legal operator may.asked may.opened.is in
       let at = o.seq_is in
       let place : s.place ≡ o.before =
       one_place lines rise operator s.place o.before s.line o.line s.is o.is (s.number_is ∙ sym may.line_is ∙ o.line_is) in

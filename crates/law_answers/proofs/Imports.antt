@@ -4,15 +4,15 @@ pub use Rattle.law_state.specs.Imports.{PairState, Record, Region, Server, Setti
 pub use Rattle.law_state.specs.Imports.{cell_link, chosen_log, chosen_state, disk_at, find, is_in, is_up_as, leads_link, leaving, may_join, named, servers_of}
 pub use Rattle.law_state.specs.Imports.{serves, snapshot_named, state_after}
 unfoldable pub use Rattle.law_state.specs.Imports.{In, at}
-pub use Rattle.law_state.proofs.Imports.{[], if◌then◌else◌, ◌&&◌, ◌++◌, ◌+◌, ◌<◌, ◌==◌, ◌||◌, ◌∙◌, ◌∷◌, ◌≡◌, ◌≢◌, ◌≤◌, ◌⊎◌, Bool, FenceKind, Latest, List}
-pub use Rattle.law_state.proofs.Imports.{None, Option, Some, Verdict, act, ap, append-nil, append_assoc, arith, both_true, by_bool, by_test, completes, cond}
-pub use Rattle.law_state.proofs.Imports.{confirmed, effect, false, filter, first, fold-append, following, frozen, in-append, in_both, in_former, in_later}
-pub use Rattle.law_state.proofs.Imports.{inl, inr, is_new, is_some, is_taken, is_the_one, latest, lead, length, length-append, length-set, links_of, map}
-pub use Rattle.law_state.proofs.Imports.{move_fenced, move_of, moved_by, nat_le, nat_lists_same, nat_lt, nat_tests, none_some, not, not_true, note}
-pub use Rattle.law_state.proofs.Imports.{number_itself, option_map, option_map_or, passed, range_with_len, readable, refl, replicate, row_fenced, row_frozen}
-pub use Rattle.law_state.proofs.Imports.{row_moving, same_numbers, same_or_apart, same_some, second, servers_in, settled, slice_get, slice_get_past}
-pub use Rattle.law_state.proofs.Imports.{slice_get_within, some_or_none, subst, suc, sym, told, true, true_false, unwrap_or, view-effect, with_disk}
-pub use Rattle.law_state.proofs.Imports.{with_fence, with_move, zero, ℕ}
+pub use Rattle.law_state.proofs.Imports.{Bool, FenceKind, Latest, List, None, Option, Some, Verdict, [], act, ap, append-nil, append_assoc, arith, both_true}
+pub use Rattle.law_state.proofs.Imports.{by_bool, by_test, completes, cond, confirmed, effect, false, filter, first, fold-append, following, frozen}
+pub use Rattle.law_state.proofs.Imports.{if◌then◌else◌, in-append, in_both, in_former, in_later, inl, inr, is_new, is_some, is_taken, is_the_one, latest}
+pub use Rattle.law_state.proofs.Imports.{lead, length, length-append, length-set, links_of, map, move_fenced, move_of, moved_by, nat_le, nat_lists_same}
+pub use Rattle.law_state.proofs.Imports.{nat_lt, nat_tests, none_some, not, not_true, note, number_itself, option_map, option_map_or, passed, range_with_len}
+pub use Rattle.law_state.proofs.Imports.{readable, refl, replicate, row_fenced, row_frozen, row_moving, same_numbers, same_or_apart, same_some, second}
+pub use Rattle.law_state.proofs.Imports.{servers_in, settled, slice_get, slice_get_past, slice_get_within, some_or_none, subst, suc, sym, told, true}
+pub use Rattle.law_state.proofs.Imports.{true_false, unwrap_or, view-effect, with_disk, with_fence, with_move, zero, ℕ, ◌&&◌, ◌++◌, ◌+◌, ◌<◌, ◌==◌, ◌||◌, ◌∙◌}
+pub use Rattle.law_state.proofs.Imports.{◌∷◌, ◌≡◌, ◌≢◌, ◌≤◌, ◌⊎◌}
 pub use Rattle.law_log.proofs.Imports.{Acted, Actor, After, Answer, AreSteps, AreStepsFrom, Arm, Asked, Before, Blank, Body, Boot, Call, Client, CommitEnd}
 pub use Rattle.law_log.proofs.Imports.{Copies, Deliver, Ending, Firm, Glance, HasProperTuple, HasProperTuples, IsSettledState, IsSound, Job, JobContext}
 pub use Rattle.law_log.proofs.Imports.{JobResult, Key, Learning, Letter, Line, Log, LogDone, MayActor, MayClient, MayServer, Moving, Pending, Post, Reaction}
@@ -34,24 +34,23 @@ pub use Rattle.law_steps.specs.Imports.{Finished, Glanced, Paired, Refused, Send
 pub use Rattle.law_steps.specs.Imports.{settled_by}
 pub use Rattle.law_steps.proofs.Imports.{ByBoth, ByNone, ByOne, Follows, Greater, HasDied, IsSteady, Less, Logged, Pairs, at-empty, between, by_settled}
 pub use Rattle.law_steps.proofs.Imports.{clock_of, found_at, front_plain, get_within, has_stage, history_grows, in_once, in_up, insert_entry, is_asked, is_at}
-pub use Rattle.law_steps.proofs.Imports.{is_clients, is_none, log_below, log_rev, log_roles, log_steady, lookup, match_ordering, settling}
+pub use Rattle.law_steps.proofs.Imports.{is_clients, is_none, log_below, log_rev, log_roles, log_steady, logged, lookup, match_ordering, settling}
 unfoldable pub use Rattle.law_steps.proofs.Imports.{put, without}
 pub use Rattle.law_jobs.specs.Imports.{FoundNoSlot, IsBusy, IsHeldBack, IsNewFill, IsReadable, IsRefusal}
-pub use Rattle.law_jobs.proofs.Imports.{◌-◌, A_slot, An_entry_to_move, Asks, By_read, Did, Handled, Happens, IsMoment, Not_here, Rests, Shows, Was}
-pub use Rattle.law_jobs.proofs.Imports.{always_firm, at_apart, at_same, retired_second, front_legal, last_moment, moment_more, own_place, was_same, with_answer}
-pub use Rattle.law_jobs.proofs.Imports.{world_more}
+pub use Rattle.law_jobs.proofs.Imports.{A_slot, An_entry_to_move, Asks, By_read, Did, Handled, IsMoment, Not_here, Rests, Shows, Was, always_firm, at_apart}
+pub use Rattle.law_jobs.proofs.Imports.{at_same, front_legal, last_moment, moment_more, own_place, retired_second, was_same, with_answer, world_more, ◌-◌}
 pub use Rattle.law_copies.specs.Imports.{IsRising, no_pairs}
 pub use Rattle.law_copies.proofs.Imports.{Asks_slot, At, Blanks, By_ballot, By_entry, By_job, Effect, Ends_fill, Fails, Goes, IsLinked, IsSeatedOrMute, May}
 pub use Rattle.law_copies.proofs.Imports.{Moves, Moves_on, OneMore, Read_asked, Run, Serves, Serving, Stays, Turns, Wakes, Worked, Write_asked, applied}
 pub use Rattle.law_copies.proofs.Imports.{at_row, before_part, below_itself, both_row, by_run, cases_lt, did_count, firm_in, first_state, front_itself}
 pub use Rattle.law_copies.proofs.Imports.{front_long, front_on, grown_in, happened_in, in_get, in_map, job_keeps, letters_of_job, longer, more_of, none_of}
-pub use Rattle.law_copies.proofs.Imports.{one_front, primary_is_one, put_rises, run_of, said, served_so, setting_in, shown_so, since, stopped_so}
+pub use Rattle.law_copies.proofs.Imports.{one_front, own_steady, primary_is_one, put_rises, run_of, said, served_so, setting_in, shown_so, since, stopped_so}
 pub use Rattle.law_copies.proofs.Imports.{turned_asks, without_rev}
 pub use Rattle.law_requests.specs.Imports.{line_by}
 pub use Rattle.law_requests.proofs.Imports.{A_read, A_write, Anew, Answered, As_it_was, Begins, Blanks_it, By_operation, By_verdict, By_witness, Fails_it}
 pub use Rattle.law_requests.proofs.Imports.{For_a_fill, For_a_write, Goes_on, Had_no_slot, HasCome, HasEnded, Has_no_space, Heard, IsFinishedFor, IsJudged}
 pub use Rattle.law_requests.proofs.Imports.{IsReason, IsSame, IsSeenAs, Is_declined, Is_new, Is_settled, Is_told, Judges, Of_the_log, Reads, Repeats, Says}
-pub use Rattle.law_requests.proofs.Imports.{Shown, Starts_it, StaysOpen, Stood, Stops_at, Stops_it, Turned, WasSent, after, both_leads, did_come, did_finish}
+pub use Rattle.law_requests.proofs.Imports.{Shown, Starts_it, StaysOpen, Stood, Stops_at, Stops_it, Turned, after, both_leads, did_come, did_finish}
 pub use Rattle.law_requests.proofs.Imports.{is_refused, lead_is, names, proposed_pairs, rests_in, runs_now, write_refusal}
 pub use Rattle.law_moves.specs.Imports.{IsServing}
 pub use Rattle.law_moves.proofs.Imports.{or_true, stage_facts, to_server}
@@ -64,7 +63,7 @@ pub use Rattle.std.specs.List.{fold}
 pub use Rattle.global_tables.specs.View.{queued as with_queued}
 pub use Rattle.law_copies.proofs.ChainsRise.{all_left}
 pub use Rattle.law_copies.specs.Pair.{owns_of}
-pub use Rattle.law_jobs.proofs.LettersWereSent.{answers_in, sent_since, stays_sent, still_sent, was_sent}
+pub use Rattle.law_jobs.proofs.LettersWereSent.{WasSent, answers_in, sent_since, stays_sent, was_sent}
 pub use Rattle.law_jobs.proofs.OperationsCome.{finished_of}
 pub use Rattle.law_jobs.proofs.Runs.{at_moment, firm_then, follows_in, grown_then, stepped_in}
 pub use Rattle.law_jobs.specs.Effects.{HearsNone, Is_full}
@@ -107,7 +106,7 @@ pub use Rattle.law_state.proofs.NamedCells.{asked_takes}
 pub use Rattle.law_state.proofs.Owners.{disk_at_is, either_of}
 pub use Rattle.law_state.proofs.SnapsQueueFences.{act_drained, act_snap}
 pub use Rattle.law_state.specs.LinkRows.{IsBetween}
-pub use Rattle.law_state.specs.Tables.{IsFence, IsForRegion, IsForSnapshot, IsGrown, IsLaterDisk, Of_disk, Of_region}
+pub use Rattle.law_state.specs.Tables.{IsFence, IsForSnapshot, IsGrown, IsLaterDisk, Of_disk, Of_region}
 pub use Rattle.law_steps.proofs.ClientLetters.{is_ask}
 pub use Rattle.law_steps.proofs.ClientStepKinds.{Turning, client_turns, is_call}
 pub use Rattle.law_steps.proofs.KindsInHistories.{firm_after}
@@ -115,7 +114,7 @@ pub use Rattle.law_steps.proofs.Letters.{Said, one_post, said as said_in}
 pub use Rattle.law_steps.proofs.LogJobs.{LogFrame, applied_entry, applied_none, ask_logged, ballot_logged, letter_frame_of, start_frame_of}
 pub use Rattle.law_steps.proofs.ServerStepKinds.{server_serves}
 pub use Rattle.law_steps.specs.DidClient.{Ends, answer_of}
-pub use Rattle.law_steps.specs.DidStep.{IsIdle, Goes as Serves_on, Ends as Stops_so, served}
+pub use Rattle.law_steps.specs.DidStep.{Ends as Stops_so, Goes as Serves_on, IsIdle, served}
 pub use Rattle.script_lines.specs.Printed.{answer_line}
 pub use Rattle.script_lines.specs.Requests.{is_snap}
 pub use Rattle.spec_history.specs.Causes.{AreCaused, CauseOf, HasVerdict, HasWitness, WasTold, has_made, is_moving, is_name_taken, lacks_disk, may_answer}
@@ -128,4 +127,3 @@ pub use Rattle.spec_rules.specs.Jobs.{shown}
 pub use Rattle.spec_rules.specs.World.{Blanked, Booted, Boots, Control, Deed, IsAnswered, IsDone, IsFree, IsGlanceDue, IsSettleGlance, MayDeliver, MayGlance}
 pub use Rattle.spec_rules.specs.World.{MayStop, StepResult, Stopped, Stops, controls, glanced_in, state_at}
 pub use Rattle.spec_state.specs.Command.{mover_in}
-pub use Rattle.law_steps.proofs.KindsInHistories.{own_steady}

@@ -6,10 +6,10 @@ use Rattle.law_answers.proofs.Imports.{Post, Refused, Repeats, Some, Stood, Tabl
 use Rattle.law_answers.proofs.Imports.{cell_cmp, chosen_log, retired_second, did_come, did_count, did_finish, ended, false, finished_of, first, in_both, in_once}
 use Rattle.law_answers.proofs.Imports.{inl, inr, is_clients, is_in, is_logged, is_second, is_the_one, lead_first, leads_link, letters_of_job, live, moved_as}
 use Rattle.law_answers.proofs.Imports.{none_some, one_client, one_front, own_place, own_steady, pending_on, put, refl, same_some, second, second_both}
-use Rattle.law_answers.proofs.Imports.{state_after, subject_of, subst, sym, to_client, to_server, true, true_false, was_same, ℕ}
-use Rattle.law_answers.specs.Refusals.{HadNoSlot, At_the_lead, At_the_second, Refusals}
-use Rattle.law_answers.proofs.SlotLetters.{is_slot, is_of_slots, not_full, logged_not_full, AsksFor, TellsNone, JobRefuses, Scene, still, moved_not_full}
+use Rattle.law_answers.proofs.Imports.{state_after, subject_of, subst, sym, to_client, to_server, true, was_same, ℕ}
+use Rattle.law_answers.proofs.SlotLetters.{Duty, no_duty, is_of_slots, not_full, logged_not_full, TellsNone, JobRefuses, Scene, still, moved_not_full}
 use Rattle.law_answers.proofs.SlotLetters.{one_server}
+use Rattle.law_answers.specs.Refusals.{HadNoSlot, At_the_lead, At_the_second, Refusals}
 use Rattle.law_steps.specs.DidLead.{Of_the_log}
 use Rattle.law_jobs.specs.Sayings.{Says}
 use Rattle.petal_msg.specs.declared.body.Body.TheVariants as body
@@ -68,9 +68,6 @@ module _ (R S : ℕ → ℕ → Type 0) (scene : Scene R S) where
       more op.client op.seq (d.refused op (subst (λ i. (w.servers i).life.inc ≡ k.inc) (sym mine) inc_is)
       (subst (λ i. at cell_cmp (w.servers i).own.pairs.pending op.cell ≡ Some op) (sym mine) is) refl clients)
 
-  slot_cell : {a b : ℕ} {c d : Cell} → body.Reserve a c ≡ body.Reserve b d → (a ≡ b) × (c ≡ d)
-  slot_cell {a} {b} {c} {d} e = (cc, cc)
-
   -- a cell with a second server is live
   in_live : (cell : Cell) (to : ℕ) → second here.state cell ≡ Some to → live here.state cell ≡ true
   in_live cell to e = by_bool (live here.state cell) (λ on. on) (λ off. none_some (retired_second here.state cell off) e)
@@ -83,40 +80,32 @@ module _ (R S : ℕ → ℕ → Type 0) (scene : Scene R S) where
       let lead = sym (both_leads here.state cell row.row row.is row.both) ∙ is_the_one _ n leads in
       both_first here.state cell row.row row.is lives row.both ∙ lead
 
+  abbrev Due : PairState → Post → Body → Type 0
+  Due = Duty S scene.setting w n
+
+  undue : (new : PairState) (post : Post) (said : Body) → is_of_slots said ≡ false → Due new post said
+  undue = no_duty S scene.setting w n
+
   -- what is asked of other servers: slots for operations that are pending
-  asks_slot : (number : ℕ) (cell : Cell) (post : Post) → Asks here own post → post.body ≡ body.Reserve number cell
-      → AsksFor scene.setting w n own number cell
-  asks_slot number cell _ (A_slot op to is stage e) says =
-      let same = slot_cell says in
+  asks_duty : (post : Post) → Asks here own post → Due own post post.body
+  asks_duty _ (A_slot op to is stage e) =
       let staged = (scene.rests.pending n).staged op.cell op is in
       let both : in_both here.state op.cell ≡ true = second_both here.state steady op.cell to e in
-      subst (λ (c : Cell). AsksFor scene.setting w n own number c) same.1
-      (subst (λ k. AsksFor scene.setting w n own k op.cell) same.0 (record {
+      record {
         seated = pending_seat op.cell op is;
         leads = first_of op.cell (staged.leads (in_live op.cell to e)) (in_live op.cell to e) both;
         given = refusals.numbered n op.cell op is;
-      }))
-  asks_slot number cell post (An_entry_to_move _ next) says = true_false (ap is_of_slots says) (ap (λ (p : Post). is_of_slots p.body) next.is)
-  asks_slot number cell _ (Of_the_log post e) says = true_false (ap is_of_slots says) (logged_not_full post.body e)
-  asks_slot number cell _ _ says = true_false (ap is_of_slots says) refl
-
-  -- and nobody is told that there is none
-  asks_not_full : (post : Post) → Asks here own post → (what : Body) → post.body ≡ what → (is_slot what ≡ false) → is_of_slots what ≡ true
-      → ⊥
-  asks_not_full _ (A_slot op to is stage e) what says other full = true_false (ap is_slot (sym says)) other
-  asks_not_full post (An_entry_to_move _ next) what says other full =
-      true_false full (ap is_of_slots (sym says) ∙ ap (λ (p : Post). is_of_slots p.body) next.is)
-  asks_not_full _ (Of_the_log post e) what says other full = true_false full (ap is_of_slots (sym says) ∙ logged_not_full post.body e)
-  asks_not_full _ _ what says other full = true_false full (ap is_of_slots (sym says))
+      }
+  asks_duty post (An_entry_to_move _ next) = subst (λ (p : Post). Due own p p.body) (sym next.is) tt
+  asks_duty _ (Of_the_log post e) = undue own post post.body (logged_not_full post.body e)
+  asks_duty _ _ = tt
 
   pub asks_refuses : (posts : List Post) → ((post : Post) → In post posts → Asks here own post) → J own posts
   asks_refuses posts asks = record {
     finished = λ c last is how. inl is;
     next = omega arith;
     pending = λ cell op is. inl (was_same own cell op is);
-    letters = λ post c seq i to says. absurd (asks_not_full post (asks post i) (body.Full seq) says refl refl);
-    reserves = λ post number cell i says. asks_slot number cell post (asks post i) says;
-    declined = λ post number cell i says. absurd (asks_not_full post (asks post i) (body.PairFull number cell) says refl refl);
+    says = λ post i. asks_duty post (asks post i);
   }
 
   -- an operation that is new is one of a server that is In as itself
@@ -136,19 +125,6 @@ module _ (R S : ℕ → ℕ → Type 0) (scene : Scene R S) where
   abbrev Opens : PairState → Type 0
   Opens new = (op : Pending) → pending_on own op.cell ≡ None → pending_on new op.cell ≡ Some op → is_in here.state n here.inc ≡ true
 
-  -- what has to be so of a letter
-  abbrev Duty : PairState → Post → Body → Type 0
-  Duty new post (body.Full seq) = (c : ℕ) → post.to ≡ actor.Client c → S c seq
-  Duty new post (body.Reserve number cell) = AsksFor scene.setting w n new number cell
-  Duty new post (body.PairFull number cell) = TellsNone S scene.setting w n post number cell
-  Duty new post _ = Unit {0}
-
-  no_duty : (new : PairState) (post : Post) (said : Body) → is_of_slots said ≡ false → Duty new post said
-  no_duty new post (body.Full seq) e = true_false refl e
-  no_duty new post (body.Reserve number cell) e = true_false refl e
-  no_duty new post (body.PairFull number cell) e = true_false refl e
-  no_duty new post _ e = tt
-
   module _ (now : (c seq : ℕ) → HadNoSlot scene.setting w (actor.Server n) (Work work_end.Done) c seq → S c seq) where
     -- a request is finished for want of a slot: the lead has none, or the second server told it that it has none
     finish_refuses : (pending : Table Cell Pending) (client : ℕ) (last : Finished) → IsFinishedFor hears here own pending client last
@@ -160,7 +136,7 @@ module _ (R S : ℕ → ℕ → Type 0) (scene : Scene R S) where
         absurd (let e : ending.Written ≡ ending.Full = how in cc)
 
     ended_duty : (new : PairState) (client number : ℕ) (how : Ending) → (how ≡ ending.Full → S client number)
-        → Duty new (to_client client (ended number how)) (ended number how)
+        → Due new (to_client client (ended number how)) (ended number how)
     ended_duty new client number ending.Written refused = tt
     ended_duty new client number ending.Full refused = λ c to. subst (λ x. S x number) (one_client to) (refused refl)
 
@@ -185,8 +161,8 @@ module _ (R S : ℕ → ℕ → Type 0) (scene : Scene R S) where
               (subst (λ j. hears (body.Reserve j cell)) (sym numbered) h) (subst (FoundNoSlot own cell) (sym numbered) no_room));
         }
 
-    says_duty : (new : PairState) → Opens new → (post : Post) → Says hears here own new post → Duty new post post.body
-    says_duty new opens _ (says.Refuses to said is busy held) = no_duty new _ said (not_full said Refused is.refused refl)
+    says_duty : (new : PairState) → Opens new → (post : Post) → Says hears here own new post → Due new post post.body
+    says_duty new opens _ (says.Refuses to said is busy held) = undue new _ said (not_full said Refused is.refused refl)
     says_duty new opens _ (Repeats want last same h lead is e) =
         ended_duty new want.client want.seq last.ending
         (λ how. subst (S want.client) (sym e) (more want.client last.seq (refusals.finished n want.client last runs is how)))
@@ -195,13 +171,13 @@ module _ (R S : ℕ → ℕ → Type 0) (scene : Scene R S) where
     says_duty new opens _ (says.Opens op to lead both none is number next so) =
         record { seated = opens op none is; leads = lead_first here.state steady n op.cell lead both; given = omega arith }
     says_duty new opens _ (Asks_slot op to same is stage so) =
-        let a = asks_slot op.op op.cell _ (A_slot op to is stage so) refl in
+        let a = asks_duty _ (A_slot op to is stage so) in
         record { seated = a.seated; leads = a.leads; given = subst (λ (o : PairState). op.op < o.pairs.next) (sym same) a.given }
     says_duty new opens _ (Has_no_slot number cell to same h follows found so) = declines number cell to h follows found so
-    says_duty new opens _ (Ends_fill op how to ended is none so) = no_duty new _ (moved_as op.key how) (moved_not_full op.key how)
-    says_duty new opens post (Moves _ same next) = subst (λ (p : Post). Duty new p p.body) (sym next.is) tt
-    says_duty new opens post (Moves_on key row _ same h is next) = subst (λ (p : Post). Duty new p p.body) (sym next.is) tt
-    says_duty new opens post (says.Of_the_log _ logged) = no_duty new post post.body (logged_not_full post.body logged)
+    says_duty new opens _ (Ends_fill op how to ended is none so) = undue new _ (moved_as op.key how) (moved_not_full op.key how)
+    says_duty new opens post (Moves _ same next) = subst (λ (p : Post). Due new p p.body) (sym next.is) tt
+    says_duty new opens post (Moves_on key row _ same h is next) = subst (λ (p : Post). Due new p p.body) (sym next.is) tt
+    says_duty new opens post (says.Of_the_log _ logged) = undue new post post.body (logged_not_full post.body logged)
     says_duty new opens _ _ = tt
 
     pending_refuses : (new : PairState) (cell : Cell) (op : Pending) → HasCome hears here own new.pairs.next cell op
@@ -219,12 +195,5 @@ module _ (R S : ℕ → ℕ → Type 0) (scene : Scene R S) where
           ];
       next = did_count hears here own done d;
       pending = λ cell op is. pending_refuses done.own cell op (did_come hears here own done d cell op is);
-      letters = λ post c seq i to says. duty post i (body.Full seq) says c to;
-      reserves = λ post number cell i says. duty post i (body.Reserve number cell) says;
-      declined = λ post number cell i says. duty post i (body.PairFull number cell) says;
+      says = λ post i. says_duty done.own (λ op none there. new_seat done seat op.cell op none there) post (letters_of_job hears here own done d post i);
     }
-      where
-        duty : (post : Post) → In post done.posts → (what : Body) → post.body ≡ what → Duty done.own post what
-        duty post i what is =
-            subst (Duty done.own post) is (says_duty done.own (λ op none there. new_seat done seat op.cell op none there) post
-            (letters_of_job hears here own done d post i))

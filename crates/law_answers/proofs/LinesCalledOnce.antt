@@ -1,10 +1,10 @@
 -- A line is called once.
-use Rattle.law_answers.proofs.Imports.{[], ◌++◌, ◌+◌, ◌∙◌, ◌∷◌, ◌≡◌, ◌≤◌, Actor, AreRising, AreSteps, AreStepsFrom, Call, Client, Line, List, MayActor}
-use Rattle.law_answers.proofs.Imports.{Record, Script, Setting, Some, World, ap, append_assoc, arith, front_legal, lines_of, put_same, setting_of, slice_get}
+use Rattle.law_answers.proofs.Imports.{[], ◌++◌, ◌+◌, ◌∙◌, ◌∷◌, ◌≡◌, ◌≤◌, Actor, AreRising, AreSteps, AreStepsFrom, At, Call, Client, IsMoment, Line, List}
+use Rattle.law_answers.proofs.Imports.{MayActor, Record, Script, Setting, Some, World, ap, arith, front_legal, lines_of, put_same, setting_of, slice_get}
 use Rattle.law_answers.proofs.Imports.{start, step, stepped, subst, sym, world_after, ℕ}
+use Rattle.law_answers.proofs.ListPositions.{one_moment}
 use Rattle.law_answers.proofs.LinesHavePlaces.{one_client, one_place}
 use Rattle.law_answers.proofs.OneRecordAnswers.{world_split}
-use Rattle.law_answers.proofs.ListPositions.{AreOrdered, Are_one, Is_former, Is_latter, ordered}
 use Rattle.law_answers.proofs.ClientHistorySteps.{call_seq, reacted_to, step_seq}
 use Rattle.petal_msg.specs.declared.letter.Actor.TheVariants as actor
 
@@ -36,52 +36,39 @@ seq_along setting w (own ∷ later) legal c =
     let on = seq_along setting (stepped setting w own).world later legal.1 c in
     omega arith
 
-module _ (script : Script) (rise : AreRising script.lines) where
+module _ (script : Script) (rise : AreRising script.lines) (records : List Record) (legal : AreSteps script records) where
   abbrev setting : Setting
   setting = setting_of script
 
-  abbrev At : List Record → World
-  At records = world_after setting (start setting) records
+  parts : (m : IsMoment records) → AreStepsFrom setting (start setting) m.front × AreStepsFrom setting (At script m.front) (m.own ∷ m.following)
+  parts m = front_legal setting (start setting) m.front (m.own ∷ m.following) (subst (AreSteps script) m.is legal)
 
-  call_at : (front : List Record) (own : Record) (following : List Record) → AreSteps script (front ++ own ∷ following) → (number : ℕ)
-      → own.step ≡ Call number → IsCall setting (At front) (stepped setting (At front) own).world number
-  call_at front own following legal number what =
-      let may = (front_legal setting (start setting) front (own ∷ following) legal).1.0.may.may in
-      subst (λ x. IsCall setting (At front) (step own.actor x setting (At front) own.stamp).world number) (sym what)
-      (step_calls setting (At front) own.actor own.stamp number (subst (λ x. MayActor own.actor x setting (At front)) what may))
+  call_at : (m : IsMoment records) (number : ℕ) → m.own.step ≡ Call number
+      → IsCall setting (At script m.front) (stepped setting (At script m.front) m.own).world number
+  call_at m number what =
+      let may = (parts m).1.0.may.may in
+      subst (λ x. IsCall setting (At script m.front) (step m.own.actor x setting (At script m.front) m.own.stamp).world number) (sym what)
+      (step_calls setting (At script m.front) m.own.actor m.own.stamp number (subst (λ x. MayActor m.own.actor x setting (At script m.front)) what may))
 
-  not_again : (front : List Record) (own : Record) (between : List Record) (other : Record) (following : List Record)
-      → AreSteps script (front ++ own ∷ (between ++ other ∷ following)) → (number : ℕ) → own.step ≡ Call number → other.step ≡ Call number → ⊥
-  not_again front own between other following legal number first again =
-      let done = front ++ own ∷ between in
-      let joined : AreSteps script (done ++ other ∷ following) =
-      subst (AreSteps script) (sym (append_assoc front (own ∷ between) (other ∷ following))) legal in
-      let v = (stepped setting (At front) own).world in
-      let one = call_at front own (between ++ other ∷ following) legal number first in
-      let two = call_at done other following joined number again in
-      let same = one_client script.lines rise one.client two.client ((At front).clients one.client).seq ((At done).clients two.client).seq one.line two.line
-      one.is two.is (one.number_is ∙ sym two.number_is) in
-      let two_is : slice_get (lines_of script.lines one.client) ((At done).clients one.client).seq ≡ Some two.line =
-      subst (λ c. slice_get (lines_of script.lines c) ((At done).clients c).seq ≡ Some two.line) (sym same) two.is in
-      let place = one_place script.lines rise one.client ((At front).clients one.client).seq ((At done).clients one.client).seq one.line two.line
-      one.is two_is (one.number_is ∙ sym two.number_is) in
-      let parts = front_legal setting (start setting) front (own ∷ (between ++ other ∷ following)) legal in
-      let rest = (front_legal setting v between (other ∷ following) parts.1.1).0 in
-      let on : (v.clients one.client).seq ≤ ((At done).clients one.client).seq =
-      subst (λ (u : World). (v.clients one.client).seq ≤ (u.clients one.client).seq) (sym (world_split setting (start setting) front own between))
-      (seq_along setting v between rest one.client) in
+  not_again : (x y : IsMoment records) (between : List Record) → y.front ≡ x.front ++ x.own ∷ between → (number : ℕ) → x.own.step ≡ Call number
+      → y.own.step ≡ Call number → ⊥
+  not_again x y between is number first again =
+      let v = (stepped setting (At script x.front) x.own).world in
+      let one = call_at x number first in
+      let two = call_at y number again in
+      let same = one_client script.lines rise one.client two.client ((At script x.front).clients one.client).seq
+      ((At script y.front).clients two.client).seq one.line two.line one.is two.is (one.number_is ∙ sym two.number_is) in
+      let two_is : slice_get (lines_of script.lines one.client) ((At script y.front).clients one.client).seq ≡ Some two.line =
+      subst (λ c. slice_get (lines_of script.lines c) ((At script y.front).clients c).seq ≡ Some two.line) (sym same) two.is in
+      let place = one_place script.lines rise one.client ((At script x.front).clients one.client).seq ((At script y.front).clients one.client).seq
+      one.line two.line one.is two_is (one.number_is ∙ sym two.number_is) in
+      let way = front_legal setting (start setting) x.front (x.own ∷ between) (subst (AreSteps script) is (parts y).0) in
+      let on : (v.clients one.client).seq ≤ ((At script y.front).clients one.client).seq =
+      subst (λ (u : World). (v.clients one.client).seq ≤ (u.clients one.client).seq)
+      (sym (ap (At script) is ∙ world_split setting (start setting) x.front x.own between)) (seq_along setting v between way.1.1 one.client) in
       let next = one.next in
       omega arith
 
-  pub called_once : (records : List Record) → AreSteps script records → (front : List Record) (own : Record) (following : List Record)
-      → records ≡ front ++ own ∷ following → (before : List Record) (other : Record) (after : List Record) → records ≡ before ++ other ∷ after
-      → (number : ℕ) → own.step ≡ Call number → other.step ≡ Call number → front ≡ before
-  called_once records legal front own following e before other after f number first again =
-      by (ordered front own following before other after (sym e ∙ f))
-    where
-      by : AreOrdered front own following before other after → front ≡ before
-      by (Are_one same is rest) = same
-      by (Is_former between is rest) = absurd (not_again front own between other after
-          (subst (AreSteps script) (e ∙ ap (λ rs. front ++ own ∷ rs) rest) legal) number first again)
-      by (Is_latter between is rest) = absurd (not_again before other between own following
-          (subst (AreSteps script) (f ∙ ap (λ rs. before ++ other ∷ rs) rest) legal) number again first)
+  pub called_once : (x y : IsMoment records) (number : ℕ) → x.own.step ≡ Call number → y.own.step ≡ Call number → x.front ≡ y.front
+  called_once x y number first again =
+      (one_moment x y (λ between is. not_again x y between is number first again) (λ between is. not_again y x between is number again first)).front_is

@@ -1,5 +1,5 @@
--- Where two elements of one list stand to each other, and lists of which no element passes.
-use Rattle.law_answers.proofs.Imports.{[], ◌++◌, ◌∷◌, ◌≡◌, List, ap, refl, sym}
+-- Where two elements of one list stand to each other, and two moments of one history.
+use Rattle.law_answers.proofs.Imports.{[], ◌++◌, ◌∙◌, ◌∷◌, ◌≡◌, IsMoment, List, Record, ap, append_assoc, refl, sym}
 
 first_is : {A : Type 0} {x z : A} {xs zs : List A} → x ∷ xs ≡ z ∷ zs → x ≡ z
 first_is e = cc
@@ -13,12 +13,6 @@ pub data AreOrdered {A : Type 0} (front : List A) (x : A) (following : List A) (
   Is_former : (between : List A) → before ≡ front ++ x ∷ between → following ≡ between ++ y ∷ after → AreOrdered front x following before y after
   Is_latter : (between : List A) → front ≡ before ++ y ∷ between → after ≡ between ++ x ∷ following → AreOrdered front x following before y after
 
--- they are one
-pub record AreSame {A : Type 0} (front : List A) (x : A) (following : List A) (before : List A) (y : A) (after : List A) : Type 0 where
-  pub front_is : front ≡ before
-  pub own_is : x ≡ y
-  pub following_is : following ≡ after
-
 one_more : {A : Type 0} {a b : A} {front : List A} {x : A} {following : List A} {before : List A} {y : A} {after : List A} → a ≡ b
     → AreOrdered front x following before y after → AreOrdered (a ∷ front) x following (b ∷ before) y after
 one_more e (Are_one same is rest) = Are_one (λ i. e i ∷ same i) is rest
@@ -31,3 +25,36 @@ ordered [] x following [] y after e = Are_one refl (first_is e) (rest_is e)
 ordered [] x following (b ∷ before) y after e = Is_former before (ap (λ k. k ∷ before) (sym (first_is e))) (rest_is e)
 ordered (a ∷ front) x following [] y after e = Is_latter front (ap (λ k. k ∷ front) (first_is e)) (sym (rest_is e))
 ordered (a ∷ front) x following (b ∷ before) y after e = one_more (first_is e) (ordered front x following before y after (rest_is e))
+
+-- ### Moments
+
+-- one of what stands before another one, and one of what follows on it
+abbrev pub sooner : {records : List Record} (x : IsMoment records) → IsMoment x.front → IsMoment records
+sooner x y = record {
+  front = y.front;
+  own = y.own;
+  following = y.following ++ x.own ∷ x.following;
+  is = x.is ∙ ap (λ rs. rs ++ x.own ∷ x.following) y.is ∙ append_assoc y.front (y.own ∷ y.following) (x.own ∷ x.following);
+}
+
+abbrev pub further : {records : List Record} (x : IsMoment records) → IsMoment x.following → IsMoment records
+further x y = record {
+  front = x.front ++ x.own ∷ y.front;
+  own = y.own;
+  following = y.following;
+  is = x.is ∙ ap (λ rs. x.front ++ x.own ∷ rs) y.is ∙ sym (append_assoc x.front (x.own ∷ y.front) (y.own ∷ y.following));
+}
+
+pub record AreOne {records : List Record} (x y : IsMoment records) : Type 0 where
+  pub front_is : x.front ≡ y.front
+  pub own_is : x.own ≡ y.own
+  pub following_is : x.following ≡ y.following
+
+-- two are one, where neither stands before the other
+pub one_moment : {records : List Record} (x y : IsMoment records) → ((between : List Record) → y.front ≡ x.front ++ x.own ∷ between → ⊥)
+    → ((between : List Record) → x.front ≡ y.front ++ y.own ∷ between → ⊥) → AreOne x y
+one_moment x y former latter = elim (ordered x.front x.own x.following y.front y.own y.following (sym x.is ∙ y.is)) [
+  | Are_one same is rest ↦ record { front_is = same; own_is = is; following_is = rest }
+  | Is_former between same rest ↦ absurd (former between same)
+  | Is_latter between same rest ↦ absurd (latter between same)
+]

@@ -1,14 +1,13 @@
 -- Over every legal history, each answer that there was no space has a reason.
-use Rattle.law_answers.proofs.Imports.{[], if◌then◌else◌, ◌++◌, ◌==◌, ◌||◌, ◌∙◌, ◌∷◌, ◌≡◌, ◌⊎◌, Actor, Answer, Asked, Begins, Blanks_it, Bool, By_verdict}
-use Rattle.law_answers.proofs.Imports.{By_witness, Cell, Command, DiskView, Ends, Fails_it, Goes_on, Has_no_space, Heard, In, IsReason, IsSeenAs, Is_settled}
-use Rattle.law_answers.proofs.Imports.{Is_told, Judges, Latest, Letter, List, MayActor, None, OneMore, Option, Reaction, Reads, Record, Request, Run, Script}
-use Rattle.law_answers.proofs.Imports.{Setting, Shown, Sight, Some, Starts_it, State, Step, Stops_at, Stops_it, Turned, Verdict, World, after, ap, at-empty}
-use Rattle.law_answers.proofs.Imports.{at_moment, by_run, by_test, cell_asked, cell_cmp, client_state, client_step, client_turns, epoch_for, false, find}
-use Rattle.law_answers.proofs.Imports.{firm_in, firm_then, follows_in, grown_then, inl, inr, is_call, is_some, is_unread, last_moment, latest, lead, longer}
-use Rattle.law_answers.proofs.Imports.{moment_more, nat_cmp, next_line, none_some, one_client, read_refusal, read_refusal_at, refl, refusal, rests_in}
-use Rattle.law_answers.proofs.Imports.{same_some, setting_in, setting_of, start, state_after, stays, step, stepped_in, subst, sym, true, verdict_answer}
-use Rattle.law_answers.proofs.Imports.{verdict_for, world_after, write_refusal, ℕ}
-use Rattle.law_answers.proofs.SettlesAreAnswered.{shown_full}
+use Rattle.law_answers.proofs.Imports.{[], if◌then◌else◌, ◌++◌, ◌∙◌, ◌∷◌, ◌≡◌, ◌⊎◌, Actor, Asked, Begins, Blanks_it, Bool, Ends, Fails_it, Goes_on}
+use Rattle.law_answers.proofs.Imports.{Has_no_space, Heard, In, IsSeenAs, Is_settled, Is_told, Judges, Letter, List, MayActor, OneMore, Reaction, Reads}
+use Rattle.law_answers.proofs.Imports.{Record, Run, Script, Setting, Shown, Sight, Some, Starts_it, State, Step, Stops_at, Stops_it, Turned, World, after, ap}
+use Rattle.law_answers.proofs.Imports.{at-empty, at_moment, by_run, cell_cmp, client_state, client_step, client_turns, false, firm_in, firm_then, follows_in}
+use Rattle.law_answers.proofs.Imports.{grown_then, inl, inr, is_call, last_moment, longer, moment_more, nat_cmp, next_line, none_some, one_client, refl}
+use Rattle.law_answers.proofs.Imports.{rests_in, setting_in, setting_of, start, stays, step, stepped_in, subst, sym, true, true_false, world_after, ℕ}
+use Rattle.law_answers.proofs.AnswersFitRequests.{is_of_entry, reason_told}
+use Rattle.law_answers.proofs.AnsweredOnce.{pair_is}
+use Rattle.law_answers.proofs.SettlesAreAnswered.{shows}
 use Rattle.law_answers.specs.Refusals.{HadNoSlot, WasRefused, HasReason, Refusals}
 use Rattle.law_answers.specs.FullCauses.{HasFullServer}
 use Rattle.law_answers.proofs.NoSlotWasReported.{found_none}
@@ -35,16 +34,6 @@ module _ (setting : Setting) where
 
   -- ### A refused write
 
-  abbrev given_as : ℕ → Answer → Option (ℕ × Answer)
-  given_as line given = Some (line, given)
-
-  answer_is : {a b : Answer} {i j : ℕ} → given_as i a ≡ given_as j b → (i ≡ j) × (a ≡ b)
-  answer_is {a} {b} {i} {j} e =
-      let one : ℕ × Answer = (i, a) in
-      let two : ℕ × Answer = (j, b) in
-      let same : one ≡ two = same_some e in
-      (ap (λ (p : ℕ × Answer). p.0) same, ap (λ (p : ℕ × Answer). p.1) same)
-
   -- the client heard of a glance of its settle that found a server without a slot
   record HeardSight (w : World) (c : ℕ) (asked : Asked) : Type 0 where
     settles : asked.request ≡ request.Settle
@@ -59,48 +48,6 @@ module _ (setting : Setting) where
     is : (w.clients c).asked ≡ Some asked
     line : asked.line ≡ number
     heard : Heard w (actor.Client c) asked.rev (body.Full asked.seq) ⊎ HeardSight w c asked
-
-  -- a state that can't serve a request tells of no want of slots, and no verdict does
-  verdict_spaced : (o : Option Latest) (seq : ℕ) → verdict_for seq o ≡ Some answer.NoSpace → ⊥
-  verdict_spaced None seq e = none_some refl e
-  verdict_spaced (Some last) seq e = by_test (λ o. o ≡ Some answer.NoSpace → ⊥) (last.seq == seq) _ _ (λ t. by last.verdict) (λ t f. none_some refl f) e
-    where
-      by : (verdict : Verdict) → verdict_answer verdict ≡ Some answer.NoSpace → ⊥
-      by verdict.Ok f = let g : answer.Ok ≡ answer.NoSpace = same_some f in cc
-      by verdict.Waiting f = none_some refl f
-      by verdict.Exists f = let g : answer.Exists ≡ answer.NoSpace = same_some f in cc
-      by verdict.NoDisk f = let g : answer.NoDisk ≡ answer.NoSpace = same_some f in cc
-      by verdict.Moving f = let g : answer.Moving ≡ answer.NoSpace = same_some f in cc
-
-  unavailable : (b : Bool) → (if b then None else Some answer.Unavailable) ≡ Some answer.NoSpace → ⊥
-  unavailable true e = none_some refl e
-  unavailable false e = let g : answer.Unavailable ≡ answer.NoSpace = same_some e in cc
-
-  unavailable_too : (b : Bool) → (if b then Some answer.Unavailable else None) ≡ Some answer.NoSpace → ⊥
-  unavailable_too true e = let g : answer.Unavailable ≡ answer.NoSpace = same_some e in cc
-  unavailable_too false e = none_some refl e
-
-  refusal_spaced : (state : State) (told : Bool) (asked : Request) → refusal state told asked ≡ Some answer.NoSpace → ⊥
-  unfolding refusal
-  refusal_spaced state told (request.Write name block pattern) e = by (find state name) e
-    where
-      by : (o : Option DiskView) → write_refusal state o block ≡ Some answer.NoSpace → ⊥
-      by None f = let g : answer.NoDisk ≡ answer.NoSpace = same_some f in cc
-      by (Some disk) f = unavailable (is_some (lead state (cell_asked state disk block false))) f
-  refusal_spaced state told (request.Read name snap block) e = by (find state name) e
-    where
-      at : (cell old : Cell) (o : Option ℕ) → read_refusal_at state cell old o ≡ Some answer.NoSpace → ⊥
-      at cell old None f = let g : answer.NoSnap ≡ answer.NoSpace = same_some f in cc
-      at cell old (Some epoch) f = unavailable_too (is_unread state cell || is_unread state old) f
-
-      by : (o : Option DiskView) → read_refusal state o snap block told ≡ Some answer.NoSpace → ⊥
-      by None f = let g : answer.NoDisk ≡ answer.NoSpace = same_some f in cc
-      by (Some disk) f = at (cell_asked state disk block false) (cell_asked state disk block told) (epoch_for state disk snap) f
-  refusal_spaced state told _ e = none_some refl e
-
-  reason_spaced : (c : ℕ) (asked : Asked) (state : State) (entry : Command) → IsReason c asked answer.NoSpace state entry → ⊥
-  reason_spaced c asked state entry (By_verdict command own so) = verdict_spaced (latest state c) asked.seq so
-  reason_spaced c asked state entry (By_witness none is so) = refusal_spaced state asked.saw_missing asked.request so
 
   runs_spaced : (running : Bool) → answer.NoSpace ≡ (if running then answer.Ok else answer.Failed) → ⊥
   runs_spaced true e = let g : answer.NoSpace ≡ answer.Ok = e in cc
@@ -123,21 +70,20 @@ module _ (setting : Setting) where
   heard_full w c _ _ (Goes_on reacted seq stays only) number e = none_some only.unanswered e
   heard_full w c _ _ (Is_told reacted asked h is reads seq stays only) number e = none_some only.unanswered e
   heard_full w c _ _ (Begins reacted line asked is free seq there called only) number e = none_some only.unanswered e
-  heard_full w c _ _ (Reads asked bytes h is reads) number e = absurd (let g : answer.Data bytes ≡ answer.NoSpace = (answer_is e).1 in cc)
-  heard_full w c _ _ (Ends asked ending.Written h is writes) number e = absurd (let g : answer.Ok ≡ answer.NoSpace = (answer_is e).1 in cc)
+  heard_full w c _ _ (Reads asked bytes h is reads) number e = absurd (let g : answer.Data bytes ≡ answer.NoSpace = (pair_is e).1 in cc)
+  heard_full w c _ _ (Ends asked ending.Written h is writes) number e = absurd (let g : answer.Ok ≡ answer.NoSpace = (pair_is e).1 in cc)
   heard_full w c _ _ (Ends asked ending.Full h is writes) number e =
-      record { asked = asked; is = is; line = (answer_is e).0; heard = inl h }
+      record { asked = asked; is = is; line = (pair_is e).0; heard = inl h }
   heard_full w c _ _ (Shown asked rev sight given h is seen) number e =
-      let why = sight_spaced _ asked sight (subst (IsSeenAs _ asked sight) (answer_is e).1 seen) in
+      let why = sight_spaced _ asked sight (subst (IsSeenAs _ asked sight) (pair_is e).1 seen) in
       record {
         asked = asked;
         is = is;
-        line = (answer_is e).0;
+        line = (pair_is e).0;
         heard = inr (record { settles = why.0; rev = rev; sight = sight; heard = h; full = why.1 });
       }
   heard_full w c _ _ (Judges after asked given is gone seq judged) number e =
-      let at = state_after setting.servers (judged.front ++ judged.entry ∷ []) in
-      absurd (reason_spaced c asked at judged.entry (subst (λ (x : Answer). IsReason c asked x at judged.entry) (answer_is e).1 judged.reason))
+      true_false (reason_told c asked given _ judged.entry judged.reason) (ap is_of_entry (pair_is e).1)
 
   answer_heard : (w : World) → (who : Actor) (what : Step) (stamp c number : ℕ) → who ≡ actor.Client c → MayActor who what setting w
       → (step who what setting w stamp).answer ≡ Some (number, answer.NoSpace) → HeardFull w c number
@@ -182,7 +128,7 @@ are_refused = by_run AreRefused (λ script sound legal. start_refusals (WasRefus
 full_copy : (run : Run) (letter : Letter) (line round : ℕ) (running : Bool) (inc : ℕ) (full : Bool) → In letter (after run).sent
     → letter.body ≡ body.Seen line round running inc full → full ≡ true → HasFullServer (setting_in run) run.records line
 full_copy run letter line round running inc full h says so =
-    let found = shown_full run letter line round running inc full h says so in
+    let found = (shows run letter line round running inc full h says).found_full so in
     record { found = found; full = found_none (at_moment run found.at.moment).prior found.server found.runs found.full }
 
 pub no_space_reason : (it : OneMore) (client line : ℕ) → it.own.actor ≡ actor.Client client → it.own.answer ≡ Some (line, answer.NoSpace)

@@ -1,12 +1,12 @@
 -- Which record answers a line with data: one alone, and so one letter alone is accepted for the line.
-use Rattle.law_answers.proofs.Imports.{[], ◌++◌, ◌∙◌, ◌∷◌, ◌≡◌, Actor, Answer, AreRising, AreSteps, Deliver, In, IsAnswered, IsMoment, IsSound, Letter, Line}
-use Rattle.law_answers.proofs.Imports.{List, MayActor, MayClient, MayDeliver, Record, Run, Script, Setting, Some, Step, World, accepted, after, answers_in}
-use Rattle.law_answers.proofs.Imports.{ap, append_assoc, at_moment, before_part, inl, line_by, longer, none_some, one_client, refl, run_of, same_name}
-use Rattle.law_answers.proofs.Imports.{same_seq, same_some, setting_of, since, start, step, stepped, subst, sym, true, with_answer, world_after, ℕ}
+use Rattle.law_answers.proofs.Imports.{[], ◌++◌, ◌∙◌, ◌∷◌, ◌≡◌, Actor, Answer, AreRising, At, Deliver, In, IsAnswered, IsMoment, Letter, Line, List, MayActor}
+use Rattle.law_answers.proofs.Imports.{MayClient, MayDeliver, Record, Run, Setting, Some, Step, World, accepted, after, answers_in, ap, append_assoc}
+use Rattle.law_answers.proofs.Imports.{at_moment, follows_in, inl, line_by, longer, none_some, one_client, refl, same_name, same_seq, same_some, setting_of}
+use Rattle.law_answers.proofs.Imports.{since, start, step, stepped, subst, sym, true, with_answer, world_after, ℕ}
+use Rattle.law_answers.proofs.ListPositions.{AreOne, further, one_moment}
 use Rattle.script_lines.specs.Requests.{is_read}
 use Rattle.law_answers.proofs.AnsweredOnce.{ahead_after, ahead_start, answered_more, stepped_is}
-use Rattle.law_answers.proofs.RecordsInOrder.{asked_at, follows_on, named_at, sent_after}
-use Rattle.law_answers.proofs.ListPositions.{AreOrdered, AreSame, Are_one, Is_former, Is_latter, ordered}
+use Rattle.law_answers.proofs.RecordsInOrder.{asked_at, named_at, sent_after}
 use Rattle.law_answers.proofs.SearchesFindLooks.{accepted_in}
 use Rattle.law_answers.proofs.ClientHistorySteps.{own_answers}
 use Rattle.petal_msg.specs.declared.body.Body.TheVariants as body
@@ -67,22 +67,22 @@ world_split setting w (x ∷ front) own later = world_split setting (stepped set
 pub deliver_is : (one other : Letter) → Deliver one ≡ Deliver other → one ≡ other
 deliver_is one other e = cc
 
-module _ (script : Script) (sound : IsSound script) where
+module _ (run : Run) where
+  open run use {script, sound, records}
+
   abbrev setting : Setting
   setting = setting_of script
 
-  abbrev At : List Record → World
-  At records = world_after setting (start setting) records
-
-  pub answers_at : (front : List Record) (own : Record) (following : List Record) → AreSteps script (front ++ own ∷ following) → (number : ℕ) (bytes : List ℕ)
-      → own.answer ≡ Some (number, answer.Data bytes) → Answers script.lines (At front) own number bytes
-  answers_at front own following legal number bytes e =
-      let follows = follows_on script sound front own following legal in
-      let k = who_answers setting (At front) own.actor own.step own.stamp follows.may.may number bytes (sym follows.answer ∙ e) in
+  pub answers_at : (m : IsMoment records) (number : ℕ) (bytes : List ℕ) → m.own.answer ≡ Some (number, answer.Data bytes)
+      → Answers script.lines (At script m.front) m.own number bytes
+  answers_at m number bytes e =
+      let it = at_moment run m in
+      let follows = follows_in it in
+      let k = who_answers setting (At script m.front) m.own.actor m.own.step m.own.stamp follows.may.may number bytes (sym follows.answer ∙ e) in
       let a = k.so in
-      let asks = asked_at script sound front (before_part script front (own ∷ following) legal) k.client a.asked a.is in
-      let comes : MayDeliver (At front) (actor.Client k.client) a.told.letter =
-      subst (λ x. MayClient x setting (At front) k.client) a.told.is k.may in
+      let asks = asked_at script sound m.front it.prior.legal k.client a.asked a.is in
+      let comes : MayDeliver (At script m.front) (actor.Client k.client) a.told.letter =
+      subst (λ x. MayClient x setting (At script m.front) k.client) a.told.is k.may in
       record {
         client = k.client;
         who = k.who_is;
@@ -100,106 +100,72 @@ module _ (script : Script) (sound : IsSound script) where
 
   module _ (rise : AreRising script.lines) where
     -- once the line has been answered it is not answered again
-    not_again : (front : List Record) (own : Record) (between : List Record) (other : Record) (following : List Record)
-        → AreSteps script (front ++ own ∷ (between ++ other ∷ following)) → (number : ℕ) (one two : Answer) → own.answer ≡ Some (number, one)
-        → other.answer ≡ Some (number, two) → ⊥
-    not_again front own between other following legal number one two first again =
-        let done = front ++ own ∷ between in
-        let joined : AreSteps script (done ++ other ∷ following) =
-        subst (AreSteps script) (sym (append_assoc front (own ∷ between) (other ∷ following))) legal in
-        let fine = before_part script done (other ∷ following) joined in
-        let then = answered_since (run_of script sound done fine) (record { front = front; own = own; following = between; is = refl }) number one first in
-        let later = follows_on script sound done other following joined in
-        let fresh = stepped_is setting rise (At done) other
-        (ahead_after setting rise (start setting) done (ahead_start setting rise) fine) later in
-        (fresh.new (number, two) (sym later.answer ∙ again)).new then
+    not_again : (m : IsMoment records) (front : List Record) (own : Record) (between : List Record) → m.front ≡ front ++ own ∷ between → (number : ℕ)
+        (one two : Answer) → own.answer ≡ Some (number, one) → m.own.answer ≡ Some (number, two) → ⊥
+    not_again m front own between is number one two first again =
+        let it = at_moment run m in
+        let later = follows_in it in
+        let fresh = stepped_is setting rise (At script m.front) m.own
+        (ahead_after setting rise (start setting) m.front (ahead_start setting rise) it.prior.legal) later in
+        (fresh.new (number, two) (sym later.answer ∙ again)).new
+        (answered_since it.prior (record { front = front; own = own; following = between; is = is }) number one first)
 
-    module _ (records : List Record) (legal : AreSteps script records) where
-      abbrev pub legal_as : {others : List Record} → records ≡ others → AreSteps script others
-      legal_as e = subst (AreSteps script) e legal
+    -- two records that answer one line are one
+    one_answer : (x y : IsMoment records) (number : ℕ) (one two : Answer) → x.own.answer ≡ Some (number, one) → y.own.answer ≡ Some (number, two)
+        → AreOne x y
+    one_answer x y number one two first again =
+        one_moment x y (λ between same. not_again y x.front x.own between same number one two first again)
+        (λ between same. not_again x y.front y.own between same number two one again first)
 
-      -- two records that answer one line are one
-      pub one_answer : (front : List Record) (own : Record) (following : List Record) → records ≡ front ++ own ∷ following
-          → (before : List Record) (other : Record) (after : List Record) → records ≡ before ++ other ∷ after → (number : ℕ) (one two : Answer)
-          → own.answer ≡ Some (number, one) → other.answer ≡ Some (number, two) → AreSame front own following before other after
-      one_answer front own following e before other after f number one two first again =
-          by (ordered front own following before other after (sym e ∙ f))
-        where
-          by : AreOrdered front own following before other after → AreSame front own following before other after
-          by (Are_one same is rest) = record { front_is = same; own_is = is; following_is = rest }
-          by (Is_former between is rest) =
-              absurd (not_again front own between other after (legal_as (e ∙ ap (λ rs. front ++ own ∷ rs) rest)) number one two first again)
-          by (Is_latter between is rest) =
-              absurd (not_again before other between own following (legal_as (f ∙ ap (λ rs. before ++ other ∷ rs) rest)) number two one again first)
+    -- the record that accepts a letter which was sent here
+    pub record IsAcceptedBy (m : IsMoment records) (letter : Letter) (number : ℕ) : Type 0 where
+      pub other : IsMoment records
+      pub between : List Record
+      pub is : other.front ≡ m.front ++ m.own ∷ between
+      pub bytes : List ℕ
+      pub answered : other.own.answer ≡ Some (number, answer.Data bytes)
+      pub so : Answers script.lines (At script other.front) other.own number bytes
+      pub letter_is : letter ≡ so.letter
 
-      -- the record that accepts a letter which was sent here
-      pub record IsAcceptedBy (front : List Record) (own : Record) (letter : Letter) (number : ℕ) : Type 0 where
-        pub between : List Record
-        pub other : Record
-        pub following : List Record
-        pub is : records ≡ (front ++ own ∷ between) ++ other ∷ following
-        pub bytes : List ℕ
-        pub answered : other.answer ≡ Some (number, answer.Data bytes)
-        pub so : Answers script.lines (At (front ++ own ∷ between)) other number bytes
-        pub letter_is : letter ≡ so.letter
+    pub accepted_by : (m : IsMoment records) (letter : Letter) → In letter m.own.sent → (number : ℕ) → accepted m.following letter ≡ Some number
+        → IsAcceptedBy m letter number
+    accepted_by m letter i number f =
+        let k = accepted_in m.following letter number f in
+        let y = further m (record { front = k.front; own = k.own; following = k.following; is = k.is }) in
+        let a = answers_at y number k.so.bytes k.so.answers in
+        let other_is : k.so.other ≡ a.letter = deliver_is k.so.other a.letter (sym k.so.what ∙ a.what) in
+        let fine = (at_moment run y).prior.legal in
+        record {
+          other = y;
+          between = k.front;
+          is = refl;
+          bytes = k.so.bytes;
+          answered = k.so.answers;
+          so = a;
+          letter_is = (named_at script sound y.front fine).unique letter a.letter (sent_after script sound m.front m.own k.front fine letter i) a.sent
+              (subst (λ l. same_name letter l ≡ true) other_is k.so.same);
+        }
 
-      pub accepted_by : (front : List Record) (own : Record) (following : List Record) → records ≡ front ++ own ∷ following → (letter : Letter)
-          → In letter own.sent → (number : ℕ) → accepted following letter ≡ Some number → IsAcceptedBy front own letter number
-      accepted_by front own following e letter i number f =
-          let k = accepted_in following letter number f in
-          let done = front ++ own ∷ k.front in
-          let is : records ≡ done ++ k.own ∷ k.following =
-          e ∙ ap (λ rs. front ++ own ∷ rs) k.is ∙ sym (append_assoc front (own ∷ k.front) (k.own ∷ k.following)) in
-          let now = legal_as is in
-          let a = answers_at done k.own k.following now number k.so.bytes k.so.answers in
-          let other_is : k.so.other ≡ a.letter = deliver_is k.so.other a.letter (sym k.so.what ∙ a.what) in
-          let fine = before_part script done (k.own ∷ k.following) now in
-          let letter_is : letter ≡ a.letter =
-          (named_at script sound done fine).unique letter a.letter (sent_after script sound front own k.front fine letter i) a.sent
-          (subst (λ l. same_name letter l ≡ true) other_is k.so.same) in
-          record {
-            between = k.front;
-            other = k.own;
-            following = k.following;
-            is = is;
-            bytes = k.so.bytes;
-            answered = k.so.answers;
-            so = a;
-            letter_is = letter_is;
-          }
+    -- ### The line's answer
 
-      -- ### The line's answer
+    module _ (m : IsMoment records) (number : ℕ) (bytes : List ℕ) (answered : m.own.answer ≡ Some (number, answer.Data bytes)) where
+      abbrev pub the_answer : Answers script.lines (At script m.front) m.own number bytes
+      the_answer = answers_at m number bytes answered
 
-      module _ (front : List Record) (own : Record) (following : List Record) (e : records ≡ front ++ own ∷ following) (number : ℕ) (bytes : List ℕ)
-          (answered : own.answer ≡ Some (number, answer.Data bytes)) where
-        abbrev pub the_answer : Answers script.lines (At front) own number bytes
-        the_answer = answers_at front own following (legal_as e) number bytes answered
+      -- data for the read of the same number and client are accepted for the same line
+      pub same_line : (x : IsMoment records) (letter : Letter) (k : ℕ) → IsAcceptedBy x letter k → (seq : ℕ) (xs : List ℕ)
+          → letter.body ≡ body.Data seq xs → letter.to ≡ actor.Client the_answer.client → seq ≡ the_answer.seq → k ≡ number
+      same_line x letter k a seq xs says to seq_is =
+          let one_client : a.so.client ≡ the_answer.client =
+          one_client (sym a.so.to ∙ ap (λ (l : Letter). l.to) (sym a.letter_is) ∙ to) in
+          let one_seq : a.so.seq ≡ the_answer.seq =
+          same_seq (sym a.so.says ∙ ap (λ (l : Letter). l.body) (sym a.letter_is) ∙ says) ∙ seq_is in
+          let line : a.so.line ≡ the_answer.line =
+          same_some (sym a.so.is ∙ (λ i. line_by script.lines (one_client i) (one_seq i)) ∙ the_answer.is) in
+          sym a.so.number_is ∙ ap (λ (l : Line). l.number) line ∙ the_answer.number_is
 
-        -- data for the read of the same number and client are accepted for the same line
-        pub same_line : (before : List Record) (other : Record) (letter : Letter) (k : ℕ) → IsAcceptedBy before other letter k → (seq : ℕ) (xs : List ℕ)
-            → letter.body ≡ body.Data seq xs → letter.to ≡ actor.Client the_answer.client → seq ≡ the_answer.seq → k ≡ number
-        same_line before other letter k a seq xs says to seq_is =
-            let one_client : a.so.client ≡ the_answer.client =
-            one_client (sym a.so.to ∙ ap (λ (l : Letter). l.to) (sym a.letter_is) ∙ to) in
-            let one_seq : a.so.seq ≡ the_answer.seq =
-            same_seq (sym a.so.says ∙ ap (λ (l : Letter). l.body) (sym a.letter_is) ∙ says) ∙ seq_is in
-            let line : a.so.line ≡ the_answer.line =
-            same_some (sym a.so.is ∙ (λ i. line_by script.lines (one_client i) (one_seq i)) ∙ the_answer.is) in
-            sym a.so.number_is ∙ ap (λ (l : Line). l.number) line ∙ the_answer.number_is
-
-        -- one that is accepted for this line is the letter of its answer, which stands after it
-        pub record IsTheOne (before : List Record) (other : Record) (letter : Letter) : Type 0 where
-          pub letter_is : letter ≡ the_answer.letter
-          pub between : List Record
-          pub is : front ≡ before ++ other ∷ between
-
-        pub the_one : (before : List Record) (other : Record) (letter : Letter) → IsAcceptedBy before other letter number → IsTheOne before other letter
-        the_one before other letter a =
-            let same = one_answer front own following e (before ++ other ∷ a.between) a.other a.following a.is number
-            (answer.Data bytes) (answer.Data a.bytes) answered a.answered in
-            record {
-              letter_is = a.letter_is
-                  ∙ deliver_is a.so.letter the_answer.letter (sym a.so.what ∙ ap (λ (r : Record). r.step) (sym same.own_is) ∙ the_answer.what);
-              between = a.between;
-              is = same.front_is;
-            }
+      -- one that is accepted for this line is the letter of its answer
+      pub the_one : (x : IsMoment records) (letter : Letter) → IsAcceptedBy x letter number → letter ≡ the_answer.letter
+      the_one x letter a =
+          let same = one_answer m a.other number (answer.Data bytes) (answer.Data a.bytes) answered a.answered in
+          a.letter_is ∙ deliver_is a.so.letter the_answer.letter (sym a.so.what ∙ ap (λ (r : Record). r.step) (sym same.own_is) ∙ the_answer.what)

@@ -82,10 +82,10 @@ module _ (setting : Setting) (rise : AreRising setting.lines) where
       let told = told_after setting rise (start setting) [] front (ahead_start setting rise)
       (told_start setting rise) legal in
       let found = row_found (answers_of front) row i in
-      let one = told.lines_too row.0 found in
-      let no : is_answered front line.number ≡ false = by_bool (is_answered front line.number) (λ yes. absurd (none (told.given line.number yes))) (λ no. no) in
-      let lt = first one.0 line one.1 there (ap (is_answered front) one.2 ∙ found) no in
-      let same : one.0.number ≡ row.0 = one.2 in
+      let one = told row.0 found in
+      let no : is_answered front line.number ≡ false = by_bool (is_answered front line.number) (λ yes. absurd (none (told line.number yes).given)) (λ no. no) in
+      let lt = first one.line line one.there there (ap (is_answered front) one.is ∙ found) no in
+      let same = one.is in
       omega arith
 
   append_nil : (rows : Table ℕ Answer) → rows ++ [] ≡ rows

@@ -1,10 +1,11 @@
 -- Each read that is answered with data is looked at once.
-use Rattle.law_answers.proofs.Imports.{[], if◌then◌else◌, ◌++◌, ◌-◌, ◌∙◌, ◌∷◌, ◌≡◌, ◌⊎◌, AreRising, AreSteps, Body, Bool, Event, Grounded, HasData, In}
-use Rattle.law_answers.proofs.Imports.{IsMoment, IsSound, Letter, Line, List, Look, MayActor, MayClient, MayDeliver, NotThere, Option, Record, Request}
-use Rattle.law_answers.proofs.Imports.{Script, Setting, Some, World, accepted, ap, append-nil, append_assoc, before_part, by_bool, false, flat_map, inl, inr}
-use Rattle.law_answers.proofs.Imports.{is_ask, length, line_by, log_rev, look_for, none_some, old_data, one_client, reads_old, reads_old_is, refl, rev_of}
-use Rattle.law_answers.proofs.Imports.{run_of, same_data, same_seq, same_some, setting_of, start, stepped, subst, sym, true, true_false, turns, was_sent}
-use Rattle.law_answers.proofs.Imports.{world_after, ℕ}
+use Rattle.law_answers.proofs.Imports.{[], if◌then◌else◌, ◌++◌, ◌-◌, ◌∙◌, ◌∷◌, ◌≡◌, ◌⊎◌, AreRising, AreSteps, Body, Bool, Event, Follows, Grounded, HasData}
+use Rattle.law_answers.proofs.Imports.{In, IsMoment, Letter, Line, List, Look, MayActor, MayClient, MayDeliver, NotThere, Option, Record, Request, Run}
+use Rattle.law_answers.proofs.Imports.{Setting, Some, WasSent, World, accepted, ap, append-nil, append_assoc, at_moment, before_part, by_bool, false}
+use Rattle.law_answers.proofs.Imports.{flat_map, follows_in, inl, inr, is_ask, length, line_by, log_rev, look_for, none_some, old_data, one_client, reads_old}
+use Rattle.law_answers.proofs.Imports.{reads_old_is, refl, rev_of, same_data, same_seq, same_some, setting_of, start, stepped, subst, sym, true, true_false}
+use Rattle.law_answers.proofs.Imports.{turns, was_sent, world_after, ℕ}
+use Rattle.law_answers.proofs.ListPositions.{AreOne, further, one_moment, sooner, AreOrdered, Are_one, Is_former, Is_latter, ordered}
 use Rattle.script_lines.specs.Requests.{is_read}
 use Rattle.law_answers.proofs.LinesHavePlaces.{line_at}
 use Rattle.law_answers.specs.ReadLinks.{IsReadFrom}
@@ -12,9 +13,7 @@ use Rattle.law_answers.specs.Looks.{HasItsLook, IsCalledIn, IsLookedAtOnce, besi
 use Rattle.law_answers.specs.Looks.{looks_at}
 use Rattle.law_answers.proofs.OneRecordAnswers.{Answers, accepted_by, deliver_is, same_line, the_answer, the_one, world_split}
 use Rattle.law_answers.proofs.LettersTellLooks.{By_data, By_turning, IsToldBy, TellsIt, beside_one, line_looks, none_of_line, told_by}
-use Rattle.law_jobs.proofs.LettersWereSent.{WasSent}
 use Rattle.law_answers.proofs.RecordsInOrder.{From_client, From_server, IsSentFrom, follows_on, sent_after, sent_by, sent_once}
-use Rattle.law_answers.proofs.ListPositions.{AreOrdered, AreSame, Are_one, Is_former, Is_latter, ordered}
 use Rattle.law_answers.proofs.OneReplyEachRead.{IsReply, answers_read, is_of_read}
 use Rattle.law_answers.proofs.SearchesFindLooks.{HasTurn, finds, found, is_accepted}
 use Rattle.law_answers.proofs.ReadsWereCalled.{read_called, read_turned}
@@ -54,66 +53,59 @@ one_look setting w next own later letter number look events alone is one =
     ∙ ap (of_line number) (append-nil (letter_looks setting w next own.actor later letter letter.body) ∙ is)
     ∙ beside_one number look events one
 
-module _ (script : Script) (sound : IsSound script) (rise : AreRising script.lines) (records : List Record) (legal : AreSteps script records) where
+module _ (run : Run) (rise : AreRising run.script.lines) where
+  open run use {script, sound, records}
+
   abbrev setting : Setting
   setting = setting_of script
 
   abbrev At : List Record → World
   At rs = world_after setting (start setting) rs
 
-  legal_so : {others : List Record} → records ≡ others → AreSteps script others
-  legal_so e = subst (AreSteps script) e legal
+  legal_at : (m : IsMoment records) → AreSteps script m.front
+  legal_at m = (at_moment run m).prior.legal
 
-  -- what the laws below know of the world after these records
-  abbrev grounded_at : (front : List Record) → AreSteps script front → Grounded
-  grounded_at front fine =
-      let st = stands_after script front sound fine in
-      record { setting = setting; state = st.state; w = At front; firm = st.ground.ready.firm; ground = st.ground }
+  -- what the laws below know of the world before this moment
+  abbrev grounded_at : IsMoment records → Grounded
+  grounded_at m =
+      let st = stands_after script m.front sound (legal_at m) in
+      record { setting = setting; state = st.state; w = At m.front; firm = st.ground.ready.firm; ground = st.ground }
 
   -- ### Replies
 
   -- a server sent the letter as its reply to a read
-  record IsReplied (front : List Record) (own : Record) (letter : Letter) : Type 0 where
+  record IsReplied (m : IsMoment records) (letter : Letter) : Type 0 where
     server : ℕ
-    who : own.actor ≡ actor.Server server
-    reply : IsReply setting (At front) server own.stamp own.sent letter
+    who : m.own.actor ≡ actor.Server server
+    reply : IsReply setting (At m.front) server m.own.stamp m.own.sent letter
 
-  replied : (front : List Record) (own : Record) (following : List Record) → records ≡ front ++ own ∷ following → (letter : Letter) → In letter own.sent
-      → (seq : ℕ) → answers_read letter.body ≡ Some seq → IsReplied front own letter
-  replied front own following e letter i seq is =
+  replied : (m : IsMoment records) (letter : Letter) → In letter m.own.sent → (seq : ℕ) → answers_read letter.body ≡ Some seq → IsReplied m letter
+  replied m letter i seq is =
       let of = replies_are letter.body seq is in
-      by of.1 (sent_by script sound front own following (legal_so e) letter i of.0)
+      by of.1 (sent_by script sound m.front m.own m.following (subst (AreSteps script) m.is run.legal) letter i of.0)
     where
-      by : is_ask letter.body ≡ false → IsSentFrom setting (At front) own letter → IsReplied front own letter
+      by : is_ask letter.body ≡ false → IsSentFrom setting (At m.front) m.own letter → IsReplied m letter
       by none (From_server n who r) = record { server = n; who = who; reply = r }
-      by none (From_client c who may j) = true_false (own_says setting (At front) c own.step may own.stamp letter j) none
+      by none (From_client c who may j) = true_false (own_says setting (At m.front) c m.own.step may m.own.stamp letter j) none
 
   -- it was sent by one record
-  one_sender : (letter : Letter) (seq : ℕ) → answers_read letter.body ≡ Some seq → (front : List Record) (own : Record) (following : List Record)
-      → records ≡ front ++ own ∷ following → In letter own.sent → (before : List Record) (other : Record) (after : List Record)
-      → records ≡ before ++ other ∷ after → In letter other.sent → AreSame front own following before other after
-  one_sender letter seq is front own following e i before other after f j =
-      by (ordered front own following before other after (sym e ∙ f))
+  one_sender : (letter : Letter) (seq : ℕ) → answers_read letter.body ≡ Some seq → (x y : IsMoment records) → In letter x.own.sent → In letter y.own.sent
+      → AreOne x y
+  one_sender letter seq is x y i j = one_moment x y (λ between same. not_twice x y between same i j) (λ between same. not_twice y x between same j i)
     where
-      by : AreOrdered front own following before other after → AreSame front own following before other after
-      by (Are_one same own_is rest) = record { front_is = same; own_is = own_is; following_is = rest }
-      by (Is_former between same rest) =
-          let r = replied before other after f letter j seq is in
-          absurd (sent_once script sound front own between other after (legal_so (e ∙ ap (λ rs. front ++ own ∷ rs) rest)) letter r.server i r.who
-          r.reply.«from» r.reply.at)
-      by (Is_latter between same rest) =
-          let r = replied front own following e letter i seq is in
-          absurd (sent_once script sound before other between own following (legal_so (f ∙ ap (λ rs. before ++ other ∷ rs) rest)) letter r.server j r.who
-          r.reply.«from» r.reply.at)
+      not_twice : (x y : IsMoment records) (between : List Record) → y.front ≡ x.front ++ x.own ∷ between → In letter x.own.sent → In letter y.own.sent → ⊥
+      not_twice x y between same i j =
+          let r = replied y letter j seq is in
+          sent_once script sound x.front x.own between (subst (AreSteps script) same (legal_at y)) y.own
+          (subst (λ rs. Follows setting (At rs) y.own) same (follows_in (at_moment run y))) letter r.server i r.who r.reply.«from» r.reply.at
 
   -- the read was called before the server handled it
-  reply_called : (front : List Record) (own : Record) (following : List Record) → records ≡ front ++ own ∷ following → (letter : Letter)
-      → IsReplied front own letter → (client seq : ℕ) → letter.to ≡ actor.Client client → answers_read letter.body ≡ Some seq → (line : Line)
-      → line_by script.lines client seq ≡ Some line → line.client ≡ client → IsCalledIn front line
-  reply_called front own following e letter r client seq to is line by_line mine =
+  reply_called : (m : IsMoment records) (letter : Letter) → IsReplied m letter → (client seq : ℕ) → letter.to ≡ actor.Client client
+      → answers_read letter.body ≡ Some seq → (line : Line) → line_by script.lines client seq ≡ Some line → line.client ≡ client → IsCalledIn m.front line
+  reply_called m letter r client seq to is line by_line mine =
       let c = one_client (sym r.reply.to ∙ to) in
       let k = same_some (sym r.reply.is ∙ is) in
-      let called = read_called script sound front (before_part script front (own ∷ following) (legal_so e)) r.server r.reply.client r.reply.seq
+      let called = read_called script sound m.front (legal_at m) r.server r.reply.client r.reply.seq
       r.reply.cell r.reply.epoch r.reply.readable.asked line ((λ j. line_by script.lines (c j) (k j)) ∙ by_line) in
       record { call = called.call; there = called.there; who = called.who ∙ ap actor.Client (c ∙ sym mine); what = called.what }
 
@@ -121,48 +113,38 @@ module _ (script : Script) (sound : IsSound script) (rise : AreRising script.lin
 
   module _ (m : IsMoment records) (number : ℕ) (bytes : List ℕ) (answered : m.own.answer ≡ Some (number, answer.Data bytes)) where
     abbrev a : Answers script.lines (At m.front) m.own number bytes
-    a = the_answer script sound rise records legal m.front m.own m.following m.is number bytes answered
+    a = the_answer run rise m number bytes answered
 
     abbrev n : ℕ
     n = a.line.number
-
-    front_fine : AreSteps script m.front
-    front_fine = before_part script m.front (m.own ∷ m.following) (legal_so m.is)
 
     abbrev reply_is : answers_read a.letter.body ≡ Some a.seq
     reply_is = ap answers_read a.says
 
     -- where its data were sent
-    abbrev s : WasSent m.front a.letter
-    s = was_sent (run_of script sound m.front front_fine) a.letter a.sent
+    abbrev w : WasSent m.front a.letter
+    w = was_sent (at_moment run m).prior a.letter a.sent
 
-    abbrev after_s : List Record
-    after_s = s.following ++ m.own ∷ m.following
+    abbrev s : IsMoment records
+    s = sooner m w.moment
 
-    s_is : records ≡ s.front ++ s.own ∷ after_s
-    s_is = m.is ∙ ap (λ rs. rs ++ m.own ∷ m.following) s.is ∙ append_assoc s.front (s.own ∷ s.following) (m.own ∷ m.following)
-
-    s_reply : IsReplied s.front s.own a.letter
-    s_reply = replied s.front s.own after_s s_is a.letter s.sent a.seq reply_is
+    s_reply : IsReplied s a.letter
+    s_reply = replied s a.letter w.sent a.seq reply_is
 
     -- a letter with data for the read is accepted for its line alone
-    line_of : (front : List Record) (own : Record) (following : List Record) → records ≡ front ++ own ∷ following → (letter : Letter) → In letter own.sent
-        → (xs : List ℕ) → letter.body ≡ body.Data a.seq xs → letter.to ≡ actor.Client a.client → (k : ℕ) → accepted following letter ≡ Some k → k ≡ number
-    line_of front own following e letter i xs says to k acc =
-        same_line script sound rise records legal m.front m.own m.following m.is number bytes answered front own letter k
-        (accepted_by script sound rise records legal front own following e letter i k acc) a.seq xs says to refl
+    line_of : (x : IsMoment records) (letter : Letter) → In letter x.own.sent → (xs : List ℕ) → letter.body ≡ body.Data a.seq xs
+        → letter.to ≡ actor.Client a.client → (k : ℕ) → accepted x.following letter ≡ Some k → k ≡ number
+    line_of x letter i xs says to k acc =
+        same_line run rise m number bytes answered x letter k (accepted_by run rise x letter i k acc) a.seq xs says to refl
 
     -- and one that is accepted for the line is the letter of its answer
-    letter_of : (front : List Record) (own : Record) (following : List Record) → records ≡ front ++ own ∷ following → (letter : Letter) → In letter own.sent
-        → accepted following letter ≡ Some number → letter ≡ a.letter
-    letter_of front own following e letter i acc =
-        (the_one script sound rise records legal m.front m.own m.following m.is number bytes answered front own letter
-        (accepted_by script sound rise records legal front own following e letter i number acc)).letter_is
+    letter_of : (x : IsMoment records) (letter : Letter) → In letter x.own.sent → accepted x.following letter ≡ Some number → letter ≡ a.letter
+    letter_of x letter i acc = the_one run rise m number bytes answered x letter (accepted_by run rise x letter i number acc)
 
-    accepted_here : accepted after_s a.letter ≡ Some n
+    accepted_here : accepted s.following a.letter ≡ Some n
     accepted_here =
-        let k = is_accepted s.following m.own m.following a.letter number bytes a.what answered in
-        k.1 ∙ ap Some (line_of s.front s.own after_s s_is a.letter s.sent bytes a.says a.to k.0 k.1 ∙ sym a.number_is)
+        let k = is_accepted w.following m.own m.following a.letter number bytes a.what answered in
+        k.1 ∙ ap Some (line_of s a.letter w.sent bytes a.says a.to k.0 k.1 ∙ sym a.number_is)
 
     in_lines : In a.line script.lines × (a.line.client ≡ a.client)
     in_lines = line_at script.lines a.client (a.seq - 1) a.line a.is
@@ -180,68 +162,57 @@ module _ (script : Script) (sound : IsSound script) (rise : AreRising script.lin
     one_event = line_looks script.lines rise a.line in_lines.0 asks.name asks.snap asks.block asks.is bytes
 
     -- the letter is the answer's, and the record is the one that sent it
-    sent_here : (front : List Record) (own : Record) (following : List Record) → records ≡ front ++ own ∷ following → (letter : Letter) → In letter own.sent
-        → accepted following letter ≡ Some number → AreSame front own following s.front s.own after_s
-    sent_here front own following e letter i acc =
-        one_sender a.letter a.seq reply_is front own following e (subst (λ l. In l own.sent) (letter_of front own following e letter i acc) i)
-        s.front s.own after_s s_is s.sent
+    sent_here : (x : IsMoment records) (letter : Letter) → In letter x.own.sent → accepted x.following letter ≡ Some number → AreOne x s
+    sent_here x letter i acc =
+        one_sender a.letter a.seq reply_is x s (subst (λ l. In l x.own.sent) (letter_of x letter i acc) i) w.sent
 
     abbrev is_old : Bool
     is_old = reads_old setting (At s.front) s.own.actor
 
-    old_as : (front : List Record) (own : Record) (following : List Record) → AreSame front own following s.front s.own after_s
-        → reads_old setting (At front) own.actor ≡ is_old
-    old_as front own following same = λ i. reads_old setting (At (same.front_is i)) (same.own_is i).actor
+    old_as : (x : IsMoment records) → AreOne x s → reads_old setting (At x.front) x.own.actor ≡ is_old
+    old_as x same = λ i. reads_old setting (At (same.front_is i)) (same.own_is i).actor
 
     -- what a search by the old map has found
-    record IsFoundBy (front : List Record) (own : Record) (following : List Record) (letter : Letter) (seq : ℕ) : Type 0 where
+    record IsFoundBy (x : IsMoment records) (letter : Letter) (seq : ℕ) : Type 0 where
       turned : List Record
       turning : Record
       between : List Record
-      is : s.front ≡ (front ++ own ∷ turned) ++ turning ∷ between
-      legal_then : AreSteps script ((front ++ own ∷ turned) ++ turning ∷ between)
-      so : turns letter (At (front ++ own ∷ turned)) turning (stepped setting (At (front ++ own ∷ turned)) turning).world ≡ true
+      is : s.front ≡ (x.front ++ x.own ∷ turned) ++ turning ∷ between
+      so : turns letter (At (x.front ++ x.own ∷ turned)) turning (stepped setting (At (x.front ++ x.own ∷ turned)) turning).world ≡ true
       to : letter.to ≡ actor.Client a.client
       rev : letter.rev ≡ a.letter.rev
       seq_is : seq ≡ a.seq
       old : is_old ≡ true
 
-    search_found : (front : List Record) (own : Record) (following : List Record) → records ≡ front ++ own ∷ following → (letter : Letter) (seq : ℕ)
-        → (given : ℕ × List ℕ)
-        → old_data setting (stepped setting (At front) own).world following (record { letter = letter; seq = seq }) false ≡ Some given
-        → given.0 ≡ number → IsFoundBy front own following letter seq
-    search_found front own following e letter seq given is number_is =
-        let next = (stepped setting (At front) own).world in
-        let f = found setting next following false (record { letter = letter; seq = seq }) given is in
-        let there : records ≡ (front ++ own ∷ f.front) ++ f.own ∷ f.following =
-        e ∙ ap (λ rs. front ++ own ∷ rs) f.is ∙ sym (append_assoc front (own ∷ f.front) (f.own ∷ f.following)) in
+    search_found : (x : IsMoment records) (letter : Letter) (seq : ℕ) (given : ℕ × List ℕ)
+        → old_data setting (stepped setting (At x.front) x.own).world x.following (record { letter = letter; seq = seq }) false ≡ Some given
+        → given.0 ≡ number → IsFoundBy x letter seq
+    search_found x letter seq given is number_is =
+        let next = (stepped setting (At x.front) x.own).world in
+        let f = found setting next x.following false (record { letter = letter; seq = seq }) given is in
+        let y = further x (record { front = f.front; own = f.own; following = f.following; is = f.is }) in
         let acc : accepted f.following f.letter ≡ Some number = f.has.accepts ∙ ap Some number_is in
-        let same = sent_here (front ++ own ∷ f.front) f.own f.following there f.letter f.sent acc in
-        let letter_is = letter_of (front ++ own ∷ f.front) f.own f.following there f.letter f.sent acc in
-        let world_is = world_split setting (start setting) front own f.front in
+        let same = sent_here y f.letter f.sent acc in
+        let letter_is = letter_of y f.letter f.sent acc in
         by f.front f.turn (sym same.front_is) (f.has.to ∙ ap (λ (l : Letter). l.to) letter_is ∙ a.to) (f.has.rev ∙ ap (λ (l : Letter). l.rev) letter_is)
         (same_seq (sym f.has.says ∙ ap (λ (l : Letter). l.body) letter_is ∙ a.says))
-        (sym (old_as (front ++ own ∷ f.front) f.own f.following same) ∙ ap (λ u. reads_old setting u f.own.actor) world_is ∙ f.old)
+        (sym (old_as y same) ∙ ap (λ u. reads_old setting u f.own.actor) (world_split setting (start setting) x.front x.own f.front) ∙ f.old)
       where
-        by : (rs : List Record) → (false ≡ true) ⊎ HasTurn setting (stepped setting (At front) own).world rs letter
-            → s.front ≡ front ++ own ∷ rs → letter.to ≡ actor.Client a.client → letter.rev ≡ a.letter.rev → seq ≡ a.seq → is_old ≡ true
-            → IsFoundBy front own following letter seq
+        by : (rs : List Record) → (false ≡ true) ⊎ HasTurn setting (stepped setting (At x.front) x.own).world rs letter
+            → s.front ≡ x.front ++ x.own ∷ rs → letter.to ≡ actor.Client a.client → letter.rev ≡ a.letter.rev → seq ≡ a.seq → is_old ≡ true
+            → IsFoundBy x letter seq
         by rs (inl never) same to rev seq_is old = true_false never refl
-        by rs (inr t) same to rev seq_is old =
-            let is : s.front ≡ (front ++ own ∷ t.front) ++ t.own ∷ t.following =
-            same ∙ ap (λ xs. front ++ own ∷ xs) t.is ∙ sym (append_assoc front (own ∷ t.front) (t.own ∷ t.following)) in
-            record {
-              turned = t.front;
-              turning = t.own;
-              between = t.following;
-              is = is;
-              legal_then = subst (AreSteps script) is (before_part script s.front (s.own ∷ after_s) (legal_so s_is));
-              so = subst (λ u. turns letter u t.own (stepped setting u t.own).world ≡ true) (sym (world_split setting (start setting) front own t.front)) t.so;
-              to = to;
-              rev = rev;
-              seq_is = seq_is;
-              old = old;
-            }
+        by rs (inr t) same to rev seq_is old = record {
+          turned = t.front;
+          turning = t.own;
+          between = t.following;
+          is = same ∙ ap (λ xs. x.front ++ x.own ∷ xs) t.is ∙ sym (append_assoc x.front (x.own ∷ t.front) (t.own ∷ t.following));
+          so = subst (λ u. turns letter u t.own (stepped setting u t.own).world ≡ true) (sym (world_split setting (start setting) x.front x.own t.front)) t.so;
+          to = to;
+          rev = rev;
+          seq_is = seq_is;
+          old = old;
+        }
 
     -- ### Where the data were not read by an old map
 
@@ -259,25 +230,25 @@ module _ (script : Script) (sound : IsSound script) (rise : AreRising script.lin
             → TellsIt setting (At other.front) (stepped setting (At other.front) other.own).world other.own.actor other.following letter l.0
             → other.front ≡ s.front
         by letter there (By_data seq xs says new acc) =
-            (sent_here other.front other.own other.following other.is letter there (acc ∙ ap Some (same ∙ a.number_is))).front_is
+            (sent_here other letter there (acc ∙ ap Some (same ∙ a.number_is))).front_is
         by letter there (By_turning seq given says is number_is) =
-            true_false (search_found other.front other.own other.following other.is letter seq given is (number_is ∙ same ∙ a.number_is)).old off
+            true_false (search_found other letter seq given is (number_is ∙ same ∙ a.number_is)).old off
 
     new_way : is_old ≡ false → Once
     new_way off =
         let next = (stepped setting (At s.front) s.own).world in
         record {
-          moment = record { front = s.front; own = s.own; following = after_s; is = s_is };
-          told = one_look setting (At s.front) next s.own after_s a.letter n look events s_reply.reply.alone
-              (ap (letter_looks setting (At s.front) next s.own.actor after_s a.letter) a.says
-              ∙ ap (λ b. if b then [] else look_beside script.lines (accepted after_s a.letter) bytes) off
+          moment = s;
+          told = one_look setting (At s.front) next s.own s.following a.letter n look events s_reply.reply.alone
+              (ap (letter_looks setting (At s.front) next s.own.actor s.following a.letter) a.says
+              ∙ ap (λ b. if b then [] else look_beside script.lines (accepted s.following a.letter) bytes) off
               ∙ ap (λ o. look_beside script.lines o bytes) accepted_here) one_event;
           alone = λ other ne. none_of_line n (looks_at setting records other) (λ l i same. ne (ap length (only_new off other l i same)));
           server = s_reply.server;
           who = s_reply.who;
-          called = reply_called s.front s.own after_s s_is a.letter s_reply a.client a.seq a.to reply_is a.line a.is in_lines.1;
-          between = s.following;
-          answered = s.is;
+          called = reply_called s a.letter s_reply a.client a.seq a.to reply_is a.line a.is in_lines.1;
+          between = w.following;
+          answered = w.is;
         }
 
     -- ### Where they were
@@ -286,10 +257,9 @@ module _ (script : Script) (sound : IsSound script) (rise : AreRising script.lin
     turned : is_old ≡ true → WasTurned setting s.front a.client a.seq a.letter.rev
     turned on =
         let r = s_reply.reply in
-        let fine = before_part script s.front (s.own ∷ after_s) (legal_so s_is) in
-        let leaves = sym (reads_old_is (grounded_at s.front fine) s_reply.server r.client r.seq r.cell r.epoch r.readable.asked)
+        let leaves = sym (reads_old_is (grounded_at s) s_reply.server r.client r.seq r.cell r.epoch r.readable.asked)
         ∙ ap (reads_old setting (At s.front)) (sym s_reply.who) ∙ on in
-        let t = read_turned script sound s.front fine s_reply.server r.client r.seq r.cell r.epoch r.readable.asked leaves in
+        let t = read_turned script sound s.front (legal_at s) s_reply.server r.client r.seq r.cell r.epoch r.readable.asked leaves in
         let c = one_client (sym r.to ∙ a.to) in
         let k = same_some (sym r.is ∙ reply_is) in
         let rev = r.rev ∙ log_rev script.servers ((At s.front).servers s_reply.server).log.applied in
@@ -304,40 +274,31 @@ module _ (script : Script) (sound : IsSound script) (rise : AreRising script.lin
       abbrev not_here : Letter
       not_here = t.letter
 
-      s_fine : AreSteps script s.front
-      s_fine = before_part script s.front (s.own ∷ after_s) (legal_so s_is)
-
-      t_legal : AreSteps script (t.front ++ t.own ∷ t.following)
-      t_legal = subst (AreSteps script) t.is s_fine
-
-      t_fine : AreSteps script t.front
-      t_fine = before_part script t.front (t.own ∷ t.following) t_legal
+      abbrev turn_at : IsMoment records
+      turn_at = sooner s (record { front = t.front; own = t.own; following = t.following; is = t.is })
 
       comes : MayDeliver (At t.front) (actor.Client a.client) not_here
       comes = subst (λ x. MayClient x setting (At t.front) a.client) t.turn.what
-          (subst (λ x. MayActor x t.own.step setting (At t.front)) t.turn.who (follows_on script sound t.front t.own t.following t_legal).may.may).1
+          (subst (λ x. MayActor x t.own.step setting (At t.front)) t.turn.who (follows_in (at_moment run turn_at)).may.may).1
 
       -- where the letter was sent that made it turn
-      abbrev o : WasSent t.front not_here
-      o = was_sent (run_of script sound t.front t_fine) not_here comes.sent
+      abbrev u : WasSent t.front not_here
+      u = was_sent (at_moment run turn_at).prior not_here comes.sent
 
       abbrev between_o : List Record
-      between_o = o.following ++ t.own ∷ t.following
+      between_o = u.following ++ t.own ∷ t.following
 
-      s_front_is : s.front ≡ o.front ++ o.own ∷ between_o
-      s_front_is = t.is ∙ ap (λ rs. rs ++ t.own ∷ t.following) o.is ∙ append_assoc o.front (o.own ∷ o.following) (t.own ∷ t.following)
+      s_front_is : s.front ≡ u.front ++ u.own ∷ between_o
+      s_front_is = t.is ∙ ap (λ rs. rs ++ t.own ∷ t.following) u.is ∙ append_assoc u.front (u.own ∷ u.following) (t.own ∷ t.following)
 
-      abbrev after_o : List Record
-      after_o = between_o ++ s.own ∷ after_s
-
-      o_is : records ≡ o.front ++ o.own ∷ after_o
-      o_is = s_is ∙ ap (λ rs. rs ++ s.own ∷ after_s) s_front_is ∙ append_assoc o.front (o.own ∷ between_o) (s.own ∷ after_s)
+      abbrev o : IsMoment records
+      o = sooner s (record { front = u.front; own = u.own; following = between_o; is = s_front_is })
 
       abbrev reply_n : answers_read not_here.body ≡ Some a.seq
       reply_n = ap answers_read t.turn.said
 
-      o_reply : IsReplied o.front o.own not_here
-      o_reply = replied o.front o.own after_o o_is not_here o.sent a.seq reply_n
+      o_reply : IsReplied o not_here
+      o_reply = replied o not_here u.sent a.seq reply_n
 
       abbrev next : World
       next = (stepped setting (At o.front) o.own).world
@@ -348,12 +309,12 @@ module _ (script : Script) (sound : IsSound script) (rise : AreRising script.lin
       world_s : world_after setting next between_o ≡ At s.front
       world_s = sym (world_split setting (start setting) o.front o.own between_o) ∙ ap At (sym s_front_is)
 
-      world_t : world_after setting next o.following ≡ At t.front
-      world_t = sym (world_split setting (start setting) o.front o.own o.following) ∙ ap At (sym o.is)
+      world_t : world_after setting next u.following ≡ At t.front
+      world_t = sym (world_split setting (start setting) u.front u.own u.following) ∙ ap At (sym u.is)
 
       turns_there : HasTurn setting next between_o not_here
       turns_there = record {
-        front = o.following;
+        front = u.following;
         own = t.own;
         following = t.following;
         is = refl;
@@ -361,27 +322,25 @@ module _ (script : Script) (sound : IsSound script) (rise : AreRising script.lin
             (turn_is_seen script sound (At t.front) t.own not_here a.client a.seq a.letter.rev t.turn);
       }
 
-      has : HasData told after_s a.letter (n, bytes)
+      has : HasData told s.following a.letter (n, bytes)
       has = record { says = a.says; to = comes.own ∙ sym a.to; rev = t.turn.at; accepts = accepted_here }
 
       -- the search finds these data, and no others
-      some : (given : ℕ × List ℕ) × (old_data setting next after_o told false ≡ Some given)
-      some = finds setting next between_o s.own after_s false told a.letter (n, bytes)
-          (ap (λ u. reads_old setting u s.own.actor) world_s ∙ on) s.sent has (inr turns_there)
+      some : (given : ℕ × List ℕ) × (old_data setting next o.following told false ≡ Some given)
+      some = finds setting next between_o s.own s.following false told a.letter (n, bytes)
+          (ap (λ u. reads_old setting u s.own.actor) world_s ∙ on) w.sent has (inr turns_there)
 
-      given_is : (given : ℕ × List ℕ) → old_data setting next after_o told false ≡ Some given → (given.0 ≡ n) × (given.1 ≡ bytes)
+      given_is : (given : ℕ × List ℕ) → old_data setting next o.following told false ≡ Some given → (given.0 ≡ n) × (given.1 ≡ bytes)
       given_is given is =
-          let f = found setting next after_o false told given is in
-          let there : records ≡ (o.front ++ o.own ∷ f.front) ++ f.own ∷ f.following =
-          o_is ∙ ap (λ rs. o.front ++ o.own ∷ rs) f.is ∙ sym (append_assoc o.front (o.own ∷ f.front) (f.own ∷ f.following)) in
-          let number_is = line_of (o.front ++ o.own ∷ f.front) f.own f.following there f.letter f.sent given.1 f.has.says (sym f.has.to ∙ comes.own) given.0
-          f.has.accepts in
-          let letter_is = letter_of (o.front ++ o.own ∷ f.front) f.own f.following there f.letter f.sent (f.has.accepts ∙ ap Some number_is) in (
+          let f = found setting next o.following false told given is in
+          let y = further o (record { front = f.front; own = f.own; following = f.following; is = f.is }) in
+          let number_is = line_of y f.letter f.sent given.1 f.has.says (sym f.has.to ∙ comes.own) given.0 f.has.accepts in
+          let letter_is = letter_of y f.letter f.sent (f.has.accepts ∙ ap Some number_is) in (
             number_is ∙ sym a.number_is,
             same_data (sym f.has.says ∙ ap (λ (l : Letter). l.body) letter_is ∙ a.says),
           )
 
-      search_is : look_beside_data script.lines (old_data setting next after_o told false) ≡ beside n events
+      search_is : look_beside_data script.lines (old_data setting next o.following told false) ≡ beside n events
       search_is =
           let g = given_is some.0 some.1 in
           ap (look_beside_data script.lines) some.1 ∙ (λ i. look_beside script.lines (Some (g.0 i)) (g.1 i))
@@ -389,17 +348,20 @@ module _ (script : Script) (sound : IsSound script) (rise : AreRising script.lin
       -- ### No other record tells a look
 
       turned_same : (other : IsMoment records) (letter : Letter) → In letter other.own.sent → (seq : ℕ) → letter.body ≡ body.NotHere seq
-          → IsFoundBy other.front other.own other.following letter seq → other.front ≡ o.front
+          → IsFoundBy other letter seq → other.front ≡ o.front
       turned_same other letter there seq said f = by (ordered t.front t.own t.following turned_front f.turning f.between (sym t.is ∙ f.is))
         where
           turned_front : List Record
           turned_front = other.front ++ other.own ∷ f.turned
 
+          turned_legal : AreSteps script (turned_front ++ f.turning ∷ f.between)
+          turned_legal = subst (AreSteps script) f.is (legal_at s)
+
           fine : AreSteps script turned_front
-          fine = before_part script turned_front (f.turning ∷ f.between) f.legal_then
+          fine = before_part script turned_front (f.turning ∷ f.between) turned_legal
 
           k : IsTurnOf script sound (At turned_front) f.turning letter seq
-          k = turn_of script sound turned_front f.turning fine (follows_on script sound turned_front f.turning f.between f.legal_then) letter seq
+          k = turn_of script sound turned_front f.turning fine (follows_on script sound turned_front f.turning f.between turned_legal) letter seq
               (sent_after script sound other.front other.own f.turned fine letter there) said f.so
 
           turn_too : IsTurn setting (At turned_front) f.turning letter a.client a.seq a.letter.rev
@@ -412,11 +374,10 @@ module _ (script : Script) (sound : IsSound script) (rise : AreRising script.lin
           by (Are_one same own_is rest) =
               let letter_is : letter ≡ not_here =
               deliver_is letter not_here (sym turn_too.what ∙ ap (λ (r : Record). r.step) (sym own_is) ∙ t.turn.what) in
-              (one_sender not_here a.seq reply_n other.front other.own other.following other.is (subst (λ l. In l other.own.sent) letter_is there)
-              o.front o.own after_o o_is o.sent).front_is
+              (one_sender not_here a.seq reply_n other o (subst (λ l. In l other.own.sent) letter_is there) u.sent).front_is
           by (Is_former between same rest) = absurd (turns_once script sound t.front t.own between f.turning (subst (AreSteps script) same fine) not_here letter
               a.client a.seq a.letter.rev t.turn (subst (λ rs. IsTurn setting (At rs) f.turning letter a.client a.seq a.letter.rev) same turn_too))
-          by (Is_latter between same rest) = absurd (turns_once script sound turned_front f.turning between t.own (subst (AreSteps script) same t_fine) letter
+          by (Is_latter between same rest) = absurd (turns_once script sound turned_front f.turning between t.own (subst (AreSteps script) same (legal_at turn_at)) letter
               not_here a.client a.seq a.letter.rev turn_too
               (subst (λ rs. IsTurn setting (At rs) t.own not_here a.client a.seq a.letter.rev) same t.turn))
 
@@ -427,23 +388,22 @@ module _ (script : Script) (sound : IsSound script) (rise : AreRising script.lin
               → TellsIt setting (At other.front) (stepped setting (At other.front) other.own).world other.own.actor other.following letter l.0
               → other.front ≡ o.front
           by letter there (By_data seq xs says off acc) =
-              let here = sent_here other.front other.own other.following other.is letter there (acc ∙ ap Some (same ∙ a.number_is)) in
-              true_false on (sym (old_as other.front other.own other.following here) ∙ off)
+              true_false on (sym (old_as other (sent_here other letter there (acc ∙ ap Some (same ∙ a.number_is)))) ∙ off)
           by letter there (By_turning seq given says is number_is) =
               turned_same other letter there seq says
-              (search_found other.front other.own other.following other.is letter seq given is (number_is ∙ same ∙ a.number_is))
+              (search_found other letter seq given is (number_is ∙ same ∙ a.number_is))
 
       old_way : Once
       old_way = record {
-        moment = record { front = o.front; own = o.own; following = after_o; is = o_is };
-        told = one_look setting (At o.front) next o.own after_o not_here n look events o_reply.reply.alone
-            (ap (letter_looks setting (At o.front) next o.own.actor after_o not_here) t.turn.said ∙ search_is) one_event;
+        moment = o;
+        told = one_look setting (At o.front) next o.own o.following not_here n look events o_reply.reply.alone
+            (ap (letter_looks setting (At o.front) next o.own.actor o.following not_here) t.turn.said ∙ search_is) one_event;
         alone = λ other ne. none_of_line n (looks_at setting records other) (λ l i same. ne (ap length (only_old other l i same)));
         server = o_reply.server;
         who = o_reply.who;
-        called = reply_called o.front o.own after_o o_is not_here o_reply a.client a.seq comes.own reply_n a.line a.is in_lines.1;
-        between = between_o ++ s.own ∷ s.following;
-        answered = s.is ∙ ap (λ rs. rs ++ s.own ∷ s.following) s_front_is ∙ append_assoc o.front (o.own ∷ between_o) (s.own ∷ s.following);
+        called = reply_called o not_here o_reply a.client a.seq comes.own reply_n a.line a.is in_lines.1;
+        between = between_o ++ s.own ∷ w.following;
+        answered = w.is ∙ ap (λ rs. rs ++ s.own ∷ w.following) s_front_is ∙ append_assoc o.front (o.own ∷ between_o) (s.own ∷ w.following);
       }
 
     pub its_look : HasItsLook setting records m number bytes
@@ -467,11 +427,11 @@ module _ (script : Script) (sound : IsSound script) (rise : AreRising script.lin
         let c = one_client (sym r.to ∙ a.to) in
         let k = same_some (sym r.is ∙ reply_is) in
         record {
-          moment = record { front = s.front; own = s.own; following = after_s; is = s_is };
-          between = s.following;
-          answered = s.is;
+          moment = s;
+          between = w.following;
+          answered = w.is;
           letter = a.letter;
-          sent = s.sent;
+          sent = w.sent;
           says = a.says ∙ ap (λ q. body.Data q bytes) (sym k);
           accepted = a.what;
           server = s_reply.server;
@@ -484,8 +444,7 @@ module _ (script : Script) (sound : IsSound script) (rise : AreRising script.lin
           line = a.line;
           line_is = (λ i. line_by script.lines (c i) (k i)) ∙ a.is;
           number_is = a.number_is;
-          called = reply_called s.front s.own after_s s_is a.letter s_reply a.client a.seq a.to reply_is a.line a.is in_lines.1;
+          called = reply_called s a.letter s_reply a.client a.seq a.to reply_is a.line a.is in_lines.1;
           bytes_are = r.shown a.seq bytes a.says;
-          link = unlost (grounded_at s.front (before_part script s.front (s.own ∷ after_s) (legal_so s_is))) s_reply.server r.cell r.runs
-              r.readable.seated r.readable.readable;
+          link = unlost (grounded_at s) s_reply.server r.cell r.runs r.readable.seated r.readable.readable;
         }

@@ -82,15 +82,12 @@ module _ (script : Script) (sound : IsSound script) where
       follows.may.may firm own refl refl refl follows.sent letter (subst (In letter) follows.sent i) of_read
 
   -- no reply is sent twice
-  pub sent_once : (front : List Record) (own : Record) (between : List Record) (other : Record) (following : List Record)
-      → AreSteps script (front ++ own ∷ (between ++ other ∷ following)) → (letter : Letter) (n : ℕ) → In letter own.sent
+  pub sent_once : (front : List Record) (own : Record) (between : List Record) → AreSteps script (front ++ own ∷ between) → (other : Record)
+      → Follows setting_now (At script (front ++ own ∷ between)) other → (letter : Letter) (n : ℕ) → In letter own.sent
       → other.actor ≡ actor.Server n → letter.«from» ≡ actor.Server n → letter.stamp ≡ other.stamp → ⊥
-  sent_once front own between other following legal letter n i who from_is at =
+  sent_once front own between fine other later letter n i who from_is at =
       let done = front ++ own ∷ between in
-      let joined : AreSteps script (done ++ other ∷ following) =
-      subst (AreSteps script) (sym (append_assoc front (own ∷ between) (other ∷ following))) legal in
-      let fine = before_part script done (other ∷ following) joined in
       let early = (named_at done fine).early letter (sent_after front own between fine letter i) in
-      let later = (follows_on done other following joined).stamp in
+      let lt = later.stamp in
       let clock : clock_of (At script done) letter.«from» ≡ clock_of (At script done) other.actor = ap (clock_of (At script done)) (from_is ∙ sym who) in
       omega arith

@@ -1,7 +1,7 @@
 -- What a server's step has to show so that each refusal has its reason.
-use Rattle.law_answers.proofs.Imports.{◌<◌, ◌∙◌, ◌≡◌, ◌≤◌, ◌⊎◌, Acted, Cell, Finished, In, IsPrefix, Letter, Pending, Server, Setting, Some, Step, Was, World}
-use Rattle.law_answers.proofs.Imports.{acts, all_put, ap, arith, at, cell_cmp, chosen_log, first, front_on, in-append, inl, inr, is_clients, is_in, length}
-use Rattle.law_answers.proofs.Imports.{nat_cmp, put_same, server_state, stamped, subst, sym, true, was_same, ℕ}
+use Rattle.law_answers.proofs.Imports.{◌<◌, ◌∙◌, ◌≡◌, ◌≤◌, ◌⊎◌, Acted, Body, Cell, Finished, In, IsPrefix, Letter, Pending, Server, Setting, Some, Step, Was}
+use Rattle.law_answers.proofs.Imports.{World, acts, all_put, ap, arith, at, cell_cmp, chosen_log, first, front_on, in-append, inl, inr, is_clients, is_in}
+use Rattle.law_answers.proofs.Imports.{length, nat_cmp, put_same, server_state, stamped, subst, sym, true, was_same, ℕ}
 use Rattle.law_answers.specs.Refusals.{IsDeclined, IsNumbered, Refusals}
 use Rattle.law_answers.proofs.SlotLetters.{WereRefused}
 use Rattle.petal_msg.specs.declared.body.Body.TheVariants as body
@@ -28,18 +28,19 @@ pub record AsksSlot (setting : Setting) (w : World) (n : ℕ) (acted : Acted) (l
   pub same : acted.server.life.inc ≡ (w.servers n).life.inc
   pub given : number < acted.server.own.pairs.next
 
+-- what has to be so of a letter of a step
+abbrev pub IsDue : (S : ℕ → ℕ → Type 0) → Setting → World → (n : ℕ) → Acted → Letter → Body → Type 0
+IsDue S setting w n acted letter (body.Full seq) = (c : ℕ) → letter.to ≡ actor.Client c → S c seq
+IsDue S setting w n acted letter (body.Reserve number cell) = AsksSlot setting w n acted letter number cell
+IsDue S setting w n acted letter (body.PairFull number cell) = IsDeclined S setting w letter number cell
+IsDue S setting w n acted letter _ = Unit {0}
+
 -- what a step has to show: of what the server remembers where it runs on, of what is pending then, and of what it sends
 pub record StepRefuses (S : ℕ → ℕ → Type 0) (setting : Setting) (w : World) (n stamp : ℕ) (acted : Acted) : Type 0 where
   pub finished : (c : ℕ) (last : Finished) → acted.server.life.running ≡ true → at nat_cmp acted.server.own.pairs.finished c ≡ Some last
       → last.ending ≡ ending.Full → S c last.seq
   pub onward : GoesOn (w.servers n) acted.server
-  pub letters : (letter : Letter) (c seq : ℕ) → In letter (stamped stamp acted.letters) → letter.to ≡ actor.Client c → letter.body ≡ body.Full seq → S c seq
-  pub reserves : (letter : Letter) (number : ℕ) (cell : Cell) → In letter (stamped stamp acted.letters)
-      → letter.body ≡ body.Reserve number cell
-      → AsksSlot setting w n acted letter number cell
-  pub declined : (letter : Letter) (number : ℕ) (cell : Cell) → In letter (stamped stamp acted.letters)
-      → letter.body ≡ body.PairFull number cell
-      → IsDeclined S setting w letter number cell
+  pub says : (letter : Letter) → In letter (stamped stamp acted.letters) → IsDue S setting w n acted letter letter.body
 
 -- a server that does nothing
 pub still_on : (R : ℕ → ℕ → Type 0) (setting : Setting) (w : World) → Refusals R setting w → (i : ℕ) → GoesOn (w.servers i) (w.servers i)
@@ -125,10 +126,13 @@ module _ (R S : ℕ → ℕ → Type 0) (it : WereRefused R S) (n stamp : ℕ) (
         given = λ e. subst (λ (x : Server). number < x.own.pairs.next) (sym server_now) a.given;
       }
 
+  due : (letter : Letter) → In letter (stamped stamp acted.letters) → (said : Body) → letter.body ≡ said → IsDue S setting w n acted letter said
+  due letter new said is = subst (IsDue S setting w n acted letter) is (step.says letter new)
+
   pub step_refusals : Refusals S setting later
   step_refusals = record {
     letters = λ letter c seq h to says. elim (in-append letter _ w.sent h) [
-      | inl new ↦ step.letters letter c seq new to says
+      | inl new ↦ due letter new (body.Full seq) says c to
       | inr old ↦ more c seq (refusals.letters letter c seq old to says)
     ];
     finished = all_put w.servers n acted.server
@@ -138,11 +142,11 @@ module _ (R S : ℕ → ℕ → Type 0) (it : WereRefused R S) (n stamp : ℕ) (
         (λ i c last runs is how. more c last.seq (refusals.finished i c last runs is how)) step.finished;
     numbered = λ i. (on i).numbered;
     reserves = λ letter number cell h says. elim (in-append letter _ w.sent h) [
-      | inl new ↦ asked_now letter number cell (step.reserves letter number cell new says)
+      | inl new ↦ asked_now letter number cell (due letter new (body.Reserve number cell) says)
       | inr old ↦ still_numbered setting w later grows on letter number cell (refusals.reserves letter number cell old says)
     ];
     declined = λ letter number cell h says. elim (in-append letter _ w.sent h) [
-      | inl new ↦ still_declined S S setting w later (λ c seq s. s) grows on letter number cell (step.declined letter number cell new says)
+      | inl new ↦ still_declined S S setting w later (λ c seq s. s) grows on letter number cell (due letter new (body.PairFull number cell) says)
       | inr old ↦ still_declined R S setting w later more grows on letter number cell (refusals.declined letter number cell old says)
     ];
   }

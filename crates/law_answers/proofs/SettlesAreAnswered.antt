@@ -1,14 +1,16 @@
 -- What a settle is answered by. What the operator has seen in a round, glances of that round showed.
-use Rattle.law_answers.proofs.Imports.{[], if◌then◌else◌, ◌&&◌, ◌++◌, ◌+◌, ◌<◌, ◌==◌, ◌∙◌, ◌∷◌, ◌≡◌, ◌≤◌, ◌⊎◌, Actor, Answer, AreSteps, Asked, Begins, Bool}
-use Rattle.law_answers.proofs.Imports.{Client, Command, Ends, Glance, Goes_on, Heard, In, IsPrefix, IsRising, IsSound, Is_told, Judges, Less, Letter, Line}
-use Rattle.law_answers.proofs.Imports.{List, MayActor, MayServer, None, Option, Reaction, Reads, Record, Run, Script, Server, Setting, Shown, Shown_by, Some}
-use Rattle.law_answers.proofs.Imports.{State, Step, Table, Turned, World, acts, after, all_put, always_firm, ap, arith, at, at-empty, at_apart, at_row}
-use Rattle.law_answers.proofs.Imports.{at_same, both_true, by_run, by_test, client_state, client_step, client_turns, false, firm_after, follows_in}
-use Rattle.law_answers.proofs.Imports.{front_plain, in-append, inl, inr, is_settled, last_moment, length, length-append, length-map, log_plain, log_rev}
-use Rattle.law_answers.proofs.Imports.{longer, map, moment_more, nat_cmp, nat_cmp_total, nat_le, nat_tests, next_line, none_some, not, operator, put_rises}
-use Rattle.law_answers.proofs.Imports.{refl, rounds, same_numbers, same_or_apart, same_some, server_state, server_step, servers_of, setting_in, setting_of}
-use Rattle.law_answers.proofs.Imports.{settles, shown, slice_get, start, state_after, step, stepped_in, subst, suc, sym, true, true_false, with_answer}
-use Rattle.law_answers.proofs.Imports.{with_sight, world_after, zero, ℕ}
+use Rattle.law_answers.proofs.Imports.{[], if◌then◌else◌, ◌&&◌, ◌++◌, ◌+◌, ◌<◌, ◌==◌, ◌∙◌, ◌∷◌, ◌≡◌, ◌≤◌, Actor, Answer, AreSteps, Asked, Begins, Bool}
+use Rattle.law_answers.proofs.Imports.{Client, Command, Ends, Glance, Goes_on, Heard, In, IsMoment, IsPrefix, IsRising, IsSound, Is_told, Judges, Less}
+use Rattle.law_answers.proofs.Imports.{Letter, Line, List, MayActor, None, OneMore, Option, Reaction, Reads, Record, Run, Script, Server, Setting, Shown}
+use Rattle.law_answers.proofs.Imports.{Shown_by, Some, State, Step, Table, Turned, WasSent, World, after, all_put, always_firm, ap, arith, at, at-empty}
+use Rattle.law_answers.proofs.Imports.{at_apart, at_moment, at_row, at_same, both_true, by_run, by_test, client_state, client_step, client_turns, false}
+use Rattle.law_answers.proofs.Imports.{firm_after, follows_in, front_plain, inl, inr, is_settled, last_moment, length, length-append, length-map, log_plain}
+use Rattle.law_answers.proofs.Imports.{log_rev, longer, map, nat_cmp, nat_cmp_total, nat_le, nat_tests, next_line, none_some, not, operator, put_rises, refl}
+use Rattle.law_answers.proofs.Imports.{rounds, run_of, same_numbers, same_or_apart, same_some, server_state, servers_of, setting_in, setting_of, settles}
+use Rattle.law_answers.proofs.Imports.{shown, slice_get, start, state_after, step, stepped_in, subst, suc, sym, true, true_false, was_sent, with_sight}
+use Rattle.law_answers.proofs.Imports.{world_after, zero, ℕ}
+use Rattle.law_answers.proofs.AnsweredOnce.{pair_is, was_answered}
+use Rattle.law_answers.proofs.ListPositions.{sooner}
 use Rattle.law_answers.proofs.LinesHavePlaces.{line_at}
 use Rattle.law_answers.specs.Settles.{HasFoundFull, HasGlanceAt, HasSettled, HasShown, WasSettled, runs_as}
 use Rattle.law_answers.proofs.Lines.{open_for}
@@ -140,6 +142,56 @@ answered_line heard servers lines c client _ _ (Shown asked rev sight told_answe
 answered_line heard servers lines c client _ _ (Judges after asked told_answer is gone seq judged) number given e =
     (asked, is, ap (λ (x : ℕ × Answer). x.0) (same_some e))
 
+-- a letter shows what a glance of this line saw of a server, which told the operator
+pub record IsSent (run : Run) (letter : Letter) (line round : ℕ) (running : Bool) (inc : ℕ) (full : Bool) : Type 0 where
+  pub server : ℕ
+  pub to : letter.to ≡ actor.Client operator
+  pub «from» : letter.from ≡ actor.Server server
+  pub saw : HasShown (setting_in run) (start (setting_in run)) run.records line round server (told_as running inc) letter.rev
+  pub found_full : full ≡ true → HasFoundFull (setting_in run) (start (setting_in run)) run.records line
+
+module _ (run : Run) (letter : Letter) (line round : ℕ) (running : Bool) (inc : ℕ) (full : Bool) (s : WasSent run.records letter)
+    (e : letter.body ≡ body.Seen line round running inc full) where
+  abbrev it : OneMore
+  it = at_moment run s.moment
+
+  abbrev u : World
+  u = after it.prior
+
+  not_mute : IsMute letter.body → ⊥
+  not_mute mute = true_false (ap (λ said. is_mute said) (sym e) ∙ mute) refl
+
+  shown_by : (who : Actor) (what : Step) → s.own.actor ≡ who → s.own.step ≡ what → MayActor who what (setting_in run) u
+      → In letter (step who what (setting_in run) u s.own.stamp).letters → IsSent run letter line round running inc full
+  unfolding step
+  shown_by (actor.Client c) what who does may there = absurd (not_mute (client_says (setting_in run) u c what s.own.stamp may.1 letter there))
+  shown_by (actor.Server n) what who does may there = elim (server_says (setting_in run) u n what s.own.stamp may.1 letter there) [
+    | Mute mute ↦ absurd (not_mute mute)
+    | Rev seq other told ↦ absurd (let f : body.WrongRev seq ≡ body.Seen line round running inc full = sym other ∙ e in cc)
+    | Sight l r glance to mine so rev ↦
+        let t = tells_of (u.servers n) line round l r running inc full (sym so ∙ e) in
+        let at : HasGlanceAt (setting_in run) (start (setting_in run)) run.records line round n = record {
+          moment = s.moment;
+          within = may.0;
+          who = who;
+          what = does ∙ glance ∙ (λ j. Glance (t.line_is j) (t.round_is j));
+        } in
+        record {
+          server = n;
+          to = to;
+          «from» = mine;
+          saw = record { at = at; so = t.runs; known = λ on. let e : letter.rev ≡ (server_state (setting_in run) u n).rev = rev on in omega arith };
+          found_full = λ is. let f = t.found_full is in record { round = round; server = n; at = at; runs = f.0; full = f.1 };
+        }
+  ]
+
+pub shows : (run : Run) (letter : Letter) (line round : ℕ) (running : Bool) (inc : ℕ) (full : Bool) → In letter (after run).sent
+    → letter.body ≡ body.Seen line round running inc full → IsSent run letter line round running inc full
+shows run letter line round running inc full i e =
+    let s = was_sent run letter i in
+    let follows = follows_in (at_moment run s.moment) in
+    shown_by run letter line round running inc full s e s.own.actor s.own.step refl refl follows.may.may (subst (In letter) follows.sent s.sent)
+
 module _ (script : Script) (sound : IsSound script) where
   abbrev setting : Setting
   setting = setting_of script
@@ -149,9 +201,6 @@ module _ (script : Script) (sound : IsSound script) where
 
   abbrev W : List Record → World
   W done = world_after setting (start setting) done
-
-  abbrev Glanced : List Record → (line round server : ℕ) → Type 0
-  Glanced done line round server = HasGlanceAt setting (start setting) done line round server
 
   abbrev Saw : List Record → (line round server : ℕ) → Option ℕ → (rev : ℕ) → Type 0
   Saw done line round server told rev = HasShown setting (start setting) done line round server told rev
@@ -174,129 +223,38 @@ module _ (script : Script) (sound : IsSound script) where
       let split : length (front ++ prefix.later) ≡ length front + length prefix.later = length-append front prefix.later in
       omega arith
 
-  -- a letter shows what a glance saw
-  record IsSent (done : List Record) (letter : Letter) (line round : ℕ) (running : Bool) (inc : ℕ) (full : Bool) : Type 0 where
-    server : ℕ
-    to : letter.to ≡ actor.Client operator
-    «from» : letter.from ≡ actor.Server server
-    saw : Saw done line round server (told_as running inc) letter.rev
-    found_full : full ≡ true → HasFoundFull setting (start setting) done line
-
   -- what is kept after these records
   record Kept (w : World) (done : List Record) : Type 0 where
-    shows : (letter : Letter) (line round : ℕ) (running : Bool) (inc : ℕ) (full : Bool) → In letter w.sent
-        → letter.body ≡ body.Seen line round running inc full → IsSent done letter line round running inc full
     rising : (c : ℕ) (asked : Asked) → (w.clients c).asked ≡ Some asked → IsRising nat_cmp asked.seen
     seen : (c : ℕ) (asked : Asked) → (w.clients c).asked ≡ Some asked → (n : ℕ) (told : Option ℕ) → Shows asked.seen n told
         → Saw done asked.line asked.round n told (client_state setting w c).rev
-    answers : (number : ℕ) (given : Answer) → In (number, given) w.answers → (line : Line) → In line lines → line.number ≡ number
-        → line.request ≡ request.Settle → Ends_settle done number given
 
   -- ### One record more
 
-  module _ (done : List Record) (own : Record) where
-    abbrev next : List Record
-    next = done ++ own ∷ []
+  module _ (records : List Record) (m : IsMoment records) (legal : AreSteps script m.front) (kept : Kept (W m.front) m.front) where
+    abbrev done : List Record
+    done = m.front
 
-    abbrev glanced_on : (line round server : ℕ) → Glanced done line round server → Glanced next line round server
-    glanced_on line round server g = record { moment = moment_more done own g.moment; within = g.within; who = g.who; what = g.what }
+    abbrev own : Record
+    own = m.own
 
-    saw_on : (line round server : ℕ) (told : Option ℕ) (rev : ℕ) → Saw done line round server told rev → Saw next line round server told rev
+    abbrev glanced_on : (line round server : ℕ) → HasGlanceAt setting (start setting) done line round server
+        → HasGlanceAt setting (start setting) records line round server
+    glanced_on line round server g = record { moment = sooner m g.moment; within = g.within; who = g.who; what = g.what }
+
+    saw_on : (line round server : ℕ) (told : Option ℕ) (rev : ℕ) → Saw done line round server told rev → Saw records line round server told rev
     saw_on line round server told rev s = record { at = glanced_on line round server s.at; so = s.so; known = s.known }
 
-    full_on : (line : ℕ) → HasFoundFull setting (start setting) done line → HasFoundFull setting (start setting) next line
+    full_on : (line : ℕ) → HasFoundFull setting (start setting) done line → HasFoundFull setting (start setting) records line
     full_on line f =
         record { round = f.round; server = f.server; at = glanced_on line f.round f.server f.at; runs = f.runs; full = f.full }
 
-    sent_on : (letter : Letter) (line round : ℕ) (running : Bool) (inc : ℕ) (full : Bool) → IsSent done letter line round running inc full
-        → IsSent next letter line round running inc full
-    sent_on letter line round running inc full s = record {
-      server = s.server;
-      to = s.to;
-      «from» = s.«from»;
-      saw = saw_on line round s.server _ letter.rev s.saw;
-      found_full = λ is. full_on line (s.found_full is);
-    }
-
-    settled_on : (number : ℕ) (given : Answer) → Ends_settle done number given → Ends_settle next number given
-    settled_on number answer.Ok s = record {
-      moment = moment_more done own s.moment;
-      who = s.who;
-      round = s.round;
-      shown = s.shown;
-      all = s.all;
-      each = s.each;
-      settled = s.settled;
-    }
-    settled_on number answer.NoSpace f = full_on number f
-    settled_on number _ never = absurd never
-
-  module _ (done : List Record) (own : Record) (legal : AreSteps script done) (kept : Kept (W done) done) where
     abbrev w : World
     w = W done
 
-    abbrev whole : List Record
-    whole = done ++ own ∷ []
-
-    kept_shows : (letter : Letter) (line round : ℕ) (running : Bool) (inc : ℕ) (full : Bool) → In letter w.sent
-        → letter.body ≡ body.Seen line round running inc full → IsSent whole letter line round running inc full
-    kept_shows letter line round running inc full i e = sent_on done own letter line round running inc full
-        (kept.shows letter line round running inc full i e)
-
     kept_seen : (c : ℕ) (asked : Asked) → (w.clients c).asked ≡ Some asked → (n : ℕ) (told : Option ℕ) → Shows asked.seen n told
-        → Saw whole asked.line asked.round n told (client_state setting w c).rev
-    kept_seen c asked is n told e = saw_on done own asked.line asked.round n told _ (kept.seen c asked is n told e)
-
-    kept_answers : (number : ℕ) (given : Answer) → In (number, given) w.answers → (line : Line) → In line lines → line.number ≡ number
-        → line.request ≡ request.Settle → Ends_settle whole number given
-    kept_answers number given i line there at settle = settled_on done own number given (kept.answers number given i line there at settle)
-
-    mute_not : (letter : Letter) (line round : ℕ) (running : Bool) (inc : ℕ) (full : Bool)
-        → letter.body ≡ body.Seen line round running inc full
-        → IsMute letter.body → ⊥
-    mute_not letter line round running inc full e mute = true_false (ap (λ said. is_mute said) (sym e) ∙ mute) refl
-
-    -- ### A server's step
-
-    abbrev served : ℕ → Step → World
-    served n what = (acts setting w n what own.stamp (server_step what (server_state setting w n) n (w.servers n))).world
-
-    server_shows : (n : ℕ) (what : Step) → own.actor ≡ actor.Server n → own.step ≡ what → n < setting.servers → MayServer what setting w n
-        → (letter : Letter)
-        (line round : ℕ) (running : Bool) (inc : ℕ) (full : Bool) → In letter (served n what).sent
-        → letter.body ≡ body.Seen line round running inc full → IsSent whole letter line round running inc full
-    server_shows n what who does within may letter line round running inc full i e = elim (in-append letter _ w.sent i) [
-      | inr old ↦ kept_shows letter line round running inc full old e
-      | inl new ↦ elim (server_says setting w n what own.stamp may letter new) [
-        | Mute mute ↦ absurd (mute_not letter line round running inc full e mute)
-        | Rev seq other told ↦ absurd (let f : body.WrongRev seq ≡ body.Seen line round running inc full = sym other ∙ e in cc)
-        | Sight l r glance to mine so rev ↦
-            let t = tells_of (w.servers n) line round l r running inc full (sym so ∙ e) in
-            let at : Glanced whole line round n = record {
-              moment = last_moment done own;
-              within = within;
-              who = who;
-              what = does ∙ glance ∙ (λ j. Glance (t.line_is j) (t.round_is j));
-            } in
-            record {
-              server = n;
-              to = to;
-              «from» = mine;
-              saw = record { at = at; so = t.runs; known = λ on. let e : letter.rev ≡ (server_state setting w n).rev = rev on in omega arith };
-              found_full = λ is.
-                  let f = t.found_full is in record { round = round; server = n; at = at; runs = f.0; full = f.1 };
-            }
-      ]
-    ]
-
-    server_keeps : (n : ℕ) (what : Step) → own.actor ≡ actor.Server n → own.step ≡ what → n < setting.servers → MayServer what setting w n
-        → Kept (served n what) whole
-    server_keeps n what who does within may = record {
-      shows = server_shows n what who does within may;
-      rising = kept.rising;
-      seen = kept_seen;
-      answers = kept_answers;
-    }
+        → Saw records asked.line asked.round n told (client_state setting w c).rev
+    kept_seen c asked is n told e = saw_on asked.line asked.round n told _ (kept.seen c asked is n told e)
 
     -- ### A client's step
 
@@ -304,7 +262,7 @@ module _ (script : Script) (sound : IsSound script) where
     record IsGood (client : Client) : Type 0 where
       rising : (asked : Asked) → client.asked ≡ Some asked → IsRising nat_cmp asked.seen
       seen : (asked : Asked) → client.asked ≡ Some asked → (n : ℕ) (told : Option ℕ) → Shows asked.seen n told
-          → Saw whole asked.line asked.round n told (state_after setting.servers client.applied).rev
+          → Saw records asked.line asked.round n told (state_after setting.servers client.applied).rev
 
     was_good : (c : ℕ) → IsGood (w.clients c)
     was_good c = record { rising = kept.rising c; seen = kept_seen c }
@@ -331,18 +289,18 @@ module _ (script : Script) (sound : IsSound script) where
       rounded_rising new (Starts none) = fresh_rising new none
 
       rounded_seen : (new : Asked) → IsRounded client.asked new → (n : ℕ) (told : Option ℕ) → Shows new.seen n told
-          → Saw whole new.line new.round n told state.rev
+          → Saw records new.line new.round n told state.rev
       rounded_seen new (Keeps old is same) n told e =
-          subst (λ r. Saw whole new.line r n told state.rev) (sym same.round)
-          (subst (λ l. Saw whole l old.round n told state.rev) (sym same.line)
+          subst (λ r. Saw records new.line r n told state.rev) (sym same.round)
+          (subst (λ l. Saw records l old.round n told state.rev) (sym same.line)
           (kept_seen c old is n told (ap (λ t. at nat_cmp t n) (sym same.seen) ∙ e)))
       rounded_seen new (Starts none) n told e = fresh_seen new none n told e
 
       -- what a glance showed is taken up
       module _ (asked : Asked) (is : client.asked ≡ Some asked) (sight : Shown_by) (has : HasSight w c sight)
           (line : sight.line ≡ asked.line) where
-        sent : IsSent done has.letter sight.line sight.round sight.running sight.inc sight.full
-        sent = kept.shows has.letter sight.line sight.round sight.running sight.inc sight.full has.sent has.is
+        sent : IsSent (run_of script sound done legal) has.letter sight.line sight.round sight.running sight.inc sight.full
+        sent = shows (run_of script sound done legal) has.letter sight.line sight.round sight.running sight.inc sight.full has.sent has.is
 
         server_is : sent.server ≡ sight.server
         server_is = let e : actor.Server sent.server ≡ actor.Server sight.server = sym sent.«from» ∙ has.«from» in cc
@@ -375,8 +333,8 @@ module _ (script : Script) (sound : IsSound script) where
           more_good : IsGood (record client { asked = Some more })
           more_good = record {
             rising = λ new e. subst (λ (a : Asked). IsRising nat_cmp a.seen) (same_some e) more_rising;
-            seen = λ new e n told there. subst (λ (a : Asked). Saw whole a.line a.round n told state.rev) (same_some e)
-                (saw_on done own asked.line asked.round n told state.rev
+            seen = λ new e n told there. subst (λ (a : Asked). Saw records a.line a.round n told state.rev) (same_some e)
+                (saw_on asked.line asked.round n told state.rev
                 (more_seen n told (ap (λ (a : Asked). at nat_cmp a.seen n) (same_some e) ∙ there)));
           }
 
@@ -402,17 +360,13 @@ module _ (script : Script) (sound : IsSound script) where
           → IsGood reacted.client
       client_good reacted grows (Quiet keeps unsettled) = record {
         rising = λ new e. rounded_rising new (keeps new e);
-        seen = λ new e n told there. seen_by whole (revs_grow client.applied reacted.client.applied grows)
+        seen = λ new e n told there. seen_by records (revs_grow client.applied reacted.client.applied grows)
             (rounded_seen new (keeps new e) n told there);
       }
       client_good reacted grows (Sees asked sight is settle has line e) =
           subst (λ (r : Reaction). IsGood r.client) (sym e) (settles_good asked is sight has line)
 
       -- ### What the client answers
-
-      pair_is : {line number : ℕ} {one other : Answer} → (let o : Option (ℕ × Answer) = Some (line, one) in o) ≡ Some (number, other)
-          → (line ≡ number) × (one ≡ other)
-      pair_is e = let f = same_some e in (ap (λ (x : ℕ × Answer). x.0) f, ap (λ (x : ℕ × Answer). x.1) f)
 
       servers_are : servers_of state ≡ setting.servers
       servers_are =
@@ -423,17 +377,17 @@ module _ (script : Script) (sound : IsSound script) where
           (has : HasSight w c sight)
           (line : sight.line ≡ asked.line) (number : ℕ) (given : Answer) where
         abbrev Told : Reaction → Type 0
-        Told reacted = reacted.answer ≡ Some (number, given) → Ends_settle whole number given
+        Told reacted = reacted.answer ≡ Some (number, given) → Ends_settle records number given
 
-        told_so : (one : Answer) → Ends_settle whole asked.line one
+        told_so : (one : Answer) → Ends_settle records asked.line one
             → (let o : Option (ℕ × Answer) = Some (asked.line, one) in o) ≡ Some (number, given)
-            → Ends_settle whole number given
+            → Ends_settle records number given
         told_so one ends e =
-            let f = pair_is e in subst (λ k. Ends_settle whole k given) f.0 (subst (Ends_settle whole asked.line) f.1 ends)
+            let f = pair_is e in subst (λ k. Ends_settle records k given) f.0 (subst (Ends_settle records asked.line) f.1 ends)
 
         round_ended : (round : sight.round ≡ asked.round) → sight.rev ≤ state.rev → length (more asked is sight has line).seen ≡ servers_of state
             → is_settled state (map (λ row. row.1) (more asked is sight has line).seen) ≡ true
-            → WasSettled setting (start setting) whole asked.line
+            → WasSettled setting (start setting) records asked.line
         round_ended round known each settled =
             let seen = (more asked is sight has line).seen in
             let rising = more_rising asked is sight has line in
@@ -441,7 +395,7 @@ module _ (script : Script) (sound : IsSound script) where
             let mine = to_operator asked is sight has line in
             let all = each ∙ servers_are in
             record {
-              moment = last_moment done own;
+              moment = m;
               who = who ∙ ap actor.Client mine;
               round = asked.round;
               shown = map (λ row. row.1) seen;
@@ -474,7 +428,7 @@ module _ (script : Script) (sound : IsSound script) where
         settles_told : Told (settles state client asked sight)
         settles_told =
             by_test Told sight.full _ _
-            (λ t. told_so answer.NoSpace (full_on done own asked.line
+            (λ t. told_so answer.NoSpace (full_on asked.line
             (subst (HasFoundFull setting (start setting) done) line ((sent asked is sight has line).found_full t))))
             (λ t. by_test Told ((sight.round == asked.round) && nat_le sight.rev state.rev) _ _
             (λ s. let c = counted sight.round asked.round sight.rev state.rev s in rounds_told c.0 c.1) (λ s e. none_some refl e))
@@ -491,69 +445,50 @@ module _ (script : Script) (sound : IsSound script) where
       client_told : (who : own.actor ≡ actor.Client c) (in_call : Bool) (reacted : Reaction) → Rounds w state c client reacted
           → Turned (Heard w (actor.Client c)) setting.servers lines c client in_call reacted → (number : ℕ) (given : Answer)
           → reacted.answer ≡ Some (number, given) → (line : Line) → In line lines → line.number ≡ number → line.request ≡ request.Settle
-          → Ends_settle whole number given
+          → Ends_settle records number given
       client_told who in_call reacted (Quiet keeps unsettled) turned number given e line there at settle =
           let a = answered_line _ setting.servers lines c client in_call reacted turned number given e in
           none_some (unsettled a.0 a.1 (asks_settle a.0 a.1 line there (at ∙ sym a.2) settle)) e
       client_told who in_call reacted (Sees asked sight is settling has line_is so) turned number given e line there at settle =
           settles_told who asked is sight has line_is number given (ap (λ (r : Reaction). r.answer) (sym so) ∙ e)
 
-    more_told : (given : Option (ℕ × Answer)) (number : ℕ) (told : Answer) → In (number, told) (with_answer given w.answers)
-        → (given ≡ Some (number, told)) ⊎ In (number, told) w.answers
-    unfolding In
-    more_told None number told i = inr i
-    more_told (Some given) number told (inl e) = inl (ap Some (sym e))
-    more_told (Some given) number told (inr i) = inr i
-
-    client_keeps : (c : ℕ) (what : Step) → own.actor ≡ actor.Client c → MayActor (actor.Client c) what setting w
-        → Kept (step (actor.Client c) what setting w own.stamp).world whole
+    record_keeps : (who : Actor) (what : Step) → MayActor who what setting w → Kept (step who what setting w own.stamp).world records
     unfolding step
-    client_keeps c what who may =
+    record_keeps (actor.Server n) what may = record { rising = kept.rising; seen = kept_seen }
+    record_keeps (actor.Client c) what may =
         let reacted = client_step what (client_state setting w c) c (w.clients c) (next_line lines c (w.clients c)) in
-        let rounded = client_rounds setting w c what may.1 in
-        let turns = client_turns setting w c what may.1 in
-        let good = all_put w.clients c reacted.client (λ k (x : Client). IsGood x) was_good (client_good c reacted turns.grows rounded) in
-        record {
-          shows = λ letter line round running inc full i e. elim (in-append letter _ w.sent i) [
-            | inl new ↦ absurd (mute_not letter line round running inc full e (client_says setting w c what own.stamp may.1 letter new))
-            | inr old ↦ kept_shows letter line round running inc full old e
-          ];
-          rising = λ k. (good k).rising;
-          seen = λ k. (good k).seen;
-          answers = λ number given i line there at settle. elim (more_told reacted.answer number given i) [
-            | inl now ↦ client_told c who _ reacted rounded turns.turned number given now line there at settle
-            | inr old ↦ kept_answers number given old line there at settle
-          ];
-        }
+        let good = all_put w.clients c reacted.client (λ k (x : Client). IsGood x) was_good
+        (client_good c reacted (client_turns setting w c what may.1).grows (client_rounds setting w c what may.1)) in
+        record { rising = λ k. (good k).rising; seen = λ k. (good k).seen }
 
-    record_keeps : (who : Actor) (what : Step) → own.actor ≡ who → own.step ≡ what → MayActor who what setting w
-        → Kept (step who what setting w own.stamp).world whole
+    settled_so : (who : Actor) (what : Step) → own.actor ≡ who → MayActor who what setting w → (number : ℕ) (given : Answer)
+        → (step who what setting w own.stamp).answer ≡ Some (number, given) → (line : Line) → In line lines → line.number ≡ number
+        → line.request ≡ request.Settle → Ends_settle records number given
     unfolding step
-    record_keeps (actor.Server n) what who does may = server_keeps n what who does may.0 may.1
-    record_keeps (actor.Client c) what who does may = client_keeps c what who may
+    settled_so (actor.Server n) what who may number given e line there at settle = none_some refl e
+    settled_so (actor.Client c) what who may number given e line there at settle =
+        let reacted = client_step what (client_state setting w c) c (w.clients c) (next_line lines c (w.clients c)) in
+        client_told c who _ reacted (client_rounds setting w c what may.1) (client_turns setting w c what may.1).turned number given e line there at settle
 
   -- ### All records
 
   start_kept : Kept (start setting) []
-  unfolding In
   start_kept = record {
-    shows = λ letter line round running inc full i e. absurd i;
     rising = λ c asked e. none_some refl e;
     seen = λ c asked e. none_some refl e;
-    answers = λ number given i. absurd i;
   }
 
 kept_in : (run : Run) → Kept run.script run.sound (after run) run.records
 kept_in =
     by_run (λ run. Kept run.script run.sound (after run) run.records) (λ script sound legal. start_kept script sound) (λ it kept.
     subst (λ (v : World). Kept it.prior.script it.prior.sound v (longer it).records) (sym (stepped_in it))
-    (record_keeps it.prior.script it.prior.sound it.prior.records it.own it.prior.legal kept it.own.actor it.own.step refl refl (follows_in it).may.may))
-
--- a letter that shows a copy without a slot comes of such a glance
-pub shown_full : (run : Run) (letter : Letter) (line round : ℕ) (running : Bool) (inc : ℕ) (full : Bool) → In letter (after run).sent
-    → letter.body ≡ body.Seen line round running inc full → full ≡ true → HasFoundFull (setting_in run) (start (setting_in run)) run.records line
-shown_full run letter line round running inc full i e is = ((kept_in run).shows letter line round running inc full i e).found_full is
+    (record_keeps it.prior.script it.prior.sound (longer it).records (last_moment it.prior.records it.own) it.prior.legal kept it.own.actor it.own.step
+    (follows_in it).may.may))
 
 pub settled_by : (run : Run) (line : Line) (given : Answer) → In line run.script.lines → line.request ≡ request.Settle
     → In (line.number, given) (after run).answers → HasSettled (setting_in run) (start (setting_in run)) run.records line.number given
-settled_by run line given there settle told = (kept_in run).answers line.number given told line there refl settle
+settled_by run line given there settle told =
+    let m = was_answered run (line.number, given) told in
+    let it = at_moment run m.moment in
+    settled_so run.script run.sound run.records m.moment it.prior.legal (kept_in it.prior) m.own.actor m.own.step refl (follows_in it).may.may line.number
+    given (sym (follows_in it).answer ∙ m.answered) line there refl settle

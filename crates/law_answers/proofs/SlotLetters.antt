@@ -66,6 +66,20 @@ pub record TellsNone (S : ℕ → ℕ → Type 0) (setting : Setting) (w : World
   pub refused : (op : Pending) → at cell_cmp (w.servers asked.server).own.pairs.pending cell ≡ Some op → op.op ≡ number
       → is_clients op.kind ≡ true → S op.client op.seq
 
+-- what has to be so of a letter of a job
+abbrev pub Duty : (S : ℕ → ℕ → Type 0) → Setting → World → (n : ℕ) → PairState → Post → Body → Type 0
+Duty S setting w n new post (body.Full seq) = (c : ℕ) → post.to ≡ actor.Client c → S c seq
+Duty S setting w n new post (body.Reserve number cell) = AsksFor setting w n new number cell
+Duty S setting w n new post (body.PairFull number cell) = TellsNone S setting w n post number cell
+Duty S setting w n new post _ = Unit {0}
+
+pub no_duty : (S : ℕ → ℕ → Type 0) (setting : Setting) (w : World) (n : ℕ) (new : PairState) (post : Post) (said : Body) → is_of_slots said ≡ false
+    → Duty S setting w n new post said
+no_duty S setting w n new post (body.Full seq) e = true_false refl e
+no_duty S setting w n new post (body.Reserve number cell) e = true_false refl e
+no_duty S setting w n new post (body.PairFull number cell) e = true_false refl e
+no_duty S setting w n new post _ e = tt
+
 -- what a job has to show: of what it remembers, of what is pending, and of what it sends
 pub record JobRefuses (S : ℕ → ℕ → Type 0) (setting : Setting) (w : World) (n : ℕ) (new : PairState) (posts : List Post) : Type 0 where
   pub finished : (c : ℕ) (last : Finished) → at nat_cmp new.pairs.finished c ≡ Some last → last.ending ≡ ending.Full
@@ -73,11 +87,7 @@ pub record JobRefuses (S : ℕ → ℕ → Type 0) (setting : Setting) (w : Worl
   pub next : (w.servers n).own.pairs.next ≤ new.pairs.next
   pub pending : (cell : Cell) (op : Pending) → at cell_cmp new.pairs.pending cell ≡ Some op
       → Was (w.servers n).own cell op ⊎ (((w.servers n).own.pairs.next ≤ op.op) × (op.op < new.pairs.next))
-  pub letters : (post : Post) (c seq : ℕ) → In post posts → post.to ≡ actor.Client c → post.body ≡ body.Full seq → S c seq
-  pub reserves : (post : Post) (number : ℕ) (cell : Cell) → In post posts → post.body ≡ body.Reserve number cell
-      → AsksFor setting w n new number cell
-  pub declined : (post : Post) (number : ℕ) (cell : Cell) → In post posts → post.body ≡ body.PairFull number cell
-      → TellsNone S setting w n post number cell
+  pub says : (post : Post) → In post posts → Duty S setting w n new post post.body
 
 -- a world where R holds of each request that was refused so far, which implies what is to hold after the next step
 pub record WereRefused (R S : ℕ → ℕ → Type 0) : Type 0 where
@@ -112,9 +122,7 @@ module _ (S : ℕ → ℕ → Type 0) (setting : Setting) (w : World) (n : ℕ) 
     finished = finished;
     next = next;
     pending = pending;
-    letters = λ post c seq i to says. true_false (ap is_of_slots says) (unsaid post i);
-    reserves = λ post number cell i says. true_false (ap is_of_slots says) (unsaid post i);
-    declined = λ post number cell i says. true_false (ap is_of_slots says) (unsaid post i);
+    says = λ post i. no_duty S setting w n new post post.body (unsaid post i);
   }
 
   -- and leaves what is pending and finished

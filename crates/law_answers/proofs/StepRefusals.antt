@@ -1,16 +1,16 @@
 -- By each step, of a client or of a server, every refusal goes on to have its reason.
 use Rattle.law_answers.proofs.Imports.{[], ◌<◌, ◌∙◌, ◌∷◌, ◌≡◌, ◌≤◌, ◌⊎◌, Acted, Actor, Answered, Blank, Body, Bool, By_ballot, By_entry, By_job, Command}
 use Rattle.law_answers.proofs.Imports.{Fails, Finished, Firm, Glanced, Heard, In, IsIdle, IsPrefix, Job, JobResult, Letter, List, Log, MayActor, Option}
-use Rattle.law_answers.proofs.Imports.{PairState, Paired, Pairs, Post, Reaction, Rests, Sender, Server, Serves_on, Serving, Setting, Some, Stays, Step}
+use Rattle.law_answers.proofs.Imports.{PairState, Paired, Pairs, Post, Reaction, Rests, Said, Sender, Server, Serves_on, Serving, Setting, Some, Stays, Step}
 use Rattle.law_answers.proofs.Imports.{Stops_so, Turned, Wakes, Work, Worked, World, ap, arith, at, at-empty, awake, blanked, by_settled, cell_cmp}
 use Rattle.law_answers.proofs.Imports.{chosen_log, client_sender, client_state, client_step, client_turns, crossed, down_posts, false, in-append, inl, inr}
 use Rattle.law_answers.proofs.Imports.{is_ask, is_call, is_logged, length, letters_of, log_rev, map, nat_cmp, next_line, no_pairs, none_some, own_place}
 use Rattle.law_answers.proofs.Imports.{own_steady, post_of, proposed, proposed_pairs, raised, reacts, refl, said, sender, served, served_so, server_serves}
 use Rattle.law_answers.proofs.Imports.{server_state, servers_of, settled_by, shown_so, silent, stamped, stays, step, stopped, stopped_so, subject_of, subst}
 use Rattle.law_answers.proofs.Imports.{sym, true, true_false, turned_asks, wakes, was_same, without_rev, ℕ}
+use Rattle.law_answers.proofs.SlotLetters.{Duty, JobRefuses, Scene, WereRefused, is_of_slots}
+use Rattle.law_answers.proofs.RefusalFrames.{IsDue, GoesOn, StepRefuses, still_declined, still_numbered, still_on, step_refusals}
 use Rattle.law_answers.specs.Refusals.{HadNoSlot, Refusals}
-use Rattle.law_answers.proofs.RefusalFrames.{GoesOn, StepRefuses, still_declined, still_numbered, still_on, step_refusals}
-use Rattle.law_answers.proofs.SlotLetters.{JobRefuses, Scene, WereRefused, is_of_slots}
 use Rattle.law_answers.proofs.JobsRefuseForReasons.{asks_refuses, job_refuses, kept_refuses}
 use Rattle.petal_msg.specs.declared.body.Body.TheVariants as body
 use Rattle.petal_msg.specs.declared.letter.Actor.TheVariants as actor
@@ -103,33 +103,32 @@ module _ (R S : ℕ → ℕ → Type 0) (it : WereRefused R S) (n stamp : ℕ) w
           | inr now ↦ now
         ];
         onward = job_on S done.own done.posts job _ refl refl;
-        letters = λ letter c seq h to says.
-            let s = said who stamp 0 done.posts letter h in
-            job.letters s.post c seq s.there (sym s.to ∙ to) (sym s.body ∙ says);
-        reserves = λ letter number cell h says.
-            let s = said who stamp 0 done.posts letter h in
-            let a = job.reserves s.post number cell s.there (sym s.body ∙ says) in
-            record { long = sym (s.rev ∙ rev); seated = a.seated; leads = a.leads; same = refl; given = a.given };
-        declined = λ letter number cell h says.
-            let s = said who stamp 0 done.posts letter h in
-            let t = job.declined s.post number cell s.there (sym s.body ∙ says) in
-            let k = t.asked in
-            record {
-              by = record {
-                server = k.server;
-                inc = k.inc;
-                front = k.front;
-                stands = k.stands;
-                long = k.long ∙ t.revision ∙ sym rev ∙ sym s.rev;
-                seated = k.seated;
-                leads = k.leads;
-                begun = k.begun;
-                given = k.given;
-              };
-              to = s.to ∙ t.to;
-              refused = λ op same is numbered clients. t.refused op is numbered clients;
-            };
+        says = λ letter h. let s = said who stamp 0 done.posts letter h in
+            subst (IsDue S setting w n _ letter) (sym s.body) (due letter s (sym (s.rev ∙ rev)) s.post.body (job.says s.post s.there));
       }
+    where
+      due : (letter : Letter) (s : Said (sender (own_place setting w n)) stamp done.posts letter) → length here.log.applied ≡ letter.rev → (what : Body)
+          → Duty S setting w n done.own s.post what → IsDue S setting w n (served_so setting w n log done queue) letter what
+      due letter s long (body.Full seq) d = λ c to. d c (sym s.to ∙ to)
+      due letter s long (body.Reserve number cell) a = record { long = long; seated = a.seated; leads = a.leads; same = refl; given = a.given }
+      due letter s long (body.PairFull number cell) t =
+          let k = t.asked in
+          record {
+            by = record {
+              server = k.server;
+              inc = k.inc;
+              front = k.front;
+              stands = k.stands;
+              long = k.long ∙ t.revision ∙ long;
+              seated = k.seated;
+              leads = k.leads;
+              begun = k.begun;
+              given = k.given;
+            };
+            to = s.to ∙ t.to;
+            refused = λ op same is numbered clients. t.refused op is numbered clients;
+          }
+      due letter s long _ d = tt
 
   -- letters that tell of no slots
   module _ (acted : Acted) (who : Sender) (posts : List Post) (letters : acted.letters ≡ letters_of who 0 posts)
@@ -139,15 +138,19 @@ module _ (R S : ℕ → ℕ → Type 0) (it : WereRefused R S) (n stamp : ℕ) w
         let s = said who stamp 0 posts letter (subst (λ ls. In letter (stamped stamp ls)) letters h) in ap is_of_slots s.body
         ∙ unsaid s.post s.there
 
+    undue : (letter : Letter) (said : Body) → is_of_slots said ≡ false → IsDue S setting w n acted letter said
+    undue letter (body.Full seq) e = true_false refl e
+    undue letter (body.Reserve number cell) e = true_false refl e
+    undue letter (body.PairFull number cell) e = true_false refl e
+    undue letter _ e = tt
+
     of_quiet : ((c : ℕ) (last : Finished) → acted.server.life.running ≡ true → at nat_cmp acted.server.own.pairs.finished c ≡ Some last
         → last.ending ≡ ending.Full → S c last.seq)
         → GoesOn here acted.server → StepRefuses S setting w n stamp acted
     of_quiet finished onward = record {
       finished = finished;
       onward = onward;
-      letters = λ letter c seq h to says. true_false (ap is_of_slots says) (no_full letter h);
-      reserves = λ letter number cell h says. true_false (ap is_of_slots says) (no_full letter h);
-      declined = λ letter number cell h says. true_false (ap is_of_slots says) (no_full letter h);
+      says = λ letter h. undue letter letter.body (no_full letter h);
     }
 
     -- the server does not run: what it has finished counts no more

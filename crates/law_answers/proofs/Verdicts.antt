@@ -1,15 +1,15 @@
 -- Where a plain log gives a client its verdict: by the client's own command, of which the state before its place says what the verdict says;
 -- and a snapshot that waits there is taken once its fence passes.
-use Rattle.law_answers.proofs.Imports.{◌+◌, ◌<◌, ◌∙◌, ◌≡◌, ◌≢◌, ◌≤◌, ◌⊎◌, Answer, Caught, Command, DiskRow, Drained, Fence, HasProperTuples, IsForRegion}
-use Rattle.law_answers.proofs.Imports.{IsForSnapshot, IsNoting, IsRequeued, IsUnsettled, Join, Leave, List, MakeDisk, Moved, None, Of_disk, Of_region, Option}
-use Rattle.law_answers.proofs.Imports.{Region, Request, Snap, Snapshot, Some, StartMove, Verdict, Whole, Witness, act, act_caught, act_drained, act_moved}
-use Rattle.law_answers.proofs.Imports.{act_note, act_snap, act_start, acting, ap, arith, by_test, cases_lt, command_of, effect, false, following, get_after}
-use Rattle.law_answers.proofs.Imports.{get_last, get_within, has_made, head_get, here_now, inl, inr, is_moving, is_name_taken, is_new, is_none, is_snap}
-use Rattle.law_answers.proofs.Imports.{is_some, is_taken, is_up_as, lacks_disk, latest, length, may_join, named, none_some, note, one_passed, option_map_or}
-use Rattle.law_answers.proofs.Imports.{passed, passed_here, passing, ready_by, refl, requeued_awaiting, requeued_itself, requeued_reported, row_frozen}
-use Rattle.law_answers.proofs.Imports.{row_moving, same_some, servers_in, settled, settled_keeps, slice_get, slice_get_within, snapshot_named, some_or_none}
-use Rattle.law_answers.proofs.Imports.{state_after, subst, suc, sym, take, text_itself, told, true, true_false, unwrap_or, verdict_answer, verdict_for}
-use Rattle.law_answers.proofs.Imports.{view-effect, with_disk, with_fence, with_move, with_queued, zero, ℕ}
+use Rattle.law_answers.proofs.Imports.{◌+◌, ◌<◌, ◌∙◌, ◌≡◌, ◌≢◌, ◌≤◌, ◌⊎◌, Answer, Caught, Command, DiskRow, Drained, Fence, HasProperTuples, IsForSnapshot}
+use Rattle.law_answers.proofs.Imports.{IsNoting, IsRequeued, IsUnsettled, Join, Leave, List, MakeDisk, Moved, None, Of_disk, Of_region, Option, Region}
+use Rattle.law_answers.proofs.Imports.{Request, Snap, Snapshot, Some, StartMove, Verdict, Whole, Witness, act, act_caught, act_drained, act_moved, act_note}
+use Rattle.law_answers.proofs.Imports.{act_snap, act_start, acting, ap, arith, by_test, cases_lt, command_of, effect, false, following, get_after, get_last}
+use Rattle.law_answers.proofs.Imports.{get_within, has_made, head_get, here_now, inl, inr, is_moving, is_name_taken, is_new, is_none, is_snap, is_some}
+use Rattle.law_answers.proofs.Imports.{is_taken, is_up_as, lacks_disk, latest, length, may_join, named, none_some, note, one_passed, option_map_or, passed}
+use Rattle.law_answers.proofs.Imports.{passed_here, passing, ready_by, refl, requeued_awaiting, requeued_itself, requeued_reported, row_frozen, row_moving}
+use Rattle.law_answers.proofs.Imports.{same_some, servers_in, settled, settled_keeps, slice_get, slice_get_within, snapshot_named, some_or_none, state_after}
+use Rattle.law_answers.proofs.Imports.{subst, suc, sym, take, text_itself, told, true, true_false, unwrap_or, verdict_answer, verdict_for, view-effect}
+use Rattle.law_answers.proofs.Imports.{with_disk, with_fence, with_move, with_queued, zero, ℕ}
 use Rattle.global_tables.specs.Disk.{same_name}
 use Rattle.spec_state.specs.State.{State}
 use Rattle.spec_state.specs.Command.{after}
@@ -49,6 +49,9 @@ module _ (servers : ℕ) (log : List Command) (plain : HasProperTuples servers l
       pub still : given ≡ answer.Ok → is_moving (at place) asked ≡ false
       pub free : given ≡ answer.Ok → is_name_taken (at place) asked ≡ false
       pub known : given ≡ answer.Ok → lacks_disk (at place) asked ≡ false
+
+    few_at : (k : ℕ) → k ≤ length log → c < length (at k).verdicts
+    few_at k low = let many = many_at servers log plain k low in omega arith
 
     -- what the request is answered so far
     abbrev says : State → Option Answer
@@ -109,8 +112,22 @@ module _ (servers : ℕ) (log : List Command) (plain : HasProperTuples servers l
         ((i : ℕ) × (before : Fence) × (slice_get s.view.queue i ≡ Some before) × (fence.kind ≡ before.kind))
         ⊎ ((disk : ℕ) (name : List ℕ) → fence.kind ≡ Whole disk name c seq → Waits t disk name)
 
-    has_next : (s t : State) → IsUnsettled servers s → Has s → Acted servers s t → Tells s t
-        → ((i : ℕ) (fence : Fence) → slice_get t.view.queue i ≡ Some fence → OldOrWaits s t fence) → Has t × Stays s t
+    -- a step that tells this client nothing
+    silent : (s t : State) → latest t c ≡ latest s c → Tells s t
+    silent s t same = record {
+      tells = λ given e. inl (ap (verdict_for seq) (sym same) ∙ e);
+      old = λ old. ap (is_new seq) same ∙ old;
+      stays = λ given e. inl (ap (verdict_for seq) same ∙ e);
+    }
+
+    abbrev Goes : (s t : State) → Type 0
+    Goes s t = Has t × Stays s t
+
+    -- the fences that stand then stood before, or wait for the request's snapshot
+    abbrev Queues : (s t : State) → Type 0
+    Queues s t = (i : ℕ) (fence : Fence) → slice_get t.view.queue i ≡ Some fence → OldOrWaits s t fence
+
+    has_next : (s t : State) → IsUnsettled servers s → Has s → Acted servers s t → Tells s t → Queues s t → Goes s t
     has_next s t p h acted tells queue = (
       record {
         told = λ given e. elim (tells.tells given e) [
@@ -125,19 +142,8 @@ module _ (servers : ℕ) (log : List Command) (plain : HasProperTuples servers l
       tells.stays,
     )
 
-    old_queue : (s t : State) → IsRequeued s.view.queue t.view.queue → (i : ℕ) (fence : Fence) → slice_get t.view.queue i ≡ Some fence → OldOrWaits s t fence
+    old_queue : (s t : State) → IsRequeued s.view.queue t.view.queue → Queues s t
     old_queue s t was i fence e = let before = was i fence e in inl (i, before.0, before.1, before.2)
-
-    -- a step that tells no client anything
-    has_still : (s t : State) → IsUnsettled servers s → Has s → IsRequeued s.view.queue t.view.queue → latest t c ≡ latest s c → Acted servers s t
-        → Has t × Stays s t
-    has_still s t p h queue same acted =
-        has_next s t p h acted
-        (record {
-          tells = λ given e. inl (ap (verdict_for seq) (sym same) ∙ e);
-          old = λ old. ap (is_new seq) same ∙ old;
-          stays = λ given e. inl (ap (verdict_for seq) same ∙ e);
-        }) (old_queue s t queue)
 
     -- ### A fence that passes
 
@@ -155,38 +161,19 @@ module _ (servers : ℕ) (log : List Command) (plain : HasProperTuples servers l
         (text_itself active.name)
 
     -- the fences after it stood before
-    queue_after : (s : State) (fence : Fence) (i : ℕ) (other : Fence) → slice_get (one_passed s fence).view.queue i ≡ Some other
-        → OldOrWaits s (one_passed s fence) other
+    queue_after : (s : State) (fence : Fence) → Queues s (one_passed s fence)
     queue_after s fence i other e =
         let there : slice_get (following (servers_in s.view.members) s.view.queue) i ≡ Some other =
         sym (ap (λ (v : Rattle.global_tables.specs.View.View). slice_get v.queue i) (view-effect fence.kind _)) ∙ e in
         let before = get_after (servers_in s.view.members) s.view.queue i other there in
         inl (suc i, before.0, before.1, before.2)
 
-    -- one for a region tells nobody
-    region_passes : (s : State) → IsUnsettled servers s → Has s → (fence : Fence) → slice_get s.view.queue 0 ≡ Some fence → IsForRegion s fence
-        → IsUnsettled servers (one_passed s fence) × Has (one_passed s fence) × Stays s (one_passed s fence)
-    region_passes s p h fence first active =
-        let t = one_passed s fence in
-        let acted = passing servers s p fence first in
-        let same : latest t c ≡ latest s c = ap (λ kind. latest (effect kind (record s { view = passed s.view })) c) active.kind in
-        let next = has_next s t p h acted
-        (record {
-          tells = λ given e. inl (ap (verdict_for seq) (sym same) ∙ e);
-          old = λ old. ap (is_new seq) same ∙ old;
-          stays = λ given e. inl (ap (verdict_for seq) same ∙ e);
-        }) (queue_after s fence) in
-        (acted.plain, next.0, next.1)
-
     disk_passes : (s : State) → IsUnsettled servers s → Has s → (fence : Fence) → slice_get s.view.queue 0 ≡ Some fence → IsForSnapshot s fence
-        → IsUnsettled servers (one_passed s fence) × Has (one_passed s fence) × Stays s (one_passed s fence)
+        → Tells s (one_passed s fence)
     disk_passes s p h fence first active =
-        let t = one_passed s fence in
-        let acted = passing servers s p fence first in
         let waiting = λ (same : active.client ≡ c) (number : active.seq ≡ seq). h.waits 0 fence active.disk active.name first
         (active.kind ∙ (λ i. Whole active.disk active.name (same i) (number i))) in
-        let next = has_next s t p h acted
-        (record {
+        record {
           tells = λ given e. elim (passed_or s fence active.disk active.name active.client c active.seq seq given active.kind e) [
             | inl old ↦ inl old
             | inr hit ↦
@@ -196,28 +183,29 @@ module _ (servers : ℕ) (log : List Command) (plain : HasProperTuples servers l
           old = passed_old s fence c seq;
           stays = λ given e. inl (passed_stays s fence active.disk active.name active.client c active.seq seq given active.kind
               (λ same number. (waiting same number).quiet given e) e);
-        })
-        (queue_after s fence) in
-        (acted.plain, next.0, next.1)
+        }
 
+    -- one for a region tells nobody
     passes_by : (s : State) → IsUnsettled servers s → Has s → (fence : Fence) → slice_get s.view.queue 0 ≡ Some fence
-        → IsUnsettled servers (one_passed s fence) × Has (one_passed s fence) × Stays s (one_passed s fence)
-    passes_by s p h fence first = elim (p.fences.each 0 fence first) [
-      | Of_disk active ↦ disk_passes s p h fence first active
-      | Of_region active ↦ region_passes s p h fence first active
-    ]
+        → IsUnsettled servers (one_passed s fence) × Goes s (one_passed s fence)
+    passes_by s p h fence first =
+        let acted = passing servers s p fence first in
+        let tells : Tells s (one_passed s fence) = elim (p.fences.each 0 fence first) [
+          | Of_disk active ↦ disk_passes s p h fence first active
+          | Of_region active ↦ silent s _ (ap (λ kind. latest (effect kind (record s { view = passed s.view })) c) active.kind)
+        ] in
+        (acted.plain, has_next s (one_passed s fence) p h acted tells (queue_after s fence))
 
     stays_then : (s t u : State) → Stays s t → Stays t u → (is_new (suc seq) (latest t c) ≡ false → is_new (suc seq) (latest u c) ≡ false) → Stays s u
     stays_then s t u first second gone given e = elim (first given e) [ inl still ↦ second given still | inr later ↦ inr (gone later) ]
 
-    settles : (s : State) → IsUnsettled servers s → Has s → Has (settled s) × Stays s (settled s)
+    settles : (s : State) → IsUnsettled servers s → Has s → Goes s (settled s)
     settles s p h =
-        let all = settled_keeps (λ t. IsUnsettled servers t × Has t × Stays s t)
+        (settled_keeps (λ t. IsUnsettled servers t × Goes s t)
         (λ t fence ready now.
-        let passed = passes_by t now.0 now.1 fence (head_get t.view.queue fence (ready_by t.view.queue fence ready).first) in
-        (passed.0, passed.1, stays_then s t (one_passed t fence) now.2 passed.2 (passed_old t fence c (suc seq)))) s
-        (p, h, λ given e. inl e) in
-        (all.1, all.2)
+        let passed = passes_by t now.0 now.1.0 fence (head_get t.view.queue fence (ready_by t.view.queue fence ready).first) in
+        (passed.0, (passed.1.0, stays_then s t (one_passed t fence) now.1.1 passed.1.1 (passed_old t fence c (suc seq))))) s
+        (p, (h, λ given e. inl e))).1
 
     -- ### The command of an entry
 
@@ -228,10 +216,14 @@ module _ (servers : ℕ) (log : List Command) (plain : HasProperTuples servers l
       p : IsUnsettled servers s
       p = (plain_at servers log plain k).unsettled
 
-      still : (t : State) → IsRequeued s.view.queue t.view.queue → latest t c ≡ latest s c → Acted servers s t → Has t × Stays s t
-      still t queue same acted = has_still s t p h queue same acted
+      -- what the command leads to
+      abbrev To : State → Type 0
+      To t = Acted servers s t → Goes s t
 
-      unmoved : Has s × Stays s s
+      still : (t : State) → IsRequeued s.view.queue t.view.queue → latest t c ≡ latest s c → To t
+      still t queue same acted = has_next s t p h acted (silent s t same) (old_queue s t queue)
+
+      unmoved : Goes s s
       unmoved = (h, λ given e. inl e)
 
       new_at : (d q : ℕ) → d ≡ c → q ≡ seq → is_new q (latest s d) ≡ true → is_new seq (latest s c) ≡ true
@@ -290,9 +282,7 @@ module _ (servers : ℕ) (log : List Command) (plain : HasProperTuples servers l
       -- a new command is told its verdict
       judged : (u : State) (d q : ℕ) (v : Verdict) (given : Answer) (command : Command) → u.verdicts ≡ s.verdicts → verdict_answer v ≡ Some given
           → asker command ≡ Some (d, q) → slice_get log k ≡ Some command → is_new q (latest s d) ≡ true
-          → (asked ≡ request_of command → Judges given × Keeps (told u d q v) given)
-          → ((i : ℕ) (fence : Fence) → slice_get (told u d q v).view.queue i ≡ Some fence → OldOrWaits s (told u d q v) fence)
-          → Acted servers s (told u d q v) → Has (told u d q v) × Stays s (told u d q v)
+          → (asked ≡ request_of command → Judges given × Keeps (told u d q v) given) → Queues s (told u d q v) → To (told u d q v)
       judged u d q v given command same is of_it there new why queue acted =
           has_next s (told u d q v) p h acted
           (telling u d q v same new (λ one two other e.
@@ -301,40 +291,25 @@ module _ (servers : ℕ) (log : List Command) (plain : HasProperTuples servers l
           subst (λ g. Placed g × (g ≡ answer.Ok → has_kept (told u d q v) asked ≡ true)) (same_some (sym is ∙ e))
           (placed_here command given mine.0 there (new_at d q one two new) w.0, λ ok. subst (Keeps (told u d q v)) ok w.1))) queue
 
-      -- a disk that is made, or not
-      module _ (d q : ℕ) (name tuple : List ℕ) (there : slice_get log k ≡ Some (MakeDisk d q name tuple)) (new : is_new q (latest s d) ≡ true) where
-        exists : is_some (named s.disks.rows name) ≡ true → Acted servers s (told s d q verdict.Exists)
-            → Has (told s d q verdict.Exists) × Stays s (told s d q verdict.Exists)
-        exists taken acted =
-            judged s d q verdict.Exists answer.Exists (MakeDisk d q name tuple) refl refl refl there new (λ a.
-            (ap (is_name_taken s) a ∙ taken, tt))
-            (old_queue s (told s d q verdict.Exists) (requeued_itself s.view.queue)) acted
+      -- one that is refused changes nothing else
+      refused : (d q : ℕ) (v : Verdict) (given : Answer) (command : Command) → verdict_answer v ≡ Some given → asker command ≡ Some (d, q)
+          → slice_get log k ≡ Some command → is_new q (latest s d) ≡ true
+          → (asked ≡ request_of command → Judges given × Keeps (told s d q v) given) → To (told s d q v)
+      refused d q v given command is of_it there new why =
+          judged s d q v given command refl is of_it there new why (old_queue s (told s d q v) (requeued_itself s.view.queue))
 
-        makes : named s.disks.rows name ≡ None → Acted servers s (told (with_disk s name tuple) d q verdict.Ok)
-            → Has (told (with_disk s name tuple) d q verdict.Ok) × Stays s (told (with_disk s name tuple) d q verdict.Ok)
-        makes none acted =
+      -- a disk that is made
+      module _ (d q : ℕ) (name tuple : List ℕ) (there : slice_get log k ≡ Some (MakeDisk d q name tuple)) (new : is_new q (latest s d) ≡ true) where
+        makes : named s.disks.rows name ≡ None → To (told (with_disk s name tuple) d q verdict.Ok)
+        makes none =
             judged (with_disk s name tuple) d q verdict.Ok answer.Ok (MakeDisk d q name tuple) refl refl refl there new (λ a. (
               (ap (is_moving s) a, ap (is_name_taken s) a ∙ ap is_some none, ap (lacks_disk s) a),
               ap (has_kept (told (with_disk s name tuple) d q verdict.Ok)) a
                   ∙ last_found (λ (row : DiskRow). same_name row.name name) s.disks.rows _ (text_itself name),
-            )) (old_queue s (told (with_disk s name tuple) d q verdict.Ok) (requeued_itself s.view.queue)) acted
+            )) (old_queue s (told (with_disk s name tuple) d q verdict.Ok) (requeued_itself s.view.queue))
 
       -- a snapshot that is asked for
       module _ (d q : ℕ) (of name : List ℕ) (there : slice_get log k ≡ Some (Snap d q of name)) (new : is_new q (latest s d) ≡ true) where
-        unknown : named s.disks.rows of ≡ None → Acted servers s (told s d q verdict.NoDisk)
-            → Has (told s d q verdict.NoDisk) × Stays s (told s d q verdict.NoDisk)
-        unknown none acted =
-            judged s d q verdict.NoDisk answer.NoDisk (Snap d q of name) refl refl refl there new (λ a.
-            (ap (lacks_disk s) a ∙ ap is_none none, tt))
-            (old_queue s (told s d q verdict.NoDisk) (requeued_itself s.view.queue)) acted
-
-        name_taken : (row : DiskRow) → named s.disks.rows of ≡ Some row → is_taken s name row ≡ true → Acted servers s (told s d q verdict.Exists)
-            → Has (told s d q verdict.Exists) × Stays s (told s d q verdict.Exists)
-        name_taken row found taken acted =
-            judged s d q verdict.Exists answer.Exists (Snap d q of name) refl refl refl there new (λ a.
-            (ap (is_name_taken s) a ∙ ap (λ o. option_map_or (is_taken s name) o false) found ∙ taken, tt))
-            (old_queue s (told s d q verdict.Exists) (requeued_itself s.view.queue)) acted
-
         -- the state in which its fence waits
         module _ (row : DiskRow) (found : named s.disks.rows of ≡ Some row) (free : is_taken s name row ≡ false) where
           abbrev queued : State
@@ -359,14 +334,14 @@ module _ (servers : ℕ) (log : List Command) (plain : HasProperTuples servers l
                 row = row;
                 found = found;
                 id = same.0;
-                old = old_now queued d c q seq verdict.Waiting same.2 same.3 (let many = many_at servers log plain k low in omega arith);
+                old = old_now queued d c q seq verdict.Waiting same.2 same.3 (few_at k low);
                 quiet = λ given e. elim (told_or queued d c q seq verdict.Waiting given e) [
                   | inl before ↦ true_false is_new_here (judged_old seq (latest s c) given before)
                   | inr hit ↦ none_some refl hit.2
                 ];
               }
 
-          queues : Acted servers s waiting → Has waiting × Stays s waiting
+          queues : To waiting
           queues acted =
               has_next s waiting p h acted
               (telling queued d q verdict.Waiting refl new (λ one two given e. none_some refl e))
@@ -383,25 +358,10 @@ module _ (servers : ℕ) (log : List Command) (plain : HasProperTuples servers l
         | inr late ↦ inr (λ disk text kind. no_whole (sym (ap (λ (f : Fence). f.kind) late.1) ∙ kind))
       ]
 
-      -- a move that is asked for
+      -- a move that begins
       module _ (d q : ℕ) (of tuple : List ℕ) (there : slice_get log k ≡ Some (StartMove d q of tuple)) (new : is_new q (latest s d) ≡ true) where
-        of_nobody : named s.disks.rows of ≡ None → Acted servers s (told s d q verdict.NoDisk)
-            → Has (told s d q verdict.NoDisk) × Stays s (told s d q verdict.NoDisk)
-        of_nobody none acted =
-            judged s d q verdict.NoDisk answer.NoDisk (StartMove d q of tuple) refl refl refl there new (λ a.
-            (ap (lacks_disk s) a ∙ ap is_none none, tt))
-            (old_queue s (told s d q verdict.NoDisk) (requeued_itself s.view.queue)) acted
-
-        of_busy : (row : DiskRow) → named s.disks.rows of ≡ Some row → is_some row.moving ≡ true → Acted servers s (told s d q verdict.Moving)
-            → Has (told s d q verdict.Moving) × Stays s (told s d q verdict.Moving)
-        of_busy row found busy acted =
-            judged s d q verdict.Moving answer.Moving (StartMove d q of tuple) refl refl refl there new (λ a.
-            (ap (is_moving s) a ∙ ap (λ o. option_map_or (λ (r : DiskRow). is_some r.moving) o false) found ∙ busy, tt))
-            (old_queue s (told s d q verdict.Moving) (requeued_itself s.view.queue)) acted
-
-        begins : (row : DiskRow) → named s.disks.rows of ≡ Some row → row.moving ≡ None → Acted servers s (told (with_move s tuple row.id) d q verdict.Ok)
-            → Has (told (with_move s tuple row.id) d q verdict.Ok) × Stays s (told (with_move s tuple row.id) d q verdict.Ok)
-        begins row found free acted =
+        begins : (row : DiskRow) → named s.disks.rows of ≡ Some row → row.moving ≡ None → To (told (with_move s tuple row.id) d q verdict.Ok)
+        begins row found free =
             judged (with_move s tuple row.id) d q verdict.Ok answer.Ok (StartMove d q of tuple) refl refl refl there new (λ a. (
               (
                 ap (is_moving s) a ∙ ap (λ o. option_map_or (λ (r : DiskRow). is_some r.moving) o false) found ∙ ap is_some free,
@@ -409,54 +369,44 @@ module _ (servers : ℕ) (log : List Command) (plain : HasProperTuples servers l
                 ap (lacks_disk s) a ∙ ap is_none found,
               ),
               ap (has_kept (told (with_move s tuple row.id) d q verdict.Ok)) a,
-            )) (region_queued_then (told (with_move s tuple row.id) d q verdict.Ok) row.id 0) acted
+            )) (region_queued_then (told (with_move s tuple row.id) d q verdict.Ok) row.id 0)
 
       -- a Moved tells nobody
-      noted_by : (of region link : ℕ) (n : IsNoting s of region link) → Acted servers s (note s of n.row.id region link)
-          → Has (note s of n.row.id region link) × Stays s (note s of n.row.id region link)
-      noted_by of region link n acted =
-          act_note servers s (plain_at servers log plain k) of region link n (λ (t : State). Acted servers s t → Has t × Stays s t)
-          (λ some acts. quiet _ refl (old_queue s _ (requeued_itself s.view.queue)) acts)
-          (λ all more acts. quiet _ refl (region_queued_then _ n.row.id (region + 1)) acts)
-          (λ all last acts. quiet _ refl (old_queue s _ (requeued_itself s.view.queue)) acts)
-          acted
-        where
-          quiet : (t : State) → latest t c ≡ latest s c → ((i : ℕ) (fence : Fence) → slice_get t.view.queue i ≡ Some fence → OldOrWaits s t fence)
-              → Acted servers s t → Has t × Stays s t
-          quiet t same queue acts = has_next s t p h acts
-              (record {
-                tells = λ given e. inl (ap (verdict_for seq) (sym same) ∙ e);
-                old = λ old. ap (is_new seq) same ∙ old;
-                stays = λ given e. inl (ap (verdict_for seq) same ∙ e);
-              }) queue
+      noted_by : (of region link : ℕ) (n : IsNoting s of region link) → To (note s of n.row.id region link)
+      noted_by of region link n =
+          act_note servers s (plain_at servers log plain k) of region link n To
+          (λ some acts. still _ (requeued_itself s.view.queue) refl acts)
+          (λ all more acts. has_next s _ p h acts (silent s _ refl) (region_queued_then _ n.row.id (region + 1)))
+          (λ all last acts. still _ (requeued_itself s.view.queue) refl acts)
 
-      acts : (e : Command) → slice_get log k ≡ Some e → Acted servers s (act e s) → Has (act e s) × Stays s (act e s)
+      acts : (e : Command) → slice_get log k ≡ Some e → To (act e s)
       acts (MakeDisk d q name tuple) there acted =
-          act_make (λ (t : State). Acted servers s t → Has t × Stays s t) s d q name tuple (λ old acted. unmoved)
-          (λ new taken. exists d q name tuple there new taken) (λ new none. makes d q name tuple there new none) acted
+          act_make To s d q name tuple (λ old acted. unmoved)
+          (λ new taken. refused d q verdict.Exists answer.Exists (MakeDisk d q name tuple) refl refl there new (λ a. (ap (is_name_taken s) a ∙ taken, tt)))
+          (λ new none. makes d q name tuple there new none) acted
       acts (Snap d q of name) there acted =
-          act_snap (λ (t : State). Acted servers s t → Has t × Stays s t) s d q of name (λ old acted. unmoved)
-          (λ new none. unknown d q of name there new none) (λ new row found taken. name_taken d q of name there new row found taken)
+          act_snap To s d q of name (λ old acted. unmoved)
+          (λ new none. refused d q verdict.NoDisk answer.NoDisk (Snap d q of name) refl refl there new (λ a. (ap (lacks_disk s) a ∙ ap is_none none, tt)))
+          (λ new row found taken. refused d q verdict.Exists answer.Exists (Snap d q of name) refl refl there new (λ a.
+          (ap (is_name_taken s) a ∙ ap (λ o. option_map_or (is_taken s name) o false) found ∙ taken, tt)))
           (λ new row found free. queues d q of name there new row found free) acted
       acts (Join server inc blank) there acted =
-          by_test (λ (t : State). Acted servers s t → Has t × Stays s t) (may_join (slice_get s.view.members server) inc) _ s
-          (λ may. still _ (requeued_itself s.view.queue) refl) (λ no acted. unmoved) acted
+          by_test To (may_join (slice_get s.view.members server) inc) _ s (λ may. still _ (requeued_itself s.view.queue) refl) (λ no acted. unmoved) acted
       acts (Leave server inc) there acted =
-          by_test (λ (t : State). Acted servers s t → Has t × Stays s t) (is_up_as s server inc) _ s
-          (λ up. still _ (requeued_awaiting _ s.view.queue) refl) (λ out acted. unmoved) acted
+          by_test To (is_up_as s server inc) _ s (λ up. still _ (requeued_awaiting _ s.view.queue) refl) (λ out acted. unmoved) acted
       acts (Caught of link holder holder_inc other other_inc) there acted =
-          act_caught (λ (t : State). Acted servers s t → Has t × Stays s t) s of link holder holder_inc other other_inc
-          (λ acts. still _ (requeued_itself s.view.queue) refl) (λ acted. unmoved) acted
+          act_caught To s of link holder holder_inc other other_inc (λ acts. still _ (requeued_itself s.view.queue) refl) (λ acted. unmoved) acted
       acts (Drained server inc fence) there acted =
-          act_drained (λ (t : State). Acted servers s t → Has t × Stays s t) s server inc fence (λ acted. unmoved)
-          (λ is up. still _ (requeued_reported server s.view.queue) refl) acted
+          act_drained To s server inc fence (λ acted. unmoved) (λ is up. still _ (requeued_reported server s.view.queue) refl) acted
       acts (StartMove d q of tuple) there acted =
-          act_start (λ (t : State). Acted servers s t → Has t × Stays s t) s d q of tuple (λ old acted. unmoved)
-          (λ new none. of_nobody d q of tuple there new none) (λ new row found busy. of_busy d q of tuple there new row found busy)
+          act_start To s d q of tuple (λ old acted. unmoved)
+          (λ new none. refused d q verdict.NoDisk answer.NoDisk (StartMove d q of tuple) refl refl there new (λ a.
+          (ap (lacks_disk s) a ∙ ap is_none none, tt)))
+          (λ new row found busy. refused d q verdict.Moving answer.Moving (StartMove d q of tuple) refl refl there new (λ a.
+          (ap (is_moving s) a ∙ ap (λ o. option_map_or (λ (r : DiskRow). is_some r.moving) o false) found ∙ busy, tt)))
           (λ new row found free. begins d q of tuple there new row found free) acted
       acts (Moved of region link) there acted =
-          act_moved (λ (t : State). Acted servers s t → Has t × Stays s t) servers s (plain_at servers log plain k) of region link (λ acted. unmoved)
-          (λ n. noted_by of region link n) acted
+          act_moved To servers s (plain_at servers log plain k) of region link (λ acted. unmoved) (λ n. noted_by of region link n) acted
       acts (Witness client number turn) there acted = unmoved
 
     has_renumbered : (t : State) (rev : ℕ) → Has t → Has (record t { rev = rev })
@@ -478,16 +428,23 @@ module _ (servers : ℕ) (log : List Command) (plain : HasProperTuples servers l
       waits = λ i fence disk name e kind. none_some refl e;
     }
 
-    next_by : (k : ℕ) → k + 1 ≤ length log → Has (at k) → Has (at (suc k)) × Stays (at k) (at (suc k))
-    next_by k low h =
-        let e = get_within log k (omega arith) in
-        let acted = acting servers (at k) e.0 (plain_at servers log plain k) (entry_plain servers log plain k e.0 e.1) in
-        let acts_so = acts k (omega arith) h e.0 e.1 acted in
-        let settled_so = settles (act e.0 (at k)) acted.plain acts_so.0 in
-        subst (λ (t : State). Has t × Stays (at k) t) (sym (at_next servers log plain k e.0 e.1)) (
-          has_renumbered _ _ settled_so.0,
-          stays_then (at k) (act e.0 (at k)) (after (at k) e.0) acts_so.1 settled_so.1 (settled_old (act e.0 (at k)) c (suc seq)),
+    -- what an entry leads to, and so what its command is answered
+    entered : (k : ℕ) → k + 1 ≤ length log → Has (at k) → (e : Command) → slice_get log k ≡ Some e
+        → Goes (at k) (at (suc k)) × Stays (act e (at k)) (at (suc k))
+    entered k low h e there =
+        let acted = acting servers (at k) e (plain_at servers log plain k) (entry_plain servers log plain k e there) in
+        let acts_so = acts k (omega arith) h e there acted in
+        let settled_so = settles (act e (at k)) acted.plain acts_so.0 in
+        subst (λ (t : State). Goes (at k) t × Stays (act e (at k)) t) (sym (at_next servers log plain k e there)) (
+          (
+            has_renumbered _ _ settled_so.0,
+            stays_then (at k) (act e (at k)) (after (at k) e) acts_so.1 settled_so.1 (settled_old (act e (at k)) c (suc seq)),
+          ),
+          settled_so.1,
         )
+
+    next_by : (k : ℕ) → k + 1 ≤ length log → Has (at k) → Goes (at k) (at (suc k))
+    next_by k low h = let e = get_within log k (omega arith) in (entered k low h e.0 e.1).0
 
     pub has_at : (k : ℕ) → k ≤ length log → Has (at k)
     has_at zero low = has_start
@@ -553,16 +510,13 @@ module _ (servers : ℕ) (log : List Command) (plain : HasProperTuples servers l
         → is_new seq (latest (at k) c) ≡ true
         → ((given : Answer) × (says (at (suc k)) ≡ Some given)) ⊎ (is_new (suc seq) (latest (at (suc k)) c) ≡ false)
     disk_answers k low name tuple there new =
-        let e = MakeDisk c seq name tuple in
-        let acted = acting servers (at k) e (plain_at servers log plain k) (entry_plain servers log plain k e there) in
-        let acts_so = acts k (omega arith) (has_at k (omega arith)) e there acted in
-        let few_at : c < length (at k).verdicts = (let many = many_at servers log plain k (omega arith) in omega arith) in
         let now = act_make (λ (t : State). (given : Answer) × (says t ≡ Some given)) (at k) c seq name tuple (λ old. true_false new old)
-        (λ _ taken. (answer.Exists, told_answers (at k) c seq verdict.Exists answer.Exists few_at refl))
-        (λ _ free. (answer.Ok, told_answers (with_disk (at k) name tuple) c seq verdict.Ok answer.Ok few_at refl)) in
-        let settled_so = settles (act e (at k)) acted.plain acts_so.0 in
-        subst (λ (t : State). ((given : Answer) × (says t ≡ Some given)) ⊎ (is_new (suc seq) (latest t c) ≡ false)) (sym (at_next servers log plain k e there))
-        (elim (settled_so.1 now.0 now.1) [ inl still ↦ inl (now.0, still) | inr later ↦ inr later ])
+        (λ _ taken. (answer.Exists, told_answers (at k) c seq verdict.Exists answer.Exists (few_at k (omega arith)) refl))
+        (λ _ free. (answer.Ok, told_answers (with_disk (at k) name tuple) c seq verdict.Ok answer.Ok (few_at k (omega arith)) refl)) in
+        elim ((entered k low (has_at k (omega arith)) (MakeDisk c seq name tuple) there).1 now.0 now.1) [
+          | inl still ↦ inl (now.0, still)
+          | inr later ↦ inr later
+        ]
 
     -- what the new command of a move comes to: its verdict, and where it is granted the disk is on the move then
     record Begun (t : State) (name : List ℕ) : Type 0 where
@@ -575,24 +529,15 @@ module _ (servers : ℕ) (log : List Command) (plain : HasProperTuples servers l
     move_answers k low name tuple there new =
         let e = StartMove c seq name tuple in
         let acted = acting servers (at k) e (plain_at servers log plain k) (entry_plain servers log plain k e there) in
-        let acts_so = acts k (omega arith) (has_at k (omega arith)) e there acted in
         let now = begun_by acted in
-        let settled_so = settles (act e (at k)) acted.plain acts_so.0 in
-        let renumber : IsMoving (settled (act e (at k))) name → IsMoving (after (at k) e) name =
-        λ m. record { row = m.row; found = m.found; moves = m.moves } in
-        subst (λ (t : State). Begun t name ⊎ (is_new (suc seq) (latest t c) ≡ false)) (sym (at_next servers log plain k e there))
-        (elim (settled_so.1 now.given now.so) [
-          | inl still ↦ inl (record {
-            given = now.given;
-            so = still;
-            moves = λ ok. renumber (settled_moving servers (act e (at k)) acted.plain name (now.moves ok));
-          })
+        let moving : IsMoving (act e (at k)) name → IsMoving (at (suc k)) name =
+        λ m. subst (λ (t : State). IsMoving t name) (sym (at_next servers log plain k e there))
+        (let s = settled_moving servers (act e (at k)) acted.plain name m in record { row = s.row; found = s.found; moves = s.moves }) in
+        elim ((entered k low (has_at k (omega arith)) e there).1 now.given now.so) [
+          | inl still ↦ inl (record { given = now.given; so = still; moves = λ ok. moving (now.moves ok) })
           | inr later ↦ inr later
-        ])
+        ]
       where
-        few_at : c < length (at k).verdicts
-        few_at = let many = many_at servers log plain k (omega arith) in omega arith
-
         begun_moving : (row : DiskRow) → named (at k).disks.rows name ≡ Some row → row.moving ≡ None
             → Acted servers (at k) (told (with_move (at k) tuple row.id) c seq verdict.Ok)
             → IsMoving (told (with_move (at k) tuple row.id) c seq verdict.Ok) name
@@ -610,17 +555,17 @@ module _ (servers : ℕ) (log : List Command) (plain : HasProperTuples servers l
             act_start (λ (t : State). Acted servers (at k) t → Begun t name) (at k) c seq name tuple (λ old. true_false new old)
             (λ _ none acts. record {
               given = answer.NoDisk;
-              so = told_answers (at k) c seq verdict.NoDisk answer.NoDisk few_at refl;
+              so = told_answers (at k) c seq verdict.NoDisk answer.NoDisk (few_at k (omega arith)) refl;
               moves = λ is. (let f : answer.NoDisk ≡ answer.Ok = is in absurd cc);
             })
             (λ _ row found busy acts. record {
               given = answer.Moving;
-              so = told_answers (at k) c seq verdict.Moving answer.Moving few_at refl;
+              so = told_answers (at k) c seq verdict.Moving answer.Moving (few_at k (omega arith)) refl;
               moves = λ is. (let f : answer.Moving ≡ answer.Ok = is in absurd cc);
             })
             (λ _ row found free acts. record {
               given = answer.Ok;
-              so = told_answers (with_move (at k) tuple row.id) c seq verdict.Ok answer.Ok few_at refl;
+              so = told_answers (with_move (at k) tuple row.id) c seq verdict.Ok answer.Ok (few_at k (omega arith)) refl;
               moves = λ is. begun_moving row found free acts;
             }) acted
 

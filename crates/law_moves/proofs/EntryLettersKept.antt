@@ -1,18 +1,18 @@
 -- Each step keeps what letters of entries that move say, and what operations for them were opened for.
-use Rattle.law_moves.proofs.Imports.{[], ◌&&◌, ◌<◌, ◌||◌, ◌∙◌, ◌∷◌, ◌≡◌, Body, Cell, Chain, Command, Fills, Handled, HasProperTuples, In, IsNextFill}
-use Rattle.law_moves.proofs.Imports.{IsPrefix, Is_next, Is_other, Key, Letter, List, OneMore, PairState, Pairs, Pending, Post, Server, Some, State, Stood}
-use Rattle.law_moves.proofs.Imports.{Store, Table, Writes, ap, arith, at, at-empty, cell_cmp, cell_of, chain_in, chosen_log, comes_before, crossed, did_come}
-use Rattle.law_moves.proofs.Imports.{did_fills, ends_of, false, front_on, front_plain, id_of, is_clients, is_fill, is_of_entries, key_at, length, link_named}
-use Rattle.law_moves.proofs.Imports.{log_plain, log_rev, nat_cmp, nat_lt, nat_tests, next_on, none_some, number_itself, or_true, own_place, proposed_pairs}
-use Rattle.law_moves.proofs.Imports.{refl, same_some, server_state, settling, source, stage_facts, subject_of, subst, sym, true, true_false, ℕ}
+use Rattle.law_moves.proofs.Imports.{[], ◌&&◌, ◌<◌, ◌||◌, ◌∙◌, ◌∷◌, ◌≡◌, BeforeBlank, Body, Cell, Chain, Command, Fills, Handled, HasProperTuples, In}
+use Rattle.law_moves.proofs.Imports.{IsNextFill, IsPrefix, Is_next, Is_other, Key, Letter, List, OneMore, Option, PairState, Pending, Post, Server, Some}
+use Rattle.law_moves.proofs.Imports.{State, Stood, Store, Table, Writes, ap, arith, at, at-empty, cell_cmp, cell_of, chain_in, chosen_log, comes_before}
+use Rattle.law_moves.proofs.Imports.{did_come, did_fills, ends_of, false, front_on, front_plain, id_of, is_clients, is_fill, is_of_entries, key_at, length}
+use Rattle.law_moves.proofs.Imports.{link_named, log_plain, log_rev, nat_cmp, nat_lt, nat_tests, next_on, none_some, number_itself, or_true, own_place, refl}
+use Rattle.law_moves.proofs.Imports.{same_some, server_state, source, stage_facts, subject_of, subst, sym, true, true_false, ℕ}
+use Rattle.law_moves.proofs.StepsTellEntries.{Goes_on, HasStore, Is_bare, Keeps, Awakes, Before, IsJob, IsPosted, Other, Posted, Works, chosen_on, gone}
+use Rattle.law_moves.proofs.StepsTellEntries.{knows, sent}
 use Rattle.law_moves.specs.Fills.{Has, IsFrozen, WasFilled}
 use Rattle.law_moves.specs.LeftToMove.{IsKept, IsOurs}
 use Rattle.law_moves.proofs.FrozenIsWhatCounted.{frozen_stays}
 use Rattle.law_moves.proofs.AllKeptOfMoves.{WasKnown}
 use Rattle.law_moves.proofs.Movers.{had, three, way}
 use Rattle.law_moves.proofs.NextFill.{next_is}
-use Rattle.law_moves.proofs.StepsTellEntries.{Awakes, Before, Enters, HasGone, IsJob, IsPosted, Is_blanked, Other, Posted, Raises, Rests, Starts_ballot}
-use Rattle.law_moves.proofs.StepsTellEntries.{Works, chosen_on, gone, knows, sent}
 use Rattle.law_moves.proofs.LeadsWereTold.{HasTold, lift, same_frozen}
 use Rattle.law_moves.proofs.LeadsRememberMoved.{done_told}
 use Rattle.law_moves.proofs.MoveScenes.{IsMover}
@@ -171,21 +171,13 @@ module _ (it : OneMore) (known : WasKnown it) where
         (subst (IsFrozen setting v h.letter.rev opened.moving.key) (sym opened.bytes) f))
   ]
 
-  asked_by : (m : ℕ) (to : Server) → HasGone it m to → AreAsked to.own.pairs.pending
-  asked_by m to (Rests same) = subst (λ (s : Server). AreAsked s.own.pairs.pending) (sym same) (still_asked m)
-  asked_by m to (Works job) = subst (λ (o : PairState). AreAsked o.pairs.pending) (sym job.own_is) (job_asked m to job)
-  asked_by m to (Starts_ballot b) =
-      subst AreAsked (sym (ap (λ (o : PairState). o.pairs.pending) b.own_is
-      ∙ ap (λ (p : Pairs). p.pending) (proposed_pairs (server_state setting w m) (Was m).own b.started))) (still_asked m)
-  asked_by m to (Enters e) =
-      subst AreAsked (sym (ap (λ (o : PairState). o.pairs.pending) e.own_is
-      ∙ ap (λ (p : Pairs). p.pending) (settling (own_place setting w m) e.entry (crossed (server_state setting w m) e.entry (Was m).own)).pairs))
-      (still_asked m)
-  asked_by m to (Awakes asleep same) =
-      subst (λ (s : Server). AreAsked s.own.pairs.pending) (sym same) (λ cell op is. none_some (at-empty cell_cmp cell) is)
-  asked_by m to (Raises asleep same) = subst (λ (s : Server). AreAsked s.own.pairs.pending) (sym same) (still_asked m)
-  asked_by m to (Is_blanked asleep same) = subst (λ (s : Server). AreAsked s.own.pairs.pending) (sym same) (still_asked m)
+  asked_by : (m : ℕ) (to : Server) (b : Option BeforeBlank) → HasStore it m to b → AreAsked to.own.pairs.pending
+  asked_by m to b (Goes_on (Keeps kept) same) = subst AreAsked (sym kept.pending) (still_asked m)
+  asked_by m to b (Goes_on (Works job) same) = subst (λ (o : PairState). AreAsked o.pairs.pending) (sym job.own_is) (job_asked m to job)
+  asked_by m to b (Goes_on (Awakes asleep is) same) =
+      subst (λ (s : Server). AreAsked s.own.pairs.pending) (sym is) (λ cell op is. none_some (at-empty cell_cmp cell) is)
+  asked_by m to b (Is_bare asleep bare same) = subst (λ (s : Server). AreAsked s.own.pairs.pending) (sym bare) (still_asked m)
 
   pub asked_next : (m : ℕ) (cell : Cell) (op : Pending) → at cell_cmp (v.servers m).own.pairs.pending cell ≡ Some op → is_clients op.kind ≡ false
       → IsFrozen setting v op.rev op.key op.bytes
-  asked_next m = asked_by m (v.servers m) (gone it m)
+  asked_next m = asked_by m (v.servers m) _ (gone it m)

@@ -4,21 +4,21 @@ pub use Rattle.law_state.specs.Imports.{PairState, Progress, Record, Server, Set
 pub use Rattle.law_state.specs.Imports.{is_in, leads_link, link_at, link_cmp, move_region, other_of, owner, region_of, row_blanked, serves, source}
 pub use Rattle.law_state.specs.Imports.{state_after, target, tuple_of}
 unfoldable pub use Rattle.law_state.specs.Imports.{In, at}
-pub use Rattle.law_state.proofs.Imports.{[], if◌then◌else◌, ◌&&◌, ◌++◌, ◌+◌, ◌<◌, ◌==◌, ◌∙◌, ◌∷◌, ◌≡◌, ◌≢◌, ◌≤◌, ◌⊎◌, Bool, List, None, Option, Some, ap}
-pub use Rattle.law_state.proofs.Imports.{append-nil, append_assoc, arith, authority, blanked_state, both_true, by_bool, by_test, cond, false, filter, first}
-pub use Rattle.law_state.proofs.Imports.{fold, in-append, in_both, in_former, in_later, inl, inr, is_alone, is_alone_on, is_link, is_some, is_the_one, length}
-pub use Rattle.law_state.proofs.Imports.{length-append, link_of, links_of, map, nat_lt, nat_tests, none_some, not, number_itself, option_and_then, option_map}
-pub use Rattle.law_state.proofs.Imports.{option_map_or, range_with_len, refl, row_authority, row_lead, same_numbers, same_or_apart, same_some, second}
-pub use Rattle.law_state.proofs.Imports.{some_or_none, subst, sym, touches, true, true_false, unwrap_or, ℕ}
-pub use Rattle.law_log.proofs.Imports.{◌||◌, Acted, AreSteps, Body, Copies, Copying, Retired, Ending, Entry, Equal, Firm, HasProperTuples, IsSound, JobContext}
-pub use Rattle.law_log.proofs.Imports.{JobResult, Key, LastCopy, Letter, Log, Moving, Pending, Post, Script, Step, Stored, about, all_put, awake, blanked}
+pub use Rattle.law_state.proofs.Imports.{Bool, List, None, Option, Some, [], ap, append-nil, append_assoc, arith, authority, blanked_state, both_true}
+pub use Rattle.law_state.proofs.Imports.{by_bool, by_test, cond, false, filter, first, fold, if◌then◌else◌, in-append, in_both, in_former, in_later, inl, inr}
+pub use Rattle.law_state.proofs.Imports.{is_alone, is_alone_on, is_link, is_some, is_the_one, length, length-append, link_of, links_of, map, nat_lt}
+pub use Rattle.law_state.proofs.Imports.{nat_tests, none_some, not, number_itself, option_and_then, option_map, option_map_or, range_with_len, refl}
+pub use Rattle.law_state.proofs.Imports.{row_authority, row_lead, same_numbers, same_or_apart, same_some, second, some_or_none, subst, sym, touches, true}
+pub use Rattle.law_state.proofs.Imports.{true_false, unwrap_or, ℕ, ◌&&◌, ◌++◌, ◌+◌, ◌<◌, ◌==◌, ◌∙◌, ◌∷◌, ◌≡◌, ◌≢◌, ◌≤◌, ◌⊎◌}
+pub use Rattle.law_log.proofs.Imports.{Acted, AreSteps, Body, Copies, Copying, Ending, Entry, Equal, Firm, HasProperTuples, IsSound, JobContext, JobResult}
+pub use Rattle.law_log.proofs.Imports.{Key, LastCopy, Letter, Log, Moving, Pending, Post, Retired, Script, Step, Stored, about, all_put, awake, blanked}
 pub use Rattle.law_log.proofs.Imports.{cell_holder, cell_of, chain_in, client_sender, copying_on, devices, down_posts, ended, eq_by_cmp, fill_of, flat_map}
 pub use Rattle.law_log.proofs.Imports.{gives_back, has_proposed, holds_link, id_of, is_eq, is_flagged, is_logged, is_second, key_at, last_copy, last_on}
 pub use Rattle.law_log.proofs.Imports.{link_named, log_plain, nat_cmp, pending_on, proposed, put_apart, put_same, raised, ranked, region_to_move, sender}
-pub use Rattle.law_log.proofs.Imports.{server_state, setting_of, stamped, start, subject_of, touches_cell, who_is_in, with_last_copy, without_pending}
+pub use Rattle.law_log.proofs.Imports.{server_state, setting_of, stamped, start, subject_of, touches_cell, who_is_in, with_last_copy, without_pending, ◌||◌}
 unfoldable pub use Rattle.law_log.proofs.Imports.{put_at}
 pub use Rattle.law_steps.specs.Imports.{IsBelow, Paired, Sender, Stage, StaysSo, Subject, Table, cell_cmp, coming, crossed, epochs_beyond, letters_of, live}
-pub use Rattle.law_steps.specs.Imports.{settled_by, stage_at, without_retired, without_entry}
+pub use Rattle.law_steps.specs.Imports.{stage_at, without_entry, without_retired}
 unfoldable pub use Rattle.law_steps.specs.Imports.{next_fill}
 pub use Rattle.law_steps.proofs.Imports.{ByBoth, ByNone, ByOne, Chain, Filling, Full, Greater, HasStage, IsCaughtIn, IsCaughtStill, IsHeldBy, IsSteady, Less}
 pub use Rattle.law_steps.proofs.Imports.{Logged, Ordering, Pairs, Store, Written, alone_not_both, alone_row, at-empty, at-where, by_settled, cell_apart}
@@ -37,7 +37,7 @@ pub use Rattle.law_jobs.proofs.Imports.{same_cell_or_apart, same_itself, same_on
 pub use Rattle.law_copies.specs.Imports.{WasStarted, blank_joins_in, is_between, kept_store, one_put_ahead}
 pub use Rattle.law_copies.proofs.Imports.{At, BeforeBlank, Blanks, By_ballot, By_caught, By_entry, By_job, By_join, By_leave, Effect, Ends, Fails, Fills}
 pub use Rattle.law_copies.proofs.Imports.{Goes, HasJoinedSince, IsCaughtBy, IsInBoth, IsSeatedOrMute, May, Serves, Serving, Starts, Stays, Stood, Turns}
-pub use Rattle.law_copies.proofs.Imports.{Wakes, Worked, Writes, applied, before_part, below_itself, by_run, chain_apart, chain_put}
+pub use Rattle.law_copies.proofs.Imports.{Wakes, Worked, Writes, applied, before_part, below_itself, by_run, cell_swept, chain_apart, chain_put}
 pub use Rattle.law_copies.proofs.Imports.{chosen_caught_was, copied_chains, counted, counted_by, did_come, drop_apart, drop_none, either_true, first_by}
 pub use Rattle.law_copies.proofs.Imports.{first_state, front_itself, front_long, front_more, front_on, front_within, happened_in, in_none, job_keeps}
 pub use Rattle.law_copies.proofs.Imports.{joined_counts, joined_since, kept, kept_by, letters_of_job, link_led_by, live_stage, log_both_place, log_grown}
@@ -60,7 +60,7 @@ pub use Rattle.law_copies.proofs.StoreHistories.{in_counts, in_own, kept_after, 
 pub use Rattle.law_copies.proofs.StoresAlongRecords.{before_last, stays_filled}
 pub use Rattle.law_copies.specs.CopyProgress.{AreCopying, HasSent, IsCaught, IsLeft, IsTold}
 pub use Rattle.law_copies.specs.GoodCopies.{AreTwins, Good, pair_at}
-pub use Rattle.law_copies.specs.Pair.{AreCopies, PairOk, Known as Tells, Working, far, pair_of}
+pub use Rattle.law_copies.specs.Pair.{AreCopies, Known as Tells, PairOk, Working, far, pair_of}
 pub use Rattle.law_copies.specs.Visits.{HasReached, IsHere, IsLast, half, store_by}
 pub use Rattle.law_copies.specs.WaitingStores.{IsOwn}
 pub use Rattle.law_epochs.proofs.EntriesAfterJobs.{did_kept}
@@ -77,7 +77,8 @@ pub use Rattle.law_jobs.proofs.CountsGrow.{did_follow}
 pub use Rattle.law_jobs.proofs.FilledAsTold.{As_before, Told_of, did_remember}
 pub use Rattle.law_jobs.proofs.OperationsCome.{restaged}
 pub use Rattle.law_jobs.proofs.Runs.{after}
-pub use Rattle.law_jobs.specs.Effects.{Alone_has, Both_have, Drops, For_a_fill, For_a_write, Goes_on, HasEnded, Has_put, IsSetFor, Is_retired, Is_opened, Sets}
+pub use Rattle.law_jobs.specs.Effects.{Alone_has, Both_have, Drops, For_a_fill, For_a_write, Goes_on, HasEnded, Has_put, IsSetFor, Is_opened, Is_retired}
+pub use Rattle.law_jobs.specs.Effects.{Sets}
 pub use Rattle.law_jobs.specs.Sayings.{to_server}
 pub use Rattle.law_log.proofs.FillJobsLeaveLog.{filled_beside, filled_here}
 pub use Rattle.law_log.proofs.LogInHistories.{first_incs, join_was_wanted, moved_was_wanted}
@@ -94,6 +95,7 @@ pub use Rattle.law_state.specs.LaterStates.{KeepsRoles}
 pub use Rattle.law_state.specs.NotedLinks.{HasMovedIn}
 pub use Rattle.law_steps.proofs.EntriesReachComingCells.{comes_after, start_comes}
 pub use Rattle.law_steps.proofs.FillsByJobs.{IsOpenedFill, Is_next, Is_other, did_fills, is_fill}
+pub use Rattle.law_steps.proofs.Fronts.{front_same}
 pub use Rattle.law_steps.proofs.MovesAreOfComingCells.{leaves_with, next_on, region_left}
 pub use Rattle.law_steps.specs.ComingCells.{WasComing}
 pub use Rattle.law_steps.specs.Operations.{A_fill, A_write, IsOpenedFor, IsStaged}
@@ -103,4 +105,4 @@ pub use Rattle.spec_paxos.specs.Chosen.{chosen_from, vote_place}
 pub use Rattle.spec_rules.specs.State.{leaving}
 pub use Rattle.spec_rules.specs.World.{begins_to_leave, chain_that_counts, frozen_by}
 pub use Rattle.spec_state.specs.CellState.{lead}
-pub use Rattle.law_steps.specs.DidSweep.{cell_swept}
+pub use Rattle.spec_state.specs.Command.{after as entry_after}

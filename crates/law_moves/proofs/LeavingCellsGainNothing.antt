@@ -1,15 +1,13 @@
 -- What a step leaves of a cell at a server that serves its link: no entry goes, and of a cell that is leaving, or has left, none comes.
 use Rattle.law_moves.proofs.Imports.{[], if◌then◌else◌, ◌+◌, ◌==◌, ◌∙◌, ◌≡◌, ◌≤◌, BeforeBlank, Cell, Chain, Command, Handled, IsPrefix, IsServing, Key, List}
 use Rattle.law_moves.proofs.Imports.{None, OneMore, Option, PairState, Pending, Server, Some, Store, ap, append-nil, arith, at, at_apart, at_same}
-use Rattle.law_moves.proofs.Imports.{ballot_store, blank_joins_in, by_bool, cell_cmp, cell_of, chain_in, chosen_state, crossed, ends_of, false, front_itself}
-use Rattle.law_moves.proofs.Imports.{inl, inr, is_clients, is_in, is_second, is_some, is_the_one, kept, kept_by, kept_store, last_on, nat_cmp, number_itself}
-use Rattle.law_moves.proofs.Imports.{own_place, progress, put, running_timely, same_or_apart, second, second_by, server_state, settling, stage_at}
-use Rattle.law_moves.proofs.Imports.{state_after, subst, sym, true, ℕ}
+use Rattle.law_moves.proofs.Imports.{blank_joins_in, by_bool, cell_cmp, cell_of, chain_in, chosen_state, ends_of, false, front_itself, inl, inr, is_clients}
+use Rattle.law_moves.proofs.Imports.{is_in, is_second, is_some, is_the_one, kept, kept_by, kept_store, last_on, nat_cmp, number_itself, progress, put}
+use Rattle.law_moves.proofs.Imports.{running_timely, same_or_apart, second, second_by, server_state, stage_at, state_after, subst, sym, true, ℕ}
+use Rattle.law_moves.proofs.StepsTellEntries.{knows, Keeps, gone, Awakes, Goes_on, HasGone, HasStore, Is_bare, Works}
 use Rattle.law_moves.specs.Fills.{Has}
 use Rattle.law_moves.proofs.ServedCellChanges.{Asked_put, IsPutOn, Own_put, Same, chain_so}
 use Rattle.law_moves.proofs.AllKeptOfMoves.{Known, WereKnown}
-use Rattle.law_moves.proofs.StepsTellEntries.{Awakes, Enters, Goes_on, HasGone, HasStore, Is_bare, Is_blanked, Raises, Rests, Starts_ballot, Works, is_off}
-use Rattle.law_moves.proofs.StepsTellEntries.{knows, stored}
 use Rattle.law_moves.proofs.MoveWorlds.{steady_at, up}
 use Rattle.law_moves.proofs.MoveScenes.{IsSecondAt}
 use Rattle.petal_msg.specs.declared.body.Body.TheVariants as body
@@ -39,9 +37,6 @@ module _ (it : OneMore) (all : WereKnown it) where
   pub before : Known script front
   before = all front [] (sym (append-nil front))
 
-  abbrev Gone : (n : ℕ) → Server → Type 0
-  Gone n to = HasGone it n to
-
   abbrev chain_of : Server → Cell → Chain
   chain_of server cell = chain_in server.own.store.chains cell
 
@@ -60,9 +55,9 @@ module _ (it : OneMore) (all : WereKnown it) where
           → last_on (w.servers n).own cell ≡ Some (record { op = number; progress = follow_progress.Reserved })
           → IsPutOn (chain_of (w.servers n) cell) new key.epoch bytes → HasChanged new
 
-    changed_by : (to : Server) (g : Gone n to) → is_off it g ≡ false → HasChanged (chain_of to cell)
-    changed_by to (Rests same) live = Stays_so (ap (λ (s : Server). chain_of s cell) same)
-    changed_by to (Works job) live = elim job.seat [
+    changed_by : (to : Server) → HasGone it n to → HasChanged (chain_of to cell)
+    changed_by to (Keeps kept) = Stays_so (ap (λ c. chain_in c cell) kept.chains)
+    changed_by to (Works job) = elim job.seat [
       | inr apart ↦ Stays_so (ap (λ (o : PairState). chain_in o.store.chains cell) (job.own_is ∙ apart.same))
       | inl seat ↦ elim (chain_so prior before.filled.opened n job.runs f on lies seat cell low serving job.done job.did job.seat) [
         | Same e ↦ Stays_so (ap (λ (o : PairState). chain_in o.store.chains cell) job.own_is ∙ e)
@@ -71,21 +66,11 @@ module _ (it : OneMore) (all : WereKnown it) where
             (p.0, p.1, ap (λ (o : PairState). chain_in o.store.chains cell) job.own_is ∙ p.2)
       ]
     ]
-    changed_by to (Starts_ballot ballot) live =
-        Stays_so (ap (λ (o : PairState). chain_in o.store.chains cell) ballot.own_is
-        ∙ ap (λ (s : Store). chain_in s.chains cell) (ballot_store (server_state setting w n) (w.servers n).own ballot.started))
-    changed_by to (Enters entry) live =
-        Stays_so (ap (λ (o : PairState). chain_in o.store.chains cell) entry.own_is
-        ∙ ap (λ c. chain_in c cell)
-        (settling (own_place setting w n) entry.entry (crossed (server_state setting w n) entry.entry (w.servers n).own)).chains)
-    changed_by to (Awakes asleep same) live = Stays_so (ap (λ (s : Server). chain_of s cell) same)
-    changed_by to (Raises asleep same) live = Stays_so (ap (λ (s : Server). chain_of s cell) same)
-    changed_by to (Is_blanked asleep same) live = let f : true ≡ false = live in absurd cc
+    changed_by to (Awakes asleep same) = Stays_so (ap (λ (s : Server). chain_of s cell) same)
 
     -- no entry goes
-    pub has_on : (to : Server) (g : Gone n to) → is_off it g ≡ false → (epoch : ℕ) → Has (chain_of (w.servers n) cell) epoch
-        → Has (chain_of to cell) epoch
-    has_on to g live epoch has = elim (changed_by to g live) [
+    pub has_on : (to : Server) → HasGone it n to → (epoch : ℕ) → Has (chain_of (w.servers n) cell) epoch → Has (chain_of to cell) epoch
+    has_on to g epoch has = elim (changed_by to g) [
       | Stays_so e ↦ subst (λ (c : Chain). Has c epoch) (sym e) has
       | Put_own op runs is fresh p ↦ has_put (chain_of (w.servers n) cell) (chain_of to cell) op.key.epoch epoch op.bytes p has
       | Put_asked number key version bytes runs seat hears of seconds last p ↦
@@ -137,8 +122,8 @@ module _ (it : OneMore) (all : WereKnown it) where
           let lt = past.1 in
           absurd (omega arith)
 
-      pub same_on : (to : Server) (g : Gone n to) → is_off it g ≡ false → chain_of to cell ≡ chain_of (w.servers n) cell
-      same_on to g live = elim (changed_by to g live) [
+      pub same_on : (to : Server) → HasGone it n to → chain_of to cell ≡ chain_of (w.servers n) cell
+      same_on to g = elim (changed_by to g) [
         | Stays_so e ↦ e
         | Put_own op runs is fresh p ↦ absurd (not_own op runs is)
         | Put_asked number key version bytes runs seat hears of seconds last p ↦ absurd (not_asked number key version bytes runs seat hears of seconds last)
@@ -151,18 +136,14 @@ module _ (it : OneMore) (all : WereKnown it) where
 
   -- what goes on to be so of the server's own store, goes on to be so of the one that counts
   kept_from : (n : ℕ) (P : Store → Type 0) → P (kept setting w n)
-      → ((g : Gone n (v.servers n)) → is_off it g ≡ false → P (w.servers n).own.store → P (v.servers n).own.store)
-      → P (now_kept n)
-  kept_from n P was step = by (v.before_blank n) (stored it n)
+      → (HasGone it n (v.servers n) → P (w.servers n).own.store → P (v.servers n).own.store) → P (now_kept n)
+  kept_from n P was step = by (v.before_blank n) (gone it n)
     where
-      joins : ℕ
-      joins = blank_joins_in setting top n
-
       by : (b : Option BeforeBlank) → HasStore it n (v.servers n) b
           → P (kept_store (blank_joins_in setting top n) b (v.servers n).own.store)
-      by b (Goes_on g live same) =
+      by b (Goes_on g same) =
           subst (λ o. P (kept_store (blank_joins_in setting top n) o (v.servers n).own.store)) (sym same)
-          (kept_map P (blank_joins_in setting top n) (w.before_blank n) (w.servers n).own.store (v.servers n).own.store was (step g live))
+          (kept_map P (blank_joins_in setting top n) (w.before_blank n) (w.servers n).own.store (v.servers n).own.store was (step g))
       by b (Is_bare asleep bare same) =
           subst (λ o. P (kept_store (blank_joins_in setting top n) o (v.servers n).own.store)) (sym same)
           (subst P (ap (λ x. if x then kept setting w n else (v.servers n).own.store) (sym (number_itself (blank_joins_in setting top n)))) was)
@@ -173,9 +154,9 @@ module _ (it : OneMore) (all : WereKnown it) where
 
     pub kept_has : (epoch : ℕ) → Has (chain_in (kept setting w n).chains cell) epoch → Has (chain_in (now_kept n).chains cell) epoch
     kept_has epoch has = kept_from n (λ (s : Store). Has (chain_in s.chains cell) epoch) has
-        (λ g live was. has_on n top mine_on (front_itself top) cell low serving (v.servers n) g live epoch was)
+        (λ g was. has_on n top mine_on (front_itself top) cell low serving (v.servers n) g epoch was)
 
     pub kept_same : 3 ≤ stage_at (chosen_state setting w) cell → (chain : Chain) → chain_in (kept setting w n).chains cell ≡ chain
         → chain_in (now_kept n).chains cell ≡ chain
     kept_same three chain is = kept_from n (λ (s : Store). chain_in s.chains cell ≡ chain) is
-        (λ g live was. same_on n top mine_on (front_itself top) cell low serving three (v.servers n) g live ∙ was)
+        (λ g was. same_on n top mine_on (front_itself top) cell low serving three (v.servers n) g ∙ was)

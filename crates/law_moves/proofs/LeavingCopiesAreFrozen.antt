@@ -5,13 +5,13 @@ use Rattle.law_moves.proofs.Imports.{OneMore, Option, Server, Some, Store, alone
 use Rattle.law_moves.proofs.Imports.{both_authority, by_bool, chain_in, chosen_log, either_true, ends_of, front_itself, front_on, fronts_meet, history_grows}
 use Rattle.law_moves.proofs.Imports.{history_is_firm, in_counts, inl, inr, is_in, kept, kept_by, kept_store, moved_was_wanted, option_map, refl, region_of}
 use Rattle.law_moves.proofs.Imports.{same_numbers, serves, serves_alone, stage_at, stage_most, subst, sym, true, true_false, ℕ}
+use Rattle.law_moves.proofs.StepsTellEntries.{gone, Goes_on, HasStore, Is_bare, here}
 use Rattle.law_moves.specs.FrozenCopies.{AreStill}
 use Rattle.law_moves.proofs.FrozenIsWhatCounted.{frozen_at, frozen_same, none_early}
 use Rattle.law_moves.proofs.ServersOfGrownLog.{It_came, It_did, same_joins, served_before}
 use Rattle.law_moves.proofs.LeavingCellsGainNothing.{before, kept_same, same_on}
 use Rattle.law_moves.proofs.AllKeptOfMoves.{Known, WereKnown}
 use Rattle.law_moves.proofs.MovedRegionsHaveAll.{retired_moved}
-use Rattle.law_moves.proofs.StepsTellEntries.{Goes_on, HasStore, Is_bare, here, stored}
 use Rattle.law_moves.proofs.MoveWorlds.{facts_at, own_counts, serving_on, steady_at, up}
 use Rattle.law_moves.proofs.EqualCopies.{equal_now}
 use Rattle.law_moves.proofs.MoveScenes.{FillsSo}
@@ -106,13 +106,13 @@ module _ (it : OneMore) (all : WereKnown it) where
         let le = up prior f top lies (front_itself top) cell in
         frozen_same it cell (inl (omega arith))
         ∙ known.still.own n f cell h.runs on_was lies (subst (λ i. is_in (By f) n i ≡ true) h.inc_is seat) three serving
-        ∙ ap Some (sym (by (v.servers n) (v.before_blank n) (stored it n) runs on_was))
+        ∙ ap Some (sym (by (v.servers n) (v.before_blank n) (gone it n) runs on_was))
       where
         by : (to : Server) (b : Option BeforeBlank) → HasStore it n to b → to.life.running ≡ true
             → IsPrefix (w.servers n).log.applied f → chain_in to.own.store.chains cell ≡ chain_in (w.servers n).own.store.chains cell
-        by to b (Goes_on g live same) up_now on_was =
+        by to b (Goes_on g same) up_now on_was =
             let le = up prior f top lies (front_itself top) cell in
-            same_on it all n f on_was lies cell (omega arith) serving (omega arith) to g live
+            same_on it all n f on_was lies cell (omega arith) serving (omega arith) to g
         by to b (Is_bare asleep bare same) up_now on_was = true_false (ap (λ (s : Server). s.life.running) (sym bare) ∙ up_now) asleep
 
     -- by one that is chosen in it

@@ -1,11 +1,12 @@
 -- A step keeps what is known of fills that are pending: while one is, its region is on its way, and no letter says that its entry is there; until it is put the
 -- entry is not there, and then it is.
-use Rattle.law_moves.proofs.Imports.{◌∙◌, ◌≡◌, ◌≢◌, ◌≤◌, Cell, Command, Fills, Handled, IsOpenedFill, IsStaged, Key, Letter, List, None, OneMore, Option}
-use Rattle.law_moves.proofs.Imports.{PairState, Pairs, Pending, Server, Some, Stood, Store, World, Writes, ap, arith, at, at-empty, at_most_or_above}
-use Rattle.law_moves.proofs.Imports.{cell_cmp, cell_link, cell_of, chain_in, chosen_state, crossed, did_come, ends_of, false, front_itself, has_proposed, inl}
-use Rattle.law_moves.proofs.Imports.{inr, is_clients, is_in, is_some, is_the_one, lead, leads_link, nat_cmp, none_some, option_and_then, own_place}
-use Rattle.law_moves.proofs.Imports.{proposed_pairs, row_lead, same_or_apart, server_state, settling, stage_at, stage_live, subst, sym, taking, true}
-use Rattle.law_moves.proofs.Imports.{true_false, ℕ}
+use Rattle.law_moves.proofs.Imports.{◌∙◌, ◌≡◌, ◌≢◌, ◌≤◌, BeforeBlank, Cell, Command, Fills, Handled, IsOpenedFill, IsStaged, Key, Letter, List, None, OneMore}
+use Rattle.law_moves.proofs.Imports.{Option, PairState, Pending, Server, Some, Stood, Store, World, Writes, ap, arith, at, at-empty, at_most_or_above}
+use Rattle.law_moves.proofs.Imports.{cell_cmp, cell_link, cell_of, chain_in, chosen_state, did_come, ends_of, false, front_itself, has_proposed, inl, inr}
+use Rattle.law_moves.proofs.Imports.{is_clients, is_in, is_some, is_the_one, lead, leads_link, nat_cmp, none_some, option_and_then, own_place, row_lead}
+use Rattle.law_moves.proofs.Imports.{same_or_apart, server_state, stage_at, stage_live, subst, sym, taking, true, true_false, ℕ}
+use Rattle.law_moves.proofs.StepsTellEntries.{Goes_on, HasStore, Is_bare, Keeps, Awakes, Before, IsJob, IsPosted, Other, Posted, Works, chosen_on, gone, sent}
+use Rattle.law_moves.proofs.StepsTellEntries.{mine_top}
 use Rattle.law_moves.specs.Fills.{Has, IsFrozen, WasFilled}
 use Rattle.law_moves.proofs.ServedCellChanges.{never_retired}
 use Rattle.law_moves.proofs.LeavingCellsGainNothing.{before}
@@ -14,8 +15,6 @@ use Rattle.law_moves.proofs.LeadsHaveWhatServersHave.{other_idle, other_lacks}
 use Rattle.law_moves.proofs.PendingAfterJobs.{Is_new, It_was, did_was}
 use Rattle.law_moves.proofs.FillLetters.{Asks_copy, Is_done, Is_done_alone, Is_neither, Is_there, Says, did_says, is_filled}
 use Rattle.law_moves.proofs.ServersOfLinks.{lead_serves, link_lead_serves}
-use Rattle.law_moves.proofs.StepsTellEntries.{Awakes, Before, Enters, HasGone, IsJob, IsPosted, Is_blanked, Other, Posted, Raises, Rests, Starts_ballot}
-use Rattle.law_moves.proofs.StepsTellEntries.{Works, chosen_on, gone, sent, mine_top}
 use Rattle.law_moves.proofs.EqualCopies.{moved_now}
 use Rattle.law_moves.proofs.ToldEntriesAreThere.{filled_key, kept_own, no_other, told_already}
 use Rattle.law_moves.proofs.MoveWorlds.{facts_at, firm, good, own_counts, rests, steady_at, up}
@@ -50,30 +49,24 @@ module _ (it : OneMore) (all : WereKnown it) where
 
   -- ### What is pending at a server that runs
 
+  -- it was pending, if the server runs, at one that ran
   pub data CameAs (m : ℕ) (to : Server) (cell : Cell) (op : Pending) : Type 0 where
-    Same_pairs : (w.servers m).life.running ≡ true → pending_at w m cell ≡ Some op → CameAs m to cell op
+    Same_pairs : (to.life.running ≡ true → (w.servers m).life.running ≡ true) → pending_at w m cell ≡ Some op → CameAs m to cell op
     By_job : (job : IsJob it m to) → at cell_cmp job.done.own.pairs.pending cell ≡ Some op → CameAs m to cell op
 
-  came_by : (m : ℕ) (to : Server) → HasGone it m to → to.life.running ≡ true → (cell : Cell) (op : Pending)
+  pub came_by : (m : ℕ) (to : Server) (b : Option BeforeBlank) → HasStore it m to b → (cell : Cell) (op : Pending)
       → at cell_cmp to.own.pairs.pending cell ≡ Some op → CameAs m to cell op
-  came_by m to (Rests same) runs cell op is =
-      Same_pairs (ap (λ (s : Server). s.life.running) (sym same) ∙ runs) (ap (λ (s : Server). at cell_cmp s.own.pairs.pending cell) (sym same) ∙ is)
-  came_by m to (Works job) runs cell op is = By_job job (ap (λ (o : PairState). at cell_cmp o.pairs.pending cell) (sym job.own_is) ∙ is)
-  came_by m to (Starts_ballot ballot) runs cell op is =
-      Same_pairs ballot.runs (ap (λ (p : Pairs). at cell_cmp p.pending cell)
-      (sym (proposed_pairs (server_state setting w m) (w.servers m).own ballot.started))
-      ∙ ap (λ (o : PairState). at cell_cmp o.pairs.pending cell) (sym ballot.own_is) ∙ is)
-  came_by m to (Enters entry) runs cell op is =
-      Same_pairs entry.runs (ap (λ (p : Pairs). at cell_cmp p.pending cell)
-      (sym (settling (own_place setting w m) entry.entry (crossed (server_state setting w m) entry.entry (w.servers m).own)).pairs)
-      ∙ ap (λ (o : PairState). at cell_cmp o.pairs.pending cell) (sym entry.own_is) ∙ is)
-  came_by m to (Awakes asleep same) runs cell op is =
-      none_some (at-empty cell_cmp cell) (ap (λ (s : Server). at cell_cmp s.own.pairs.pending cell) (sym same) ∙ is)
-  came_by m to (Raises asleep same) runs cell op is = true_false (ap (λ (s : Server). s.life.running) (sym same) ∙ runs) asleep
-  came_by m to (Is_blanked asleep same) runs cell op is = true_false (ap (λ (s : Server). s.life.running) (sym same) ∙ runs) asleep
+  came_by m to b (Goes_on (Keeps kept) same) cell op is =
+      Same_pairs (λ on. (kept.runs on).0) (ap (λ t. at cell_cmp t cell) (sym kept.pending) ∙ is)
+  came_by m to b (Goes_on (Works job) same) cell op is = By_job job (ap (λ (o : PairState). at cell_cmp o.pairs.pending cell) (sym job.own_is) ∙ is)
+  came_by m to b (Goes_on (Awakes asleep so) same) cell op is =
+      none_some (at-empty cell_cmp cell) (ap (λ (s : Server). at cell_cmp s.own.pairs.pending cell) (sym so) ∙ is)
+  came_by m to b (Is_bare asleep bare same) cell op is =
+      Same_pairs (λ on. true_false (ap (λ (s : Server). s.life.running) (sym bare) ∙ on) asleep)
+      (ap (λ (s : Server). at cell_cmp s.own.pairs.pending cell) (sym bare) ∙ is)
 
-  came : (m : ℕ) → (v.servers m).life.running ≡ true → (cell : Cell) (op : Pending) → pending_at v m cell ≡ Some op → CameAs m (v.servers m) cell op
-  came m runs cell op is = came_by m (v.servers m) (gone it m) runs cell op is
+  came : (m : ℕ) (cell : Cell) (op : Pending) → pending_at v m cell ≡ Some op → CameAs m (v.servers m) cell op
+  came m cell op is = came_by m (v.servers m) _ (gone it m) cell op is
 
   -- ### A fill that is opened
 
@@ -108,8 +101,8 @@ module _ (it : OneMore) (all : WereKnown it) where
 
   pub opened_before : (m : ℕ) (cell : Cell) (op : Pending) → (v.servers m).life.running ≡ true → pending_at v m cell ≡ Some op → is_clients op.kind ≡ false
       → stage_at (By top) cell ≡ 1
-  opened_before m cell op runs is fills = elim (came m runs cell op is) [
-    | Same_pairs up_was was ↦ known.filled.opened m cell op up_was was fills
+  opened_before m cell op runs is fills = elim (came m cell op is) [
+    | Same_pairs up_was was ↦ known.filled.opened m cell op (up_was runs) was fills
     | By_job job there ↦ elim (did_come (Handled w m) (own_place setting w m) (w.servers m).own job.done job.did cell op there) [
       | Stood was ↦ known.filled.opened m cell was.was job.runs was.is (ap is_clients was.same.kind ∙ fills)
       | Writes write ↦ true_false (ap is_clients write) fills
@@ -122,8 +115,8 @@ module _ (it : OneMore) (all : WereKnown it) where
   -- none of before the step
   unsaid_was : (m : ℕ) (cell : Cell) (op : Pending) → (v.servers m).life.running ≡ true → pending_at v m cell ≡ Some op → is_clients op.kind ≡ false
       → WasFilled w op.key → ⊥
-  unsaid_was m cell op runs is fills told = elim (came m runs cell op is) [
-    | Same_pairs up_was was ↦ known.filled.unsaid m cell op up_was was fills told
+  unsaid_was m cell op runs is fills told = elim (came m cell op is) [
+    | Same_pairs up_was was ↦ known.filled.unsaid m cell op (up_was runs) was fills told
     | By_job job there ↦ elim (did_come (Handled w m) (own_place setting w m) (w.servers m).own job.done job.did cell op there) [
       | Stood was ↦ known.filled.unsaid m cell was.was job.runs was.is (ap is_clients was.same.kind ∙ fills) (subst (WasFilled w) (sym was.same.key) told)
       | Writes write ↦ true_false (ap is_clients write) fills
@@ -286,8 +279,8 @@ module _ (it : OneMore) (all : WereKnown it) where
 
   pub puts_next : (m : ℕ) (cell : Cell) (op : Pending) → (v.servers m).life.running ≡ true → pending_at v m cell ≡ Some op → is_clients op.kind ≡ false
       → op.stage.put ≡ true → Has (chain_in (v.servers m).own.store.chains cell) op.key.epoch
-  puts_next m cell op runs is fills put = elim (came m runs cell op is) [
-    | Same_pairs up_was was ↦ still_has m cell op op.key.epoch runs up_was was fills (known.puts m cell op up_was was fills put)
+  puts_next m cell op runs is fills put = elim (came m cell op is) [
+    | Same_pairs up_was was ↦ still_has m cell op op.key.epoch runs (up_was runs) was fills (known.puts m cell op (up_was runs) was fills put)
     | By_job job there ↦ elim (did_was (Handled w m) (own_place setting w m) (w.servers m).own (keyed_was m) job.done job.did cell op there) [
       | Is_new next fresh ↦ true_false put fresh
       | It_was o was same how ↦ elim (how put) [
@@ -320,23 +313,10 @@ module _ (it : OneMore) (all : WereKnown it) where
 
   pub numbered_next : ((m : ℕ) (cell : Cell) (op : Pending) → pending_at w m cell ≡ Some op → 1 ≤ op.op)
       → (m : ℕ) (cell : Cell) (op : Pending) → pending_at v m cell ≡ Some op → 1 ≤ op.op
-  numbered_next old m cell op is = by (v.servers m) (gone it m) is
-    where
-      by : (to : Server) → HasGone it m to → at cell_cmp to.own.pairs.pending cell ≡ Some op → 1 ≤ op.op
-      by to (Rests same) there = old m cell op (ap (λ (s : Server). at cell_cmp s.own.pairs.pending cell) (sym same) ∙ there)
-      by to (Works job) there =
-          elim (did_was (Handled w m) (own_place setting w m) (w.servers m).own (keyed_was m) job.done job.did cell op
-          (ap (λ (o : PairState). at cell_cmp o.pairs.pending cell) (sym job.own_is) ∙ there)) [
-            | Is_new next fresh ↦ (let one = (good prior).counts m in omega arith)
-            | It_was o was same how ↦ (let one = old m cell o was in let e = same.number in omega arith)
-          ]
-      by to (Starts_ballot ballot) there = old m cell op (ap (λ (p : Pairs). at cell_cmp p.pending cell)
-          (sym (proposed_pairs (server_state setting w m) (w.servers m).own ballot.started))
-          ∙ ap (λ (o : PairState). at cell_cmp o.pairs.pending cell) (sym ballot.own_is) ∙ there)
-      by to (Enters entry) there = old m cell op (ap (λ (p : Pairs). at cell_cmp p.pending cell)
-          (sym (settling (own_place setting w m) entry.entry (crossed (server_state setting w m) entry.entry (w.servers m).own)).pairs)
-          ∙ ap (λ (o : PairState). at cell_cmp o.pairs.pending cell) (sym entry.own_is) ∙ there)
-      by to (Awakes asleep same) there =
-          none_some (at-empty cell_cmp cell) (ap (λ (s : Server). at cell_cmp s.own.pairs.pending cell) (sym same) ∙ there)
-      by to (Raises asleep same) there = old m cell op (ap (λ (s : Server). at cell_cmp s.own.pairs.pending cell) (sym same) ∙ there)
-      by to (Is_blanked asleep same) there = old m cell op (ap (λ (s : Server). at cell_cmp s.own.pairs.pending cell) (sym same) ∙ there)
+  numbered_next old m cell op is = elim (came m cell op is) [
+    | Same_pairs up_was was ↦ old m cell op was
+    | By_job job there ↦ elim (did_was (Handled w m) (own_place setting w m) (w.servers m).own (keyed_was m) job.done job.did cell op there) [
+      | Is_new next fresh ↦ (let one = (good prior).counts m in omega arith)
+      | It_was o was same how ↦ (let one = old m cell o was in let e = same.number in omega arith)
+    ]
+  ]

@@ -1,15 +1,15 @@
 -- A fill that a server had pending when it was last at the place that the cell's link has by what is chosen: no letter says that its entry is there.
-use Rattle.law_moves.proofs.Imports.{[], ◌++◌, ◌∙◌, ◌∷◌, ◌≡◌, At, Cell, Command, Fills, Handled, Letter, List, OneMore, PairState, Pairs, Record, Server}
-use Rattle.law_moves.proofs.Imports.{Some, Stood, WasThere, Writes, ap, append-nil, append_assoc, at, at-empty, at_by, cell_cmp, crossed, did_come, ends_of}
-use Rattle.law_moves.proofs.Imports.{inl, inr, is_at, is_clients, none_some, own_place, proposed_pairs, raised, refl, same_or_apart, server_state, settling}
-use Rattle.law_moves.proofs.Imports.{split_last, subst, sym, true, true_false, ℕ}
+use Rattle.law_moves.proofs.Imports.{[], ◌++◌, ◌∙◌, ◌∷◌, ◌≡◌, At, BeforeBlank, Cell, Command, Fills, Handled, Letter, List, OneMore, Option, PairState, Pairs}
+use Rattle.law_moves.proofs.Imports.{Record, Server, Some, Stood, WasThere, Writes, ap, append-nil, append_assoc, at, at-empty, at_by, cell_cmp, did_come}
+use Rattle.law_moves.proofs.Imports.{ends_of, inl, inr, is_at, is_clients, none_some, own_place, raised, refl, same_or_apart, split_last, subst, sym, true}
+use Rattle.law_moves.proofs.Imports.{true_false, ℕ}
+use Rattle.law_moves.proofs.StepsTellEntries.{Goes_on, HasStore, Is_bare, Keeps, Awakes, Before, IsPosted, Other, Posted, Works, gone, not_new, sent}
+use Rattle.law_moves.proofs.StepsTellEntries.{mine_whole}
 use Rattle.law_moves.specs.Fills.{WasFilled}
 use Rattle.law_moves.proofs.LeavingCellsGainNothing.{before}
 use Rattle.law_moves.proofs.AllKeptOfMoves.{AreUnsaid, Known, WereKnown}
 use Rattle.law_moves.proofs.PendingFills.{by_itself, new_unsaid, posted_says}
 use Rattle.law_moves.proofs.PlacesAreVisits.{same_rest}
-use Rattle.law_moves.proofs.StepsTellEntries.{Awakes, Before, Enters, HasGone, IsPosted, Is_blanked, Other, Posted, Raises, Rests, Starts_ballot, Works, gone}
-use Rattle.law_moves.proofs.StepsTellEntries.{not_new, sent, mine_whole}
 use Rattle.law_moves.proofs.ToldEntriesAreThere.{no_other}
 use Rattle.law_moves.proofs.PendingFillsUnsaidByStep.{unsaid_new, unsaid_there}
 use Rattle.law_moves.proofs.MoveScenes.{FillAtPlace}
@@ -67,38 +67,33 @@ module _ (it : OneMore) (all : WereKnown it) where
 
     module _ (was : WasThere setting records n place cell pairs) where
       -- it is so now
-      end_by : (to : Server) → HasGone it n to → is_at setting n to place cell ≡ true → to.own.pairs ≡ pairs → WasFilled w op.key → ⊥
-      end_by to (Rests same) there had told =
-          unsaid_was (as_now n place cell pairs (ap (λ (s : Server). is_at setting n s place cell) (sym same) ∙ there)
-          (ap (λ (s : Server). s.own.pairs) (sym same) ∙ had)) told
-      end_by to (Works job) there had told = elim (did_come (Handled w n) (own_place setting w n) (w.servers n).own job.done job.did cell op
+      end_by : (to : Server) (b : Option BeforeBlank) → HasStore it n to b → is_at setting n to place cell ≡ true → to.own.pairs ≡ pairs
+          → WasFilled w op.key → ⊥
+      end_by to b (Goes_on (Keeps kept) same) there had told = elim kept.how [
+        | inl is ↦ unsaid_was (as_now n place cell pairs (ap (λ (s : Server). is_at setting n s place cell) (sym is) ∙ there)
+            (ap (λ (s : Server). s.own.pairs) (sym is) ∙ had)) told
+        | inr (inl up) ↦ known.filled.unsaid n cell op up
+            (ap (λ t. at cell_cmp t cell) (sym kept.pending) ∙ ap (λ (q : Pairs). at cell_cmp q.pending cell) had ∙ is) fills told
+        | inr (inr is) ↦ not_new it n (mine n) (mine_whole it n)
+            (at_by setting n (raised (w.servers n)) place cell (ap (λ (s : Server). is_at setting n s place cell) (sym is) ∙ there)).seat
+      ]
+      end_by to b (Is_bare asleep bare same) there had told =
+          unsaid_was (as_now n place cell pairs (ap (λ (s : Server). is_at setting n s place cell) (sym bare) ∙ there)
+          (ap (λ (s : Server). s.own.pairs) (sym bare) ∙ had)) told
+      end_by to b (Goes_on (Works job) same) there had told = elim (did_come (Handled w n) (own_place setting w n) (w.servers n).own job.done job.did cell op
           (ap (λ (o : PairState). at cell_cmp o.pairs.pending cell) (sym job.own_is) ∙ ap (λ (q : Pairs). at cell_cmp q.pending cell) had ∙ is)) [
             | Stood stood ↦ known.filled.unsaid n cell stood.was job.runs stood.is (ap is_clients stood.same.kind ∙ fills)
                 (subst (WasFilled w) (sym stood.same.key) told)
             | Writes write ↦ true_false (ap is_clients write) fills
             | Fills o ↦ new_unsaid it all n cell op job.runs o (subst (WasFilled w) o.key told)
           ]
-      end_by to (Starts_ballot ballot) there had told =
-          known.filled.unsaid n cell op ballot.runs (ap (λ (q : Pairs). at cell_cmp q.pending cell)
-          (sym (proposed_pairs (server_state setting w n) (w.servers n).own ballot.started) ∙ ap (λ (o : PairState). o.pairs) (sym ballot.own_is) ∙ had)
-          ∙ is) fills told
-      end_by to (Enters entry) there had told =
-          known.filled.unsaid n cell op entry.runs (ap (λ (q : Pairs). at cell_cmp q.pending cell)
-          (sym (settling (own_place setting w n) entry.entry (crossed (server_state setting w n) entry.entry (w.servers n).own)).pairs
-          ∙ ap (λ (o : PairState). o.pairs) (sym entry.own_is) ∙ had) ∙ is) fills told
-      end_by to (Awakes asleep same) there had told =
-          none_some (at-empty cell_cmp cell) (ap (λ (s : Server). at cell_cmp s.own.pairs.pending cell) (sym same)
+      end_by to b (Goes_on (Awakes asleep so) same) there had told =
+          none_some (at-empty cell_cmp cell) (ap (λ (s : Server). at cell_cmp s.own.pairs.pending cell) (sym so)
           ∙ ap (λ (q : Pairs). at cell_cmp q.pending cell) had ∙ is)
-      end_by to (Raises asleep same) there had told =
-          not_new it n (mine n) (mine_whole it n)
-          (at_by setting n (raised (w.servers n)) place cell (ap (λ (s : Server). is_at setting n s place cell) (sym same) ∙ there)).seat
-      end_by to (Is_blanked asleep same) there had told =
-          unsaid_was (as_now n place cell pairs (ap (λ (s : Server). is_at setting n s place cell) (sym same) ∙ there)
-          (ap (λ (s : Server). s.own.pairs) (sym same) ∙ had)) told
 
       pub unsaid_old : WasFilled w op.key → ⊥
       unsaid_old told = elim (split_last front own was.before was.later was.is) [
-        | inl e ↦ end_by (v.servers n) (gone it n)
+        | inl e ↦ end_by (v.servers n) _ (gone it n)
             (subst (λ rs. is_at setting n ((At script rs).servers n) place cell ≡ true) e was.there)
             (ap (λ rs. ((At script rs).servers n).own.pairs) (sym e) ∙ was.had) told
         | inr more ↦ unsaid_was (earlier n place cell pairs was more.0 more.1) told

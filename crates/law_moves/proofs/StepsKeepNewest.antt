@@ -1,20 +1,19 @@
 -- Each step keeps that what a new map has of a block, and what letters tell of it, is newest.
 use Rattle.law_moves.proofs.Imports.{◌∙◌, ◌≡◌, ◌≤◌, A_fill, A_write, AreWithin, BeforeBlank, Blanks, Body, Cell, Chain, Command, Handled, Happens, In}
 use Rattle.law_moves.proofs.Imports.{IsMoverOwn, IsNextFill, IsOpenedFor, IsPrefix, IsWithin, Letter, List, OfKey, OneMore, Option, PairState, Pending, Post}
-use Rattle.law_moves.proofs.Imports.{Server, Serves, Some, State, Store, Table, Turns, WasComing, World, all_put, always_firm, ap, arith, at, ballot_store}
-use Rattle.law_moves.proofs.Imports.{below_itself, blank_joins_in, by_bool, cell_cmp, cell_of, chosen_log, chosen_state, comes_after, crossed, did_kept}
-use Rattle.law_moves.proofs.Imports.{did_said, ends_of, false, front_itself, front_on, fronts_meet, inl, inr, is_clients, kept, key_at, last_happens, length}
-use Rattle.law_moves.proofs.Imports.{log_below, log_comes, mover_store, next_comes, none_within, of_key_on, of_no_key, own_place, own_plain, refl, resting}
-use Rattle.law_moves.proofs.Imports.{same_some, server_state, settling, source, stage_at, start, start_comes, start_rests, subst, sym, true, true_false}
-use Rattle.law_moves.proofs.Imports.{was_opened, ℕ}
+use Rattle.law_moves.proofs.Imports.{Server, Serves, Some, State, Store, Table, Turns, WasComing, World, all_put, always_firm, ap, arith, at, below_itself}
+use Rattle.law_moves.proofs.Imports.{blank_joins_in, by_bool, cell_cmp, cell_of, chosen_log, chosen_state, comes_after, did_kept, did_said, ends_of, false}
+use Rattle.law_moves.proofs.Imports.{front_itself, front_on, fronts_meet, inl, inr, is_clients, kept, key_at, last_happens, length, log_below, log_comes}
+use Rattle.law_moves.proofs.Imports.{mover_store, next_comes, none_within, of_key_on, of_no_key, own_place, own_plain, refl, resting, same_some, source}
+use Rattle.law_moves.proofs.Imports.{stage_at, start, start_comes, start_rests, subst, sym, true, true_false, was_opened, ℕ}
+use Rattle.law_moves.proofs.StepsTellEntries.{Goes_on, HasStore, Is_bare, Keeps, Awakes, Before, Other, Posted, Works, chosen_on, gone, knows, knows_now}
+use Rattle.law_moves.proofs.StepsTellEntries.{sent}
 use Rattle.law_epochs.proofs.EntriesNeverEarly.{kept_by}
 use Rattle.law_moves.proofs.FrozenIsWhatCounted.{frozen_same}
 use Rattle.law_moves.proofs.AllKeptOfMoves.{WasKnown}
 use Rattle.law_moves.proofs.NewestOfMovingCells.{at_coming, frozen_newest, has_left}
 use Rattle.law_moves.proofs.NewestByLetters.{AllNewest, IsNewest}
 use Rattle.law_moves.proofs.MovedRegionsHaveAll.{facts, plain}
-use Rattle.law_moves.proofs.StepsTellEntries.{Awakes, Before, Enters, HasGone, Is_blanked, Other, Posted, Raises, Rests, Starts_ballot, Works, chosen_on}
-use Rattle.law_moves.proofs.StepsTellEntries.{gone, knows, knows_now, sent}
 use Rattle.law_moves.proofs.EntryLettersKept.{frozen_on, next_frozen}
 use Rattle.law_moves.proofs.FrozenEpochs.{frozen_then}
 use Rattle.law_moves.proofs.LeadsWereTold.{HasTold, lift, told_before, told_now}
@@ -139,21 +138,13 @@ module _ (it : OneMore) (known : WasKnown it) (old : AllNewest (ends_of it).sett
   now_newest : (n : ℕ) → AreNew (Was n).own.store.chains
   now_newest n cell epoch entry is = grown cell epoch (old.now n cell epoch entry is)
 
-  stores_by : (n : ℕ) (to : Server) → HasGone it n to → AreNew to.own.store.chains
-  stores_by n to (Rests same) = subst (λ (s : Server). AreNew s.own.store.chains) (sym same) (now_newest n)
-  stores_by n to (Works job) =
+  stores_by : (n : ℕ) (to : Server) (b : Option BeforeBlank) → HasStore it n to b → AreNew to.own.store.chains
+  stores_by n to b (Goes_on (Keeps kept) same) = subst AreNew (sym kept.chains) (now_newest n)
+  stores_by n to b (Goes_on (Works job) same) =
       subst (λ (o : PairState). AreNew o.store.chains) (sym job.own_is)
       (did_kept New (Handled w n) (own_place setting w n) (Was n).own (now_newest n) (pending_newest n) (told_newest n) job.done job.did)
-  stores_by n to (Starts_ballot b) =
-      subst (λ (o : PairState). AreNew o.store.chains) (sym b.own_is)
-      (subst (λ (s : Store). AreNew s.chains) (sym (ballot_store (server_state setting w n) (Was n).own b.started)) (now_newest n))
-  stores_by n to (Enters e) =
-      let here = own_place setting w n in
-      subst (λ (o : PairState). AreNew o.store.chains) (sym e.own_is)
-      (subst AreNew (sym (settling here e.entry (crossed here.state e.entry (Was n).own)).chains) (now_newest n))
-  stores_by n to (Awakes asleep same) = subst (λ (s : Server). AreNew s.own.store.chains) (sym same) (now_newest n)
-  stores_by n to (Raises asleep same) = subst (λ (s : Server). AreNew s.own.store.chains) (sym same) (now_newest n)
-  stores_by n to (Is_blanked asleep same) = subst (λ (s : Server). AreNew s.own.store.chains) (sym same) (none_within New)
+  stores_by n to b (Goes_on (Awakes asleep is) same) = subst (λ (s : Server). AreNew s.own.store.chains) (sym is) (now_newest n)
+  stores_by n to b (Is_bare asleep bare same) = subst (λ (s : Server). AreNew s.own.store.chains) (sym bare) (none_within New)
 
   abbrev Before_blank : World → Type 0
   Before_blank u = (n : ℕ) (b : BeforeBlank) → u.before_blank n ≡ Some b → AreNew b.store.chains
@@ -190,7 +181,7 @@ module _ (it : OneMore) (known : WasKnown it) (old : AllNewest (ends_of it).sett
   newest_next =
       let state = chosen_state setting v in
       record {
-        now = λ n. stores_by n (v.servers n) (gone it n);
+        now = λ n. stores_by n (v.servers n) _ (gone it n);
         before = before_by state v (last_happens script front it.own (always_firm script records sound legal) legal state (below_itself state));
         letters = letters_newest;
       }

@@ -1,15 +1,34 @@
 -- What a step of a history may have done to each server, and which letters it sent that tell of entries.
-use Rattle.law_moves.proofs.Imports.{[], ◌++◌, ◌+◌, ◌==◌, ◌∙◌, ◌∷◌, ◌≡◌, ◌≢◌, ◌≤◌, Acted, AreSteps, At, BeforeBlank, Blanks, Body, Bool, By_ballot, By_entry}
-use Rattle.law_moves.proofs.Imports.{By_job, Command, Did, Ends, Fails, Firm, Goes, Good, Handled, Happens, In, IsPrefix, IsSeatedOrMute, IsSound, JobResult}
-use Rattle.law_moves.proofs.Imports.{Join, Letter, List, Log, OneMore, Option, Post, Record, Script, Sender, Server, Serves, Serving, Some, Starts, State}
-use Rattle.law_moves.proofs.Imports.{Stays, Step, Turns, Wakes, Worked, World, after, all_put, always_firm, ap, arith, asked_none, awake, before_last}
-use Rattle.law_moves.proofs.Imports.{below_itself, blank_joins_in, blanked, chosen_log, chosen_state, client_sender, counted_by, crossed, down_posts, ends_of}
-use Rattle.law_moves.proofs.Imports.{false, filter, first_incs, front_itself, front_more, front_on, front_plain, good_after, history_grows, history_is_firm}
-use Rattle.law_moves.proofs.Imports.{in-append, in_former, in_later, inl, inr, is_in, is_of_entries, join_was_wanted, kept, last_happens, length, letters_of}
-use Rattle.law_moves.proofs.Imports.{log_rev, logged_none, longer, not, own_place, proposed, put_apart, put_at, put_same, raised, range_with_len, refl}
-use Rattle.law_moves.proofs.Imports.{run_of, said, said_to_all, same_or_apart, sender, server_state, settled_by, since, stamped, state_after, step_goes}
-use Rattle.law_moves.proofs.Imports.{subject_of, subst, sym, true, true_false, turned_asks, who_is_in, without_rev, ℕ}
+use Rattle.law_moves.proofs.Imports.{[], ◌++◌, ◌+◌, ◌==◌, ◌∙◌, ◌∷◌, ◌≡◌, ◌≢◌, ◌≤◌, ◌⊎◌, Acted, AreSteps, At, BeforeBlank, Blanks, Body, Bool, By_ballot}
+use Rattle.law_moves.proofs.Imports.{By_entry, By_job, Caught, Command, Did, Ends, Fails, Firm, Goes, Good, Handled, Happens, In, IsPrefix, IsSeatedOrMute}
+use Rattle.law_moves.proofs.Imports.{IsSound, JobResult, Join, Key, Letter, LinkId, LinkRow, List, Log, None, OneMore, Option, PairState, Pairs, Post, Record}
+use Rattle.law_moves.proofs.Imports.{Script, Sender, Server, Serves, Serving, Some, State, Stays, Step, Store, Table, Turns, Wakes, Worked, World, after}
+use Rattle.law_moves.proofs.Imports.{all_put, always_firm, ap, arith, asked_none, at, at-where, awake, ballot_store, before_last, below_itself}
+use Rattle.law_moves.proofs.Imports.{blank_joins_in, blanked, by_bool, by_settled, chosen_log, chosen_state, client_sender, cond, counted_by, crossed}
+use Rattle.law_moves.proofs.Imports.{down_posts, ends_of, entry_after, false, filter, first_incs, front_itself, front_more, front_on, front_plain, front_same}
+use Rattle.law_moves.proofs.Imports.{good_after, history_grows, history_is_firm, holds_link, in-append, in_former, in_later, inl, inr, is_eq, is_in}
+use Rattle.law_moves.proofs.Imports.{is_of_entries, is_some, join_was_wanted, kept, last_happens, length, letters_of, link_cmp, link_named, log_rev}
+use Rattle.law_moves.proofs.Imports.{logged_none, longer, none_some, not, own_place, proposed, proposed_pairs, put_apart, put_at, put_same, raised}
+use Rattle.law_moves.proofs.Imports.{range_with_len, refl, run_of, said, said_to_all, same_id, same_or_apart, sender, server_state, settling, since, stamped}
+use Rattle.law_moves.proofs.Imports.{state_after, step_goes, subject_of, subst, sym, true, true_false, turned_asks, who_is_in, without_rev, ℕ}
 use Rattle.petal_msg.specs.declared.body.Body.TheVariants as body
+
+holds_filled : (own : PairState) (o : Option LinkRow) → (holds_link own o).filled ≡ own.filled
+holds_filled own None = refl
+holds_filled own (Some row) = refl
+
+proposed_filled : (state : State) (own : PairState) (o : Option Command) → (proposed state own o).filled ≡ own.filled
+proposed_filled state own (Some (Caught of link holder inc other other_inc)) = holds_filled own (link_named state (record { map = of; link = link }))
+proposed_filled state own (Some _) = refl
+proposed_filled state own None = refl
+
+-- what stands among the links that are left stood there
+was_at : (t : Table LinkId Key) (test : LinkId → Bool) (id : LinkId) (key : Key) → at link_cmp (filter (λ row. test row.0) t) id ≡ Some key
+    → at link_cmp t id ≡ Some key
+was_at t test id key is =
+    let e = at-where link_cmp t test id (λ other tie. ap test (sym (same_id id other (ap is_eq tie)))) in
+    by_bool (test id) (λ on. sym (e ∙ ap (λ b. cond b (at link_cmp t id) None) on) ∙ is)
+    (λ off. none_some (e ∙ ap (λ b. cond b (at link_cmp t id) None) off) is)
 
 module _ (it : OneMore) where
   open it use {prior, prior.{script, sound, records as front}, own, legal}
@@ -49,110 +68,126 @@ module _ (it : OneMore) where
     pub log_is : to.log.applied ≡ (Was n).log.applied
     pub inc_is : to.life.inc ≡ (Was n).life.inc
 
-  pub record IsBallot (n : ℕ) (to : Server) : Type 0 where
-    pub started : Option Command
-    pub runs : (Was n).life.running ≡ true
-    pub starts : Starts (own_place setting w n) (Was n).own started
-    pub own_is : to.own ≡ proposed (server_state setting w n) (Was n).own started
-    pub log_is : to.log.applied ≡ (Was n).log.applied
-    pub inc_is : to.life.inc ≡ (Was n).life.inc
+  -- what the server follows as a second one stays, or goes with the cells that an entry ends for it
+  pub data KeepsLast (n : ℕ) (to : Server) : Type 0 where
+    Same_last : to.own.pairs.last ≡ (Was n).own.pairs.last → KeepsLast n to
+    Crosses : (entry : Command) → to.log.applied ≡ (Was n).log.applied ++ entry ∷ []
+        → to.own.pairs.last ≡ (crossed (server_state setting w n) entry (Was n).own).pairs.last → KeepsLast n to
 
-  pub record IsEntry (n : ℕ) (to : Server) : Type 0 where
-    pub entry : Command
-    pub runs : (Was n).life.running ≡ true
-    pub own_is : to.own ≡ settled_by (own_place setting w n) entry (crossed (server_state setting w n) entry (Was n).own)
-    pub log_is : to.log.applied ≡ (Was n).log.applied ++ entry ∷ []
-    pub stands : IsPrefix to.log.applied (chosen_log setting w)
-    pub inc_is : to.life.inc ≡ (Was n).life.inc
+  -- what stays of a server that does no job: it is as it was, or has stopped; it started a ballot or applied an entry, and may have stopped then; or it
+  -- does not run, and only its incarnation was raised
+  pub record IsKept (n : ℕ) (to : Server) : Type 0 where
+    pub how : (to ≡ Was n) ⊎ ((Was n).life.running ≡ true) ⊎ (to ≡ raised (Was n))
+    pub runs : to.life.running ≡ true → ((Was n).life.running ≡ true) × (to.life.inc ≡ (Was n).life.inc)
+    pub rises : (Was n).life.inc ≤ to.life.inc
+    pub onward : IsPrefix (Was n).log.applied to.log.applied
+    pub within : IsPrefix to.log.applied (chosen_log setting w)
+    pub pending : to.own.pairs.pending ≡ (Was n).own.pairs.pending
+    pub chains : to.own.store.chains ≡ (Was n).own.store.chains
+    pub filled : (id : LinkId) (key : Key) → at link_cmp to.own.filled id ≡ Some key → at link_cmp (Was n).own.filled id ≡ Some key
+    pub last : KeepsLast n to
 
-  -- what became of a server: it is as it was, or has stopped; it did a job, started a ballot or applied an entry, and may have stopped then; it runs as its
-  -- next incarnation, with nothing in memory; or it does not run, and only its incarnation was raised, or its device made blank
+  -- what a server has become: it is kept so; it did a job, and may have stopped then; or it runs as its next incarnation, with nothing in memory
   pub data HasGone (n : ℕ) (to : Server) : Type 0 where
-    Rests : to ≡ Was n → HasGone n to
+    Keeps : IsKept n to → HasGone n to
     Works : IsJob n to → HasGone n to
-    Starts_ballot : IsBallot n to → HasGone n to
-    Enters : IsEntry n to → HasGone n to
     Awakes : (Was n).life.running ≡ false → to ≡ awake (raised (Was n)) → HasGone n to
-    Raises : (Was n).life.running ≡ false → to ≡ raised (Was n) → HasGone n to
-    Is_blanked : (Was n).life.running ≡ false → to ≡ blanked (Was n) → HasGone n to
 
-  -- its device was made blank
-  abbrev pub is_off : {n : ℕ} {to : Server} → HasGone n to → Bool
-  is_off (Is_blanked asleep same) = true
-  is_off _ = false
+  rests : (n : ℕ) (to : Server) → to ≡ Was n → HasGone n to
+  rests n to same = subst (HasGone n) (sym same) (Keeps (record {
+    how = inl refl;
+    runs = λ on. (on, refl);
+    rises = omega arith;
+    onward = front_itself (Was n).log.applied;
+    within = mine_top n;
+    pending = refl;
+    chains = refl;
+    filled = λ id key is. is;
+    last = Same_last refl;
+  }))
 
   worked : (n : ℕ) (log : Log) (done : JobResult) (to : Server) → (Was n).life.running ≡ true → to.own ≡ done.own → to.log.applied ≡ log.applied
       → to.life.inc ≡ (Was n).life.inc → Worked setting w n log done → HasGone n to
   worked n _ _ to runs own_is log_is inc_is (By_job log done same did seat) =
       Works (record { done = done; runs = runs; did = did; seat = seat; own_is = own_is; log_is = log_is ∙ same; inc_is = inc_is })
   worked n _ _ to runs own_is log_is inc_is (By_ballot log started posts same starts says) =
-      Starts_ballot (record { started = started; runs = runs; starts = starts; own_is = own_is; log_is = log_is ∙ same; inc_is = inc_is })
+      let state = server_state setting w n in
+      let pairs = ap (λ (o : PairState). o.pairs) own_is ∙ proposed_pairs state (Was n).own started in
+      Keeps (record {
+        how = inr (inl runs);
+        runs = λ on. (runs, inc_is);
+        rises = omega arith;
+        onward = front_same (Was n).log.applied to.log.applied (log_is ∙ same);
+        within = subst (λ l. IsPrefix l (chosen_log setting w)) (sym (log_is ∙ same)) (mine_top n);
+        pending = ap (λ (p : Pairs). p.pending) pairs;
+        chains = ap (λ (o : PairState). o.store.chains) own_is ∙ ap (λ (s : Store). s.chains) (ballot_store state (Was n).own started);
+        filled = λ id key is.
+            ap (λ t. at link_cmp t id) (sym (ap (λ (o : PairState). o.filled) own_is ∙ proposed_filled state (Was n).own started)) ∙ is;
+        last = Same_last (ap (λ (p : Pairs). p.last) pairs);
+      })
   worked n _ _ to runs own_is log_is inc_is (By_entry log entry more onward) =
-      Enters (record {
-        entry = entry;
-        runs = runs;
-        own_is = own_is;
-        log_is = log_is ∙ more;
-        stands = subst (λ l. IsPrefix l (chosen_log setting w)) (sym log_is) onward;
-        inc_is = inc_is;
+      let here = own_place setting w n in
+      let over = crossed here.state entry (Was n).own in
+      let settled = settling here entry over in
+      let filled : to.own.filled ≡ over.filled =
+      ap (λ (o : PairState). o.filled) own_is ∙ by_settled (λ (o : PairState). o.filled ≡ over.filled) here entry over (λ store. refl) in
+      Keeps (record {
+        how = inr (inl runs);
+        runs = λ on. (runs, inc_is);
+        rises = omega arith;
+        onward = subst (IsPrefix (Was n).log.applied) (sym (log_is ∙ more)) (front_more (Was n).log.applied entry);
+        within = subst (λ l. IsPrefix l (chosen_log setting w)) (sym log_is) onward;
+        pending = ap (λ (o : PairState). o.pairs.pending) own_is ∙ ap (λ (p : Pairs). p.pending) settled.pairs;
+        chains = ap (λ (o : PairState). o.store.chains) own_is ∙ settled.chains;
+        filled = λ id key is.
+            was_at (Was n).own.filled (λ i. is_some (link_named (entry_after here.state entry) i)) id key (ap (λ t. at link_cmp t id) (sym filled) ∙ is);
+        last = Crosses entry (log_is ∙ more) (ap (λ (o : PairState). o.pairs.last) own_is ∙ ap (λ (p : Pairs). p.last) settled.pairs);
       })
 
   serving : (n : ℕ) (what : Step) (acted : Acted) → Serving setting w n what acted → HasGone n acted.server
-  serving n what _ (Goes log done queue runs worked' queued works) = worked n log done _ runs refl refl refl worked'
-  serving n what _ (Ends log done runs worked') = worked n log done _ runs refl refl refl worked'
-  serving n what _ (Stays who posts from shown) = Rests refl
+  serving n what _ (Goes log done queue runs works queued how) = worked n log done _ runs refl refl refl works
+  serving n what _ (Ends log done runs works) = worked n log done _ runs refl refl refl works
+  serving n what _ (Stays who posts from shown) = rests n (Was n) refl
   serving n what _ (Wakes booted asleep) = Awakes asleep refl
-  serving n what _ (Fails booted asleep) = Raises asleep refl
-
-  gone_by : (state : State) (u : World) → Happens setting state w u → (n : ℕ) → HasGone n (u.servers n)
-  gone_by state _ (Serves n stamp what acted lt within unblanked serves) =
-      all_put w.servers n acted.server HasGone (λ k. Rests refl) (serving n what acted serves)
-  gone_by state _ (Blanks n stamp lt within asleep) = all_put w.servers n (blanked (w.servers n)) HasGone (λ k. Rests refl) (Is_blanked asleep refl)
-  gone_by state _ (Turns c stamp in_call reacted lt within turned onward) = λ k. Rests refl
-
-  serving_on : (n : ℕ) (what : Step) (acted : Acted) (s : Serving setting w n what acted) → is_off (serving n what acted s) ≡ false
-  unfolding serving worked
-  serving_on n what _ (Goes _ _ queue runs (By_job log done same did seat) queued works) = refl
-  serving_on n what _ (Goes _ _ queue runs (By_ballot log started posts same starts says) queued works) = refl
-  serving_on n what _ (Goes _ _ queue runs (By_entry log entry more onward) queued works) = refl
-  serving_on n what _ (Ends _ _ runs (By_job log done same did seat)) = refl
-  serving_on n what _ (Ends _ _ runs (By_ballot log started posts same starts says)) = refl
-  serving_on n what _ (Ends _ _ runs (By_entry log entry more onward)) = refl
-  serving_on n what _ (Stays who posts from shown) = refl
-  serving_on n what _ (Wakes booted asleep) = refl
-  serving_on n what _ (Fails booted asleep) = refl
+  serving n what _ (Fails booted asleep) = Keeps (record {
+    how = inr (inr refl);
+    runs = λ on. true_false on asleep;
+    rises = omega arith;
+    onward = front_itself (Was n).log.applied;
+    within = mine_top n;
+    pending = refl;
+    chains = refl;
+    filled = λ id key is. is;
+    last = Same_last refl;
+  })
 
   abbrev blank_of : ℕ → BeforeBlank
   blank_of n = record { joins = blank_joins_in setting (chosen_log setting w) n; store = kept setting w n }
 
   -- a server's device is as it was but for what the server did, or was made blank
   pub data HasStore (n : ℕ) (to : Server) (before : Option BeforeBlank) : Type 0 where
-    Goes_on : (g : HasGone n to) → is_off g ≡ false → before ≡ w.before_blank n → HasStore n to before
+    Goes_on : HasGone n to → before ≡ w.before_blank n → HasStore n to before
     Is_bare : (Was n).life.running ≡ false → to ≡ blanked (Was n) → before ≡ Some (blank_of n) → HasStore n to before
 
   stores_by : (state : State) (u : World) → Happens setting state w u → (n : ℕ) → HasStore n (u.servers n) (u.before_blank n)
   stores_by state _ (Serves k stamp what acted lt within unblanked serves) n =
-      let live = all_put w.servers k acted.server (λ i x. (g : HasGone i x) × (is_off g ≡ false)) (λ i. (Rests refl, refl))
-      (serving k what acted serves, serving_on k what acted serves) n in
-      Goes_on live.0 live.1 (ap (λ (b : ℕ → Option BeforeBlank). b n) unblanked)
+      Goes_on (all_put w.servers k acted.server HasGone (λ i. rests i (Was i) refl) (serving k what acted serves) n)
+      (ap (λ (b : ℕ → Option BeforeBlank). b n) unblanked)
   stores_by state _ (Blanks k stamp lt within asleep) n = elim (same_or_apart n k) [
     | inl e ↦ Is_bare (ap (λ i. (w.servers i).life.running) e ∙ asleep)
         (subst (λ i. put_at w.servers k (blanked (w.servers k)) i ≡ blanked (w.servers i)) (sym e) (put_same w.servers k (blanked (w.servers k))))
         (subst (λ i. put_at w.before_blank k (Some (blank_of k)) i ≡ Some (blank_of i)) (sym e) (put_same w.before_blank k (Some (blank_of k))))
-    | inr ne ↦ Goes_on (Rests (put_apart w.servers k (blanked (w.servers k)) n ne)) refl (put_apart w.before_blank k (Some (blank_of k)) n ne)
+    | inr ne ↦ Goes_on (rests n _ (put_apart w.servers k (blanked (w.servers k)) n ne)) (put_apart w.before_blank k (Some (blank_of k)) n ne)
   ]
-  stores_by state _ (Turns c stamp in_call reacted lt within turned onward) n = Goes_on (Rests refl) refl refl
+  stores_by state _ (Turns c stamp in_call reacted lt within turned onward) n = Goes_on (rests n (Was n) refl) refl
 
   happened : Happens setting (chosen_state setting v) w v
   happened =
       let state = chosen_state setting v in
       last_happens script front own (always_firm script records sound legal) legal state (below_itself state)
 
-  pub gone : (n : ℕ) → HasGone n (v.servers n)
-  gone = gone_by (chosen_state setting v) v happened
-
-  pub stored : (n : ℕ) → HasStore n (v.servers n) (v.before_blank n)
-  stored = stores_by (chosen_state setting v) v happened
+  pub gone : (n : ℕ) → HasStore n (v.servers n) (v.before_blank n)
+  gone = stores_by (chosen_state setting v) v happened
 
   -- ### Letters
 
@@ -253,17 +288,14 @@ module _ (it : OneMore) where
 incs_up : (script : Script) → IsSound script → (n inc : ℕ) (before later : List Record) → AreSteps script (before ++ later)
     → inc ≤ ((At script before).servers n).life.inc → inc ≤ ((At script (before ++ later)).servers n).life.inc
 incs_up script sound n inc before later legal le =
-    since (λ run. inc ≤ ((after run).servers n).life.inc) (λ it le. by it ((after (longer it)).servers n) (gone it n) le)
+    since (λ run. inc ≤ ((after run).servers n).life.inc) (λ it le. by it ((after (longer it)).servers n) _ (gone it n) le)
     (run_of script sound (before ++ later) legal) before later refl (λ part. le)
   where
-    by : (it : OneMore) (to : Server) → HasGone it n to → inc ≤ ((after it.prior).servers n).life.inc → inc ≤ to.life.inc
-    by it to (Rests same) le = subst (λ (s : Server). inc ≤ s.life.inc) (sym same) le
-    by it to (Works job) le = let e = job.inc_is in omega arith
-    by it to (Starts_ballot ballot) le = let e = ballot.inc_is in omega arith
-    by it to (Enters entry) le = let e = entry.inc_is in omega arith
-    by it to (Awakes asleep same) le = subst (λ (s : Server). inc ≤ s.life.inc) (sym same) (omega arith)
-    by it to (Raises asleep same) le = subst (λ (s : Server). inc ≤ s.life.inc) (sym same) (omega arith)
-    by it to (Is_blanked asleep same) le = subst (λ (s : Server). inc ≤ s.life.inc) (sym same) le
+    by : (it : OneMore) (to : Server) (b : Option BeforeBlank) → HasStore it n to b → inc ≤ ((after it.prior).servers n).life.inc → inc ≤ to.life.inc
+    by it to b (Goes_on (Keeps kept) same) le = let up = kept.rises in omega arith
+    by it to b (Goes_on (Works job) same) le = let e = job.inc_is in omega arith
+    by it to b (Goes_on (Awakes asleep is) same) le = subst (λ (s : Server). inc ≤ s.life.inc) (sym is) (omega arith)
+    by it to b (Is_bare asleep bare same) le = subst (λ (s : Server). inc ≤ s.life.inc) (sym bare) le
 
 module _ (it : OneMore) where
   open it use {prior, prior.{script, sound, records as front}, own, legal}
@@ -296,37 +328,20 @@ module _ (it : OneMore) where
     pub onward : IsPrefix (old.servers n).log.applied to.log.applied
     pub within : IsPrefix to.log.applied (chosen_log this old)
 
-  here_by : (n : ℕ) (to : Server) → HasGone it n to → to.life.running ≡ true → (f : List Command)
+  here_by : (n : ℕ) (to : Server) (b : Option BeforeBlank) → HasStore it n to b → to.life.running ≡ true → (f : List Command)
       → IsPrefix f (chosen_log this new) → is_in (state_after script.servers f) n to.life.inc ≡ true → IsHere n to
-  here_by n to (Rests same) runs f lies seat = subst (IsHere n) (sym same) (record {
-    runs = ap (λ (s : Server). s.life.running) (sym same) ∙ runs;
-    inc_is = refl;
-    onward = front_itself _;
-    within = (knows it).servers n;
-  })
-  here_by n to (Works job) runs f lies seat = record {
+  here_by n to b (Goes_on (Keeps kept) same) runs f lies seat =
+      let ran = kept.runs runs in record { runs = ran.0; inc_is = ran.1; onward = kept.onward; within = kept.within }
+  here_by n to b (Goes_on (Works job) same) runs f lies seat = record {
     runs = job.runs;
     inc_is = job.inc_is;
-    onward = subst (IsPrefix (old.servers n).log.applied) (sym job.log_is) (front_itself _);
-    within = subst (λ l. IsPrefix l (chosen_log this old)) (sym job.log_is) ((knows it).servers n);
+    onward = front_same (old.servers n).log.applied to.log.applied job.log_is;
+    within = subst (λ l. IsPrefix l (chosen_log this old)) (sym job.log_is) (mine_top it n);
   }
-  here_by n to (Starts_ballot ballot) runs f lies seat = record {
-    runs = ballot.runs;
-    inc_is = ballot.inc_is;
-    onward = subst (IsPrefix (old.servers n).log.applied) (sym ballot.log_is) (front_itself _);
-    within = subst (λ l. IsPrefix l (chosen_log this old)) (sym ballot.log_is) ((knows it).servers n);
-  }
-  here_by n to (Enters entry) runs f lies seat = record {
-    runs = entry.runs;
-    inc_is = entry.inc_is;
-    onward = subst (IsPrefix (old.servers n).log.applied) (sym entry.log_is) (front_more (old.servers n).log.applied entry.entry);
-    within = entry.stands;
-  }
-  here_by n to (Awakes asleep same) runs f lies seat =
-      absurd (not_new n f lies (subst (λ (s : Server). is_in (state_after script.servers f) n s.life.inc ≡ true) same seat))
-  here_by n to (Raises asleep same) runs f lies seat = true_false (ap (λ (s : Server). s.life.running) (sym same) ∙ runs) asleep
-  here_by n to (Is_blanked asleep same) runs f lies seat = true_false (ap (λ (s : Server). s.life.running) (sym same) ∙ runs) asleep
+  here_by n to b (Goes_on (Awakes asleep is) same) runs f lies seat =
+      absurd (not_new n f lies (subst (λ (s : Server). is_in (state_after script.servers f) n s.life.inc ≡ true) is seat))
+  here_by n to b (Is_bare asleep bare same) runs f lies seat = true_false (ap (λ (s : Server). s.life.running) (sym bare) ∙ runs) asleep
 
   pub here : (n : ℕ) → (new.servers n).life.running ≡ true → (f : List Command) → IsPrefix f (chosen_log this new)
       → is_in (state_after script.servers f) n (new.servers n).life.inc ≡ true → IsHere n (new.servers n)
-  here n runs f lies seat = here_by n (new.servers n) (gone it n) runs f lies seat
+  here n runs f lies seat = here_by n (new.servers n) _ (gone it n) runs f lies seat

@@ -1,18 +1,18 @@
 -- Where a region was leaving before a step, each letter that asks a second server to put is of an operation that it has followed still: none is sent
 -- from then on.
-use Rattle.law_moves.proofs.Imports.{[], ◌++◌, ◌+◌, ◌||◌, ◌∙◌, ◌∷◌, ◌≡◌, ◌≤◌, Body, Cell, Command, Handled, In, IsLinked, IsPrefix, Key, LinkRow, List, None}
-use Rattle.law_moves.proofs.Imports.{OneMore, PairState, Pairs, Server, Some, State, ap, arith, at, at-where, both_true, by_bool, cell_cmp, cell_cmp_same}
-use Rattle.law_moves.proofs.Imports.{cell_link, cell_of, cond, crossed, did_follow, dies, ends_cell, ends_of, false, front_on, front_within, inl, inr}
-use Rattle.law_moves.proofs.Imports.{is_between, is_clients, is_in, is_of_entries, live, live_stage, not, option_map_or, own_place, place_by, place_of_later}
-use Rattle.law_moves.proofs.Imports.{place_touched, places_grow, progress, proposed, proposed_pairs, refl, running_timely, server_state, settled_by, settling}
-use Rattle.law_moves.proofs.Imports.{some_or_none, stage_at, stage_live, state_next, subject_of, subst, sym, touches, touches_cell, true, true_false, ℕ}
+use Rattle.law_moves.proofs.Imports.{[], ◌++◌, ◌+◌, ◌||◌, ◌∙◌, ◌∷◌, ◌≡◌, ◌≤◌, BeforeBlank, Body, Cell, Command, Handled, In, IsLinked, IsPrefix, Key, LinkRow}
+use Rattle.law_moves.proofs.Imports.{List, None, OneMore, Option, PairState, Server, Some, State, ap, arith, at, at-where, both_true, by_bool, cell_cmp}
+use Rattle.law_moves.proofs.Imports.{cell_cmp_same, cell_link, cell_of, cond, crossed, did_follow, dies, ends_cell, ends_of, false, front_on, front_within}
+use Rattle.law_moves.proofs.Imports.{inl, inr, is_between, is_clients, is_in, is_of_entries, live, live_stage, not, option_map_or, own_place, place_by}
+use Rattle.law_moves.proofs.Imports.{place_of_later, place_touched, places_grow, progress, refl, running_timely, some_or_none, stage_at, stage_live}
+use Rattle.law_moves.proofs.Imports.{state_next, subject_of, subst, sym, touches, touches_cell, true, true_false, ℕ}
+use Rattle.law_moves.proofs.StepsTellEntries.{Crosses, Goes_on, HasStore, Is_bare, Keeps, Same_last, Awakes, Before, IsPosted, Other, Posted, Works, gone}
+use Rattle.law_moves.proofs.StepsTellEntries.{here, sent}
 use Rattle.spec_state.specs.Command.{after}
 use Rattle.law_moves.proofs.ServedCellChanges.{never_retired}
 use Rattle.law_moves.proofs.LeavingCellsGainNothing.{before}
 use Rattle.law_moves.proofs.AllKeptOfMoves.{Known, WereKnown}
 use Rattle.law_moves.proofs.FillLetters.{Asks_copy, Is_done, Is_done_alone, Is_neither, Is_there, Says, did_says, is_replicate}
-use Rattle.law_moves.proofs.StepsTellEntries.{Awakes, Before, Enters, HasGone, IsPosted, Is_blanked, Other, Posted, Raises, Rests, Starts_ballot, Works, gone}
-use Rattle.law_moves.proofs.StepsTellEntries.{here, sent}
 use Rattle.law_moves.proofs.MoveWorlds.{good, rests, up}
 use Rattle.law_moves.proofs.MoveScenes.{AsksToPut, IsSecondAt}
 use Rattle.petal_msg.specs.declared.body.Body.TheVariants as body
@@ -78,31 +78,22 @@ module _ (it : OneMore) (all : WereKnown it) where
           (λ k tie. ap (λ q. not (ends_cell here_state entry q)) (sym (cell_cmp_same cell k tie)))
           ∙ ap (λ b. cond (not b) (at cell_cmp (w.servers m).own.pairs.last cell) None) ends
 
-    far_by : (to : Server) → HasGone it m to → (w.servers m).life.running ≡ true → IsPrefix to.log.applied f
+    far_by : (to : Server) (b : Option BeforeBlank) → HasStore it m to b → (w.servers m).life.running ≡ true → IsPrefix to.log.applied f
         → place_by setting to.log.applied row ≡ place_by setting mine row → far_of_last (w.servers m).own cell ≤ far_of_last to.own cell
-    far_by to (Rests same) runs on place = let e = ap (λ (s : Server). far_of_last s.own cell) same in omega arith
-    far_by to (Works job) runs on place =
+    far_by to b (Goes_on (Keeps kept) same) runs on place = elim kept.last [
+      | Same_last is ↦ (let e = ap (λ t. progress (at cell_cmp t cell)) is in omega arith)
+      | Crosses entry more is ↦
+          let e = ap (λ t. progress (at cell_cmp t cell)) is in
+          let k = ap progress (kept_last entry (subst (λ l. IsPrefix l f) more on)
+          (subst (λ l. place_by setting l row ≡ place_by setting mine row) more place)) in
+          omega arith
+    ]
+    far_by to b (Goes_on (Works job) same) runs on place =
         let le = did_follow (Handled w m) (own_place setting w m) (w.servers m).own cell job.done job.did in
         let e = ap (λ (o : PairState). far_of_last o cell) job.own_is in
         omega arith
-    far_by to (Starts_ballot ballot) runs on place =
-        let e = ap (λ (o : PairState). far_of_last o cell) ballot.own_is in
-        let f : far_of_last (proposed (server_state setting w m) (w.servers m).own ballot.started) cell ≡ far_of_last (w.servers m).own cell =
-        ap (λ (p : Pairs). progress (at cell_cmp p.last cell))
-        (proposed_pairs (server_state setting w m) (w.servers m).own ballot.started) in
-        omega arith
-    far_by to (Enters entry) runs on place =
-        let e = ap (λ (o : PairState). far_of_last o cell) entry.own_is in
-        let s : far_of_last (settled_by (own_place setting w m) entry.entry (crossed (server_state setting w m) entry.entry (w.servers m).own)) cell
-        ≡ far_of_last (crossed (server_state setting w m) entry.entry (w.servers m).own) cell =
-        ap (λ (p : Pairs). progress (at cell_cmp p.last cell))
-        (settling (own_place setting w m) entry.entry (crossed (server_state setting w m) entry.entry (w.servers m).own)).pairs in
-        let k = ap progress (kept_last entry.entry (subst (λ l. IsPrefix l f) entry.log_is on)
-        (subst (λ l. place_by setting l row ≡ place_by setting mine row) entry.log_is place)) in
-        omega arith
-    far_by to (Awakes asleep same) runs on place = true_false runs asleep
-    far_by to (Raises asleep same) runs on place = true_false runs asleep
-    far_by to (Is_blanked asleep same) runs on place = true_false runs asleep
+    far_by to b (Goes_on (Awakes asleep is) same) runs on place = true_false runs asleep
+    far_by to b (Is_bare asleep bare same) runs on place = true_false runs asleep
 
   -- ### What was so before the step
 
@@ -141,7 +132,7 @@ module _ (it : OneMore) (all : WereKnown it) where
         let b = places_grow script.servers (v.servers m).log.applied f row on in
         let at = past.0 in
         let place : place_by setting (v.servers m).log.applied row ≡ place_by setting f row = omega arith in
-        let more = far_by m f lies cell row linked low (v.servers m) (gone it m) h.runs on (omega arith) in
+        let more = far_by m f lies cell row linked low (v.servers m) _ (gone it m) h.runs on (omega arith) in
         let far = past.1 in
         (place, omega arith)
 

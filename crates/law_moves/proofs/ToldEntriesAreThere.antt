@@ -5,6 +5,7 @@ use Rattle.law_moves.proofs.Imports.{Pending, Run, Server, Some, Stage, Store, a
 use Rattle.law_moves.proofs.Imports.{end_of, ends_of, false, front_itself, front_on, fronts_meet, in_counts, inl, inr, is_clients, is_in, is_of_entries}
 use Rattle.law_moves.proofs.Imports.{is_some, kept, kept_by, kept_store, leads_link, own_place, server_state, stage_at, stage_live, subject_of, subst, sym}
 use Rattle.law_moves.proofs.Imports.{taking, true, true_false, ℕ}
+use Rattle.law_moves.proofs.StepsTellEntries.{gone, Before, Goes_on, HasStore, IsPosted, Is_bare, Other, Posted, here, sent, mine_top}
 use Rattle.law_moves.specs.Fills.{Has, IsFrozen, IsThere, WasFilled}
 use Rattle.law_moves.proofs.ServedCellChanges.{never_retired}
 use Rattle.law_moves.proofs.ServersOfGrownLog.{It_came, It_did, same_joins, served_before}
@@ -13,7 +14,6 @@ use Rattle.law_moves.proofs.AllKeptOfMoves.{Known, WereKnown}
 use Rattle.law_moves.proofs.LeadsHaveWhatServersHave.{Followed, Holds, IsIdle, Nothing, spread}
 use Rattle.law_moves.proofs.MovedRegionsHaveAll.{AllMoved, over_told}
 use Rattle.law_moves.proofs.FillLetters.{Asks_copy, Is_done, Is_done_alone, Is_neither, Is_there, Says, did_says, is_filled}
-use Rattle.law_moves.proofs.StepsTellEntries.{Before, Goes_on, HasStore, IsPosted, Is_bare, Other, Posted, here, sent, stored, mine_top}
 use Rattle.law_moves.proofs.MoveWorlds.{facts_at, own_counts, rests, runs_on, serving_on, steady_at, up}
 use Rattle.law_moves.proofs.MoveScenes.{LeadsAt}
 use Rattle.petal_msg.specs.declared.body.Body.TheVariants as body
@@ -95,11 +95,11 @@ module _ (it : OneMore) (all : WereKnown it) where
   pub kept_own : (n : ℕ) → (v.servers n).life.running ≡ true → (f : List Command) → IsPrefix (w.servers n).log.applied f → IsPrefix f top → (cell : Cell)
       → stage_at (By f) cell ≤ 3 → IsServing (By f) n cell → (epoch : ℕ) → Has (chain_in (w.servers n).own.store.chains cell) epoch
       → Has (chain_in (v.servers n).own.store.chains cell) epoch
-  kept_own n runs f on lies cell low serving epoch has = by (v.servers n) (v.before_blank n) (stored it n) runs
+  kept_own n runs f on lies cell low serving epoch has = by (v.servers n) (v.before_blank n) (gone it n) runs
     where
       by : (to : Server) (b : Option BeforeBlank) → HasStore it n to b → to.life.running ≡ true
           → Has (chain_in to.own.store.chains cell) epoch
-      by to b (Goes_on g live same) up = has_on it all n f on lies cell low serving to g live epoch has
+      by to b (Goes_on g same) up = has_on it all n f on lies cell low serving to g epoch has
       by to b (Is_bare asleep bare same) up = true_false (ap (λ (s : Server). s.life.running) (sym bare) ∙ up) asleep
 
   pub there_before : (key : Key) → WasFilled w key → IsThere setting v (cell_of key) key.epoch

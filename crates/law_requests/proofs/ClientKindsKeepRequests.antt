@@ -148,17 +148,10 @@ module _ (setting : Setting) (w : World) (lives : Lives) (firm : Firm setting w)
           (subst (λ (r : ℕ). WasToldAt w.sent c old.seq r) (sym at) (h.old_way (sym way ∙ e)))
       by (Anew at way) e = true_false e way
 
-  -- so it is of whatever is open then
-  stays_known : (to : Client) → IsPrefix client.applied to.applied → to.seq ≡ client.seq → (o : Option Asked)
-      → ((old : Asked) → o ≡ Some old → IsAsked lines c client old)
-      → (new : Asked) → StaysOpen (length to.applied) o (Some new) → IsAsked lines c to new
-  stays_known to more seq None known new stays = absurd stays
-  stays_known to more seq (Some old) known new stays = same_known to more old new (known old refl) stays seq
-
-  stays_way : (rev : ℕ) (o : Option Asked) → ((old : Asked) → o ≡ Some old → HasItsWay w.sent c old) → (new : Asked) → StaysOpen rev o (Some new)
-      → HasItsWay w.sent c new
-  stays_way rev None ways new stays = absurd stays
-  stays_way rev (Some old) ways new stays = same_way rev old new (ways old refl) stays
+  -- whatever is open then was
+  was_same : (rev : ℕ) (o : Option Asked) (new : Asked) → StaysOpen rev o (Some new) → (old : Asked) × (o ≡ Some old) × IsSame rev old new
+  was_same rev None new stays = absurd stays
+  was_same rev (Some old) new stays = (old, refl, stays)
 
   -- and its latest send is no earlier
   stays_open : (to : Client) (seq rev : ℕ) (old : Asked) → old.seq ≡ seq → rev ≤ old.rev → rev ≤ length to.applied → (o : Option Asked) → to.asked ≡ o
@@ -182,10 +175,12 @@ module _ (setting : Setting) (w : World) (lives : Lives) (firm : Firm setting w)
   goes_ok reacted onward seq open_then was same stays only =
       let to = reacted.client in
       let rev = length to.applied in
+      let before : (asked : Asked) → to.asked ≡ Some asked → (old : Asked) × (open_then ≡ Some old) × IsSame rev old asked =
+      λ asked is. was_same rev open_then asked (subst (StaysOpen rev open_then) is stays) in
       let known : (asked : Asked) → to.asked ≡ Some asked → IsAsked lines c to asked =
-      λ asked is. stays_known to onward.0 seq open_then (λ old e. (was old e).0) asked (subst (StaysOpen rev open_then) is stays) in
+      λ asked is. let b = before asked is in same_known to onward.0 b.0 asked (was b.0 b.1).0 b.2 seq in
       let ways : (asked : Asked) → to.asked ≡ Some asked → HasItsWay w.sent c asked =
-      λ asked is. stays_way rev open_then (λ old e. (was old e).1) asked (subst (StaysOpen rev open_then) is stays) in
+      λ asked is. let b = before asked is in same_way rev b.0 asked (was b.0 b.1).1 b.2 in
       let longer = front_long client.applied to.applied onward.0 in
       record {
         seqs = omega arith;

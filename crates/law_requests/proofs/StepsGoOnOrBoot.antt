@@ -1,10 +1,11 @@
 -- What a step leaves of the server that takes it, as requests need it: it goes on as it was, or boots, and what it has pending is known of.
 use Rattle.law_requests.proofs.Imports.{[], ◌+◌, ◌<◌, ◌∙◌, ◌∷◌, ◌≡◌, ◌≤◌, Acted, AllMayWake, By_ballot, By_entry, By_job, Cell, Command, Copies, Ends, Fails}
-use Rattle.law_requests.proofs.Imports.{Goes, HasProperTuples, In, IsPrefix, JobResult, Log, PairState, Pairs, Pending, Progress, Ready, Server, Serving}
-use Rattle.law_requests.proofs.Imports.{Some, Stays, Step, Wakes, Wanted, Worked, ap, arith, at, at-empty, awake, blanked, cell_cmp, chosen_log, crossed}
-use Rattle.law_requests.proofs.Imports.{done_to, false, front_itself, front_on, front_plain, front_same, id_of, inl, inr, is_flagged, is_in, link_cmp}
-use Rattle.law_requests.proofs.Imports.{nat_cmp, no_pairs, none_some, option_map_or, own_place, own_plain, proposed_pairs, raised, refl, runs_at, served_so}
-use Rattle.law_requests.proofs.Imports.{server_state, settled_by, settling, state_after, state_in, stopped_so, subst, sym, true, true_false, was_same, ℕ}
+use Rattle.law_requests.proofs.Imports.{Firm, Goes, HasProperTuples, In, IsPrefix, JobResult, Log, PairState, Pairs, Pending, Progress, Ready, Server}
+use Rattle.law_requests.proofs.Imports.{Serving, Setting, Some, Stays, Step, Wakes, Wanted, Worked, World, ap, arith, at, at-empty, awake, blanked, cell_cmp}
+use Rattle.law_requests.proofs.Imports.{chosen_log, crossed, done_to, false, front_itself, front_on, front_plain, front_same, id_of, inl, inr, is_flagged}
+use Rattle.law_requests.proofs.Imports.{is_in, link_cmp, nat_cmp, no_pairs, none_some, option_map_or, own_place, own_plain, proposed_pairs, raised, refl}
+use Rattle.law_requests.proofs.Imports.{runs_at, served_so, server_state, settled_by, settling, state_after, state_in, stopped_so, subst, sym, true}
+use Rattle.law_requests.proofs.Imports.{true_false, was_same, ℕ}
 use Rattle.law_requests.specs.KnownRequests.{LedBy, done_by, IsLedAlong, asked_for, IsUsed, Has_pending, Has_finished}
 use Rattle.law_requests.proofs.EndedRequestsLeaveNothing.{bound_now, pending_new, rises}
 use Rattle.law_requests.proofs.ServerStepsKeepRequests.{Scene, IsSettled, IsStepped}
@@ -13,6 +14,22 @@ use Rattle.law_requests.proofs.RequestsKnownLater.{one_log}
 use Rattle.law_requests.proofs.IncarnationsGoOn.{Goes_on, Begins}
 use Rattle.law_requests.proofs.BallotsStayInMind.{worked_flags}
 use Rattle.law_requests.proofs.OpenWhileRunning.{PendingHere, here_along, here_led, pending_here, remembers_running}
+
+-- the entries that a server has applied stay, and are of what was chosen before the step
+pub worked_grows : (setting : Setting) (w : World) → Firm setting w → (n : ℕ) (log : Log) (done : JobResult) → Worked setting w n log done
+    → IsPrefix (w.servers n).log.applied log.applied × IsPrefix log.applied (chosen_log setting w)
+worked_grows setting w firm n log done works = by log done works
+  where
+    same_grows : (log : Log) → log.applied ≡ (w.servers n).log.applied
+        → IsPrefix (w.servers n).log.applied log.applied × IsPrefix log.applied (chosen_log setting w)
+    same_grows log same =
+        (front_same _ log.applied same, subst (λ own. IsPrefix own (chosen_log setting w)) (sym same) (firm.servers n))
+
+    by : (log : Log) (done : JobResult) → Worked setting w n log done
+        → IsPrefix (w.servers n).log.applied log.applied × IsPrefix log.applied (chosen_log setting w)
+    by _ _ (By_job log done same did seat) = same_grows log same
+    by _ _ (By_ballot log started posts same starts says) = same_grows log same
+    by _ _ (By_entry log entry more front) = (record { later = entry ∷ []; is = more }, front)
 
 module _ (scene : Scene) (ready : Ready scene.setting scene.state scene.w) (n stamp : ℕ) (what : Step) where
   open scene use {setting, w, lives, asking}
@@ -36,20 +53,6 @@ module _ (scene : Scene) (ready : Ready scene.setting scene.state scene.w) (n st
       let pairs = entry_pairs entry in
       kept_tells scene n runs _ [] (ap (λ (p : Pairs). p.pending) pairs)
       (ap (λ (p : Pairs). p.finished) pairs) (λ post i. absurd i)
-
-  own_grows : (log : Log) → log.applied ≡ (w.servers n).log.applied
-      → IsPrefix (w.servers n).log.applied log.applied × IsPrefix log.applied (chosen_log setting w)
-  own_grows log same = (
-    front_same (w.servers n).log.applied log.applied same,
-    subst (λ own. IsPrefix own (chosen_log setting w)) (sym same)
-        (scene.firm.servers n),
-  )
-
-  worked_grows : (log : Log) (done : JobResult) → Worked setting w n log done
-      → IsPrefix (w.servers n).log.applied log.applied × IsPrefix log.applied (chosen_log setting w)
-  worked_grows _ _ (By_job log done same did seat) = own_grows log same
-  worked_grows _ _ (By_ballot log started posts same starts says) = own_grows log same
-  worked_grows _ _ (By_entry log entry more front) = (record { later = entry ∷ []; is = more }, front)
 
   worked_plain : (log : Log) → IsPrefix log.applied (chosen_log setting w) → HasProperTuples setting.servers log.applied
   worked_plain log chosen = front_plain setting.servers log.applied _ scene.firm.plain chosen
@@ -103,7 +106,7 @@ module _ (scene : Scene) (ready : Ready scene.setting scene.state scene.w) (n st
       → new.log ≡ log → new.own ≡ done.own → new.life.inc ≡ (w.servers n).life.inc → IsStepped scene n new
   worked_stepped runs log done worked new logs owns incs =
       let shows = worked_shows runs log done worked in
-      let grows = worked_grows log done worked in
+      let grows = worked_grows setting w scene.firm n log done worked in
       let ran = incs ∙ sym (asking.lived.ran n runs) in
       record {
         life = Goes_on (λ on. ran) (omega arith)

@@ -5,7 +5,7 @@ use Rattle.law_run.proofs.Imports.{IsOpen, IsReason, IsSeenAs, IsUnderWay, Is_se
 use Rattle.law_run.proofs.Imports.{Option, Reaction, Reads, Request, Shown, Sight, Some, Starts_it, State, StaysOpen, Stops_at, Stops_it, World, Write}
 use Rattle.law_run.proofs.Imports.{WriteEnd, after, answer_of, answers, ap, arith, begun, by_bool, cell_asked, change_by, command_of, end_by, end_of, ended}
 use Rattle.law_run.proofs.Imports.{false, find, flat_map, freezes, inl, inr, is_read, is_some, is_write, length, makes, next_line, none_some, open_of}
-use Rattle.law_run.proofs.Imports.{open_write, put_same, reacts, refl, refusal, replay, same_some, state_after, subst, sym, takes, told_with, true}
+use Rattle.law_run.proofs.Imports.{open_write, put_same, reacts, refl, refusal, replay, same_some, subst, sym, takes, told_with, true}
 use Rattle.law_run.proofs.Imports.{write_asked, write_by, write_refusal, ℕ}
 use Rattle.spec_rules.specs.State.{lead}
 use Rattle.law_steps.specs.DidClient.{Ends}
@@ -220,25 +220,35 @@ module _ (this : ClientStep) where
             }) (unwritten this true reacted turned);
           }
 
-  reads_told : (asked : Asked) (bytes : List ℕ) (h : Heard this.w (actor.Client this.c) asked.rev (body.Data asked.seq bytes)) (is : client.asked ≡ Some asked)
-      (reads : is_read asked.request ≡ true)
-      → ClientTold false (answers client asked (answer.Data bytes))
-  reads_told asked bytes h is reads =
-      let none : open_write this.w this.c ≡ None = ap (write_asked this.c) is ∙ not_write this.c asked.seq asked.request reads in
-      silent false (answers client asked (answer.Data bytes)) (Reads asked bytes h is reads) refl
-      (ap (λ o. events.ended o (Some (asked.line, answer.Data bytes))) none)
-      (quiet_turn (answers client asked (answer.Data bytes)).client (empty_seat none) (λ seq o. none_some refl o.is))
+  -- the open request was no write, and is gone
+  gone_told : (reacted : Reaction) → Turn this false reacted → open_write this.w this.c ≡ None → reacted.client.asked ≡ None → ClientTold false reacted
+  gone_told reacted turned none gone =
+      silent false reacted turned refl (ap (λ o. events.ended o reacted.answer) none)
+      (quiet_turn reacted.client (subst (λ o. Seat (write_asked this.c o) (open_of this.m.opened this.c)) (sym gone) (empty_seat none))
+      (λ number o. none_some gone o.is))
 
-  -- a line of the operator is no write
-  shown_told : (asked : Asked) (rev : ℕ) (sight : Sight) (given : Answer)
-      (h : Heard this.w (actor.Client this.c) rev (body.Seen asked.line sight.round sight.running sight.inc sight.full))
-      (is : client.asked ≡ Some asked)
-      (shown : IsSeenAs (state_after this.setting.servers client.applied) asked sight given) → ClientTold false (answers client asked given)
-  shown_told asked rev sight given h is shown =
-      let none : open_write this.w this.c ≡ None = ap (write_asked this.c) is ∙ seen_no_write _ this.c asked.seq asked sight given shown in
-      silent false (answers client asked given) (Shown asked rev sight given h is shown) refl
-      (ap (λ o. events.ended o (Some (asked.line, given))) none)
-      (quiet_turn (answers client asked given).client (empty_seat none) (λ seq o. none_some refl o.is))
+  -- it was a write, which ends
+  write_told : (reacted : Reaction) → Turn this false reacted → (write : Write) → open_write this.w this.c ≡ Some write → reacted.client.asked ≡ None
+      → (how : WriteEnd) → events.ended (Some write) reacted.answer ≡ Some (End write how ∷ []) → May this.m (End write how) → ClientTold false reacted
+  write_told reacted turned write there gone how is may =
+      let own : write.client ≡ this.c = open_own this.w this.c write there in
+      let event = End write how in
+      let k = after this.m event in
+      record {
+        es = event ∷ [];
+        is = (λ i. told_with [] (nothing_taken this reacted i)
+            (nothing_made this reacted i ++ nothing_frozen this reacted i ++ no_looks this false reacted turned i)
+            ((ap (λ o. events.ended o reacted.answer) there ∙ is) i));
+        may = (may, tt);
+        follows = turn_follow this k reacted (record {
+          disks = disks_after this.m event;
+          mindful = after_mindful this.m event;
+          others = λ j ne. end_others this.m write how j this.follow.stores.mindful (λ f. ne (f ∙ own));
+          seat = subst (λ o. Seat (write_asked this.c o) (open_of k.opened this.c)) (sym gone)
+              (subst (λ i. open_of k.opened i ≡ None) own (end_seat this.m write how));
+          helds = λ number o. none_some gone o.is;
+        }) (unwritten this false reacted turned);
+      }
 
   -- a write ends as its reply says
   may_end : (write : Write) (how : Ending) (asked : Asked) → write.client ≡ this.c → open_write this.w this.c ≡ Some write → client.asked ≡ Some asked
@@ -256,26 +266,10 @@ module _ (this : ClientStep) where
       (writes : is_write asked.request ≡ true)
       → ClientTold false (answers client asked (answer_of how))
   ends_told asked how h is writes =
-      let reacted = answers client asked (answer_of how) in
       let wr = a_write this.c asked.seq asked.request writes in
       let there : open_write this.w this.c ≡ Some wr.0 = ap (write_asked this.c) is ∙ wr.1 in
-      let own : wr.0.client ≡ this.c = open_own this.w this.c wr.0 there in
-      let e = End wr.0 (ends_as how) in
-      let k = after this.m e in
-      record {
-        es = e ∷ [];
-        is = (λ i. told_with [] (nothing_taken this reacted i)
-            (nothing_made this reacted i ++ nothing_frozen this reacted i ++ no_looks this false reacted (Ends asked how h is writes) i)
-            ((ap (λ o. events.ended o (Some (asked.line, answer_of how))) there ∙ ap (end_by wr.0) (ends_so how)) i));
-        may = (may_end wr.0 how asked own there is h, tt);
-        follows = turn_follow this k reacted (record {
-          disks = disks_after this.m e;
-          mindful = after_mindful this.m e;
-          others = λ j ne. end_others this.m wr.0 (ends_as how) j this.follow.stores.mindful (λ f. ne (f ∙ own));
-          seat = subst (λ i. open_of k.opened i ≡ None) own (end_seat this.m wr.0 (ends_as how));
-          helds = λ seq o. none_some refl o.is;
-        }) (unwritten this false reacted (Ends asked how h is writes));
-      }
+      write_told _ (Ends asked how h is writes) wr.0 there refl (ends_as how) (ap (end_by wr.0) (ends_so how))
+      (may_end wr.0 how asked (open_own this.w this.c wr.0 there) there is h)
 
   -- an entry of the log answers: a write ends as one that could not be served
   judges_told : (later : Client) (asked : Asked) (given : Answer) (is : client.asked ≡ Some asked) (gone : later.asked ≡ None) (seq : later.seq ≡ client.seq)
@@ -283,10 +277,7 @@ module _ (this : ClientStep) where
       → ClientTold false (record { client = later; posts = []; answer = Some (asked.line, given) })
   judges_told later asked given is gone seq judged = by (write_by this.c asked.seq asked.request) refl
     where
-      reacted : Reaction
-      reacted = record { client = later; posts = []; answer = Some (asked.line, given) }
-
-      turned : Turn this false reacted
+      turned : Turn this false (record { client = later; posts = []; answer = Some (asked.line, given) })
       turned = Judges later asked given is gone seq judged
 
       may_so : (write : Write) → write_by this.c asked.seq asked.request ≡ Some write → IsUnderWay this.m.opened write
@@ -296,42 +287,25 @@ module _ (this : ClientStep) where
       may_so write e under_way state entry (By_witness none own refused) =
           judged_end this.c asked.seq asked.saw_missing asked.request write given state this.m.opened e refused under_way
 
-      by : (o : Option Write) → write_by this.c asked.seq asked.request ≡ o → ClientTold false reacted
-      by None e =
-          let none : open_write this.w this.c ≡ None = ap (write_asked this.c) is ∙ e in
-          silent false reacted turned refl (ap (λ o. events.ended o (Some (asked.line, given))) none)
-          (quiet_turn later (subst (λ o. Seat (write_asked this.c o) (open_of this.m.opened this.c)) (sym gone) (empty_seat none))
-          (λ number o. none_some gone o.is))
+      by : (o : Option Write) → write_by this.c asked.seq asked.request ≡ o
+          → ClientTold false (record { client = later; posts = []; answer = Some (asked.line, given) })
+      by None e = gone_told _ turned (ap (write_asked this.c) is ∙ e) gone
       by (Some write) e =
           let there : open_write this.w this.c ≡ Some write = ap (write_asked this.c) is ∙ e in
-          let own : write.client ≡ this.c = open_own this.w this.c write there in
           let seat : Seat (Some write) (open_of this.m.opened this.c) = subst (λ o. Seat o (open_of this.m.opened this.c)) there (this.follow.seats this.c) in
+          let own : write.client ≡ this.c = open_own this.w this.c write there in
           let under_way : IsUnderWay this.m.opened write = record { held = seat.0; is = ap (open_of this.m.opened) own ∙ seat.1 } in
           let so = may_so write e under_way _ _ judged.reason in
-          let event = End write so.how in
-          let k = after this.m event in
-          record {
-            es = event ∷ [];
-            is = (λ i. told_with [] (nothing_taken this reacted i)
-                (nothing_made this reacted i ++ nothing_frozen this reacted i ++ no_looks this false reacted turned i)
-                ((ap (λ o. events.ended o (Some (asked.line, given))) there ∙ ap (end_by write) so.is) i));
-            may = (so.may, tt);
-            follows = turn_follow this k reacted (record {
-              disks = disks_after this.m event;
-              mindful = after_mindful this.m event;
-              others = λ j ne. end_others this.m write so.how j this.follow.stores.mindful (λ f. ne (f ∙ own));
-              seat = subst (λ o. Seat (write_asked this.c o) (open_of k.opened this.c)) (sym gone)
-                  (subst (λ i. open_of k.opened i ≡ None) own (end_seat this.m write so.how));
-              helds = λ number o. none_some gone o.is;
-            }) (unwritten this false reacted turned);
-          }
+          write_told _ turned write there gone so.how (ap (end_by write) so.is) so.may
 
   pub turn_told : (in_call : Bool) (reacted : Reaction) → Turn this in_call reacted
       → ClientTold in_call reacted
   turn_told _ _ (Goes_on reacted seq stays only) = goes_on_told reacted seq stays only
   turn_told _ _ (Is_told reacted asked h is reads seq stays only) = told_told reacted asked h is reads seq stays only
   turn_told _ _ (Begins reacted line asked is free seq there called only) = begins_told reacted line asked is free seq there called only
-  turn_told _ _ (Reads asked bytes h is reads) = reads_told asked bytes h is reads
+  turn_told _ _ (Reads asked bytes h is reads) =
+      gone_told _ (Reads asked bytes h is reads) (ap (write_asked this.c) is ∙ not_write this.c asked.seq asked.request reads) refl
   turn_told _ _ (Ends asked how h is writes) = ends_told asked how h is writes
-  turn_told _ _ (Shown asked rev sight given h is shown) = shown_told asked rev sight given h is shown
+  turn_told _ _ (Shown asked rev sight given h is shown) =
+      gone_told _ (Shown asked rev sight given h is shown) (ap (write_asked this.c) is ∙ seen_no_write _ this.c asked.seq asked sight given shown) refl
   turn_told _ _ (Judges later asked given is gone seq judged) = judges_told later asked given is gone seq judged

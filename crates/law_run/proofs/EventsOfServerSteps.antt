@@ -1,12 +1,12 @@
 -- What the machine is told of a server's step: takes, disks that are made, snapshots that are taken, and looks.
-use Rattle.law_run.proofs.Imports.{[], ◌++◌, ◌<◌, ◌∙◌, ◌∷◌, ◌≡◌, ◌≢◌, Acted, AllMayWake, AreEarly, Body, By_ballot, By_entry, By_job, Cell, Chain, Command}
-use Rattle.law_run.proofs.Imports.{DiskRow, Ends, Event, Fails, Firm, Goes, Good, Handled, In, IsBelow, IsGrown, IsOwn, IsPrefix, IsSettledState, JobContext}
-use Rattle.law_run.proofs.Imports.{JobResult, Letter, List, Log, None, Obeys, Option, PairState, Plain, Record, Server, Serving, Setting, Some, State, Stays}
-use Rattle.law_run.proofs.Imports.{Step, Store, Visits, Wakes, Worked, World, acts, all_put, ap, arith, at_row, authority, before_blanks, begins_to_leave}
-use Rattle.law_run.proofs.Imports.{blank_joins_in, by_test, chain_in, chain_that_counts, change_by, chosen_log, chosen_state, counted, counted_by, entry_at}
-use Rattle.law_run.proofs.Imports.{entry_by, epoch_at, false, flat_map, freezes, front_itself, front_same, inl, inr, kept, kept_by, kept_store, log_below}
-use Rattle.law_run.proofs.Imports.{look_of, makes, nat_cmp_total, none_some, option_map, own_place, owns_of, put_apart, put_same, refl, replay, same_or_apart}
-use Rattle.law_run.proofs.Imports.{same_some, server_state, stage_at, stamped, state_after, subst, sym, takes, told_with, ℕ}
+use Rattle.law_run.proofs.Imports.{[], ◌++◌, ◌<◌, ◌∙◌, ◌∷◌, ◌≡◌, ◌≢◌, Acted, AllMayWake, AreEarly, Body, Cell, Chain, Command, DiskRow, Ends, Event, Fails}
+use Rattle.law_run.proofs.Imports.{Firm, Goes, Good, Handled, In, IsBelow, IsGrown, IsOwn, IsPrefix, IsSettledState, JobContext, Letter, List, None, Obeys}
+use Rattle.law_run.proofs.Imports.{Option, PairState, Plain, Record, Server, Serving, Setting, Some, State, Stays, Step, Store, Visits, Wakes, World, acts}
+use Rattle.law_run.proofs.Imports.{all_put, ap, arith, at_row, authority, before_blanks, begins_to_leave, blank_joins_in, by_test, chain_in}
+use Rattle.law_run.proofs.Imports.{chain_that_counts, change_by, chosen_log, chosen_state, counted, counted_by, entry_at, entry_by, epoch_at, false, flat_map}
+use Rattle.law_run.proofs.Imports.{freezes, front_itself, inl, inr, kept, kept_by, kept_store, log_below, look_of, makes, nat_cmp_total, none_some}
+use Rattle.law_run.proofs.Imports.{option_map, own_place, owns_of, put_apart, put_same, refl, replay, same_or_apart, same_some, server_state, stage_at}
+use Rattle.law_run.proofs.Imports.{stamped, state_after, subst, sym, takes, told_with, worked_grows, ℕ}
 use Rattle.law_run.specs.MachineTies.{Ground, Follow}
 use Rattle.law_run.proofs.ChosenDisks.{Along, plain_now, rows_in}
 use Rattle.law_run.proofs.StoresThatCount.{of_kept, same_kept, frozen_stays}
@@ -70,37 +70,15 @@ pub below_at : (setting : Setting) (w : World) → Firm setting w → (front : L
     → IsBelow (state_after setting.servers front) (chosen_state setting w)
 below_at setting w firm front prefix = log_below setting.servers front (chosen_log setting w) firm.plain prefix
 
--- the entries that a server has applied stay
-worked_grows : (setting : Setting) (w : World) (n : ℕ) (log : Log) (done : JobResult) → Worked setting w n log done
-    → IsPrefix (w.servers n).log.applied log.applied
-worked_grows setting w n _ _ (By_job log done same did seat) = front_same _ _ same
-worked_grows setting w n _ _ (By_ballot log started posts same starts says) = front_same _ _ same
-worked_grows setting w n _ _ (By_entry log entry more front) = record { later = entry ∷ []; is = more }
-
-serves_grow : (setting : Setting) (w : World) → AllMayWake setting w → (n : ℕ) (what : Step) (acted : Acted) → Serving setting w n what acted
-    → IsPrefix (w.servers n).log.applied acted.server.log.applied
-serves_grow setting w wake n what _ (Goes log done queue runs worked queued works) = worked_grows setting w n log done worked
-serves_grow setting w wake n what _ (Ends log done runs worked) = worked_grows setting w n log done worked
-serves_grow setting w wake n what _ (Stays who posts from shown) = front_itself _
-serves_grow setting w wake n what _ (Wakes booted asleep) = (wake n).onward
-serves_grow setting w wake n what _ (Fails booted asleep) = front_itself _
-
--- and are of what was chosen before the step
-worked_within : (setting : Setting) (w : World) → Firm setting w → (n : ℕ) (log : Log) (done : JobResult) → Worked setting w n log done
-    → IsPrefix log.applied (chosen_log setting w)
-worked_within setting w firm n _ _ (By_job log done same did seat) = subst (λ front. IsPrefix front (chosen_log setting w)) (sym same)
-    (firm.servers n)
-worked_within setting w firm n _ _ (By_ballot log started posts same starts says) =
-    subst (λ front. IsPrefix front (chosen_log setting w)) (sym same) (firm.servers n)
-worked_within setting w firm n _ _ (By_entry log entry more front) = front
-
-serves_within : (setting : Setting) (w : World) → AllMayWake setting w → Firm setting w → (n : ℕ) (what : Step) (acted : Acted)
-    → Serving setting w n what acted → IsPrefix acted.server.log.applied (chosen_log setting w)
-serves_within setting w wake firm n what _ (Goes log done queue runs worked queued works) = worked_within setting w firm n log done worked
-serves_within setting w wake firm n what _ (Ends log done runs worked) = worked_within setting w firm n log done worked
-serves_within setting w wake firm n what _ (Stays who posts from shown) = firm.servers n
-serves_within setting w wake firm n what _ (Wakes booted asleep) = (wake n).chosen
-serves_within setting w wake firm n what _ (Fails booted asleep) = firm.servers n
+-- the entries that a server has applied stay, and are of what was chosen before the step
+serves_grow : (setting : Setting) (w : World) → AllMayWake setting w → Firm setting w → (n : ℕ) (what : Step) (acted : Acted)
+    → Serving setting w n what acted
+    → IsPrefix (w.servers n).log.applied acted.server.log.applied × IsPrefix acted.server.log.applied (chosen_log setting w)
+serves_grow setting w wake firm n what _ (Goes log done queue runs worked queued works) = worked_grows setting w firm n log done worked
+serves_grow setting w wake firm n what _ (Ends log done runs worked) = worked_grows setting w firm n log done worked
+serves_grow setting w wake firm n what _ (Stays who posts from shown) = (front_itself _, firm.servers n)
+serves_grow setting w wake firm n what _ (Wakes booted asleep) = ((wake n).onward, (wake n).chosen)
+serves_grow setting w wake firm n what _ (Fails booted asleep) = (front_itself _, firm.servers n)
 
 -- where a step begins and ends, and the server that takes it
 pub record StepEnds : Type 1 where
@@ -165,11 +143,11 @@ module _ (this : ServerStep) where
 
   pub logs_grow : (i : ℕ) → IsPrefix (this.w.servers i).log.applied (v.servers i).log.applied
   logs_grow = all_put this.w.servers this.n this.acted.server (λ i (x : Server). IsPrefix (this.w.servers i).log.applied x.log.applied)
-      (λ i. front_itself _) (serves_grow this.setting this.w this.ground.wake this.n this.what this.acted this.serving)
+      (λ i. front_itself _) (serves_grow this.setting this.w this.ground.wake this.along.firm this.n this.what this.acted this.serving).0
 
   pub logs_within : (i : ℕ) → IsPrefix (v.servers i).log.applied (chosen_log this.setting this.w)
   logs_within = all_put this.w.servers this.n this.acted.server (λ i (x : Server). IsPrefix x.log.applied (chosen_log this.setting this.w))
-      this.along.firm.servers (serves_within this.setting this.w this.ground.wake this.along.firm this.n this.what this.acted this.serving)
+      this.along.firm.servers (serves_grow this.setting this.w this.ground.wake this.along.firm this.n this.what this.acted this.serving).1
 
   -- nothing is stored of cells that were not live before the step, by what was chosen
   early_kept : (i : ℕ) → AreEarly this.setting.servers (v.servers i).log.applied (kept this.setting v i)

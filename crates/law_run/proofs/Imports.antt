@@ -30,7 +30,7 @@ pub use Rattle.law_log.proofs.Imports.{works, world_after}
 unfoldable pub use Rattle.law_log.proofs.Imports.{applies, does, heard, log_does, refusal, starts, step}
 pub use Rattle.law_steps.specs.Imports.{Busy, Finished, Glanced, IsBelow, Refused, Sender, Stage, Stale, StaysSo, Subject, Table, before_blanks, bytes_of}
 pub use Rattle.law_steps.specs.Imports.{cell_cmp, coming, crossed, entry_at, epochs_beyond, letters_of, live, old_lead, operation, pattern_block, puts}
-pub use Rattle.law_steps.specs.Imports.{settled_by, stage_at, with_paired, with_reserved}
+pub use Rattle.law_steps.specs.Imports.{stage_at, with_paired, with_reserved}
 pub use Rattle.law_steps.proofs.Imports.{ByBoth, ByNone, ByOne, Chain, Follows, Greater, HasDied, HasLater, HasStage, IsCaughtStill, IsHeldBy, IsSteady, Less}
 pub use Rattle.law_steps.proofs.Imports.{Ordering, Pairs, Store, alone_not_both, at-empty, cell_apart, cell_cmp_same, cell_same, clock_of, epoch_at, found_at}
 pub use Rattle.law_steps.proofs.Imports.{front_plain, get_within, history_agrees, history_grows, history_is_firm, in_once, insert_entry, is_at, is_clients}
@@ -58,8 +58,8 @@ pub use Rattle.law_requests.specs.Imports.{done_to, line_by}
 pub use Rattle.law_requests.proofs.Imports.{Alone_has, Answered, Begins, Blanks_it, Both_have, By_operation, By_verdict, By_witness, Fails_it, Goes_on}
 pub use Rattle.law_requests.proofs.Imports.{Had_no_slot, Has_no_space, Heard, IsCalled, IsFinishedFor, IsJudged, IsReason, IsSeenAs, Is_retired, Is_declined}
 pub use Rattle.law_requests.proofs.Imports.{Is_settled, Is_told, Judges, OnlySays, Reads, Shown, Starts_it, StaysOpen, Stops_at, Stops_it, Turned, both_leads}
-pub use Rattle.law_requests.proofs.Imports.{chosen_steady, did_finish, disk_on, front_same, is_refused, leaving, led_by, own_below, own_plain, rests_in}
-pub use Rattle.law_requests.proofs.Imports.{runs_now, write_refusal}
+pub use Rattle.law_requests.proofs.Imports.{chosen_steady, did_finish, disk_on, is_refused, leaving, led_by, own_below, own_plain, rests_in, runs_now}
+pub use Rattle.law_requests.proofs.Imports.{write_refusal}
 pub use Rattle.law_moves.specs.Imports.{HasNewer, IsFilledFrom, IsServing}
 pub use Rattle.law_moves.proofs.Imports.{AliveIn, AreCopies, AreCopying, AreTwins, Good, HasSent, IsAt, IsCaught, IsLast, IsLeft, IsLinked, IsOther, IsOwn}
 pub use Rattle.law_moves.proofs.Imports.{IsStaged, IsTold, PairOk, WasThere, Working, alive_on, alone_authority, alone_or_flagged, at_by, ballot_store}
@@ -111,6 +111,7 @@ pub use Rattle.law_requests.proofs.OpenedAfterReport.{reports_hold}
 pub use Rattle.law_requests.proofs.RequestsInHistories.{AskingAlong, asking_along, first_lives, more_lives, one_more, reports_known, requests_after}
 pub use Rattle.law_requests.proofs.RequestsInHistories.{start_along, start_asking, start_lives}
 pub use Rattle.law_requests.proofs.RequestsKnownLater.{pending_further}
+pub use Rattle.law_requests.proofs.StepsGoOnOrBoot.{worked_grows}
 pub use Rattle.law_requests.proofs.StepsKeepRequests.{GoesOn, ended_later, happens_asking, happens_later, proposed_pairs}
 pub use Rattle.law_requests.proofs.WritesAtLaterFronts.{write_stays}
 pub use Rattle.law_requests.specs.AskedRequests.{IsOpen, IsRead, IsWrite}
@@ -166,7 +167,6 @@ pub use Rattle.spec_machine.specs.declared.event.WriteEnd.{WriteEnd}
 pub use Rattle.spec_machine.specs.declared.state.Open.{Open}
 pub use Rattle.spec_machine.specs.declared.state.PlainDisk.{PlainDisk}
 pub use Rattle.spec_machine.specs.declared.state.PlainSnapshot.{PlainSnapshot}
-pub use Rattle.spec_rules.proofs.Settled.{IsSettling}
 pub use Rattle.spec_rules.specs.Clients.{counts}
 pub use Rattle.spec_rules.specs.Store.{or_else}
 pub use Rattle.spec_state.specs.CellState.{named_cell, named_map, old_map, read_cell, read_map}

@@ -11,7 +11,7 @@ use Rattle.law_run.proofs.Overlay.{IsFill, fill_same}
 use Rattle.law_run.proofs.ContentsByCells.{entry_over, has_over, is_between}
 use Rattle.law_run.specs.WritesGoOn.{is_held, Onward}
 use Rattle.law_run.proofs.ChosenDisks.{HasDisk, cell_comes, cell_named, content_is, disk_here, disks_now, has_content_is, named_epoch, named_high}
-use Rattle.law_run.proofs.ChosenDisks.{named_map_is, one_row_of, plain_now, rows_in}
+use Rattle.law_run.proofs.ChosenDisks.{named_map_is, one_row_of, rows_in}
 use Rattle.law_run.proofs.MachineTakesWrites.{IsGiven, AreGiven, Taken, all_given, given_held, takes_of, was_kept, now_has, now_kept, StaysAt, was_has}
 use Rattle.law_run.proofs.EntryAtEpoch.{entry_below, entry_put}
 use Rattle.law_run.proofs.ServerFrames.{OwnFollow, SaysOk, CountsOk}
@@ -33,43 +33,33 @@ module _ (this : ServerStep) (same : chosen_log this.setting (later_world this) 
   rows_same : (row : DiskRow) → In row (rows_in this.setting this.w) → In row (rows_in this.setting v)
   rows_same row h = subst (λ (s : State). In row s.disks.rows) (sym chosen_is) h
 
-  -- the entry of the cell that requests name
-  was_entry : (row : DiskRow) (epoch b : ℕ) → Option Stored
-  was_entry row epoch b = entry_of chosen (counted this.setting this.w) (named_cell row b) epoch
+  -- the entry of a cell by the copy that counts, before the step and after it
+  abbrev was_of : Cell → ℕ → Option Stored
+  was_of = entry_of chosen (counted this.setting this.w)
 
-  now_entry : (row : DiskRow) (epoch b : ℕ) → Option Stored
-  now_entry row epoch b = entry_of (chosen_state this.setting v) (counted this.setting v) (named_cell row b) epoch
+  abbrev now_of : Cell → ℕ → Option Stored
+  now_of = entry_of (chosen_state this.setting v) (counted this.setting v)
+
+  disks : AreDisks chosen
+  disks = disks_now this.setting this.w this.along.firm
 
   -- the block's contents after the step, by what was frozen before it
   now_is : (row : DiskRow) → In row (rows_in this.setting this.w) → (epoch b : ℕ)
       → now_kept this row epoch b
-      ≡ bytes_of (entry_over (is_between row b) (entry_of (chosen_state this.setting v) (counted this.setting v) (named_cell row b) epoch)
-      (entry_before this.w (old_cell row b) epoch))
+      ≡ bytes_of (entry_over (is_between row b) (now_of (named_cell row b) epoch) (entry_before this.w (old_cell row b) epoch))
   now_is row h epoch b =
       content_is this.setting v this.next.firm row (rows_same row h) epoch b
-      ∙ ap (λ o. bytes_of (entry_over (is_between row b) (entry_of (chosen_state this.setting v) (counted this.setting v) (named_cell row b) epoch)
+      ∙ ap (λ o. bytes_of (entry_over (is_between row b) (now_of (named_cell row b) epoch)
       (option_and_then (λ chain. entry_at chain epoch) o))) (frozen_same this same (old_cell row b))
 
   now_has_is : (row : DiskRow) → In row (rows_in this.setting this.w) → (epoch b : ℕ)
       → now_has this row epoch b
-      ≡ has_over (is_between row b) (is_some (authority (chosen_state this.setting v) (named_cell row b)))
-      (entry_of (chosen_state this.setting v) (counted this.setting v) (named_cell row b) epoch) (is_some (this.w.frozen (old_cell row b)))
+      ≡ has_over (is_between row b) (is_some (authority (chosen_state this.setting v) (named_cell row b))) (now_of (named_cell row b) epoch)
+      (is_some (this.w.frozen (old_cell row b)))
   now_has_is row h epoch b =
       has_content_is this.setting v this.next.firm row (rows_same row h) epoch b
       ∙ ap (λ o. has_over (is_between row b) (is_some (authority (chosen_state this.setting v) (named_cell row b)))
-      (entry_of (chosen_state this.setting v) (counted this.setting v) (named_cell row b) epoch) (is_some o)) (frozen_same this same (old_cell row b))
-
-  was_is : (row : DiskRow) → In row (rows_in this.setting this.w) → (epoch b : ℕ)
-      → was_kept this row epoch b
-      ≡ bytes_of (entry_over (is_between row b) (entry_of chosen (counted this.setting this.w) (named_cell row b) epoch)
-      (entry_before this.w (old_cell row b) epoch))
-  was_is row h epoch b = content_is this.setting this.w this.along.firm row h epoch b
-
-  was_has_is : (row : DiskRow) → In row (rows_in this.setting this.w) → (epoch b : ℕ)
-      → was_has this row epoch b
-      ≡ has_over (is_between row b) (is_some (authority chosen (named_cell row b)))
-      (entry_of chosen (counted this.setting this.w) (named_cell row b) epoch) (is_some (this.w.frozen (old_cell row b)))
-  was_has_is row h epoch b = has_content_is this.setting this.w this.along.firm row h epoch b
+      (now_of (named_cell row b) epoch) (is_some o)) (frozen_same this same (old_cell row b))
 
   counts_same : (cell : Cell) → is_some (authority chosen cell) ≡ is_some (authority (chosen_state this.setting v) cell)
   counts_same cell = ap (λ s. is_some (authority s cell)) (sym chosen_is)
@@ -84,13 +74,12 @@ module _ (this : ServerStep) (same : chosen_log this.setting (later_world this) 
 
   -- where the entry of the cell that requests name is as before, all of it is
   same_by : (row : DiskRow) → In row (rows_in this.setting this.w) → (epoch b : ℕ)
-      → entry_of chosen (counted this.setting this.w) (named_cell row b) epoch
-      ≡ entry_of (chosen_state this.setting v) (counted this.setting v) (named_cell row b) epoch → IsSame row epoch b
+      → was_of (named_cell row b) epoch ≡ now_of (named_cell row b) epoch → IsSame row epoch b
   same_by row h epoch b e = record {
-    has = was_has_is row h epoch b
+    has = has_content_is this.setting this.w this.along.firm row h epoch b
         ∙ (λ i. has_over (is_between row b) (counts_same (named_cell row b) i) (e i) (is_some (this.w.frozen (old_cell row b))))
         ∙ sym (now_has_is row h epoch b);
-    bytes = was_is row h epoch b
+    bytes = content_is this.setting this.w this.along.firm row h epoch b
         ∙ ap (λ o. bytes_of (entry_over (is_between row b) o (entry_before this.w (old_cell row b) epoch))) e
         ∙ sym (now_is row h epoch b);
   }
@@ -140,46 +129,60 @@ module _ (this : ServerStep) (same : chosen_log this.setting (later_world this) 
     pub own_counts : IsOwn this.setting this.w this.n
     pub mine : authority chosen (cell_of key) ≡ Some this.n
 
-  module _ (p : PutsHere) (epoch : epoch_at chosen (cell_of p.key) ≡ p.key.epoch) (op : Pending) (bytes : p.entry.bytes ≡ op.bytes)
-      (place : Placed this op (cell_of p.key)) where
+  -- the block of a cell that requests name is one
+  same_block : (row other : DiskRow) → In row (rows_in this.setting this.w) → In other (rows_in this.setting this.w) → (b a : ℕ)
+      → named_cell row b ≡ named_cell other a → (row ≡ other) × (b ≡ a)
+  same_block row other h there b a is = (
+    one_row_of chosen disks row other h there (named_map_is this.setting.servers chosen (plain_chosen this) disks row h b)
+        (named_map_is this.setting.servers chosen (plain_chosen this) disks other there a) (ap (λ (c : Cell). c.map) is),
+    ap (λ (c : Cell). c.block) is,
+  )
+
+  module _ (p : PutsHere) where
     open p use {key, entry, chains, own_counts, mine}
 
+    abbrev was_chain : Chain
+    was_chain = chain_in own.store.chains (cell_of key)
+
     abbrev chain : Chain
-    chain = put nat_cmp (chain_in own.store.chains (cell_of key)) key.epoch entry
-
-    chosen_disks : AreDisks chosen
-    chosen_disks = disks_now this.setting this.w this.along.firm
-
-    -- the key's epoch is the disk's
-    at_epoch : place.row.epoch ≡ key.epoch
-    at_epoch =
-        sym (named_epoch this.setting.servers chosen (plain_now this.setting this.w this.along.firm) chosen_disks place.row place.there place.block)
-        ∙ ap (epoch_at chosen) (sym place.at_block) ∙ epoch
+    chain = put nat_cmp was_chain key.epoch entry
 
     -- the entry of the cell, by the server's own chain
-    now_here : (e : ℕ) → entry_of (chosen_state this.setting v) (counted this.setting v) (named_cell place.row place.block) e ≡ entry_at chain e
-    now_here e =
-        ap (λ (c : Cell). entry_by (counted this.setting v) c e (authority (chosen_state this.setting v) c)) (sym place.at_block)
-        ∙ ap (entry_by (counted this.setting v) (cell_of key) e) (ap (λ s. authority s (cell_of key)) chosen_is ∙ mine)
+    now_put : (e : ℕ) → now_of (cell_of key) e ≡ entry_at chain e
+    now_put e =
+        ap (entry_by (counted this.setting v) (cell_of key) e) (ap (λ s. authority s (cell_of key)) chosen_is ∙ mine)
         ∙ ap (λ (s : Store). entry_at (chain_in s.chains (cell_of key)) e) (own_after this own_counts (joined_same this.n))
         ∙ ap (λ c. entry_at (chain_in c (cell_of key)) e) chains
         ∙ ap (λ c. entry_at c e) (chain_put own.store.chains (cell_of key) chain)
 
-    was_here : (e : ℕ) → entry_of chosen (counted this.setting this.w) (named_cell place.row place.block) e
-        ≡ entry_at (chain_in own.store.chains (cell_of key)) e
-    was_here e =
-        ap (λ (c : Cell). entry_by (counted this.setting this.w) c e (authority chosen c)) (sym place.at_block)
-        ∙ ap (entry_by (counted this.setting this.w) (cell_of key) e) mine
+    was_put : (e : ℕ) → was_of (cell_of key) e ≡ entry_at was_chain e
+    was_put e =
+        ap (entry_by (counted this.setting this.w) (cell_of key) e) mine
         ∙ ap (λ (s : Store). entry_at (chain_in s.chains (cell_of key)) e) (own_counts own.store)
 
-    rising : IsRising nat_cmp (chain_in own.store.chains (cell_of key))
+    beside : (row : DiskRow) → In row (rows_in this.setting this.w) → (b : ℕ) → named_cell row b ≢ cell_of key → (e : ℕ) → IsSame row e b
+    beside row there b ne = own_unchanged own_counts row there b (λ mine. ap (λ c. chain_in c (named_cell row b)) chains
+        ∙ chain_apart own.store.chains (cell_of key) chain (named_cell row b) ne)
+
+  module _ (p : PutsHere) (epoch : epoch_at chosen (cell_of p.key) ≡ p.key.epoch) (op : Pending) (bytes : p.entry.bytes ≡ op.bytes)
+      (place : Placed this op (cell_of p.key)) where
+    open p use {key, entry, chains, own_counts, mine}
+
+    -- the key's epoch is the disk's
+    at_epoch : place.row.epoch ≡ key.epoch
+    at_epoch =
+        sym (named_epoch this.setting.servers chosen (plain_chosen this) disks place.row place.there place.block)
+        ∙ ap (epoch_at chosen) (sym place.at_block) ∙ epoch
+
+    now_here : (e : ℕ) → now_of (named_cell place.row place.block) e ≡ entry_at (chain p) e
+    now_here e = ap (λ (c : Cell). now_of c e) (sym place.at_block) ∙ now_put p e
+
+    rising : IsRising nat_cmp (was_chain p)
     rising = subst (λ (s : Store). IsRising nat_cmp (chain_in s.chains (cell_of key))) (own_counts own.store)
         (this.ground.good.rising this.n (cell_of key))
 
-    entry_here : entry_of (chosen_state this.setting v) (counted this.setting v) (named_cell place.row place.block) place.row.epoch ≡ Some entry
-    entry_here =
-        ap (entry_of (chosen_state this.setting v) (counted this.setting v) (named_cell place.row place.block)) at_epoch ∙ now_here key.epoch
-        ∙ entry_put (chain_in own.store.chains (cell_of key)) key.epoch entry rising
+    entry_here : now_of (named_cell place.row place.block) place.row.epoch ≡ Some entry
+    entry_here = ap (now_of (named_cell place.row place.block)) at_epoch ∙ now_here key.epoch ∙ entry_put (was_chain p) key.epoch entry rising
 
     put_here : now_kept this place.row place.row.epoch place.block ≡ op.bytes
     put_here =
@@ -195,34 +198,24 @@ module _ (this : ServerStep) (same : chosen_log this.setting (later_world this) 
 
     put_below : (e : ℕ) → e < place.row.epoch → StaysAt this place.row e place.block
     put_below e lt = stays_by place.row e place.block (same_by place.row place.there e place.block
-        (was_here e
-        ∙ sym (entry_below (chain_in own.store.chains (cell_of key)) key.epoch entry e (subst (λ k. e < k) at_epoch lt))
-        ∙ sym (now_here e)))
-
-    beside : (row : DiskRow) → In row (rows_in this.setting this.w) → (b : ℕ) → named_cell row b ≢ cell_of key → (e : ℕ) → IsSame row e b
-    beside row there b ne = own_unchanged own_counts row there b (λ mine. ap (λ c. chain_in c (named_cell row b)) chains
-        ∙ chain_apart own.store.chains (cell_of key) chain (named_cell row b) ne)
+        (ap (λ (c : Cell). was_of c e) (sym place.at_block) ∙ was_put p e
+        ∙ sym (entry_below (was_chain p) key.epoch entry e (subst (λ k. e < k) at_epoch lt)) ∙ sym (now_here e)))
 
     given_here : IsGiven this place.row place.block
     given_here =
-        let stored : at cell_cmp (kept this.setting v this.n).chains (named_cell place.row place.block) ≡ Some chain =
+        let stored : at cell_cmp (kept this.setting v this.n).chains (named_cell place.row place.block) ≡ Some (chain p) =
         ap (λ (s : Store). at cell_cmp s.chains (named_cell place.row place.block)) (own_after this own_counts (joined_same this.n))
         ∙ ap (λ c. at cell_cmp c (named_cell place.row place.block)) chains
-        ∙ ap (at cell_cmp (chains_with own.store.chains key entry)) (sym place.at_block) ∙ cell_same own.store.chains (cell_of key) chain in
+        ∙ ap (at cell_cmp (chains_with own.store.chains key entry)) (sym place.at_block) ∙ cell_same own.store.chains (cell_of key) (chain p) in
         placed_given this op (cell_of key) place put_here put_below
-        (block_there (change_by this.setting this.w v) this.n (named_cell place.row place.block).map place.block chain this.within stored)
+        (block_there (change_by this.setting this.w v) this.n (named_cell place.row place.block).map place.block (chain p) this.within stored)
 
     pub given_put : AreGiven this
     given_put row h b = elim (same_cell_or_apart (named_cell row b) (cell_of key)) [
-      | inr ne ↦ inl (λ e. stays_by row e b (beside row h b ne e))
+      | inr ne ↦ inl (λ e. stays_by row e b (beside p row h b ne e))
       | inl is ↦
-          let at = is ∙ place.at_block in
-          let row_is : row ≡ place.row = one_row_of chosen chosen_disks row place.row h place.there
-          (named_map_is this.setting.servers chosen (plain_now this.setting this.w this.along.firm) chosen_disks row h b)
-          (named_map_is this.setting.servers chosen (plain_now this.setting this.w this.along.firm) chosen_disks place.row place.there place.block)
-          (ap (λ (c : Cell). c.map) at) in
-          let block_is : b ≡ place.block = ap (λ (c : Cell). c.block) at in
-          inr (subst (λ (r : DiskRow). IsGiven this r b) (sym row_is) (subst (IsGiven this place.row) (sym block_is) given_here))
+          let same = same_block row place.row h place.there b place.block (is ∙ place.at_block) in
+          inr (subst (λ (r : DiskRow). IsGiven this r b) (sym same.0) (subst (IsGiven this place.row) (sym same.1) given_here))
     ]
 
     -- the block has a content, since the server's copy counts
@@ -250,15 +243,11 @@ module _ (this : ServerStep) (same : chosen_log this.setting (later_world this) 
   -- the cell that requests name of a disk's block is not retired
   pub named_alive : (row : DiskRow) → In row (rows_in this.setting this.w) → (b : ℕ) → AliveIn chosen (named_cell row b)
   named_alive row there b =
-      let high = named_high this.setting.servers chosen (plain_now this.setting this.w this.along.firm)
-      (disks_now this.setting this.w this.along.firm) row there b in
+      let high = named_high this.setting.servers chosen (plain_chosen this) disks row there b in
       omega (arith, high)
 
   pub retired_apart : {B : Type 0} (row : DiskRow) → In row (rows_in this.setting this.w) → (b : ℕ) → stage_at chosen (named_cell row b) ≡ 4 → B
-  retired_apart row there b retired =
-      let high = named_high this.setting.servers chosen (plain_now this.setting this.w this.along.firm)
-      (disks_now this.setting this.w this.along.firm) row there b in
-      absurd (omega arith)
+  retired_apart row there b retired = let alive = named_alive row there b in absurd (omega arith)
 
   -- a fill of the copy that counts changes no content
   module _ (p : PutsHere) (filled : List ℕ) (bytes : p.entry.bytes ≡ filled) (one : stage_at chosen (cell_of p.key) ≡ 1) (rev : ℕ)
@@ -268,12 +257,6 @@ module _ (this : ServerStep) (same : chosen_log this.setting (later_world this) 
 
     abbrev cell : Cell
     cell = cell_of key
-
-    abbrev was_chain : Chain
-    was_chain = chain_in own.store.chains cell
-
-    disks : AreDisks chosen
-    disks = disks_now this.setting this.w this.along.firm
 
     disk : HasDisk this.setting.servers chosen (plain_chosen this) disks cell
     disk = disk_here this.setting.servers chosen (plain_chosen this) disks cell (omega (arith, one)) (omega (arith, one))
@@ -292,7 +275,7 @@ module _ (this : ServerStep) (same : chosen_log this.setting (later_world this) 
     frozen_here : this.w.frozen (old_cell disk.row cell.block) ≡ Some frozen.before
     frozen_here = ap this.w.frozen (sym old_is) ∙ frozen.frozen
 
-    is_fill : IsFill was_chain frozen.before key.epoch filled
+    is_fill : IsFill (was_chain p) frozen.before key.epoch filled
     is_fill = fill_there (grounded this) (record {
       key = key;
       bytes = filled;
@@ -305,40 +288,26 @@ module _ (this : ServerStep) (same : chosen_log this.setting (later_world this) 
       n = this.n;
       counts = mine;
     })
-        was_chain (ap (λ (s : Store). chain_in s.chains cell) (own_counts own.store)) lacks
-
-    now_fill : (e : ℕ) → entry_of (chosen_state this.setting v) (counted this.setting v) cell e ≡ entry_at (put nat_cmp was_chain key.epoch entry) e
-    now_fill e =
-        ap (entry_by (counted this.setting v) cell e) (ap (λ s. authority s cell) chosen_is ∙ mine)
-        ∙ ap (λ (s : Store). entry_at (chain_in s.chains cell) e) (own_after this own_counts (joined_same this.n))
-        ∙ ap (λ c. entry_at (chain_in c cell) e) chains
-        ∙ ap (λ c. entry_at c e) (chain_put own.store.chains cell (put nat_cmp was_chain key.epoch entry))
-
-    was_fill : (e : ℕ) → entry_of chosen (counted this.setting this.w) cell e ≡ entry_at was_chain e
-    was_fill e =
-        ap (entry_by (counted this.setting this.w) cell e) mine
-        ∙ ap (λ (s : Store). entry_at (chain_in s.chains cell) e) (own_counts own.store)
+        (was_chain p) (ap (λ (s : Store). chain_in s.chains cell) (own_counts own.store)) lacks
 
     before_fill : (e : ℕ) → entry_before this.w (old_cell disk.row cell.block) e ≡ entry_at frozen.before e
     before_fill e = ap (option_and_then (λ chain. entry_at chain e)) frozen_here
 
     fill_here : (e : ℕ) → IsSame disk.row e cell.block
     fill_here e = record {
-      has = was_has_is disk.row disk.there e cell.block
-          ∙ (λ i. has_over (between i) (counts_same (named_cell disk.row cell.block) i)
-          (entry_of chosen (counted this.setting this.w) (named_cell disk.row cell.block) e) (is_some (frozen_here i)))
-          ∙ over_frozen (is_some (authority (chosen_state this.setting v) (named_cell disk.row cell.block)))
-          (entry_of chosen (counted this.setting this.w) (named_cell disk.row cell.block) e)
-          (entry_of (chosen_state this.setting v) (counted this.setting v) (named_cell disk.row cell.block) e)
+      has = has_content_is this.setting this.w this.along.firm disk.row disk.there e cell.block
+          ∙ (λ i. has_over (between i) (counts_same (named_cell disk.row cell.block) i) (was_of (named_cell disk.row cell.block) e) (is_some (frozen_here i)))
+          ∙ over_frozen (is_some (authority (chosen_state this.setting v) (named_cell disk.row cell.block))) (was_of (named_cell disk.row cell.block) e)
+          (now_of (named_cell disk.row cell.block) e)
           ∙ sym (λ i. has_over (between i) (is_some (authority (chosen_state this.setting v) (named_cell disk.row cell.block)))
-          (entry_of (chosen_state this.setting v) (counted this.setting v) (named_cell disk.row cell.block) e) (is_some (frozen_here i)))
+          (now_of (named_cell disk.row cell.block) e) (is_some (frozen_here i)))
           ∙ sym (now_has_is disk.row disk.there e cell.block);
-      bytes = was_is disk.row disk.there e cell.block
-          ∙ (λ i. bytes_of (entry_over (between i) (entry_of chosen (counted this.setting this.w) (sym named i) e) (before_fill e i)))
-          ∙ ap (λ o. bytes_of (first_entry o (entry_at frozen.before e))) (was_fill e)
-          ∙ fill_same was_chain frozen.before key.epoch entry filled bytes is_fill e
-          ∙ ap (λ o. bytes_of (first_entry o (entry_at frozen.before e))) (sym (now_fill e))
-          ∙ sym (λ i. bytes_of (entry_over (between i) (entry_of (chosen_state this.setting v) (counted this.setting v) (sym named i) e) (before_fill e i)))
+      bytes = content_is this.setting this.w this.along.firm disk.row disk.there e cell.block
+          ∙ (λ i. bytes_of (entry_over (between i) (was_of (sym named i) e) (before_fill e i)))
+          ∙ ap (λ o. bytes_of (first_entry o (entry_at frozen.before e))) (was_put p e)
+          ∙ fill_same (was_chain p) frozen.before key.epoch entry filled bytes is_fill e
+          ∙ ap (λ o. bytes_of (first_entry o (entry_at frozen.before e))) (sym (now_put p e))
+          ∙ sym (λ i. bytes_of (entry_over (between i) (now_of (sym named i) e) (before_fill e i)))
           ∙ sym (now_is disk.row disk.there e cell.block);
     }
       where
@@ -351,12 +320,8 @@ module _ (this : ServerStep) (same : chosen_log this.setting (later_world this) 
 
     pub fill_given : AreGiven this
     fill_given row h b = inl (λ e. stays_by row e b (elim (same_cell_or_apart (named_cell row b) cell) [
-      | inr ne ↦ own_unchanged own_counts row h b (λ counted. ap (λ c. chain_in c (named_cell row b)) chains
-          ∙ chain_apart own.store.chains cell _ (named_cell row b) ne) e
+      | inr ne ↦ beside p row h b ne e
       | inl is ↦
-          let at = is ∙ named in
-          let row_is : row ≡ disk.row = one_row_of chosen disks row disk.row h disk.there
-          (named_map_is this.setting.servers chosen (plain_chosen this) disks row h b) disk.has (ap (λ (c : Cell). c.map) is) in
-          let block_is : b ≡ cell.block = ap (λ (c : Cell). c.block) is in
-          subst (λ (r : DiskRow). IsSame r e b) (sym row_is) (subst (IsSame disk.row e) (sym block_is) (fill_here e))
+          let same = same_block row disk.row h disk.there b cell.block (is ∙ named) in
+          subst (λ (r : DiskRow). IsSame r e b) (sym same.0) (subst (IsSame disk.row e) (sym same.1) (fill_here e))
     ]))

@@ -1,11 +1,11 @@
 -- A script that is read is sound.
-use Rattle.law_run.proofs.Imports.{[], ◌&&◌, ◌++◌, ◌+◌, ◌<◌, ◌==◌, ◌>>=◌, ◌||◌, ◌∙◌, ◌∷◌, ◌≡◌, ◌≤◌, BadNumber, BadTuple, Bool, Cause, Does, Err, In, IsSound}
-use Rattle.law_run.proofs.Imports.{Line, List, None, Ok, Pattern, Request, Result, Script, Some, TextLine, Word, a_block, a_byte, a_call, a_device, a_kind}
-use Rattle.law_run.proofs.Imports.{a_name, a_server, a_tuple, ap, arith, asks, boot_of, both_true, by_test, client_request, codes, cond, false, fault_of}
-use Rattle.law_run.proofs.Imports.{filled_of, first_line, four_words, front_word, halves_of, in-append, in_limits, inl, inr, is_accepted, is_some, is_tuple}
-use Rattle.law_run.proofs.Imports.{is_word, length, line_at, lines_after, move_of, nat_le, nat_tests, net_line, nets, no_word, not, numbers_of, one_word}
-use Rattle.law_run.proofs.Imports.{operator_request, pieces, read_of, refl, script_of, servers_line, skipped, snap_of, spread_of, stop_at, stop_of, subst}
-use Rattle.law_run.proofs.Imports.{sym, text_lines, three_words, true, two_words, waits, words_of, write_of, ℕ}
+use Rattle.law_run.proofs.Imports.{[], ◌&&◌, ◌++◌, ◌+◌, ◌<◌, ◌==◌, ◌>>=◌, ◌||◌, ◌∙◌, ◌∷◌, ◌≡◌, ◌≤◌, ◌⊎◌, BadNumber, BadTuple, Bool, Cause, Does, Err, In}
+use Rattle.law_run.proofs.Imports.{IsSound, Line, List, None, Ok, Pattern, Request, Result, Script, Some, TextLine, Word, a_block, a_byte, a_call, a_device}
+use Rattle.law_run.proofs.Imports.{a_kind, a_name, a_server, a_tuple, ap, arith, asks, boot_of, both_true, by_test, client_request, codes, cond, false}
+use Rattle.law_run.proofs.Imports.{fault_of, filled_of, first_line, four_words, front_word, halves_of, in-append, in_limits, inl, inr, is_accepted, is_some}
+use Rattle.law_run.proofs.Imports.{is_tuple, is_word, length, line_at, lines_after, move_of, nat_le, nat_tests, net_line, nets, no_word, not, numbers_of}
+use Rattle.law_run.proofs.Imports.{one_word, operator_request, pieces, read_of, refl, script_of, servers_line, skipped, snap_of, spread_of, stop_at, stop_of}
+use Rattle.law_run.proofs.Imports.{subst, sym, text_lines, three_words, true, two_words, waits, words_of, write_of, ℕ}
 use Rattle.petal_base.specs.Tuple.{tuple_of}
 use Rattle.petal_script.specs.Words.{or_else}
 use Rattle.petal_script.specs.Number.{number_of}
@@ -60,14 +60,14 @@ module _ (servers : ℕ) where
   disk_fits : (words : List Word) → Fit (disk_of servers words)
   unfolding disk_of
   disk_fits words =
-      then_ok _ (spread_of servers words) _ (λ parts e. ok_is (λ (x : List ℕ × List ℕ). is_tuple servers x.1 ≡ true) (spread_of servers words) parts
-      (spread_fits words) e)
+      then_ok _ (spread_of servers words) _ (λ parts. ok_is (λ (x : List ℕ × List ℕ). is_tuple servers x.1 ≡ true) (spread_of servers words) parts
+      (spread_fits words))
 
   move_fits : (words : List Word) → Fit (move_of servers words)
   unfolding move_of
   move_fits words =
-      then_ok _ (spread_of servers words) _ (λ parts e. ok_is (λ (x : List ℕ × List ℕ). is_tuple servers x.1 ≡ true) (spread_of servers words) parts
-      (spread_fits words) e)
+      then_ok _ (spread_of servers words) _ (λ parts. ok_is (λ (x : List ℕ × List ℕ). is_tuple servers x.1 ≡ true) (spread_of servers words) parts
+      (spread_fits words))
 
   filled_fits : (disk place : Word) (how : ℕ → Pattern) (x : Word) → Fit (filled_of disk place how x)
   unfolding filled_of
@@ -142,12 +142,6 @@ module _ (servers : ℕ) where
   asks_fits first words client asked (inl op) = ok_is (IsFit servers) (operator_request servers words) asked (operator_fits words) op.2
   asks_fits first words client asked (inr of) = ok_is (IsFit servers) (client_request servers words) asked (client_fits words) of.2
 
-fit_disk : (servers : ℕ) (asked : Request) (name tuple : List ℕ) → asked ≡ request.Disk name tuple → IsFit servers asked → is_tuple servers tuple ≡ true
-fit_disk servers asked name tuple e h = subst (IsFit servers) e h
-
-fit_move : (servers : ℕ) (asked : Request) (name tuple : List ℕ) → asked ≡ request.Move name tuple → IsFit servers asked → is_tuple servers tuple ≡ true
-fit_move servers asked name tuple e h = subst (IsFit servers) e h
-
 -- ### Lines after the servers line
 
 -- the same servers and lines
@@ -220,58 +214,46 @@ record IsSoFar (s : Script) (above : ℕ) : Type 0 where
   numbered : (one other : Line) → In one s.lines → In other s.lines → one.number ≡ other.number → one ≡ other
   below : (line : Line) → In line s.lines → line.number ≤ above
   few : s.servers ≤ 256
-  spread : (line : Line) (name tuple : List ℕ) → In line s.lines → line.request ≡ request.Disk name tuple → is_tuple s.servers tuple ≡ true
-  moved : (line : Line) (name tuple : List ℕ) → In line s.lines → line.request ≡ request.Move name tuple → is_tuple s.servers tuple ≡ true
+  fit : (line : Line) → In line s.lines → IsFit s.servers line.request
 
 like_so_far : (s t : Script) (above : ℕ) → IsLike s t → IsSoFar s above → IsSoFar t above
 like_so_far s t above like h = record {
   numbered = λ one other i j e. h.numbered one other (subst (In one) like.lines i) (subst (In other) like.lines j) e;
   below = λ line i. h.below line (subst (In line) like.lines i);
   few = let e = like.servers in let few = h.few in omega arith;
-  spread = λ line name tuple i e. subst (λ n. is_tuple n tuple ≡ true) (sym like.servers) (h.spread line name tuple (subst (In line) like.lines i) e);
-  moved = λ line name tuple i e. subst (λ n. is_tuple n tuple ≡ true) (sym like.servers) (h.moved line name tuple (subst (In line) like.lines i) e);
+  fit = λ line i. subst (λ n. IsFit n line.request) (sym like.servers) (h.fit line (subst (In line) like.lines i));
 }
 
 higher : (s : Script) (low high : ℕ) → low ≤ high → IsSoFar s low → IsSoFar s high
 higher s low high le h =
-    record { numbered = h.numbered; below = λ line i. let b = h.below line i in omega arith; few = h.few; spread = h.spread; moved = h.moved }
+    record { numbered = h.numbered; below = λ line i. let b = h.below line i in omega arith; few = h.few; fit = h.fit }
+
+in_more : (one line : Line) (lines : List Line) → In one (lines ++ line ∷ []) → In one lines ⊎ (one ≡ line)
+unfolding In
+in_more one line lines i = elim (in-append one lines (line ∷ []) i) [ inl old ↦ inl old | inr (inl is) ↦ inr is | inr (inr none) ↦ absurd none ]
 
 more_so_far : (s t : Script) (above : ℕ) (line : Line) → above < line.number → t.servers ≡ s.servers → t.lines ≡ s.lines ++ line ∷ []
     → IsFit s.servers line.request → IsSoFar s above → IsSoFar t line.number
-unfolding In
 more_so_far s t above line lt servers lines fit h = record {
-  numbered = λ one other i j e. elim (in-append one s.lines (line ∷ []) (subst (In one) lines i)) [
-    | inl old ↦ elim (in-append other s.lines (line ∷ []) (subst (In other) lines j)) [
+  numbered = λ one other i j e. elim (in_more one line s.lines (subst (In one) lines i)) [
+    | inl old ↦ elim (in_more other line s.lines (subst (In other) lines j)) [
       | inl old' ↦ h.numbered one other old old' e
-      | inr new' ↦ elim new' [ inl is ↦ absurd (apart one other old (ap (λ (l : Line). l.number) is) e) | inr none ↦ absurd none ]
+      | inr is ↦ absurd (apart one other old (ap (λ (l : Line). l.number) is) e)
     ]
-    | inr new ↦ elim new [
-      | inl is ↦ elim (in-append other s.lines (line ∷ []) (subst (In other) lines j)) [
-        | inl old' ↦ absurd (apart other one old' (ap (λ (l : Line). l.number) is) (sym e))
-        | inr new' ↦ elim new' [ inl is' ↦ is ∙ sym is' | inr none ↦ absurd none ]
-      ]
-      | inr none ↦ absurd none
+    | inr is ↦ elim (in_more other line s.lines (subst (In other) lines j)) [
+      | inl old ↦ absurd (apart other one old (ap (λ (l : Line). l.number) is) (sym e))
+      | inr is' ↦ is ∙ sym is'
     ]
   ];
-  below = λ other i. elim (in-append other s.lines (line ∷ []) (subst (In other) lines i)) [
+  below = λ other i. elim (in_more other line s.lines (subst (In other) lines i)) [
     | inl old ↦ let b = h.below other old in omega arith
-    | inr new ↦ elim new [ inl is ↦ let e : other.number ≡ line.number = ap (λ (l : Line). l.number) is in omega arith | inr none ↦ absurd none ]
+    | inr is ↦ let e : other.number ≡ line.number = ap (λ (l : Line). l.number) is in omega arith
   ];
   few = let e = servers in let few = h.few in omega arith;
-  spread = λ other name tuple i e. elim (in-append other s.lines (line ∷ []) (subst (In other) lines i)) [
-    | inl old ↦ subst (λ n. is_tuple n tuple ≡ true) (sym servers) (h.spread other name tuple old e)
-    | inr new ↦ elim new [
-      | inl is ↦ subst (λ n. is_tuple n tuple ≡ true) (sym servers) (fit_disk s.servers line.request name tuple (ap (λ (l : Line). l.request) (sym is) ∙ e) fit)
-      | inr none ↦ absurd none
-    ]
-  ];
-  moved = λ other name tuple i e. elim (in-append other s.lines (line ∷ []) (subst (In other) lines i)) [
-    | inl old ↦ subst (λ n. is_tuple n tuple ≡ true) (sym servers) (h.moved other name tuple old e)
-    | inr new ↦ elim new [
-      | inl is ↦ subst (λ n. is_tuple n tuple ≡ true) (sym servers) (fit_move s.servers line.request name tuple (ap (λ (l : Line). l.request) (sym is) ∙ e) fit)
-      | inr none ↦ absurd none
-    ]
-  ];
+  fit = λ other i. subst (λ n. IsFit n other.request) (sym servers) (elim (in_more other line s.lines (subst (In other) lines i)) [
+    | inl old ↦ h.fit other old
+    | inr is ↦ subst (λ (l : Line). IsFit s.servers l.request) (sym is) fit
+  ]);
 }
   where
     apart : (one other : Line) → In one s.lines → other.number ≡ line.number → one.number ≡ other.number → ⊥
@@ -281,13 +263,9 @@ does_so_far : (s : Script) (told : TextLine) (t : Script) (above : ℕ) → Does
 does_so_far s told t above (skipped is same) lt h = subst (λ x. IsSoFar x told.number) (sym same) (higher s above told.number (omega arith) h)
 does_so_far s told t above (nets first words spelled is took) lt h =
     like_so_far s t told.number (ok_is (IsLike s) (net_line s words) t (net_like s words) took) (higher s above told.number (omega arith) h)
-does_so_far s told t above (waits first spelled is same) lt h = subst (λ x. IsSoFar x told.number) (sym same) (record {
-  numbered = h.numbered;
-  below = λ line i. let b = h.below line i in omega arith;
-  few = h.few;
-  spread = h.spread;
-  moved = h.moved;
-})
+does_so_far s told t above (waits first spelled is same) lt h =
+    let up = higher s above told.number (omega arith) h in
+    subst (λ x. IsSoFar x told.number) (sym same) (record { numbered = up.numbered; below = up.below; few = up.few; fit = up.fit })
 does_so_far s told t above (asks first words client asked spelled asks_for few many same) lt h =
     more_so_far s t above (line_at s told.number client asked) lt (ap (λ (x : Script). x.servers) same) (ap (λ (x : Script). x.lines) same)
     (asks_fits s.servers first words client asked asks_for) h
@@ -295,7 +273,12 @@ does_so_far s told t above (asks first words client asked spelled asks_for few m
 follows_so_far : (lines : List TextLine) (s t : Script) (above : ℕ) → Follows s lines t → AreAbove above lines → AreRising lines → IsSoFar s above → IsSound t
 unfolding In
 follows_so_far [] s t above follows high rises h =
-    subst IsSound (sym follows) (record { numbered = h.numbered; spread = h.spread; moved = h.moved; told_apart = h.few })
+    subst IsSound (sym follows) (record {
+      numbered = h.numbered;
+      spread = λ line name tuple i e. subst (IsFit s.servers) e (h.fit line i);
+      moved = λ line name tuple i e. subst (IsFit s.servers) e (h.fit line i);
+      told_apart = h.few;
+    })
 follows_so_far (told ∷ more) s t above follows high rises h =
     follows_so_far more follows.0 t told.number follows.2 rises.0 rises.1 (does_so_far s told follows.0 above follows.1 (high told (inl refl)) h)
 
@@ -322,6 +305,5 @@ read_sound text script e =
       numbered = λ one other i j e. absurd (subst (In one) empty i);
       below = λ line i. absurd (subst (In line) empty i);
       few = begun.few;
-      spread = λ line name tuple i e. absurd (subst (In line) empty i);
-      moved = λ line name tuple i e. absurd (subst (In line) empty i);
+      fit = λ line i. absurd (subst (In line) empty i);
     })

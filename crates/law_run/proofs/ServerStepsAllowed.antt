@@ -1,18 +1,17 @@
 -- What the machine is told of a server's step is allowed, and keeps it tied to the world.
-use Rattle.law_run.proofs.Imports.{[], ◌+◌, ◌||◌, ◌∙◌, ◌≡◌, Acted, AreStepsFrom, Body, By_ballot, By_entry, By_job, By_read, Cell, Command, Did, Ends, Fails}
-use Rattle.law_run.proofs.Imports.{Goes, Handled, In, IsSeatedOrMute, IsSettling, Job, JobContext, JobResult, Letter, Line, List, Log, NeverRetired, None}
-use Rattle.law_run.proofs.Imports.{Not_here, Option, PairState, Pairs, Pending, Plain, Post, Sender, Serving, Shows, Some, Stays, Store, Wakes, Worked, World}
-use Rattle.law_run.proofs.Imports.{ap, at, awake, ballot_store, cell_cmp, chain_in, chosen_log, chosen_same, copying_on, crossed, did_stores, down_posts}
-use Rattle.law_run.proofs.Imports.{false, in_none, inl, is_some, is_under_way, letters_of, named_cell, own_place, owns_of, proposed_pairs, raised, refl}
-use Rattle.law_run.proofs.Imports.{rev_of, said, sender, served_so, server_state, servers_of, settled_by, settling, stamped, stopped_so, subst, sym, true}
-use Rattle.law_run.proofs.Imports.{true_false, without_rev, ℕ}
+use Rattle.law_run.proofs.Imports.{[], ◌+◌, ◌||◌, ◌∙◌, ◌≡◌, ◌⊎◌, Acted, AreStepsFrom, Body, By_ballot, By_entry, By_job, By_read, Cell, Did, Ends, Fails}
+use Rattle.law_run.proofs.Imports.{Goes, Handled, In, IsSeatedOrMute, Job, JobContext, JobResult, Letter, Line, List, Log, NeverRetired, None, Not_here, Option}
+use Rattle.law_run.proofs.Imports.{PairState, Pairs, Pending, Plain, Post, Sender, Serving, Shows, Some, Stays, Store, Wakes, Worked, World, ap, at, awake}
+use Rattle.law_run.proofs.Imports.{ballot_store, cell_cmp, chain_in, chosen_log, chosen_same, copying_on, crossed, did_stores, down_posts, false, in_none}
+use Rattle.law_run.proofs.Imports.{inl, inr, is_some, is_under_way, letters_of, named_cell, own_place, owns_of, proposed_pairs, raised, refl, rev_of, said}
+use Rattle.law_run.proofs.Imports.{sender, served_so, server_state, servers_of, settling, stamped, stopped_so, subst, sym, true, true_false, without_rev, ℕ}
 use Rattle.law_run.proofs.GroundGives.{never_retired}
 use Rattle.law_run.proofs.NotHere.{not_here_told}
 use Rattle.law_run.proofs.ReadsShowContents.{AreUnchanged, data_of, show_told}
 use Rattle.law_run.proofs.EventsOfServerSteps.{LooksTold, Next, ServerStep, ServerTold, ServesAt, after_step, kept_here, later_world, letters, new}
 use Rattle.law_run.proofs.EventsOfServerSteps.{quiet_looks}
 use Rattle.law_run.specs.WritesGoOn.{Onward}
-use Rattle.law_run.proofs.ServerFrames.{AreKept, As_before, Anew, OwnFollow, Runs, SaysOk, kept_own}
+use Rattle.law_run.proofs.ServerFrames.{AreKept, As_before, Anew, Runs, SaysOk, kept_own}
 use Rattle.law_run.proofs.LogSteps.{IsOfKind, Of_the_log, Of_a_boot, Of_the_rest}
 use Rattle.law_run.proofs.ReadsLookWhereSent.{is_looked, AreGrounded, who_accepts}
 use Rattle.law_run.proofs.PutContents.{calm_told, joined_same, unchanged}
@@ -76,7 +75,19 @@ module _ (at : ServesAt) where
     abbrev IsSame : Acted → Type 0
     IsSame acted = chosen_log at.setting (after_step at acted) ≡ chosen_log at.setting at.w
 
-    -- a job of the pairs
+    abbrev goes : Log → JobResult → List Job → Acted
+    goes = served_so at.setting at.w at.n
+
+    abbrev ends : Log → JobResult → Acted
+    ends = stopped_so at.setting at.w at.n
+
+    -- what is to be shown of a step that leaves this
+    abbrev Told : Acted → Type 0
+    Told acted = (serving : Serving at.setting at.w at.n at.what acted) (next : Next at acted) → IsSame acted → HasLater (after_step at acted)
+        → ServerTold (step_of acted serving next)
+
+    -- ### A job of the pairs
+
     -- where nothing is chosen and no chain changes, the contents are as before
     calm : (this : ServerStep) → chosen_log this.setting (later_world this) ≡ chosen_log this.setting this.w
         → (new this).store.chains ≡ (owns_of this.w this.n).store.chains → AreUnchanged this
@@ -99,10 +110,8 @@ module _ (at : ServesAt) where
 
     module _ (log : Log) (runs : (at.w.servers at.n).life.running ≡ true) where
       job_looks : (done : JobResult) (did : Did hears here own done) (queue : List Job)
-          (serving : Serving at.setting at.w at.n at.what (served_so at.setting at.w at.n log done queue))
-          (next : Next at (served_so at.setting at.w at.n log done queue)) → IsSame (served_so at.setting at.w at.n log done queue)
-          → HasLater (after_step at (served_so at.setting at.w at.n log done queue))
-          → LooksTold (step_of (served_so at.setting at.w at.n log done queue) serving next)
+          (serving : Serving at.setting at.w at.n at.what (goes log done queue)) (next : Next at (goes log done queue)) → IsSame (goes log done queue)
+          → HasLater (after_step at (goes log done queue)) → LooksTold (step_of (goes log done queue) serving next)
       unfolding In
       job_looks _ (By_read _ (Shows client seq cell epoch readable there)) queue serving next same later =
           let this = step_of _ serving next in
@@ -121,11 +130,7 @@ module _ (at : ServesAt) where
           let s = said (sender here) at.stamp 0 done.posts letter i in
           ap is_looked s.body ∙ mute_data hears here own (never runs) done d tt s.post s.there)
 
-      job_told : (done : JobResult) (seated : IsSeatedOrMute here own done) (did : Did hears here own done) (queue : List Job)
-          (serving : Serving at.setting at.w at.n at.what (served_so at.setting at.w at.n log done queue))
-          (next : Next at (served_so at.setting at.w at.n log done queue)) → IsSame (served_so at.setting at.w at.n log done queue)
-          → HasLater (after_step at (served_so at.setting at.w at.n log done queue))
-          → ServerTold (step_of (served_so at.setting at.w at.n log done queue) serving next)
+      job_told : (done : JobResult) → IsSeatedOrMute here own done → Did hears here own done → (queue : List Job) → Told (goes log done queue)
       job_told done seated did queue serving next same later =
           let this = step_of _ serving next in
           let says : (k : Plain) → Onward at.m k → SaysOk this k = λ k onward letter i c seq to says still.
@@ -136,92 +141,74 @@ module _ (at : ServesAt) where
           (job_looks done did queue serving next same later)
 
       -- the server stops once its commit is made
-      job_stopped : (done : JobResult) (seated : IsSeatedOrMute here own done) (did : Did hears here own done)
-          (serving : Serving at.setting at.w at.n at.what (stopped_so at.setting at.w at.n log done))
-          (next : Next at (stopped_so at.setting at.w at.n log done)) → IsSame (stopped_so at.setting at.w at.n log done)
-          → ServerTold (step_of (stopped_so at.setting at.w at.n log done) serving next)
-      job_stopped done seated did serving next same =
+      job_stopped : (done : JobResult) → IsSeatedOrMute here own done → Did hears here own done → Told (ends log done)
+      job_stopped done seated did serving next same later =
           let this = step_of _ serving next in
           let says : (k : Plain) → Onward at.m k → SaysOk this k = λ k onward. unended_says this (without_rev here) downs refl downs_end k in
           assembled this (stored_told this same runs says (did_stores hears here own (never runs) done seated did)
           (λ k onward held. did_job this k runs onward (never runs) done seated did held refl))
           (unended_looks this (without_rev here) downs refl downs_end)
 
+    -- ### Other steps
+
     -- a step that changes no chain, and ends no request
     calm_step : (acted : Acted) (serving : Serving at.setting at.w at.n at.what acted) (next : Next at acted) → IsSame acted
-        → acted.server.own.store.chains ≡ own.store.chains
-        → ((k : Plain) → Onward at.m k → OwnFollow (step_of acted serving next) k acted.server.own)
+        → acted.server.own.store.chains ≡ own.store.chains → (Runs (step_of acted serving next) → AreKept (step_of acted serving next))
         → (who : Sender) (posts : List Post) → acted.letters ≡ letters_of who 0 posts → ((post : Post) → In post posts → IsUnended post)
         → ServerTold (step_of acted serving next)
-    calm_step acted serving next same chains job who posts letters_are unended =
+    calm_step acted serving next same chains kept who posts letters_are unended =
         let this = step_of acted serving next in
         let is : letters this ≡ stamped at.stamp (letters_of who 0 posts) = ap (stamped at.stamp) letters_are in
-        assembled this (calm_told this same chains job (λ k onward. unended_says this who posts is unended k)) (unended_looks this who posts is unended)
+        assembled this
+        (calm_told this same chains (λ k onward. kept_own this k onward chains kept) (λ k onward. unended_says this who posts is unended k))
+        (unended_looks this who posts is unended)
 
-    -- by an entry that is applied the server's operations and blocks stay
-    entry_settled : (entry : Command) → IsSettling (crossed here.state entry own) (settled_by here entry (crossed here.state entry own))
-    entry_settled entry = settling here entry (crossed here.state entry own)
+    -- a ballot and an entry that is applied leave the server's operations and chains, and end no request
+    record Keeps (done : JobResult) : Type 0 where
+      chains : done.own.store.chains ≡ own.store.chains
+      finished : done.own.pairs.finished ≡ own.pairs.finished
+      pending : done.own.pairs.pending ≡ own.pairs.pending
+      unended : (post : Post) → In post done.posts → IsUnended post
 
-    goes_told : (log : Log) (done : JobResult) (queue : List Job) (runs : (at.w.servers at.n).life.running ≡ true)
-        → Worked at.setting at.w at.n log done → (serving : Serving at.setting at.w at.n at.what (served_so at.setting at.w at.n log done queue))
-        (next : Next at (served_so at.setting at.w at.n log done queue)) → IsSame (served_so at.setting at.w at.n log done queue)
-        → HasLater (after_step at (served_so at.setting at.w at.n log done queue))
-        → ServerTold (step_of (served_so at.setting at.w at.n log done queue) serving next)
-    goes_told _ _ queue runs (By_job log done applied did seat) serving next same later = job_told log runs done seat did queue
-        serving next same later
-    goes_told _ _ queue runs (By_ballot log started posts applied starts says) serving next same later =
-        let pairs = proposed_pairs (server_state at.setting at.w at.n) own started in
-        calm_step _ serving next same (ap (λ (s : Store). s.chains) (ballot_store (server_state at.setting at.w at.n) own started))
-        (λ k onward. kept_own (step_of _ serving next) k onward
-        (ap (λ (s : Store). s.chains) (ballot_store (server_state at.setting at.w at.n) own started))
-        (λ on. As_before runs (ap (λ (p : Pairs). p.finished) pairs) (ap (λ (p : Pairs). p.pending) pairs)))
-        (sender here) posts refl (λ post i. logged_unended post.body (says post i))
-    goes_told _ _ queue runs (By_entry log entry more front) serving next same later =
-        let settled = entry_settled entry in
-        calm_step _ serving next same settled.chains
-        (λ k onward. kept_own (step_of _ serving next) k onward settled.chains
-        (λ on. As_before runs (ap (λ (p : Pairs). p.finished) settled.pairs) (ap (λ (p : Pairs). p.pending) settled.pairs)))
-        (sender here) [] refl (λ post i. in_none post i)
+    kept_by : (log : Log) (done : JobResult) → Worked at.setting at.w at.n log done
+        → (IsSeatedOrMute here own done × Did hears here own done) ⊎ Keeps done
+    kept_by _ _ (By_job log done applied did seat) = inl (seat, did)
+    kept_by _ _ (By_ballot log started posts applied starts says) = inr (record {
+      chains = ap (λ (s : Store). s.chains) (ballot_store here.state own started);
+      finished = ap (λ (p : Pairs). p.finished) (proposed_pairs here.state own started);
+      pending = ap (λ (p : Pairs). p.pending) (proposed_pairs here.state own started);
+      unended = λ post i. logged_unended post.body (says post i);
+    })
+    kept_by _ _ (By_entry log entry more front) =
+        let settled = settling here entry (crossed here.state entry own) in
+        inr (record {
+          chains = settled.chains;
+          finished = ap (λ (p : Pairs). p.finished) settled.pairs;
+          pending = ap (λ (p : Pairs). p.pending) settled.pairs;
+          unended = λ post i. in_none post i;
+        })
 
-    ends_told : (log : Log) (done : JobResult) (runs : (at.w.servers at.n).life.running ≡ true) → Worked at.setting at.w at.n log done
-        → (serving : Serving at.setting at.w at.n at.what (stopped_so at.setting at.w at.n log done))
-        (next : Next at (stopped_so at.setting at.w at.n log done)) → IsSame (stopped_so at.setting at.w at.n log done)
-        → ServerTold (step_of (stopped_so at.setting at.w at.n log done) serving next)
-    ends_told _ _ runs (By_job log done applied did seat) serving next same = job_stopped log runs done seat did serving next same
-    ends_told _ _ runs (By_ballot log started posts applied starts says) serving next same =
-        let pairs = proposed_pairs (server_state at.setting at.w at.n) own started in
-        calm_step _ serving next same (ap (λ (s : Store). s.chains) (ballot_store (server_state at.setting at.w at.n) own started))
-        (λ k onward. kept_own (step_of _ serving next) k onward
-        (ap (λ (s : Store). s.chains) (ballot_store (server_state at.setting at.w at.n) own started))
-        (λ on. As_before runs (ap (λ (p : Pairs). p.finished) pairs) (ap (λ (p : Pairs). p.pending) pairs)))
-        (without_rev here) downs refl downs_end
-    ends_told _ _ runs (By_entry log entry more front) serving next same =
-        let settled = entry_settled entry in
-        calm_step _ serving next same settled.chains
-        (λ k onward. kept_own (step_of _ serving next) k onward settled.chains
-        (λ on. As_before runs (ap (λ (p : Pairs). p.finished) settled.pairs) (ap (λ (p : Pairs). p.pending) settled.pairs)))
-        (without_rev here) downs refl downs_end
-
-    rest_told : (acted : Acted) (serving of_it : Serving at.setting at.w at.n at.what acted) (next : Next at acted) → IsSame acted
-        → HasLater (after_step at acted)
-        → ServerTold (step_of acted of_it next)
-    rest_told _ (Goes log done queue runs worked queued works) of_it next same later = goes_told log done queue runs worked of_it next same later
-    rest_told _ (Ends log done runs worked) of_it next same later = ends_told log done runs worked of_it next same
+    rest_told : (acted : Acted) → Serving at.setting at.w at.n at.what acted → Told acted
+    rest_told _ (Goes log done queue runs worked queued works) of_it next same later = elim (kept_by log done worked) [
+      | inl job ↦ job_told log runs done job.0 job.1 queue of_it next same later
+      | inr kept ↦ calm_step _ of_it next same kept.chains (λ on. As_before runs kept.finished kept.pending) (sender here) done.posts refl kept.unended
+    ]
+    rest_told _ (Ends log done runs worked) of_it next same later = elim (kept_by log done worked) [
+      | inl job ↦ job_stopped log runs done job.0 job.1 of_it next same later
+      | inr kept ↦ calm_step _ of_it next same kept.chains (λ on. As_before runs kept.finished kept.pending) (without_rev here) downs refl downs_end
+    ]
     rest_told _ (Stays who posts from shown) of_it next same later =
-        calm_step _ of_it next same refl (λ k onward. kept_own (step_of _ of_it next) k onward refl (λ on. As_before on refl refl))
-        who posts refl (λ post i. glances_unended post (shown post i))
+        calm_step _ of_it next same refl (λ on. As_before on refl refl) who posts refl (λ post i. glances_unended post (shown post i))
     rest_told _ (Wakes booted asleep) of_it next same later =
-        calm_step _ of_it next same refl (λ k onward. kept_own (step_of _ of_it next) k onward refl (λ on. Anew refl))
+        calm_step _ of_it next same refl (λ on. Anew refl)
         (record { from = actor.Server at.n; inc = (at.w.servers at.n).life.inc + 1; rev = rev_of (awake (raised (at.w.servers at.n))).log })
         downs refl downs_end
     rest_told _ (Fails booted asleep) of_it next same later =
-        calm_step _ of_it next same refl (λ k onward. kept_own (step_of _ of_it next) k onward refl (λ on. true_false on asleep))
-        (without_rev here) [] refl (λ post i. in_none post i)
+        calm_step _ of_it next same refl (λ on. true_false on asleep) (without_rev here) [] refl (λ post i. in_none post i)
 
     -- a server that runs after the step ran before, or has nothing in memory
     serves_kept : (acted : Acted) (serving of_it : Serving at.setting at.w at.n at.what acted) (next : Next at acted)
-        → acted.server.own.pairs ≡ own.pairs
-        → Runs (step_of acted of_it next) → AreKept (step_of acted of_it next)
+        → acted.server.own.pairs ≡ own.pairs → Runs (step_of acted of_it next) → AreKept (step_of acted of_it next)
     serves_kept _ (Goes log done queue runs worked queued works) of_it next same on =
         As_before runs (ap (λ (p : Pairs). p.finished) same) (ap (λ (p : Pairs). p.pending) same)
     serves_kept _ (Ends log done runs worked) of_it next same on =

@@ -3,5 +3,4 @@ use Rattle.law_answers.proofs.LinesCalledOnce.{called_once}
 use Rattle.law_answers.proofs.looks.a_line_is_called_once.Goals as goal
 
 pub returns : goal.returns
-returns c script records rise legal one other number first again =
-    called_once script rise records legal one.front one.own one.following one.is other.front other.own other.following other.is number first again
+returns c script records rise legal one other number first again = called_once script rise records legal one other number first again
