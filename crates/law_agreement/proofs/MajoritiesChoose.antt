@@ -1,10 +1,10 @@
 -- A command is chosen for a place exactly where a majority of the state devices has its acceptance in one ballot.
-use Rattle.law_agreement.proofs.Imports.{[], if◌then◌else◌, ◌++◌, ◌+◌, ◌/◌, ◌<◌, ◌==◌, ◌||◌, ◌∙◌, ◌∷◌, ◌≡◌, ◌≤◌, ◌⊎◌, Ballot, Bool, Command, Devices, In, Inc}
+use Rattle.law_agreement.proofs.Imports.{[], if◌then◌else◌, ◌++◌, ◌+◌, ◌/◌, ◌<◌, ◌==◌, ◌||◌, ◌∙◌, ◌∷◌, ◌≡◌, ◌≤◌, ◌⊎◌, Ballot, Bool, Command, Devices, In}
 use Rattle.law_agreement.proofs.Imports.{IsChosenBy, IsMajority, List, None, Option, Some, StateRecord, acceptance_at, acceptance_is, acceptance_self, ap}
 use Rattle.law_agreement.proofs.Imports.{arith, at_place, chosen_at, cond, cons_option, count_below, false, filter_map, find, flat_map, has_voted, inl, inr}
 use Rattle.law_agreement.proofs.Imports.{list_any, nat_tests, number_is, option_map, range_with_len, refl, same_acceptance, subst, suc, sym, true, unwrap_or}
 use Rattle.law_agreement.proofs.Imports.{votes_for, wins, zero, ℕ}
-use Rattle.spec_paxos.specs.declared.record.StateRecord.TheVariants.{Promise, Accepted, Chosen}
+use Rattle.spec_paxos.specs.declared.record.StateRecord.TheVariants.{Accepted}
 use Rattle.law_agreement.specs.Single.{IsSingle, IsKept}
 
 -- ### Members of lists
@@ -117,9 +117,6 @@ pub in_votes : (place : ℕ) (b : Ballot) (c : Command) (records : List StateRec
 in_votes place b c records h = kept (acceptance_at place) records (Accepted place b c) (pair_of b c) h (at_place place place (Some (pair_of b c)) None refl)
 
 told_by : (place : ℕ) (vote : Ballot × Command) (r : StateRecord) → acceptance_at place r ≡ Some vote → r ≡ Accepted place vote.0 vote.1
-told_by place vote (Inc inc) e = absurd (cc)
-told_by place vote (Promise p b) e = absurd (cc)
-told_by place vote (Chosen p c) e = absurd (cc)
 told_by place vote (Accepted p b c) e = by (p == place) refl e
   where
     by : (t : Bool) → (p == place) ≡ t → (if t then Some (pair_of b c) else None) ≡ Some vote → Accepted p b c ≡ Accepted place vote.0 vote.1
@@ -129,6 +126,7 @@ told_by place vote (Accepted p b c) e = by (p == place) refl e
         let command : c ≡ vote.1 = ap (λ (o : Option (Ballot × Command)). (unwrap_or o vote).1) is in
         cc
     by false at is = absurd (cc)
+told_by place vote _ e = absurd (cc)
 
 pub votes_in : (place : ℕ) (vote : Ballot × Command) (records : List StateRecord) → In vote (votes_for records place)
     → In (Accepted place vote.0 vote.1) records

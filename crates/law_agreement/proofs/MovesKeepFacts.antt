@@ -1,5 +1,5 @@
 -- The moves that an event is made of: each keeps what holds.
-use Rattle.law_agreement.proofs.Imports.{◌+◌, ◌<◌, ◌∙◌, ◌∷◌, ◌≡◌, ◌≢◌, ◌≤◌, ◌⊎◌, Accept, Acceptor, Ballot, Bool, Collecting, Command, End, Event, Idle, In}
+use Rattle.law_agreement.proofs.Imports.{◌+◌, ◌<◌, ◌∙◌, ◌∷◌, ◌≡◌, ◌≢◌, ◌≤◌, ◌⊎◌, Accept, Acceptor, Ballot, Bool, Collecting, Command, End, Event, In}
 use Rattle.law_agreement.proofs.Imports.{IsChosen, List, None, Option, Pax, Phase, Some, Starts, Vote, Voting, World, accept, ap, arith, cast, false, get_or}
 use Rattle.law_agreement.proofs.Imports.{in_cons, in_here, in_there, inl, inr, is_in, keep, learn, nobody, number, put, put_at_cases, put_cases, raise, rank}
 use Rattle.law_agreement.proofs.Imports.{refl, replicate, send, sent, subst, suc, sym, to_propose, true, turn, vote, zero, ℕ, ⊤}
@@ -63,8 +63,8 @@ cast_holds n w h s p b v up asked =
 
 -- a letter that asks for no vote
 
-abbrev pub IsQuiet : Pax → Type 0
-IsQuiet l = (p : ℕ) (b : Ballot) (v : Command) → l ≡ Accept p b v → ⊥
+abbrev pub IsMute : Pax → Type 0
+IsMute l = (p : ℕ) (b : Ballot) (v : Command) → l ≡ Accept p b v → ⊥
 
 sent_later : (w : World) (s : ℕ) (l : Pax) → IsLater w (send w s l)
 sent_later w s l = record { rises = λ s p. omega arith; letters = λ f x i. in_there _ _ _ i; votes = λ x i. i; fresh = λ s p d u i. inl i }
@@ -77,35 +77,33 @@ backed_one_more : (n : ℕ) (w : World) → Holds n w → (s : ℕ) (l : Pax) �
 backed_one_more n w h s l fact f x i =
     elim (in_cons (sent f x) (sent s l) w.letters i) [ inl e ↦ let of : f ≡ s = cc in let is : x ≡ l = cc in rw (of, is) fact | inr old ↦ h.backed f x old ]
 
--- a quiet letter asks for nothing
-asked_before : (w : World) (s : ℕ) (l : Pax) → IsQuiet l → (p : ℕ) (d : Ballot) (v : Command) → Asked (send w s l) p d v → Asked w p d v
-asked_before w s l quiet p d v i = elim (in_cons _ _ _ i) [ inl e ↦ absurd (quiet p d v (cc)) | inr old ↦ old ]
+-- a mute letter asks for nothing
+asked_before : (w : World) (s : ℕ) (l : Pax) → IsMute l → (p : ℕ) (d : Ballot) (v : Command) → Asked (send w s l) p d v → Asked w p d v
+asked_before w s l mute p d v i = elim (in_cons _ _ _ i) [ inl e ↦ absurd (mute p d v (cc)) | inr old ↦ old ]
 
-not_asked_still : (w : World) (s : ℕ) (l : Pax) → IsQuiet l → (q : Option Phase) → HasNotAsked w q → HasNotAsked (send w s l) q
-not_asked_still w s l quiet None h = h
-not_asked_still w s l quiet (Some Idle) h = h
-not_asked_still w s l quiet (Some (Collecting p b want who best)) h = λ d v i. h d v (asked_before w s l quiet p d v i)
-not_asked_still w s l quiet (Some (Voting p b v who)) h = h
+not_asked_still : (w : World) (s : ℕ) (l : Pax) → IsMute l → (q : Option Phase) → HasNotAsked w q → HasNotAsked (send w s l) q
+not_asked_still w s l mute (Some (Collecting p b want who best)) h = λ d v i. h d v (asked_before w s l mute p d v i)
+not_asked_still w s l mute _ h = h
 
-pub send_holds : (n : ℕ) (w : World) → Holds n w → (s : ℕ) (l : Pax) → IsQuiet l → IsBacked n w s l → Holds n (send w s l)
-send_holds n w h s l quiet fact = record {
+pub send_holds : (n : ℕ) (w : World) → Holds n w → (s : ℕ) (l : Pax) → IsMute l → IsBacked n w s l → Holds n (send w s l)
+send_holds n w h s l mute fact = record {
   backed = λ f x i. later_backed n w _ (sent_later w s l) f x (backed_one_more n w h s l fact f x i);
   knows = λ i. later_knows w _ (sent_later w s l) i _ (h.knows i);
-  not_asked = λ i. not_asked_still w s l quiet _ (h.not_asked i);
+  not_asked = λ i. not_asked_still w s l mute _ (h.not_asked i);
   asked = λ i j d u x. in_there _ _ _ (h.asked i j d u x);
   voted = h.voted;
   accepted = h.accepted;
-  one = λ p b d v u i j. h.one p b d v u (asked_before w s l quiet p b v i) (asked_before w s l quiet p d u j);
+  one = λ p b d v u i j. h.one p b d v u (asked_before w s l mute p b v i) (asked_before w s l mute p d u j);
   learnt = h.learnt;
 }
 
 -- a proposer that turns to something else, or is gone
 
 pub turn_holds : (n : ℕ) (w : World) → Holds n w → (s : ℕ) (q : Option Phase) → Knows w s q → HasNotAsked w q → Holds n (turn w s q)
-turn_holds n w h s q knows quiet = record {
+turn_holds n w h s q knows unasked = record {
   backed = h.backed;
   knows = at_put (λ i q. Knows w i q) w.proposers s q knows (λ i _. h.knows i);
-  not_asked = at_put (λ i q. HasNotAsked w q) w.proposers s q quiet (λ i _. h.not_asked i);
+  not_asked = at_put (λ i q. HasNotAsked w q) w.proposers s q unasked (λ i _. h.not_asked i);
   asked = h.asked;
   voted = h.voted;
   accepted = h.accepted;
@@ -161,26 +159,24 @@ not_in_nobody k e = let f = none_in 256 k in cc
 -- whoever else collects does so for another ballot
 other_ballot : (w : World) (p : ℕ) (b : Ballot) (v : Command) (s j : ℕ) (r q : Option Phase) → b.server ≡ s → b.server < 256 → j ≢ s → Knows w j q
     → HasNotAsked w q → HasNotAsked (turn (send w s (Accept p b v)) s r) q
-other_ballot w p b v s j r None e lt away k h = h
-other_ballot w p b v s j r (Some Idle) e lt away k h = h
 other_ballot w p b v s j r (Some (Collecting place ballot want who best)) e lt away k h = λ d u i same. elim (in_cons _ _ _ i) [
   | inl new ↦ let own = k.0 in let low = k.1 in let is : d ≡ b = cc in let o = one_server b ballot lt (omega arith) (ap number (sym is) ∙ same) in
       absurd (omega arith)
   | inr old ↦ h d u old same
 ]
-other_ballot w p b v s j r (Some (Voting place ballot x who)) e lt away k h = h
+other_ballot w p b v s j r _ e lt away k h = h
 
 -- the ballot that asks asked for nothing else
 asked_once : (w : World) (s p : ℕ) (b : Ballot) (v : Command) → HasNotAsked w (Some (Collecting p b v nobody None))
     → ((q : ℕ) (b d : Ballot) (v u : Command) → Asked w q b v → Asked w q d u → number b ≡ number d → v ≡ u)
     → (q : ℕ) (c d : Ballot) (x u : Command) → Asked (send w s (Accept p b v)) q c x → Asked (send w s (Accept p b v)) q d u → number c ≡ number d → x ≡ u
-asked_once w s p b v quiet one q c d x u i j e = elim (in_cons _ _ _ i) [
+asked_once w s p b v unasked one q c d x u i j e = elim (in_cons _ _ _ i) [
   | inl new ↦ elim (in_cons _ _ _ j) [
     | inl too ↦ cc
-    | inr old ↦ let q_is : q ≡ p = cc in let c_is : c ≡ b = cc in absurd (quiet d u (subst (λ q. Asked w q d u) q_is old) (sym e ∙ ap number c_is))
+    | inr old ↦ let q_is : q ≡ p = cc in let c_is : c ≡ b = cc in absurd (unasked d u (subst (λ q. Asked w q d u) q_is old) (sym e ∙ ap number c_is))
   ]
   | inr before ↦ elim (in_cons _ _ _ j) [
-    | inl new ↦ let q_is : q ≡ p = cc in let d_is : d ≡ b = cc in absurd (quiet c x (subst (λ q. Asked w q c x) q_is before) (e ∙ ap number d_is))
+    | inl new ↦ let q_is : q ≡ p = cc in let d_is : d ≡ b = cc in absurd (unasked c x (subst (λ q. Asked w q c x) q_is before) (e ∙ ap number d_is))
     | inr old ↦ one q c d x u before old e
   ]
 ]
@@ -188,7 +184,7 @@ asked_once w s p b v quiet one q c d x u i j e = elim (in_cons _ _ _ i) [
 pub asks_hold : (n : ℕ) (w : World) → Holds n w → (s p : ℕ) (b : Ballot) (want : Command) (who : List Bool) (best : Option (Ballot × Command)) (v : Command)
     → Knows w s (Some (Collecting p b want who best)) → HasNotAsked w (Some (Collecting p b want who best)) → IsSafe n w p b v
     → Holds n (turn (send w s (Accept p b v)) s (Some (Voting p b v nobody)))
-asks_hold n w h s p b want who best v k quiet safe =
+asks_hold n w h s p b want who best v k unasked safe =
     let voting : Option Phase = Some (Voting p b v nobody) in
     let after = turn (send w s (Accept p b v)) s voting in
     let l = turned_later w s (Accept p b v) voting in
@@ -204,7 +200,7 @@ asks_hold n w h s p b want who best v k quiet safe =
       asked = λ i j d u x. in_there _ _ _ (h.asked i j d u x);
       voted = h.voted;
       accepted = h.accepted;
-      one = asked_once w s p b v quiet h.one;
+      one = asked_once w s p b v unasked h.one;
       learnt = λ i j u e. later_chosen n w _ l j u (h.learnt i j u e);
     }
 
@@ -215,16 +211,14 @@ Origin e w s p want =
     ⊎ ((b : Ballot) × (who : List Bool) × (best : Option (Ballot × Command)) × (w.proposers s ≡ Some (Collecting p b want who best)))
 
 abbrev pub HasOrigin : Event → World → ℕ → Option Phase → Type 0
-HasOrigin e w s None = ⊤
-HasOrigin e w s (Some Idle) = ⊤
 HasOrigin e w s (Some (Collecting p b want who best)) = Origin e w s p want
-HasOrigin e w s (Some (Voting p b v who)) = ⊤
+HasOrigin e w s _ = ⊤
 
 -- all that can change at once, each with what it rests on. To keep another fact over every schedule, keep it at each of these
 pub data IsMove (n : ℕ) (e : Event) (w : World) : World → Type 0 where
   Promises : (s p : ℕ) → (a : Acceptor) → promised w s p ≤ rank a.promised → a.accepted ≡ (w.acceptors s p).accepted → IsMove n e w (keep w s p a)
   Casts : (s p : ℕ) → (b : Ballot) → (v : Command) → promised w s p ≤ number b + 1 → Asked w p b v → IsMove n e w (cast_in w s p b v)
-  Sends : (s : ℕ) → (l : Pax) → IsQuiet l → IsBacked n w s l → IsMove n e w (send w s l)
+  Sends : (s : ℕ) → (l : Pax) → IsMute l → IsBacked n w s l → IsMove n e w (send w s l)
   Turns : (s : ℕ) → (q : Option Phase) → Knows w s q → HasNotAsked w q → HasOrigin e w s q → IsMove n e w (turn w s q)
   Asks : (s p : ℕ) → (b : Ballot) → (want : Command) → (who : List Bool) → (best : Option (Ballot × Command)) → Knows w s (Some (Collecting p b want who best))
       → HasNotAsked w (Some (Collecting p b want who best)) → IsSafe n w p b (to_propose want best) → Origin e w s p want
@@ -235,9 +229,9 @@ pub data IsMove (n : ℕ) (e : Event) (w : World) : World → Type 0 where
 pub move_holds : (n : ℕ) (e : Event) (w v : World) → Holds n w → IsMove n e w v → Holds n v
 move_holds n e w v h (Promises s p a up same) = keep_holds n w h s p a up same
 move_holds n e w v h (Casts s p b x up i) = cast_holds n w h s p b x up i
-move_holds n e w v h (Sends s l quiet fact) = send_holds n w h s l quiet fact
-move_holds n e w v h (Turns s q k quiet from) = turn_holds n w h s q k quiet
-move_holds n e w v h (Asks s p b want who best k quiet safe from) = asks_hold n w h s p b want who best _ k quiet safe
+move_holds n e w v h (Sends s l mute fact) = send_holds n w h s l mute fact
+move_holds n e w v h (Turns s q k unasked from) = turn_holds n w h s q k unasked
+move_holds n e w v h (Asks s p b want who best k unasked safe from) = asks_hold n w h s p b want who best _ k unasked safe
 move_holds n e w v h (Learns s p x fact) = learn_holds n w h s p x fact
 move_holds n e w v h (Raises s) = raise_holds n w h s
 

@@ -2,7 +2,7 @@
 use Rattle.law_agreement.proofs.Imports.{if◌then◌else◌, ◌+◌, ◌<◌, ◌≡◌, ◌⊎◌, Bool, IsMajority, arith, count_below, false, inl, inr, refl, suc, true, zero, ℕ}
 
 -- a test that is true or false
-either : (b : Bool) → (b ≡ true) ⊎ (b ≡ false)
+pub either : (b : Bool) → (b ≡ true) ⊎ (b ≡ false)
 either true = inl refl
 either false = inr refl
 

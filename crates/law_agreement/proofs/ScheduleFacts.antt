@@ -1,7 +1,6 @@
 -- What holds of every world that a schedule leads to.
-use Rattle.law_agreement.proofs.Imports.{◌+◌, ◌<◌, ◌≡◌, ◌≢◌, ◌≤◌, ◌⊎◌, Accept, Accepted, Ballot, Bool, Chosen, Collecting, Command, Idle, In, IsChosen}
-use Rattle.law_agreement.proofs.Imports.{IsMajority, None, Option, Pax, Phase, Prepare, Promise, Refuse, Some, Vote, Voting, World, is_in, number, rank}
-use Rattle.law_agreement.proofs.Imports.{rank_of, sent, true, vote, ℕ, ⊤}
+use Rattle.law_agreement.proofs.Imports.{◌+◌, ◌<◌, ◌≡◌, ◌≢◌, ◌≤◌, ◌⊎◌, Accept, Accepted, Ballot, Bool, Chosen, Collecting, Command, In, IsChosen, IsMajority}
+use Rattle.law_agreement.proofs.Imports.{None, Option, Pax, Phase, Promise, Some, Vote, Voting, World, is_in, number, rank, rank_of, sent, true, vote, ℕ, ⊤}
 
 -- 0 while the server has promised nothing at the place, else one more than the ballot's number
 abbrev pub promised : World → ℕ → ℕ → ℕ
@@ -37,28 +36,24 @@ IsSafe n w p b v = (c : ℕ) → c < number b → IsShut n w p c v
 
 -- what a letter that was sent says
 abbrev pub IsBacked : ℕ → World → ℕ → Pax → Type 0
-IsBacked n w from (Prepare p b) = ⊤
 IsBacked n w from (Promise p b a) = HasPromised w from p b × IsGreatestBelow w from p (rank_of a) b × HasCast w from p a
 IsBacked n w from (Accept p b v) = (from ≡ b.server) × HasPromised w from p b × (b.server < 256) × IsSafe n w p b v
 IsBacked n w from (Accepted p b) = (v : Command) × In (vote from p b v) w.votes
-IsBacked n w from (Refuse p b m) = ⊤
 IsBacked n w from (Chosen p v) = IsChosen n w p v
+IsBacked n w from _ = ⊤
 
 -- what a proposer knows; a stopped one knows nothing
 abbrev pub Knows : World → ℕ → Option Phase → Type 0
-Knows w s None = ⊤
-Knows w s (Some Idle) = ⊤
 Knows w s (Some (Collecting p b want heard best)) =
     (b.server ≡ s) × (s < 256) × HasPromised w s p b × ((k : ℕ) → is_in heard k ≡ true → HasPromised w k p b × IsGreatestBelow w k p (rank_of best) b)
     × SomeoneCast w p best
 Knows w s (Some (Voting p b v heard)) = Asked w p b v × ((k : ℕ) → is_in heard k ≡ true → In (vote k p b v) w.votes)
+Knows w s _ = ⊤
 
 -- while a proposer collects, its ballot has asked for no vote
 abbrev pub HasNotAsked : World → Option Phase → Type 0
-HasNotAsked w None = ⊤
-HasNotAsked w (Some Idle) = ⊤
 HasNotAsked w (Some (Collecting p b want heard best)) = (d : Ballot) (v : Command) → Asked w p d v → number d ≢ number b
-HasNotAsked w (Some (Voting p b v heard)) = ⊤
+HasNotAsked w _ = ⊤
 
 pub record Holds (n : ℕ) (w : World) : Type 0 where
   pub backed : (from : ℕ) (l : Pax) → In (sent from l) w.letters → IsBacked n w from l

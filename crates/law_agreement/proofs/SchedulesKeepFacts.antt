@@ -11,14 +11,10 @@ use Rattle.law_agreement.proofs.ScheduleFacts.{Holds}
 use Rattle.law_agreement.proofs.LaterWorldsSay.{later_cast}
 use Rattle.law_agreement.proofs.MovesKeepFacts.{keep_later, cast_in, one_server, not_in_nobody, Origin, HasOrigin, Promises, Casts, Sends, Turns, Asks}
 use Rattle.law_agreement.proofs.MovesKeepFacts.{Learns, Raises, move_holds, Leads, Still, goes, last, keeps}
-use Rattle.law_agreement.proofs.Quorum.{meet}
+use Rattle.law_agreement.proofs.Quorum.{meet, either}
 use Rattle.spec_paxos.proofs.standing.Reported.{higher_ranks}
 
 -- tests
-
-pub either : (b : Bool) → (b ≡ true) ⊎ (b ≡ false)
-either true = inl refl
-either false = inr refl
 
 and_both : (a b : Bool) → (a && b) ≡ true → (a ≡ true) × (b ≡ true)
 and_both true true e = (refl, refl)
@@ -108,9 +104,9 @@ at_true n who is = grind (arith, nat_tests)
 collects : (n : ℕ) (e : Event) (w : World) → Holds n w → (s p : ℕ) (b : Ballot) (want : Command) (who : List Bool) (best : Option (Ballot × Command))
     → Knows w s (Some (Collecting p b want who best)) → HasNotAsked w (Some (Collecting p b want who best)) → Origin e w s p want
     → Leads n e w (comes_out w s (collected n p b want who best))
-collects n e w h s p b want who best k quiet from = elim (either (has_majority n who)) [
-  | inl is ↦ rw is (last n e w _ h (Asks s p b want who best k quiet (is_safe n w h s p b want who best k (at_true n who is)) from))
-  | inr is ↦ rw is (last n e w _ h (Turns s (Some (Collecting p b want who best)) k quiet from))
+collects n e w h s p b want who best k unasked from = elim (either (has_majority n who)) [
+  | inl is ↦ rw is (last n e w _ h (Asks s p b want who best k unasked (is_safe n w h s p b want who best k (at_true n who is)) from))
+  | inr is ↦ rw is (last n e w _ h (Turns s (Some (Collecting p b want who best)) k unasked from))
 ]
 
 tallies : (n : ℕ) (e : Event) (w : World) → Holds n w → (s p : ℕ) (b : Ballot) (v : Command) (before who : List Bool)
@@ -132,11 +128,11 @@ hears_promise : (n : ℕ) (e : Event) (w : World) → Holds n w
     → Knows w s (Some (Collecting p b want who best)) → HasNotAsked w (Some (Collecting p b want who best)) → Origin e w s p want
     → IsBacked n w from (Promise q d a)
     → Leads n e w (comes_out w s (hear n (Collecting p b want who best) from (Promise q d a)))
-hears_promise n e w h s p b want who best from q d a k quiet origin fact = elim (either (is_for q d p b && counts n who from)) [
+hears_promise n e w h s p b want who best from q d a k unasked origin fact = elim (either (is_for q d p b && counts n who from)) [
   | inl is ↦ rw is (let it = for_them q d p b (and_both (is_for q d p b) (counts n who from) is).0 in
       let there = subst (λ q. IsBacked n w from (Promise q b a)) it.place_is (subst (λ d. IsBacked n w from (Promise q d a)) it.ballot_is fact) in
-      collects n e w h s p b want (set who from true) (higher best a) (gathers w s p b want who best from a k there.0 there.1 there.2) quiet origin)
-  | inr is ↦ rw is (last n e w _ h (Turns s (Some (Collecting p b want who best)) k quiet origin))
+      collects n e w h s p b want (set who from true) (higher best a) (gathers w s p b want who best from a k there.0 there.1 there.2) unasked origin)
+  | inr is ↦ rw is (last n e w _ h (Turns s (Some (Collecting p b want who best)) k unasked origin))
 ]
 
 hears_accepted : (n : ℕ) (e : Event) (w : World) → Holds n w → (s p : ℕ) (b : Ballot) (v : Command) (who : List Bool) (from q : ℕ) (d : Ballot)
@@ -155,23 +151,23 @@ hears_accepted n e w h s p b v who from q d k fact = elim (either (is_for q d p 
 
 hears_refuse : (n : ℕ) (e : Event) (w : World) → Holds n w → (s : ℕ) (q : Phase) → Knows w s (Some q) → HasNotAsked w (Some q) → HasOrigin e w s (Some q)
     → (from p : ℕ) (b m : Ballot) → Leads n e w (comes_out w s (hear n q from (Refuse p b m)))
-hears_refuse n e w h s Idle k quiet origin from p b m = last n e w _ h (Turns s (Some Idle) k quiet origin)
-hears_refuse n e w h s (Collecting place ballot want who best) k quiet origin from p b m = elim (either (is_for p b place ballot)) [
-  | inl is ↦ rw is (last n e w _ h (Turns s (Some (Collecting place ballot want who best)) k quiet origin))
-  | inr is ↦ rw is (last n e w _ h (Turns s (Some (Collecting place ballot want who best)) k quiet origin))
+hears_refuse n e w h s Idle k unasked origin from p b m = last n e w _ h (Turns s (Some Idle) k unasked origin)
+hears_refuse n e w h s (Collecting place ballot want who best) k unasked origin from p b m = elim (either (is_for p b place ballot)) [
+  | inl is ↦ rw is (last n e w _ h (Turns s (Some (Collecting place ballot want who best)) k unasked origin))
+  | inr is ↦ rw is (last n e w _ h (Turns s (Some (Collecting place ballot want who best)) k unasked origin))
 ]
-hears_refuse n e w h s (Voting place ballot v who) k quiet origin from p b m = elim (either (is_for p b place ballot)) [
-  | inl is ↦ rw is (last n e w _ h (Turns s (Some (Voting place ballot v who)) k quiet origin))
-  | inr is ↦ rw is (last n e w _ h (Turns s (Some (Voting place ballot v who)) k quiet origin))
+hears_refuse n e w h s (Voting place ballot v who) k unasked origin from p b m = elim (either (is_for p b place ballot)) [
+  | inl is ↦ rw is (last n e w _ h (Turns s (Some (Voting place ballot v who)) k unasked origin))
+  | inr is ↦ rw is (last n e w _ h (Turns s (Some (Voting place ballot v who)) k unasked origin))
 ]
 
 hears : (n : ℕ) (e : Event) (w : World) → Holds n w → (s : ℕ) (q : Phase) → Knows w s (Some q) → HasNotAsked w (Some q) → HasOrigin e w s (Some q)
     → (from : ℕ) (l : Pax) → IsBacked n w from l → Leads n e w (comes_out w s (hear n q from l))
-hears n e w h s (Collecting p b want who best) k quiet origin from (Promise q d a) fact =
-    hears_promise n e w h s p b want who best from q d a k quiet origin fact
-hears n e w h s (Voting p b v who) k quiet origin from (Accepted q d) fact = hears_accepted n e w h s p b v who from q d k fact
-hears n e w h s q k quiet origin from (Refuse p b m) fact = hears_refuse n e w h s q k quiet origin from p b m
-hears n e w h s q k quiet origin from l fact = last n e w _ h (Turns s (Some q) k quiet origin)
+hears n e w h s (Collecting p b want who best) k unasked origin from (Promise q d a) fact =
+    hears_promise n e w h s p b want who best from q d a k unasked origin fact
+hears n e w h s (Voting p b v who) k unasked origin from (Accepted q d) fact = hears_accepted n e w h s p b v who from q d k fact
+hears n e w h s q k unasked origin from (Refuse p b m) fact = hears_refuse n e w h s q k unasked origin from p b m
+hears n e w h s q k unasked origin from l fact = last n e w _ h (Turns s (Some q) k unasked origin)
 
 -- how a server comes out of a job with this commit
 
@@ -220,8 +216,8 @@ at_chosen n e w h s q from p v end fact =
 
 listens : (n : ℕ) (e : Event) (w : World) → Holds n w → (s : ℕ) (q : Phase) → Knows w s (Some q) → HasNotAsked w (Some q) → HasOrigin e w s (Some q)
     → (from : ℕ) (l : Pax) → IsBacked n w from l → (end : End) → Leads n e w (ended w w (comes_out w s (hear n q from l)) s end)
-listens n e w h s q k quiet origin from l fact end =
-    ends n e w w (comes_out w s (hear n q from l)) h s (λ u rest. rest h) (λ h'. hears n e w h s q k quiet origin from l fact) end
+listens n e w h s q k unasked origin from l fact end =
+    ends n e w w (comes_out w s (hear n q from l)) h s (λ u rest. rest h) (λ h'. hears n e w h s q k unasked origin from l fact) end
 
 -- what a proposer is about before an event
 before : (e : Event) (w : World) (s : ℕ) (q : Phase) → w.proposers s ≡ Some q → HasOrigin e w s (Some q)

@@ -68,11 +68,11 @@ pub use Rattle.law_jobs.proofs.OperationsCome.{finished_of}
 pub use Rattle.law_jobs.proofs.Runs.{at_moment, firm_then, follows_in, grown_then, stepped_in}
 pub use Rattle.law_jobs.specs.Effects.{HearsNone, Is_full}
 pub use Rattle.law_jobs.specs.Sayings.{Has_no_slot, to_client}
-pub use Rattle.law_log.proofs.CopyJobsLeaveLog.{IsCalm, calm_mends}
+pub use Rattle.law_log.proofs.CopyJobsLeaveLog.{calm_mends}
 pub use Rattle.law_log.proofs.FillJobsLeaveLog.{calm_sweeps}
 pub use Rattle.law_log.proofs.FirstIncarnationsStay.{unbooted}
 pub use Rattle.law_log.proofs.LogInHistories.{chosen_is_called_for, who_runs_is_in}
-pub use Rattle.law_log.proofs.PairJobsLeaveLog.{IsDated, dated_again}
+pub use Rattle.law_log.proofs.PairJobsLeaveLog.{IsCalm, IsDated, dated_again}
 pub use Rattle.law_log.proofs.PairLettersLeaveLog.{calm_handles, calm_stages, calm_where_in, dated_copies_again}
 pub use Rattle.law_log.specs.ProposedCommands.{IsOfLives, NoneBoots, WasWanted}
 pub use Rattle.law_moves.proofs.JobsChangeOneChain.{NeverRetired}

@@ -2,7 +2,7 @@
 use Rattle.law_copies.proofs.Imports.{[], ◌<◌, ◌∙◌, ◌≡◌, Cell, Chain, In, IsRising, List, PairState, Some, Stored, ap, at, at_apart, at_row, chain_in}
 use Rattle.law_copies.proofs.Imports.{epochs_beyond, epochs_of, false, filter, in_get, in_map, inl, inr, length, list_any, nat_cmp, nat_cmp_total, nat_eq}
 use Rattle.law_copies.proofs.Imports.{none_some, not, number_itself, option_map, put, same_numbers, same_or_apart, slice_get, slice_get-map, slice_get_within}
-use Rattle.law_copies.proofs.Imports.{some_or_none, sym, true, untrue, ℕ}
+use Rattle.law_copies.proofs.Imports.{some_or_none, sym, true, was_true, ℕ}
 use Rattle.law_copies.proofs.ChainsRise.{all_left, any_in, at_in, in_any, in_mapped, none_left, place_of, same_tables}
 
 -- each entry of the chain is of one of these epochs
@@ -12,7 +12,7 @@ IsWithin chain kept = (epoch : ℕ) (stored : Stored) → at nat_cmp chain epoch
 pub within : (own : PairState) (cell : Cell) (kept : List ℕ) → epochs_beyond own cell kept ≡ [] → IsWithin (chain_in own.store.chains cell) kept
 within own cell kept none epoch stored is =
     let chain = chain_in own.store.chains cell in
-    untrue (list_any (nat_eq epoch) kept)
+    was_true (list_any (nat_eq epoch) kept)
     (none_left (λ e. not (list_any (nat_eq e) kept)) (epochs_of chain) none epoch
     (in_mapped (λ (row : ℕ × Stored). row.0) chain (epoch, stored) (at_in chain epoch stored is)))
 

@@ -91,7 +91,7 @@ pub use Rattle.law_steps.proofs.FillsByJobs.{Fills, Stood, Writes, did_come}
 pub use Rattle.law_state.proofs.Fronts.{below_itself, front_itself, front_long, front_more, front_on, front_within, one_front}
 pub use Rattle.law_steps.proofs.HeldBackForCaughts.{held_as_flag}
 pub use Rattle.law_steps.proofs.IdleServers.{logged_apart}
-pub use Rattle.law_steps.proofs.InvertHolder.{untrue}
+pub use Rattle.law_state.proofs.TestFacts.{was_true}
 pub use Rattle.law_steps.proofs.InvertLead.{is_copying}
 pub use Rattle.law_steps.proofs.Letters.{said}
 pub use Rattle.law_steps.proofs.ListPlaces.{parted}

@@ -1,22 +1,6 @@
--- Two parts of one list, and the first entry that makes a new place of a link.
-use Rattle.law_epochs.proofs.Imports.{[], if◌then◌else◌, ◌++◌, ◌+◌, ◌∙◌, ◌∷◌, ◌≡◌, ◌≤◌, ◌⊎◌, Command, LinkRow, List, State, after, ap, arith, by_bool, fold}
-use Rattle.law_epochs.proofs.Imports.{inl, inr, places_from, refl, sym, touches, true}
-
-first : {A : Type 0} {x z : A} {xs zs : List A} → x ∷ xs ≡ z ∷ zs → x ≡ z
-first e = cc
-
-rest : {A : Type 0} {x z : A} {xs zs : List A} → x ∷ xs ≡ z ∷ zs → xs ≡ zs
-rest e = cc
-
--- of two fronts of a list the second goes on from the first, or the first from the second, and then so does what is after the second
-pub one_in_other : {A : Type 0} (xs ys zs ws : List A) → xs ++ ys ≡ zs ++ ws
-    → ((more : List A) × (zs ≡ xs ++ more) × (ys ≡ more ++ ws)) ⊎ ((more : List A) × (xs ≡ zs ++ more) × (ws ≡ more ++ ys))
-one_in_other [] ys zs ws e = inl (zs, refl, e)
-one_in_other (x ∷ xs) ys [] ws e = inr (x ∷ xs, refl, sym e)
-one_in_other (x ∷ xs) ys (z ∷ zs) ws e = elim (one_in_other xs ys zs ws (rest e)) [
-  | inl one ↦ inl (one.0, (λ i. sym (first e) i ∷ one.1 i), one.2)
-  | inr other ↦ inr (other.0, (λ i. first e i ∷ other.1 i), other.2)
-]
+-- The first entry that makes a new place of a link.
+use Rattle.law_epochs.proofs.Imports.{[], if◌then◌else◌, ◌++◌, ◌+◌, ◌∙◌, ◌∷◌, ◌≡◌, ◌≤◌, Command, LinkRow, List, State, after, ap, arith, by_bool, fold}
+use Rattle.law_epochs.proofs.Imports.{places_from, refl, touches, true}
 
 -- the first of these entries that touches the link
 pub record IsFirst (state : State) (entries : List Command) (row : LinkRow) : Type 0 where

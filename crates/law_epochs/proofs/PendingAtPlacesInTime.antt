@@ -7,7 +7,7 @@ use Rattle.law_epochs.proofs.Imports.{in_between, inl, inr, is_at, is_at_so, is_
 use Rattle.law_epochs.proofs.Imports.{places_grow, same_place, seat_stays, stage_at, stage_most, state_after, subst, sym, true, ℕ}
 use Rattle.spec_state.specs.State.{start}
 use Rattle.law_epochs.specs.InTime.{IsTimely}
-use Rattle.law_epochs.proofs.FirstNewPlace.{one_in_other}
+use Rattle.law_steps.proofs.Records.{split_fronts}
 use Rattle.law_epochs.proofs.PendingIsInTime.{IsOpened, IsReported, chosen_plain, firm, opened_by, opened_later, ran, seated_now, timely_or_reported}
 use Rattle.law_epochs.proofs.PendingIsInTime.{was_opened}
 use Rattle.law_epochs.proofs.ReportedHaveNoPending.{grows, not_held}
@@ -162,7 +162,7 @@ module _ (it : Run) (had : HadWrite (end_of it).setting it.records) where
             not_held script sound r.made.before n cell op r.until pending clients r.made.drained r.holds
 
       never : ⊥
-      never = elim (one_in_other r.made.before (r.made.own ∷ r.made.later) was.before was.later (sym r.made.is ∙ was.is)) [
+      never = elim (split_fronts r.made.before (r.made.own ∷ r.made.later) was.before was.later (sym r.made.is ∙ was.is)) [
         | inl earlier ↦ made_before earlier.0 earlier.1
         | inr since ↦ made_there since.0 since.1 since.2
       ]

@@ -5,8 +5,9 @@ use Rattle.law_log.proofs.Imports.{both_true, by_test, caught_as, caught_links, 
 use Rattle.law_log.proofs.Imports.{is_flagged, is_nothing, is_up, link_at, link_named, may_catch, next_copy, none_some, number_itself, other_in, other_of}
 use Rattle.law_log.proofs.Imports.{progress_on, proposed, refl, same_some, sym, true, ℕ}
 use Rattle.spec_state.specs.State.{inc_of}
-use Rattle.law_log.proofs.CopyJobsLeaveLog.{IsKept, kept_itself}
+use Rattle.law_log.proofs.PairJobsLeaveLog.{IsKept, kept_itself}
 use Rattle.law_log.proofs.BallotFlags.{flag_put, flags_put}
+use Rattle.law_log.proofs.ListPlaces.{only_among, none_among}
 
 -- the command is the Caught of this link, which the server holds alone, whose other server is In, and of which nothing is left to copy
 pub record IsOfLink (here : JobContext) (own : PairState) (command : Command) : Type 0 where
@@ -18,15 +19,6 @@ pub record IsOfLink (here : JobContext) (own : PairState) (command : Command) : 
   pub other_is : other_in here.state here.me row ≡ Some (other_of here.me row)
   pub nothing : is_nothing (next_copy here.state row own) ≡ true
   pub joins : inc_of here.state (other_of here.me row) ≡ Some inc
-
-none_among : {A B : Type 0} (x : A) → Among x [] → B
-unfolding Among
-none_among x h = absurd h
-
-only_among : {A : Type 0} (x y : A) → Among x (y ∷ []) → x ≡ y
-unfolding Among
-only_among x y (inl e) = e
-only_among x y (inr h) = absurd h
 
 -- the holder's other server, where it is In
 other_is : (state : State) (me other : ℕ) (row : LinkRow) → other_in state me row ≡ Some other → (is_alone me row.state ≡ true) × (other_of me row ≡ other)

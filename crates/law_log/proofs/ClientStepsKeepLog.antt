@@ -2,17 +2,17 @@
 use Rattle.law_log.proofs.Imports.{[], if◌then◌else◌, ◌&&◌, ◌++◌, ◌+◌, ◌-◌, ◌<◌, ◌==◌, ◌∙◌, ◌∷◌, ◌≡◌, ◌≤◌, ◌⊎◌, Actor, Among, Answer, Asked, Body, Bool, Cell}
 use Rattle.law_log.proofs.Imports.{Client, Command, DiskView, Learning, Letter, Line, List, None, Option, Reaction, Request, Sight, Some, State, Turn}
 use Rattle.law_log.proofs.Imports.{Witness, about, after, answered_where, answers, ap, arith, asking, asks_and_sends, by_test, called, cell_asked, command_of}
-use Rattle.law_log.proofs.Imports.{drop, epoch_for, false, first_round, goes_out, goes_out_where, goes_the_old_way, heard, hears, hears_any, hears_of}
-use Rattle.law_log.proofs.Imports.{in-append, in_turn, inl, inr, is_read, is_settled, is_witness, is_write, judged, judged_by, latest, lead, length, lines_of}
-use Rattle.law_log.proofs.Imports.{map, nat_le, nat_tests, next_entries, none_some, not, only, or_command, post_in_turn, posts_for, read_posts, read_posts_at}
+use Rattle.law_log.proofs.Imports.{epoch_for, false, first_round, goes_out, goes_out_where, goes_the_old_way, heard, hears, hears_any, hears_of, in-append}
+use Rattle.law_log.proofs.Imports.{in_turn, inl, inr, is_read, is_settled, is_witness, is_write, judged, judged_by, latest, lead, length, lines_of, map}
+use Rattle.law_log.proofs.Imports.{nat_le, nat_tests, next_entries, none_some, not, only, or_command, post_in_turn, posts_for, read_posts, read_posts_at}
 use Rattle.law_log.proofs.Imports.{readers, refl, refusal, replies, rests, rounds, same_some, sees, sees_for, sees_from, sends_or_proposes, servers_of}
 use Rattle.law_log.proofs.Imports.{settles, slice_get, stays_open, subst, suc, sym, takes_all, takes_entries, takes_entry, then_goes_out, ticked, to_propose}
-use Rattle.law_log.proofs.Imports.{true, true≢false, verdict_for, way_now, with_sight, witness_where, witnessed, write_posts, zero, ℕ, ⊤}
+use Rattle.law_log.proofs.Imports.{true, true≢false, verdict_for, way_now, with_sight, witness_where, witnessed, write_posts, ℕ, ⊤}
 use Rattle.spec_rules.specs.Posts.{Post}
 use Rattle.law_log.specs.AgreedLog.{IsOpen}
-use Rattle.law_log.proofs.ListPlaces.{at_last}
 use Rattle.law_log.proofs.PairJobsLeaveLog.{IsDated, posted_dated}
 use Rattle.law_log.proofs.ScheduleTurns.{no_posts}
+use Rattle.law_state.proofs.ListLookups.{get_last, get_drop}
 use Rattle.petal_msg.specs.declared.body.Body.TheVariants as body
 use Rattle.petal_msg.specs.declared.letter.Actor.TheVariants as actor
 use Rattle.script_lines.specs.declared.answer.Answer.TheVariants as answer
@@ -96,18 +96,13 @@ length_one : (xs : List Command) (x : Command) → length (xs ++ x ∷ []) ≡ l
 length_one [] x = omega arith
 length_one (y ∷ xs) x = let rest = length_one xs x in omega arith
 
-dropped : (k : ℕ) (xs : List Command) (i : ℕ) (c : Command) → slice_get (drop k xs) i ≡ Some c → slice_get xs (k + i) ≡ Some c
-dropped zero xs i c e = let at : zero + i ≡ i = omega arith in ap (slice_get xs) at ∙ e
-dropped (suc k) [] i c e = none_some refl e
-dropped (suc k) (x ∷ xs) i c e = let at : suc k + i ≡ suc (k + i) = omega arith in ap (slice_get (x ∷ xs)) at ∙ dropped k xs i c e
-
 next_told : (Told : ℕ → Command → Type 0) (client : Client) (after : ℕ) (commands : List Command)
     → ((i : ℕ) (c : Command) → slice_get commands i ≡ Some c → Told (after + i + 1) c)
     → (i : ℕ) (c : Command) → slice_get (next_entries client after commands) i ≡ Some c → Told (length client.applied + i + 1) c
 next_told Told client after commands told i c e =
     by_test (λ entries. slice_get entries i ≡ Some c → Told (length client.applied + i + 1) c) (nat_le after (length client.applied)) _ _
     (λ le e.
-    let at = told (length client.applied - after + i) c (dropped (length client.applied - after) commands i c e) in
+    let at = told (length client.applied - after + i) c (get_drop (length client.applied - after) commands i c e) in
     let few : after ≤ length client.applied = grind (arith, nat_tests) in
     let same : after + (length client.applied - after + i) + 1 ≡ length client.applied + i + 1 = omega arith in
     subst (λ place. Told place c) same at)
@@ -328,7 +323,7 @@ module _ (Told : ℕ → Command → Type 0) (lines : List Line) (me : ℕ) (sta
   one_entry now entry f told =
       let next : Learning = record now { state = after now.state entry; client = record now.client { applied = now.client.applied ++ entry ∷ [] } } in
       let grown : IsFine Told lines me next.client = record {
-        applied = λ i command e. elim (at_last now.client.applied entry i command e) [
+        applied = λ i command e. elim (get_last now.client.applied entry i command e) [
           | inl old ↦ f.applied i command old
           | inr last ↦ subst (λ (x : ℕ × Command). Told (x.0 + 1) x.1) (λ k. (sym last.0 k, sym last.1 k)) told
         ];
@@ -374,9 +369,6 @@ module _ (Told : ℕ → Command → Type 0) (lines : List Line) (me : ℕ) (sta
   heard_letter client letter f told _ e = replied_of Told lines me state client client.asked letter f refl
 
 module _ (Told : ℕ → Command → Type 0) (lines : List Line) (me : ℕ) (state : State) (client : Client) (f : IsFine Told lines me client) where
-  pub rests_so : Reacts Told lines me client.seq (rests client)
-  rests_so = resting Told lines me state client f
-
   pub calls_so : (line : Line) → slice_get (lines_of lines me) client.seq ≡ Some line
       → Reacts Told lines me client.seq (called state me client line.number line.request)
   calls_so line is = calling Told lines me state client line f is

@@ -1,40 +1,23 @@
 -- Jobs of copies: they say nothing of the log, put no letter into the queue, and forget no Caught for which a ballot was started.
-use Rattle.law_log.proofs.Imports.{[], ◌&&◌, ◌==◌, ◌∷◌, ◌≡◌, Among, Ask, Block, Body, Bool, Both, Cell, CopyAction, Copying, Entry, JobContext, JobResult}
-use Rattle.law_log.proofs.Imports.{LastCopy, Letter, LinkId, LinkRow, LinkState, List, Lost, NextCopy, None, Only, Option, PairState, Post, Some, State, Wait}
-use Rattle.law_log.proofs.Imports.{above, answers_page, begins_copy, by_test, catches_up, cell_at, cell_holder, cell_link, cell_of, clears_old_marks, closes}
+use Rattle.law_log.proofs.Imports.{[], ◌&&◌, ◌==◌, ◌∷◌, ◌≡◌, Among, Ask, Block, Bool, Both, Cell, CopyAction, Copying, Entry, JobContext, LastCopy, Letter}
+use Rattle.law_log.proofs.Imports.{LinkId, LinkRow, LinkState, List, Lost, NextCopy, None, Only, Option, PairState, Post, Some, State, Wait, above}
+use Rattle.law_log.proofs.Imports.{answers_page, begins_copy, by_test, catches_up, cell_at, cell_holder, cell_link, cell_of, clears_old_marks, closes}
 use Rattle.law_log.proofs.Imports.{copies_on, copies_with, copy_acts, copy_awaited, copy_posts, copy_stage, copying_on, false, flat_map, goes_for}
 use Rattle.law_log.proofs.Imports.{hears_entry, hears_hello, hears_page, hears_sync, hears_sync_full, hears_synced, hears_trim, hears_trim_of, hears_trimmed}
-use Rattle.law_log.proofs.Imports.{idle_mark, in-append, inl, inr, is_flagged, is_syncing, last_copy, link_named, mends_found, nat_lt, next_copy, not}
-use Rattle.law_log.proofs.Imports.{on_hello, on_hello_ask, on_sync, on_sync_full, on_synced, on_trim, on_trimmed, other_in, page_asked, page_for, page_posts}
-use Rattle.law_log.proofs.Imports.{page_wanted, progress_on, puts_entry, refl, repair_after, repairs, repairs_row, same_block, says_to, sends_entry, silent}
-use Rattle.law_log.proofs.Imports.{takes_mark, trims_again, trims_first, trims_for, trims_newly, trims_on, true, with_copied, with_copying, with_last_copy}
-use Rattle.law_log.proofs.Imports.{with_page, with_progress, without_copying, ℕ}
+use Rattle.law_log.proofs.Imports.{idle_mark, in-append, inl, inr, is_syncing, last_copy, link_named, mends_found, nat_lt, next_copy, not, on_hello}
+use Rattle.law_log.proofs.Imports.{on_hello_ask, on_sync, on_sync_full, on_synced, on_trim, on_trimmed, other_in, page_asked, page_for, page_posts}
+use Rattle.law_log.proofs.Imports.{page_wanted, progress_on, puts_entry, refl, repair_after, repairs, repairs_row, same_block, sends_entry, takes_mark}
+use Rattle.law_log.proofs.Imports.{trims_again, trims_first, trims_for, trims_newly, trims_on, true, with_copied, with_last_copy, with_page, with_progress}
+use Rattle.law_log.proofs.Imports.{without_copying, ℕ}
 use Rattle.petal_msg.specs.declared.copying.NextCopy.TheVariants.{Nothing}
 use Rattle.law_log.proofs.BallotFlags.{flags_put}
-use Rattle.law_log.proofs.PairJobsLeaveLog.{IsDated, SaysDated, no_letter, only_stage, posted_dated, quiet_says_to}
-use Rattle.law_log.proofs.ScheduleTurns.{no_posts}
+use Rattle.law_log.proofs.PairJobsLeaveLog.{IsDated, posted_dated, IsCalm, IsKept, calm_says, calm_silent, calm_stage, kept_itself}
+use Rattle.law_log.proofs.ScheduleTurns.{no_posts, no_letter}
 use Rattle.petal_msg.specs.declared.body.Body.TheVariants as body
 use Rattle.petal_msg.specs.declared.copying.CopyAction.TheVariants as copy_action
 use Rattle.spec_rules.specs.declared.job.Job.TheVariants as job
 
--- what a job leaves of what it has started ballots for
-pub record IsKept (before after : PairState) : Type 0 where
-  pub flags : (id : LinkId) → is_flagged before id ≡ true → is_flagged after id ≡ true
-
-pub record IsCalm (own : PairState) (done : JobResult) : Type 0 where
-  pub quiet : SaysDated done
-  pub kept : IsKept own done.own
-
-pub kept_itself : (own : PairState) → IsKept own own
-kept_itself own = record { flags = λ id h. h }
-
-pub calm_silent : (own : PairState) → IsCalm own (silent own)
-calm_silent own = record { quiet = record { posts = λ post i. no_posts post i; jobs = no_letter }; kept = kept_itself own }
-
-calm_says : (own : PairState) (to : Option ℕ) (what : Body) → IsDated what → IsCalm own (says_to own to what)
-calm_says own to what h = record { quiet = quiet_says_to own to what h; kept = kept_itself own }
-
-only_mend : (letter : Letter) (id : LinkId) → Among (job.Letter letter) (job.Repair id ∷ []) → ⊥
+pub only_mend : (letter : Letter) (id : LinkId) → Among (job.Letter letter) (job.Repair id ∷ []) → ⊥
 unfolding Among
 only_mend letter id (inl e) = let f : job.Letter letter ≡ job.Repair id = e in absurd cc
 only_mend letter id (inr h) = h
@@ -51,7 +34,7 @@ kept_copied (Some row) own block =
     by_test (IsKept own) (above (progress_on own row).copied block) (with_progress own row (record (progress_on own row) { copied = Some block })) own
     (λ e. record { flags = flags_put own row (record (progress_on own row) { copied = Some block }) (λ h. h) }) (λ e. kept_itself own)
 
-mends_only : (row : Option LinkRow) (letter : Letter) → Among (job.Letter letter) (repair_after row) → ⊥
+pub mends_only : (row : Option LinkRow) (letter : Letter) → Among (job.Letter letter) (repair_after row) → ⊥
 mends_only None letter i = no_letter letter i
 mends_only (Some row) letter i = only_mend letter _ i
 
@@ -59,7 +42,7 @@ calm_closes : (here : JobContext) (own : PairState) (cell : Cell) → IsCalm own
 calm_closes here own cell =
     let k = kept_copied (cell_link here.state cell) (without_copying own cell) cell.block in record {
       quiet = record { posts = λ post i. no_posts post i; jobs = mends_only (cell_link here.state cell) };
-      kept = record { flags = k.flags };
+      kept = k;
     }
 
 calm_entry : (here : JobContext) (own : PairState) (cell : Cell) (copy : Copying) (row : _) → IsCalm own (sends_entry here own cell copy row)
@@ -69,10 +52,7 @@ calm_entry here own cell copy (Some row) = calm_says own _ _ refl
 calm_act : (here : JobContext) (own : PairState) (cell : Cell) (copy : Copying) (what : CopyAction) → IsCalm own (copy_acts here own cell copy what)
 calm_act here own cell copy copy_action.Trim = calm_says own _ _ refl
 calm_act here own cell copy copy_action.Sync = calm_entry here own cell copy _
-calm_act here own cell copy (copy_action.Unmark kind) = record {
-  quiet = record { posts = λ post i. no_posts post i; jobs = λ letter i. only_stage letter cell i };
-  kept = record { flags = λ id h. h };
-}
+calm_act here own cell copy (copy_action.Unmark kind) = calm_stage _ cell
 calm_act here own cell copy copy_action.Close = calm_closes here own cell
 
 calm_with : (here : JobContext) (own : PairState) (cell : Cell) (copy : Option Copying) → IsCalm own (copies_with here own cell copy)
@@ -83,17 +63,9 @@ pub calm_copies : (here : JobContext) (own : PairState) (cell : Cell) → IsCalm
 unfolding copies_on
 calm_copies here own cell = calm_with here own cell (copying_on own cell)
 
--- where the copy is changed first
-calm_from : (own from : PairState) (done : JobResult) → IsKept own from → IsCalm from done → IsCalm own done
-calm_from own from done kept calm = record {
-  quiet = calm.quiet;
-  kept = record { flags = λ id h. calm.kept.flags id (kept.flags id h) };
-}
-
 calm_goes : (here : JobContext) (own : PairState) (row : LinkRow) (other : ℕ) (next : NextCopy) → IsCalm own (goes_for here own row other next)
 calm_goes here own row other Ask = calm_says own (Some other) (page_wanted own row) refl
-calm_goes here own row other (Block cell) =
-    calm_from own (begins_copy own cell) _ (record { flags = λ id h. h }) (calm_copies here (begins_copy own cell) cell)
+calm_goes here own row other (Block cell) = calm_copies here (begins_copy own cell) cell
 calm_goes here own row other Wait = calm_silent own
 calm_goes here own row other Nothing = calm_silent own
 
@@ -154,10 +126,7 @@ calm_hello here own id after block = calm_hears_hello here own after block (link
 
 calm_first : (own : PairState) (cell : Cell) (number holder : ℕ) (epochs : List ℕ) → IsCalm own (trims_first own cell number holder epochs)
 calm_first own cell number holder [] = calm_says own (Some holder) (body.Trimmed number cell) refl
-calm_first own cell number holder (epoch ∷ epochs) = record {
-  quiet = record { posts = λ post i. no_posts post i; jobs = λ letter i. only_stage letter cell i };
-  kept = record { flags = λ id h. h };
-}
+calm_first own cell number holder (epoch ∷ epochs) = calm_stage _ cell
 
 calm_trims_for : (own : PairState) (cell : Cell) (holder : Option ℕ) (last : Option LastCopy) → IsCalm own (trims_for own cell holder last)
 calm_trims_for own cell None last = calm_silent own
@@ -169,8 +138,7 @@ unfolding trims_on
 calm_trims here own cell = calm_trims_for own cell (cell_holder here cell) (last_copy own cell)
 
 calm_newly : (here : JobContext) (own : PairState) (number : ℕ) (cell : Cell) (epochs : List ℕ) → IsCalm own (trims_newly here own number cell epochs)
-calm_newly here own number cell epochs = let from = with_last_copy own cell (record { op = number; epochs = epochs; index = 0 }) in
-    calm_from own from _ (record { flags = λ id h. h }) (calm_trims here from cell)
+calm_newly here own number cell epochs = calm_trims here (with_last_copy own cell (record { op = number; epochs = epochs; index = 0 })) cell
 
 calm_again : (own : PairState) (cell : Cell) (number holder : ℕ) (epochs : List ℕ) → IsCalm own (trims_again own cell number holder epochs)
 calm_again own cell number holder [] = calm_says own (Some holder) (body.Trimmed number cell) refl
@@ -193,10 +161,7 @@ unfolding on_trim
 calm_trim here own number cell epochs = calm_trim_of here own number cell epochs (cell_holder here cell)
 
 calm_puts : (own : PairState) (entry : Entry) (last : LastCopy) (holder : ℕ) (room : Bool) → IsCalm own (puts_entry own entry last holder room)
-calm_puts own entry last holder true = record {
-  quiet = quiet_says_to _ (Some holder) (body.Synced entry.op (cell_of entry.key) entry.index) refl;
-  kept = record { flags = λ id h. h };
-}
+calm_puts own entry last holder true = calm_says _ (Some holder) (body.Synced entry.op (cell_of entry.key) entry.index) refl
 calm_puts own entry last holder false = calm_says own (Some holder) (body.SyncFull entry.op (cell_of entry.key)) refl
 
 calm_hears_entry : (own : PairState) (entry : Entry) (holder : ℕ) (last : LastCopy) → IsCalm own (hears_entry own entry holder last)
@@ -216,15 +181,11 @@ calm_sync here own entry = calm_hears_sync own entry (cell_holder here (cell_of 
 
 -- ### The holder hears
 
-calm_copying : (here : JobContext) (own : PairState) (cell : Cell) (copy : Copying) → IsCalm own (copies_on here (with_copying own cell copy) cell)
-calm_copying here own cell copy =
-    calm_from own (with_copying own cell copy) _ (record { flags = λ id h. h }) (calm_copies here (with_copying own cell copy) cell)
-
 calm_hears_trimmed : (here : JobContext) (own : PairState) (number : ℕ) (cell : Cell) (copy : Option Copying)
     → IsCalm own (hears_trimmed here own number cell copy)
 calm_hears_trimmed here own number cell None = calm_silent own
 calm_hears_trimmed here own number cell (Some copy) =
-    by_test (IsCalm own) ((copy.op == number) && not copy.trimmed) _ _ (λ e. calm_copying here own cell _) (λ e. calm_silent own)
+    by_test (IsCalm own) ((copy.op == number) && not copy.trimmed) _ _ (λ e. calm_copies here _ cell) (λ e. calm_silent own)
 
 pub calm_trimmed : (here : JobContext) (own : PairState) (number : ℕ) (cell : Cell) → IsCalm own (on_trimmed here own number cell)
 unfolding on_trimmed
@@ -234,7 +195,7 @@ calm_hears_synced : (here : JobContext) (own : PairState) (number : ℕ) (cell :
     → IsCalm own (hears_synced here own number cell index copy)
 calm_hears_synced here own number cell index None = calm_silent own
 calm_hears_synced here own number cell index (Some copy) =
-    by_test (IsCalm own) (is_syncing own cell copy number && (copy.index == index)) _ _ (λ e. calm_copying here own cell _) (λ e. calm_silent own)
+    by_test (IsCalm own) (is_syncing own cell copy number && (copy.index == index)) _ _ (λ e. calm_copies here _ cell) (λ e. calm_silent own)
 
 pub calm_synced : (here : JobContext) (own : PairState) (number : ℕ) (cell : Cell) (index : ℕ) → IsCalm own (on_synced here own number cell index)
 unfolding on_synced
@@ -244,10 +205,7 @@ calm_hears_full : (own : PairState) (number : ℕ) (cell : Cell) (copy : Option 
 calm_hears_full own number cell None = calm_silent own
 calm_hears_full own number cell (Some copy) =
     by_test (IsCalm own) (is_syncing own cell copy number) _ _
-    (λ e. record {
-      quiet = record { posts = λ post i. no_posts post i; jobs = no_letter };
-      kept = record { flags = λ id h. h };
-    }) (λ e. calm_silent own)
+    (λ e. calm_silent _) (λ e. calm_silent own)
 
 pub calm_sync_full : (own : PairState) (number : ℕ) (cell : Cell) → IsCalm own (on_sync_full own number cell)
 unfolding on_sync_full
@@ -277,9 +235,7 @@ dated_copy_posts here own post i = dated_copies here own own.copies.pending post
 
 dated_page : (own : PairState) (row : LinkRow) (other : ℕ) (next : NextCopy) (post : Post) → Among post (page_asked own row other next) → IsDated post.body
 dated_page own row other Ask post i = posted_dated (Some other) (page_wanted own row) refl post i
-dated_page own row other (Block cell) post i = no_posts post i
-dated_page own row other Wait post i = no_posts post i
-dated_page own row other Nothing post i = no_posts post i
+dated_page own row other _ post i = no_posts post i
 
 dated_page_for : (state : State) (own : PairState) (row : LinkRow) (other : Option ℕ) (post : Post)
     → Among post (page_for state own row other) → IsDated post.body

@@ -5,33 +5,32 @@ use Rattle.law_log.proofs.Imports.{fill_operation, fill_posts, fills_row, flat_m
 use Rattle.law_log.proofs.Imports.{hears_filled, id_of, in-append, inl, inr, is_eq, is_lead, is_next, is_some, is_under_way, key_at, lead, link_before}
 use Rattle.law_log.proofs.Imports.{link_cmp, nat_cmp, nat_lt, next_retired, on_fill, on_fill_full, on_filled, opens_fill, refl, sends_key, sends_moving}
 use Rattle.law_log.proofs.Imports.{sweep_jobs, sweeps, sweeps_with, target, tied_itself, true, with_filled, with_full, with_opened}
-use Rattle.law_log.proofs.CopyJobsLeaveLog.{IsCalm, IsKept, calm_silent}
 use Rattle.law_log.proofs.BallotFlags.{link_cmp_total}
-use Rattle.law_log.proofs.PairJobsLeaveLog.{IsDated, Leaves, no_letter, dated_moved, pair_goes, pair_says_to, pair_silent, posted_dated, quiet_silent}
-use Rattle.law_log.proofs.ScheduleTurns.{no_posts}
+use Rattle.law_log.proofs.PairJobsLeaveLog.{IsCalm, IsDated, IsKept, dated_moved, pair_goes, calm_says, calm_silent, posted_dated}
+use Rattle.law_log.proofs.ScheduleTurns.{no_posts, no_letter}
 use Rattle.petal_msg.specs.declared.body.Body.TheVariants as body
 use Rattle.petal_msg.specs.declared.operation.Ending.TheVariants as ending
 use Rattle.spec_rules.specs.declared.job.Job.TheVariants as job
 
 -- ### The new lead
 
-pair_opens : (here : JobContext) (own : PairState) (moving : Moving) (room : Bool) → Leaves own (opens_fill here own moving room)
-pair_opens here own moving false = pair_says_to own _ _ (dated_moved moving.key ending.Full)
+pair_opens : (here : JobContext) (own : PairState) (moving : Moving) (room : Bool) → IsCalm own (opens_fill here own moving room)
+pair_opens here own moving false = calm_says own _ _ (dated_moved moving.key ending.Full)
 pair_opens here own moving true = pair_goes here (with_opened own (fill_operation here own.pairs.next moving)) (cell_of moving.key)
 
-pair_hears : (here : JobContext) (own : PairState) (moving : Moving) (busy has back : Bool) → Leaves own (hears_fill here own moving busy has back)
-pair_hears here own moving true has back = pair_silent own
-pair_hears here own moving false true back = pair_says_to own _ _ (dated_moved moving.key ending.Written)
-pair_hears here own moving false false true = pair_silent own
+pair_hears : (here : JobContext) (own : PairState) (moving : Moving) (busy has back : Bool) → IsCalm own (hears_fill here own moving busy has back)
+pair_hears here own moving true has back = calm_silent own
+pair_hears here own moving false true back = calm_says own _ _ (dated_moved moving.key ending.Written)
+pair_hears here own moving false false true = calm_silent own
 pair_hears here own moving false false false = pair_opens here own moving (nat_lt 0 (free_of own.store))
 
-pub pair_fill : (here : JobContext) (own : PairState) (moving : Moving) → Leaves own (on_fill here own moving)
+pub pair_fill : (here : JobContext) (own : PairState) (moving : Moving) → IsCalm own (on_fill here own moving)
 unfolding on_fill
 pair_fill here own moving =
-    by_test (Leaves own) (is_lead here.state here.me (cell_of moving.key)) _ _
+    by_test (IsCalm own) (is_lead here.state here.me (cell_of moving.key)) _ _
     (λ e. pair_hears here own moving (is_under_way own (cell_of moving.key))
     (has_epoch (chain_in own.store.chains (cell_of moving.key)) moving.key.epoch) (has_proposed here.state own (cell_of moving.key)))
-    (λ e. pair_silent own)
+    (λ e. calm_silent own)
 
 -- ### The old lead
 
@@ -79,7 +78,7 @@ calm_hears_full : (here : JobContext) (own : PairState) (key : Key) (o : Option 
 calm_hears_full here own key None = calm_silent own
 calm_hears_full here own key (Some row) =
     by_test (IsCalm own) (is_next (fill_of here.state here.me row own) key) _ _
-    (λ e. record { quiet = quiet_silent (with_full own true); kept = record { flags = λ id h. h } }) (λ e. calm_silent own)
+    (λ e. calm_silent (with_full own true)) (λ e. calm_silent own)
 
 pub calm_fill_full : (here : JobContext) (own : PairState) (key : Key) → IsCalm own (on_fill_full here own key)
 unfolding on_fill_full
@@ -119,4 +118,4 @@ calm_sweeps here own = calm_swept own (next_retired here.state own.store)
 pub no_sweep : {A : Type 0} (here : JobContext) (own : PairState) (letter : Letter) → Among (job.Letter letter) (sweep_jobs here own) → A
 no_sweep {A} here own letter h =
     by_test (λ (xs : List Job). Among (job.Letter letter) xs → A) (is_some (next_retired here.state own.store)) (job.Sweep ∷ []) []
-    (λ e i. only_sweep letter i) (λ e i. absurd (no_letter letter i)) h
+    (λ e i. only_sweep letter i) (λ e i. no_letter letter i) h

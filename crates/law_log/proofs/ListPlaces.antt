@@ -1,5 +1,5 @@
 -- Places in lists, and functions with one value given again.
-use Rattle.law_log.proofs.Imports.{[], ◌++◌, ◌<◌, ◌∙◌, ◌∷◌, ◌≡◌, ◌≢◌, ◌⊎◌, Among, Bool, In, List, Some, ap, arith, cond, false, filter, inl, inr, length}
+use Rattle.law_log.proofs.Imports.{[], ◌++◌, ◌<◌, ◌∙◌, ◌∷◌, ◌≡◌, ◌≢◌, Among, Bool, In, List, Some, ap, arith, cond, false, filter, inl, inr, length}
 use Rattle.law_log.proofs.Imports.{none_some, put, put_at_cases, put_cases, refl, same_some, slice_get, suc, sym, true, zero, ℕ}
 use Rattle.spec_paxos.specs.Member.{put_at}
 
@@ -29,27 +29,10 @@ parted x [] h = absurd h
 parted x (y ∷ ys) (inl e) = ([], ys, ap (λ z. z ∷ ys) (sym e))
 parted x (y ∷ ys) (inr h) = let rest = parted x ys h in (y ∷ rest.0, rest.1, ap (λ zs. y ∷ zs) rest.2)
 
--- a place within the list has a member
-pub got : {X : Type 0} (xs : List X) (i : ℕ) → i < length xs → (x : X) × (slice_get xs i ≡ Some x)
-got [] i h = absurd (omega arith)
-got (y ∷ ys) zero h = (y, refl)
-got (y ∷ ys) (suc i) h = got ys i (omega arith)
-
 pub within : {X : Type 0} (xs : List X) (i : ℕ) (x : X) → slice_get xs i ≡ Some x → i < length xs
 within [] i x e = none_some refl e
 within (y ∷ ys) zero x e = omega arith
 within (y ∷ ys) (suc i) x e = let rest = within ys i x e in omega arith
-
--- one member more stands last
-pub at_last : {X : Type 0} (xs : List X) (y : X) (i : ℕ) (x : X) → slice_get (xs ++ y ∷ []) i ≡ Some x
-    → (slice_get xs i ≡ Some x) ⊎ ((i ≡ length xs) × (x ≡ y))
-at_last [] y zero x e = inr (refl, sym (same_some e))
-at_last [] y (suc i) x e = none_some refl e
-at_last (z ∷ xs) y zero x e = inl e
-at_last (z ∷ xs) y (suc i) x e = elim (at_last xs y i x e) [
-  | inl before ↦ inl before
-  | inr last ↦ inr (omega (arith, last.0), last.1)
-]
 
 -- what stands after a front
 pub next_at : {X : Type 0} (front later : List X) (x : X) → slice_get (front ++ later) (length front) ≡ Some x → (rest : List X) × (later ≡ x ∷ rest)

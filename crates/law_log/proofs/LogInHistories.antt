@@ -13,6 +13,7 @@ use Rattle.law_log.proofs.ChosenInSchedules.{report_was, in_begun, leave_chosen,
 use Rattle.law_log.proofs.OneCommandEachPlace.{IsFair, leave_stopped}
 use Rattle.law_log.proofs.StepsKeepLog.{history_goes, start_logged}
 use Rattle.law_log.proofs.ServersKeepWorlds.{Remembers}
+use Rattle.spec_history.proofs.Onwards.{steps_begin}
 use Rattle.petal_msg.specs.declared.body.Body.TheVariants as body
 
 sound_fair : (script : Script) → IsSound script → IsFair (setting_of script)
@@ -185,16 +186,12 @@ kept_incs script records sound legal n = (logged script records sound legal).is.
 
 -- ### A longer history
 
-world_joins : (setting : Setting) (w : World) (front back : List Record)
+pub world_joins : (setting : Setting) (w : World) (front back : List Record)
     → world_after setting w (front ++ back) ≡ world_after setting (world_after setting w front) back
 world_joins setting w [] back = refl
 world_joins setting w (own ∷ front) back = world_joins setting (stepped setting w own).world front back
 
-former : (setting : Setting) (w : World) (front back : List Record) → AreStepsFrom setting w (front ++ back) → AreStepsFrom setting w front
-former setting w [] back h = tt
-former setting w (own ∷ front) back h = (h.0, former setting (stepped setting w own).world front back h.1)
-
-latter : (setting : Setting) (w : World) (front back : List Record) → AreStepsFrom setting w (front ++ back)
+pub latter : (setting : Setting) (w : World) (front back : List Record) → AreStepsFrom setting w (front ++ back)
     → AreStepsFrom setting (world_after setting w front) back
 latter setting w [] back h = h
 latter setting w (own ∷ front) back h = latter setting (stepped setting w own).world front back h.1
@@ -213,7 +210,7 @@ history_grows script records sound legal front back is =
     let fair = sound_fair script sound in
     let whole : AreStepsFrom setting (start setting) (front ++ back) = subst (AreStepsFrom setting (start setting)) is legal in
     let earlier = history_goes {Was = nothing_minded} setting fair front (start setting) (start_logged setting)
-    (former setting (start setting) front back whole) (λ before own later split n. nothing_remembered setting.servers n _ _) in
+    (steps_begin setting (start setting) front back whole) (λ before own later split n. nothing_remembered setting.servers n _ _) in
     let rest = history_goes {Was = nothing_minded} setting fair back (At script front) earlier.logged
     (latter setting (start setting) front back whole) (λ before own later split n. nothing_remembered setting.servers n _ _) in
     let grown = grown_log setting (At script front) (world_after setting (At script front) back) fair rest.logged rest.grown in

@@ -1,20 +1,22 @@
 -- Each job of the log, as the schedule has it.
-use Rattle.law_log.proofs.Imports.{[], if◌then◌else◌, ◌++◌, ◌+◌, ◌<◌, ◌||◌, ◌∙◌, ◌∷◌, ◌≡◌, ◌⊎◌, Actor, Among, Body, Bool, Command, Decided, Heard, Idle, In}
-use Rattle.law_log.proofs.Imports.{IsProposer, IsTold, Job, Leave, Letter, List, Log, LogDone, None, Nothing, Option, Pax, Phase, Post, Refused, Send, Some}
-use Rattle.law_log.proofs.Imports.{Voter, World, acceptor_of, ap, applies, applies_known, applies_then, arith, before_known, by_test, false, first_wanted}
-use Rattle.law_log.proofs.Imports.{fold, has_command, hear, hears_log, hears_of_ballot, in-append, inc_accepted, inc_chosen, inc_promise, inl, inr, is_due}
-use Rattle.law_log.proofs.Imports.{is_open, is_some, keeps, known, known_at, known_run, learns, learns_first, leave_before, length, length-append, log_does}
-use Rattle.law_log.proofs.Imports.{nat_lt, nat_tests, next_place, none_some, not, on_ask, on_down, on_news, on_pax, on_propose, only, own_leave, proposes}
-use Rattle.law_log.proofs.Imports.{refl, rev_of, same_command, sent, slice_get, starts, starts_for, state_in, subst, suc, sym, told_inc, true, unknown_from}
-use Rattle.law_log.proofs.Imports.{wanted, with_entry, with_leave, zero, ℕ}
+use Rattle.law_log.proofs.Imports.{[], if◌then◌else◌, ◌++◌, ◌+◌, ◌<◌, ◌||◌, ◌∙◌, ◌∷◌, ◌≡◌, ◌⊎◌, Actor, Among, Body, Bool, Command, Heard, Idle, In}
+use Rattle.law_log.proofs.Imports.{IsProposer, IsTold, Job, Leave, Letter, List, Log, LogDone, None, Nothing, Option, Pax, Phase, Post, Some, Voter, World}
+use Rattle.law_log.proofs.Imports.{acceptor_of, ap, applies, applies_known, applies_then, arith, before_known, by_test, false, first_wanted, fold}
+use Rattle.law_log.proofs.Imports.{has_command, hear, hears_log, hears_of_ballot, in-append, inc_accepted, inc_chosen, inc_promise, inl, inr, is_due, is_open}
+use Rattle.law_log.proofs.Imports.{is_some, keeps, known, known_at, known_run, learns, learns_first, leave_before, length, length-append, log_does, nat_lt}
+use Rattle.law_log.proofs.Imports.{next_place, none_some, not, on_ask, on_down, on_news, on_pax, on_propose, only, own_leave, proposes, refl, rev_of}
+use Rattle.law_log.proofs.Imports.{same_command, sent, slice_get, starts, starts_for, state_in, subst, suc, sym, told_inc, true, unknown_from, wanted}
+use Rattle.law_log.proofs.Imports.{with_entry, with_leave, zero, ℕ}
 use Rattle.spec_paxos.specs.Proposer.{Step}
 use Rattle.spec_state.specs.State.{inc_of}
 use Rattle.law_log.specs.AgreedLog.{IsBacked, IsSaidBy}
 use Rattle.law_log.proofs.RunningLog.{VotingLog, voter_at}
-use Rattle.law_log.proofs.ListPlaces.{at_last, kept_among}
+use Rattle.law_log.proofs.ListPlaces.{kept_among}
 use Rattle.law_log.proofs.ProposersInSchedule.{pax_turn, start_turn}
 use Rattle.law_log.proofs.AcceptorsInSchedule.{learn_turn}
-use Rattle.law_log.proofs.ScheduleTurns.{HasTurn, still, no_posts, proposer_there}
+use Rattle.law_log.proofs.ScheduleTurns.{HasTurn, still, no_posts, proposer_there, no_letter}
+use Rattle.law_state.proofs.TestFacts.{less_by}
+use Rattle.law_state.proofs.ListLookups.{get_last}
 use Rattle.petal_command.specs.declared.pax.Pax.TheVariants as pax
 use Rattle.petal_msg.specs.declared.body.Body.TheVariants as body
 use Rattle.petal_msg.specs.declared.letter.Actor.TheVariants as actor
@@ -60,10 +62,6 @@ run_known log (suc most) place i command e =
 
 -- ### What follows a job up, and what is wanted afterwards
 
-no_follow : {A : Type 0} (letter : Letter) → Among (job.Letter letter) [] → A
-unfolding Among
-no_follow letter h = absurd h
-
 applies_follow : {A : Type 0} (letter : Letter) (before : Option Command) (next : Bool) → Among (job.Letter letter) (applies_then before next) → A
 unfolding Among
 applies_follow letter None true (inl e) = let f : job.Letter letter ≡ job.Apply = e in absurd cc
@@ -94,16 +92,12 @@ pub record WantsSame (before later : Log) : Type 0 where
 
 out_wants : (voter : Voter) (log : Log) (step : Step) (said : Heard) → WantsSame log (proposes voter log step said).log
 out_wants voter log step Nothing = record { wants = refl; leaves = refl; incs = refl; applied = refl }
-out_wants voter log step (Send said) = record { wants = refl; leaves = refl; incs = refl; applied = refl }
-out_wants voter log step (Decided place command) = record { wants = refl; leaves = refl; incs = refl; applied = refl }
-out_wants voter log step (Refused promised) = record { wants = refl; leaves = refl; incs = refl; applied = refl }
+out_wants voter log step _ = record { wants = refl; leaves = refl; incs = refl; applied = refl }
 
 out_follows : {A : Type 0} (voter : Voter) (log : Log) (step : Step) (said : Heard) (letter : Letter)
     → Among (job.Letter letter) (proposes voter log step said).jobs → A
-out_follows voter log step Nothing letter h = no_follow letter h
-out_follows voter log step (Send said) letter h = no_follow letter h
-out_follows voter log step (Decided place command) letter h = no_follow letter h
-out_follows voter log step (Refused promised) letter h = no_follow letter h
+out_follows voter log step Nothing letter h = no_letter letter h
+out_follows voter log step _ letter h = no_letter letter h
 
 learn_wants : (log : Log) (place : ℕ) (command : Command) → WantsSame log (learns log place command).log
 unfolding learns
@@ -123,19 +117,14 @@ pax_wants voter log from (pax.Accept place b command) =
     (λ e. record { wants = refl; leaves = refl; incs = inc_accepted log.records place b command; applied = refl })
     (λ e. record { wants = refl; leaves = refl; incs = refl; applied = refl })
 pax_wants voter log from (pax.Chosen place command) = learn_wants log place command
-pax_wants voter log from (pax.Promise place b best) = out_wants voter log (hear voter.servers log.phase from (pax.Promise place b best)) _
-pax_wants voter log from (pax.Accepted place b) = out_wants voter log (hear voter.servers log.phase from (pax.Accepted place b)) _
-pax_wants voter log from (pax.Refuse place b promised) = out_wants voter log (hear voter.servers log.phase from (pax.Refuse place b promised)) _
+pax_wants voter log from said = out_wants voter log (hear voter.servers log.phase from said) _
 
 pax_follows : {A : Type 0} (voter : Voter) (log : Log) (from : ℕ) (said : Pax) (letter : Letter)
     → Among (job.Letter letter) (hears_of_ballot voter log from said).jobs → A
-pax_follows voter log from (pax.Prepare place b) letter h = no_follow letter h
-pax_follows voter log from (pax.Accept place b command) letter h = no_follow letter h
+pax_follows voter log from (pax.Prepare place b) letter h = no_letter letter h
+pax_follows voter log from (pax.Accept place b command) letter h = no_letter letter h
 pax_follows voter log from (pax.Chosen place command) letter h = learn_follows log place command letter h
-pax_follows voter log from (pax.Promise place b best) letter h = out_follows voter log (hear voter.servers log.phase from (pax.Promise place b best)) _ letter h
-pax_follows voter log from (pax.Accepted place b) letter h = out_follows voter log (hear voter.servers log.phase from (pax.Accepted place b)) _ letter h
-pax_follows voter log from (pax.Refuse place b promised) letter h =
-    out_follows voter log (hear voter.servers log.phase from (pax.Refuse place b promised)) _ letter h
+pax_follows voter log from said letter h = out_follows voter log (hear voter.servers log.phase from said) _ letter h
 
 -- ### Each job
 
@@ -148,8 +137,8 @@ start_wants voter log (Some want) = record { wants = refl; leaves = refl; incs =
 start_wants voter log None = record { wants = refl; leaves = refl; incs = refl; applied = refl }
 
 start_follows : {A : Type 0} (voter : Voter) (log : Log) (o : Option Command) (letter : Letter) → Among (job.Letter letter) (starts_for voter log o).jobs → A
-start_follows voter log (Some want) letter h = no_follow letter h
-start_follows voter log None letter h = no_follow letter h
+start_follows voter log (Some want) letter h = no_letter letter h
+start_follows voter log None letter h = no_letter letter h
 
 one_more : (c command : Command) (wants : List Command) → Among c (wants ++ command ∷ []) → Among c wants ⊎ (c ≡ command)
 one_more c command wants h = elim (in-append c wants (command ∷ []) h) [
@@ -183,10 +172,7 @@ pub own_leaves : {A : Type 0} (me inc : ℕ) (o : Option ℕ) (c : Command) → 
 unfolding Among
 own_leaves me inc None c so h = absurd h
 own_leaves {A} me inc (Some earlier) c so h = by_test (λ (xs : List Command). Among c xs → A) (nat_lt earlier inc) _ _
-    (λ lt i. elim i [ inl is ↦ so earlier (less earlier inc lt) is | inr none ↦ absurd none ]) (λ e i. absurd i) h
-  where
-    less : (a b : ℕ) → nat_lt a b ≡ true → a < b
-    less a b e = grind (arith, nat_tests)
+    (λ lt i. elim i [ inl is ↦ so earlier (less_by earlier inc lt) is | inr none ↦ absurd none ]) (λ e i. absurd i) h
 
 -- such a log before a job, and in which sense its commands are called for: those that the server wants, and each Leave that it may want
 pub record JobLog : Type 1 where
@@ -209,73 +195,63 @@ module _ (it : JobLog) where
   abbrev voter : Voter
   voter = voter_at voting
 
-  still_fine : (later : Log) → WantsSame log later → (c : Command) → Among c later.wants → Fine c
-  still_fine later same c h = fine c (subst (Among c) same.wants h)
-
-  still_leaving : (later : Log) → WantsSame log later → (c : Command) → Among c later.leaves → Fine c
-  still_leaving later same c h = leaving c (subst (Among c) same.leaves h)
-
-  kept : (own : Job) → Left own (keeps log)
-  kept own = record {
-    turn = still servers n true log [] p Good low seen busy (λ post i. no_posts post i);
-    wants = fine;
-    leaves = leaving;
-    follows = λ letter h. no_follow letter h;
+  -- a job that wants these, says so much, and leaves the rest of the log as it is
+  wants_these : (own : Job) (wants leaves : List Command) (posts : List Post) → ((c : Command) → Among c wants → Fine c)
+      → ((c : Command) → Among c leaves → Fine c)
+      → ((post : Post) → Among post posts → IsBacked p (λ command. ⊥) (λ said. In (sent n said) p.letters) post.body)
+      → Left own (record { log = record log { wants = wants; leaves = leaves }; posts = posts; jobs = [] })
+  wants_these own wants leaves posts all every backed = record {
+    turn = still servers n true (record log { wants = wants; leaves = leaves }) posts p Good low seen busy backed;
+    wants = all;
+    leaves = every;
+    follows = λ letter h. no_letter letter h;
     incs = refl;
     applied = inl refl;
   }
+
+  -- one that wants what was wanted
+  wants_as_before : (own : Job) (done : LogDone) → WantsSame log done.log
+      → ((letter : Letter) → Among (job.Letter letter) done.jobs → own ≡ job.Letter letter)
+      → HasTurn servers n true done.log done.posts p Good → Left own done
+  wants_as_before own done same follows turn = record {
+    turn = turn;
+    wants = λ c h. fine c (subst (Among c) same.wants h);
+    leaves = λ c h. leaving c (subst (Among c) same.leaves h);
+    follows = follows;
+    incs = same.incs;
+    applied = inl same.applied;
+  }
+
+  kept : (own : Job) → Left own (keeps log)
+  kept own = wants_these own log.wants log.leaves [] fine leaving (λ post i. no_posts post i)
 
   stopped : (own : Job) (server stop : ℕ) → Fine (Leave server stop) → Left own (on_down log server stop)
   unfolding on_down
-  stopped own server stop f = record {
-    turn = still servers n true (record log { leaves = with_leave log.leaves (Leave server stop) }) [] p Good low seen busy (λ post i. no_posts post i);
-    wants = fine;
-    leaves = λ c h. elim (one_leave log.leaves (Leave server stop) c h) [ inl old ↦ leaving c old | inr is ↦ subst Fine (sym is) f ];
-    follows = λ letter h. no_follow letter h;
-    incs = refl;
-    applied = inl refl;
-  }
+  stopped own server stop f = wants_these own log.wants (with_leave log.leaves (Leave server stop)) [] fine
+      (λ c h. elim (one_leave log.leaves (Leave server stop) c h) [ inl old ↦ leaving c old | inr is ↦ subst Fine (sym is) f ])
+      (λ post i. no_posts post i)
 
   proposed : (own : Job) (command : Command) → Fine command → Left own (on_propose log command)
   unfolding on_propose
   proposed own command f =
       by_test (Left own) (has_command log.applied command || has_command log.wants command) _ _ (λ e. kept own)
-      (λ e. record {
-        turn = still servers n true (record log { wants = log.wants ++ command ∷ [] }) [] p Good low seen busy (λ post i. no_posts post i);
-        wants = λ c h. elim (one_more c command log.wants h) [ inl old ↦ fine c old | inr is ↦ subst Fine (sym is) f ];
-        leaves = leaving;
-        follows = λ letter h. no_follow letter h;
-        incs = refl;
-        applied = inl refl;
-      })
+      (λ e. wants_these own (log.wants ++ command ∷ []) log.leaves []
+      (λ c h. elim (one_more c command log.wants h) [ inl old ↦ fine c old | inr is ↦ subst Fine (sym is) f ]) leaving (λ post i. no_posts post i))
 
   told : (own : Job) (who : Actor) (rev : ℕ) → Left own (on_ask log who rev)
   unfolding on_ask
-  told own who rev = record {
-    turn = still servers n true log _ p Good low seen busy
-        (λ post i. only (λ (x : Post). IsBacked p (λ command. ⊥) (λ said. In (sent n said) p.letters) x.body) _ post i
-        (λ i c e. let at : rev + 1 + i ≡ rev + i + 1 = omega arith in subst (λ place. IsTold p place c) at
-        (seen.told (rev + 1 + i) c (run_known log 64 (rev + 1) i c e))));
-    wants = fine;
-    leaves = leaving;
-    follows = λ letter h. no_follow letter h;
-    incs = refl;
-    applied = inl refl;
-  }
+  told own who rev = wants_these own log.wants log.leaves _ fine leaving
+      (λ post i. only (λ (x : Post). IsBacked p (λ command. ⊥) (λ said. In (sent n said) p.letters) x.body) _ post i
+      (λ i c e. let at : rev + 1 + i ≡ rev + i + 1 = omega arith in subst (λ place. IsTold p place c) at
+      (seen.told (rev + 1 + i) c (run_known log 64 (rev + 1) i c e))))
 
   learnt : (own : Job) (place : ℕ) (c : Command) → IsTold p place c → Left own (learns log place c)
   unfolding learns
   learnt own place c t =
       let at = proposer_there log.phase (p.proposers n) busy.proposer in
       let h = learn_turn running Good at.0 at.1 place c t (λ d u. one place c d t u) in
-      record {
-        turn = record { events = h.events; wanted = h.wanted; turns = h.turns };
-        wants = still_fine _ (learn_wants log place c);
-        leaves = still_leaving _ (learn_wants log place c);
-        follows = λ letter h. learn_follows log place c letter h;
-        incs = (learn_wants log place c).incs;
-        applied = inl (learn_wants log place c).applied;
-      }
+      wants_as_before own _ (learn_wants log place c) (λ letter h. learn_follows log place c letter h)
+      (record { events = h.events; wanted = h.wanted; turns = h.turns })
 
   told_first : (letter : Letter) (after : ℕ) (commands : List Command) → ((i : ℕ) (c : Command) → slice_get commands i ≡ Some c → IsTold p (after + i + 1) c)
       → (first : ℕ × Command) (rest : List (ℕ × Command)) → unknown_from log (after + 1) commands ≡ first ∷ rest → IsTold p first.0 first.1
@@ -312,14 +288,8 @@ module _ (it : JobLog) where
   unfolding on_pax
   ballots own (actor.Server from) said i =
       let at = proposer_there log.phase (p.proposers n) busy.proposer in
-      record {
-        turn = pax_turn voting Good at.0 at.1 one at.2 from said i;
-        wants = still_fine _ (pax_wants voter log from said);
-        leaves = still_leaving _ (pax_wants voter log from said);
-        follows = λ letter h. pax_follows voter log from said letter h;
-        incs = (pax_wants voter log from said).incs;
-        applied = inl (pax_wants voter log from said).applied;
-      }
+      wants_as_before own _ (pax_wants voter log from said) (λ letter h. pax_follows voter log from said letter h)
+      (pax_turn voting Good at.0 at.1 one at.2 from said i)
   ballots own (actor.Client c) said i = kept own
 
   applied_one : (own : Job) (o : Option Command) → known log (next_place log) ≡ o → Left own (applies_known log o)
@@ -332,7 +302,7 @@ module _ (it : JobLog) where
           inc = seen.inc;
           votes = seen.votes;
           told = seen.told;
-          applied = λ i c is. elim (at_last log.applied entry i c is) [
+          applied = λ i c is. elim (get_last log.applied entry i c is) [
             | inl old ↦ seen.applied i c old
             | inr last ↦ ap (λ k. known_at log.records (k + 1)) last.0 ∙ e ∙ ap Some (sym last.1)
           ];
@@ -364,15 +334,9 @@ module _ (it : JobLog) where
   started own wants all =
       let at = proposer_there log.phase (p.proposers n) busy.proposer in
       let turn = start_turn voting Good at.0 at.1 wants all in
-      let same = start_wants voter log (first_wanted log.phase (rev_of log) wants) in
-      record {
-        turn = record { events = turn.events; wanted = turn.wanted; turns = turn.turns };
-        wants = still_fine _ same;
-        leaves = still_leaving _ same;
-        follows = λ letter h. start_follows voter log (first_wanted log.phase (rev_of log) wants) letter h;
-        incs = same.incs;
-        applied = inl same.applied;
-      }
+      let want = first_wanted log.phase (rev_of log) wants in
+      wants_as_before own _ (start_wants voter log want) (λ letter h. start_follows voter log want letter h)
+      (record { events = turn.events; wanted = turn.wanted; turns = turn.turns })
 
   pub applied_next : (own : Job) → Left own (applies log)
   unfolding applies

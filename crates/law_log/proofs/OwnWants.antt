@@ -11,9 +11,9 @@ use Rattle.law_log.proofs.OneCommandEachPlace.{applied_plain}
 use Rattle.law_log.proofs.CaughtsWanted.{caught_among, caught_may, caught_minded}
 use Rattle.law_log.proofs.ReportsWanted.{IsReport, report_among}
 use Rattle.law_log.proofs.LogJobsInSchedule.{start_wants}
-use Rattle.law_log.proofs.ListPlaces.{got}
 use Rattle.law_log.proofs.MovedsWanted.{IsMove, move_among}
 use Rattle.law_log.proofs.ServersKeepWorlds.{ServerStep, before_of, Remembers}
+use Rattle.law_state.proofs.ListLookups.{get_within}
 use Rattle.global_tables.specs.declared.fence.Member.TheVariants as member
 
 -- the next place is reached: what is applied before it was told
@@ -22,7 +22,7 @@ pub reached_next : {Was : Minded} (setting : Setting) (w : World) (l : Logged Wa
 reached_next setting w l n = record {
   starts = omega arith;
   told = λ i lt.
-      let at = got (w.servers n).log.applied i (omega arith) in
+      let at = get_within (w.servers n).log.applied i (omega arith) in
       (at.0, (l.is.servers n).told (i + 1) at.0 ((l.is.servers n).applied i at.0 at.1));
 }
 

@@ -1,16 +1,18 @@
 -- Operations of the pairs say nothing of the log, put no letter into the queue, and leave all copies as they are; neither does what a tick sends
 -- for them say anything of the log.
-use Rattle.law_log.proofs.Imports.{[], ◌&&◌, ◌==◌, ◌∷◌, ◌≡◌, Action, Actor, Again, Among, Body, Bool, Cell, Command, Copies, Ending, FollowProgress, JobContext}
-use Rattle.law_log.proofs.Imports.{JobResult, Key, LastOp, Letter, List, Newer, None, Older, OpKind, Option, PairState, Pax, Pending, Post, Reply, Some}
-use Rattle.law_log.proofs.Imports.{Standing, Wanted, World, about, awaited, by_test, cell_of, ended, ends, false, finishes, flat_map, follows_once}
+use Rattle.law_log.proofs.Imports.{[], ◌&&◌, ◌==◌, ◌∷◌, ◌≡◌, Action, Actor, Again, Among, Body, Bool, Cell, Command, Ending, FollowProgress, JobContext, JobResult, Key}
+use Rattle.law_log.proofs.Imports.{LastOp, Letter, LinkId, List, Newer, None, Older, OpKind, Option, PairState, Pax, Pending, Post, Progress, Reply, Some}
+use Rattle.law_log.proofs.Imports.{Standing, Wanted, World, about, at, awaited, by_test, cell_of, ended, ends, false, finishes, flat_map, follows_once}
 use Rattle.law_log.proofs.Imports.{gives_back, gives_up, goes_on, goes_on_with, hears_pair_full, hears_replicate, hears_replicated, hears_reserve}
 use Rattle.law_log.proofs.Imports.{hears_reserved, in-append, inl, inr, is_kept_back, is_lead, is_logged, is_pending_for, is_replicating, is_reserving}
-use Rattle.law_log.proofs.Imports.{is_second, is_under_way, last_on, moved_as, nat_lt, not, on_pair_full, on_read, on_replicate, on_replicated, on_reserve}
-use Rattle.law_log.proofs.Imports.{on_reserved, on_write, only, opened, opens, pending_on, post_to, readable, refl, reply_to, reserves, said, says, says_to}
-use Rattle.law_log.proofs.Imports.{sent_again, silent, subject_of, takes, takes_newer, tells, true, true≢false, without_pending, ℕ}
+use Rattle.law_log.proofs.Imports.{is_second, is_under_way, last_on, link_cmp, moved_as, nat_lt, not, on_pair_full, on_read, on_replicate, on_replicated}
+use Rattle.law_log.proofs.Imports.{on_reserve, on_reserved, on_write, only, opened, opens, option_map_or, pending_on, post_to, readable, refl, reply_to}
+use Rattle.law_log.proofs.Imports.{reserves, said, says, says_to, sent_again, silent, subject_of, takes, takes_newer, tells, true, true≢false}
+use Rattle.law_log.proofs.Imports.{without_pending, ℕ}
 use Rattle.spec_rules.specs.Writes.{acts}
+use Rattle.petal_table.specs.Table.{Table}
 use Rattle.law_log.specs.AgreedLog.{IsBacked}
-use Rattle.law_log.proofs.ScheduleTurns.{no_posts}
+use Rattle.law_log.proofs.ScheduleTurns.{no_posts, no_letter}
 use Rattle.petal_msg.specs.declared.body.Body.TheVariants as body
 use Rattle.petal_msg.specs.declared.letter.Actor.TheVariants as actor
 use Rattle.petal_msg.specs.declared.operation.Action.TheVariants as action
@@ -50,56 +52,52 @@ pub record SaysDated (done : JobResult) : Type 0 where
   pub posts : (post : Post) → Among post done.posts → IsDated post.body
   pub jobs : (letter : Letter) → Among (job.Letter letter) done.jobs → ⊥
 
-pub no_letter : (letter : Letter) → Among (job.Letter letter) [] → ⊥
-unfolding Among
-no_letter letter h = h
-
 pub only_stage : (letter : Letter) (cell : Cell) → Among (job.Letter letter) (job.Stage cell ∷ []) → ⊥
 unfolding Among
 only_stage letter cell (inl e) = let f : job.Letter letter ≡ job.Stage cell = e in absurd cc
 only_stage letter cell (inr h) = h
 
-pub quiet_silent : (own : PairState) → SaysDated (silent own)
-quiet_silent own = record { posts = λ post i. no_posts post i; jobs = no_letter }
-
-quiet_stage : (own : PairState) (cell : Cell) → SaysDated (record { own = own; posts = []; jobs = job.Stage cell ∷ [] })
-quiet_stage own cell = record { posts = λ post i. no_posts post i; jobs = λ letter i. only_stage letter cell i }
-
-pub quiet_says : (own : PairState) (to : Actor) (what : Body) → IsDated what → SaysDated (says own to what)
-quiet_says own to what h = record { posts = λ post i. only (λ (x : Post). IsDated x.body) _ post i h; jobs = no_letter }
-
 pub posted_dated : (server : Option ℕ) (what : Body) → IsDated what → (post : Post) → Among post (post_to server what) → IsDated post.body
 posted_dated None what h post i = no_posts post i
 posted_dated (Some n) what h post i = only (λ (x : Post). IsDated x.body) (record { to = actor.Server n; body = what }) post i h
 
-pub quiet_says_to : (own : PairState) (server : Option ℕ) (what : Body) → IsDated what → SaysDated (says_to own server what)
-quiet_says_to own server what h = record { posts = posted_dated server what h; jobs = no_letter }
+-- what a job leaves of what it has started ballots for
+pub record KeepsFlags (before after : Table LinkId Progress) : Type 0 where
+  pub flags : (id : LinkId) → option_map_or (λ (p : Progress). p.caught) (at link_cmp before id) false ≡ true
+      → option_map_or (λ (p : Progress). p.caught) (at link_cmp after id) false ≡ true
 
--- what it says is handled at its revision alone, and it leaves these copies
-pub record IsOfPairs (done : JobResult) (are : Copies) : Type 0 where
+abbrev pub IsKept : PairState → PairState → Type 0
+IsKept before after = KeepsFlags before.copies.progress after.copies.progress
+
+-- what it says is handled at its revision alone, it puts no letter into the queue, and it forgets no Caught for which a ballot was started
+pub record IsCalmFrom (before : Table LinkId Progress) (done : JobResult) : Type 0 where
   pub quiet : SaysDated done
-  pub copies : done.own.copies ≡ are
+  pub kept : KeepsFlags before done.own.copies.progress
 
--- it leaves those of this server
-abbrev pub Leaves : PairState → JobResult → Type 0
-Leaves own done = IsOfPairs done own.copies
+abbrev pub IsCalm : PairState → JobResult → Type 0
+IsCalm own done = IsCalmFrom own.copies.progress done
 
-pub pair_silent : (own : PairState) → Leaves own (silent own)
-pair_silent own = record { quiet = quiet_silent own; copies = refl }
+pub kept_itself : (own : PairState) → IsKept own own
+kept_itself own = record { flags = λ id h. h }
 
-pair_stage : (own : PairState) (cell : Cell) → Leaves own (record { own = own; posts = []; jobs = job.Stage cell ∷ [] })
-pair_stage own cell = record { quiet = quiet_stage own cell; copies = refl }
+pub calm_silent : (own : PairState) → IsCalm own (silent own)
+calm_silent own = record { quiet = record { posts = λ post i. no_posts post i; jobs = no_letter }; kept = kept_itself own }
 
-pair_says : (own : PairState) (to : Actor) (what : Body) → IsDated what → Leaves own (says own to what)
-pair_says own to what h = record { quiet = quiet_says own to what h; copies = refl }
+pub calm_stage : (own : PairState) (cell : Cell) → IsCalm own (record { own = own; posts = []; jobs = job.Stage cell ∷ [] })
+calm_stage own cell =
+    record { quiet = record { posts = λ post i. no_posts post i; jobs = λ letter i. only_stage letter cell i }; kept = kept_itself own }
 
-pub pair_says_to : (own : PairState) (server : Option ℕ) (what : Body) → IsDated what → Leaves own (says_to own server what)
-pair_says_to own server what h = record { quiet = quiet_says_to own server what h; copies = refl }
+pair_says : (own : PairState) (to : Actor) (what : Body) → IsDated what → IsCalm own (says own to what)
+pair_says own to what h =
+    record { quiet = record { posts = λ post i. only (λ (x : Post). IsDated x.body) _ post i h; jobs = no_letter }; kept = kept_itself own }
 
-pair_up : (own : PairState) (op : Pending) → (gives_up own op).copies ≡ own.copies
-pair_up own op = by_test (λ (left : PairState). left.copies ≡ own.copies) op.stage.put _ _ (λ e. refl) (λ e. refl)
+pub calm_says : (own : PairState) (server : Option ℕ) (what : Body) → IsDated what → IsCalm own (says_to own server what)
+calm_says own server what h = record { quiet = record { posts = posted_dated server what h; jobs = no_letter }; kept = kept_itself own }
 
-pair_ending : (own : PairState) (client seq : ℕ) (what : Ending) → Leaves own (finishes own client seq what)
+pair_up : (own : PairState) (op : Pending) → IsKept own (gives_up own op)
+pair_up own op = by_test (IsKept own) op.stage.put _ _ (λ e. kept_itself own) (λ e. kept_itself own)
+
+pair_ending : (own : PairState) (client seq : ℕ) (what : Ending) → IsCalm own (finishes own client seq what)
 pair_ending own client seq ending.Written = pair_says _ _ _ refl
 pair_ending own client seq ending.Full = pair_says _ _ _ refl
 
@@ -112,119 +110,117 @@ dated_moved key ending.Written = refl
 dated_moved key ending.Full = refl
 
 -- of a fill the old lead is told
-pair_ends : (here : JobContext) (own : PairState) (op : Pending) (what : OpKind) (how : Ending) → Leaves own (ends here own op what how)
+pair_ends : (here : JobContext) (own : PairState) (op : Pending) (what : OpKind) (how : Ending) → IsCalm own (ends here own op what how)
 pair_ends here own op kind.Write how = pair_ending own op.client op.seq how
-pair_ends here own op kind.Fill how = pair_says_to own _ _ (dated_moved op.key how)
-pair_ends here own op kind.Copy how = pair_silent own
+pair_ends here own op kind.Fill how = calm_says own _ _ (dated_moved op.key how)
+pair_ends here own op kind.Copy how = calm_silent own
 
-pair_act : (here : JobContext) (own : PairState) (op : Pending) (what : Action) → Leaves own (acts here own op what)
-pair_act here own op action.Reserve = pair_says_to own _ _ refl
-pair_act here own op (action.Mark kind) = pair_stage _ op.cell
-pair_act here own op action.Put = pair_stage _ op.cell
-pair_act here own op action.Replicate = pair_says_to own _ _ refl
-pair_act here own op (action.Unmark kind) = pair_stage _ op.cell
+pair_act : (here : JobContext) (own : PairState) (op : Pending) (what : Action) → IsCalm own (acts here own op what)
+pair_act here own op action.Reserve = calm_says own _ _ refl
+pair_act here own op (action.Mark kind) = calm_stage _ op.cell
+pair_act here own op action.Put = calm_stage _ op.cell
+pair_act here own op action.Replicate = calm_says own _ _ refl
+pair_act here own op (action.Unmark kind) = calm_stage _ op.cell
 pair_act here own op action.Answer = pair_ends here (without_pending own op.cell) op op.kind ending.Written
-pair_act here own op action.Drop = record { quiet = quiet_silent _; copies = pair_up own op }
+pair_act here own op action.Drop = record { quiet = record { posts = λ post i. no_posts post i; jobs = no_letter }; kept = pair_up own op }
 
-pair_next : (here : JobContext) (own : PairState) (op : Option Pending) → Leaves own (goes_on_with here own op)
-pair_next here own None = pair_silent own
+pair_next : (here : JobContext) (own : PairState) (op : Option Pending) → IsCalm own (goes_on_with here own op)
+pair_next here own None = calm_silent own
 pair_next here own (Some op) = pair_act here own op _
 
-pub pair_goes : (here : JobContext) (own : PairState) (cell : Cell) → Leaves own (goes_on here own cell)
+pub pair_goes : (here : JobContext) (own : PairState) (cell : Cell) → IsCalm own (goes_on here own cell)
 unfolding goes_on
 pair_goes here own cell = pair_next here own (pending_on own cell)
 
 dated_reply : (seq : ℕ) (what : Reply) → IsDated (said seq what)
 dated_reply seq (reply.Data bytes) = refl
-dated_reply seq reply.NotHere = refl
-dated_reply seq reply.BlockBusy = refl
-dated_reply seq reply.Held = refl
+dated_reply seq _ = refl
 
-pub pair_read : (here : JobContext) (own : PairState) (client seq : ℕ) (cell : Cell) (epoch : ℕ) → Leaves own (on_read here own client seq cell epoch)
+pub pair_read : (here : JobContext) (own : PairState) (client seq : ℕ) (cell : Cell) (epoch : ℕ) → IsCalm own (on_read here own client seq cell epoch)
 unfolding on_read
 pair_read here own client seq cell epoch =
-    by_test (Leaves own) (readable here.state here.me cell) _ _ (λ e. pair_says own _ _ (dated_reply seq (reply_to here own cell epoch))) (λ e. pair_silent own)
+    by_test (IsCalm own) (readable here.state here.me cell) _ _ (λ e. pair_says own _ _ (dated_reply seq (reply_to here own cell epoch))) (λ e. calm_silent own)
 
-pair_opens : (here : JobContext) (own : PairState) (want : Wanted) (room : Bool) → Leaves own (opens here own want room)
+pair_opens : (here : JobContext) (own : PairState) (want : Wanted) (room : Bool) → IsCalm own (opens here own want room)
 pair_opens here own want false = pair_ending own want.client want.seq ending.Full
 pair_opens here own want true = pair_goes here (opened here own want) want.cell
 
-pair_newer : (here : JobContext) (own : PairState) (want : Wanted) (kept_back busy : Bool) → Leaves own (takes_newer here own want kept_back busy)
+pair_newer : (here : JobContext) (own : PairState) (want : Wanted) (kept_back busy : Bool) → IsCalm own (takes_newer here own want kept_back busy)
 pair_newer here own want true busy = pair_says own _ _ refl
 pair_newer here own want false true = pair_says own _ _ refl
 pair_newer here own want false false = pair_opens here own want _
 
-pair_takes : (here : JobContext) (own : PairState) (want : Wanted) (how : Standing) → Leaves own (takes here own want how)
-pair_takes here own want Older = pair_silent own
+pair_takes : (here : JobContext) (own : PairState) (want : Wanted) (how : Standing) → IsCalm own (takes here own want how)
+pair_takes here own want Older = calm_silent own
 pair_takes here own want (Again what) = pair_says own _ _ (dated_ending want.seq what)
 pair_takes here own want Newer =
-    by_test (Leaves own) (is_pending_for (pending_on own want.cell) want) _ _ (λ e. pair_silent own)
+    by_test (IsCalm own) (is_pending_for (pending_on own want.cell) want) _ _ (λ e. calm_silent own)
     (λ e. pair_newer here own want (is_kept_back here.state own want.cell) (is_under_way own want.cell))
 
-pub pair_write : (here : JobContext) (own : PairState) (want : Wanted) → Leaves own (on_write here own want)
+pub pair_write : (here : JobContext) (own : PairState) (want : Wanted) → IsCalm own (on_write here own want)
 unfolding on_write
 pair_write here own want =
-    by_test (Leaves own) (is_lead here.state here.me want.cell) _ _ (λ e. pair_takes here own want _) (λ e. pair_silent own)
+    by_test (IsCalm own) (is_lead here.state here.me want.cell) _ _ (λ e. pair_takes here own want _) (λ e. calm_silent own)
 
 -- where an operation is pending, or none
-pair_found : (own : PairState) (what : Option Pending → JobResult) → Leaves own (what None)
-    → ((op : Pending) → Leaves own (what (Some op))) → (o : Option Pending)
-    → Leaves own (what o)
+pair_found : (own : PairState) (what : Option Pending → JobResult) → IsCalm own (what None)
+    → ((op : Pending) → IsCalm own (what (Some op))) → (o : Option Pending)
+    → IsCalm own (what o)
 pair_found own what none some None = none
 pair_found own what none some (Some op) = some op
 
-pub pair_reserved : (here : JobContext) (own : PairState) (number : ℕ) (cell : Cell) → Leaves own (on_reserved here own number cell)
+pub pair_reserved : (here : JobContext) (own : PairState) (number : ℕ) (cell : Cell) → IsCalm own (on_reserved here own number cell)
 unfolding on_reserved
-pair_reserved here own number cell = pair_found own (hears_reserved here own number) (pair_silent own)
-    (λ op. by_test (Leaves own) (is_reserving op number) _ _ (λ e. pair_goes here _ op.cell) (λ e. pair_silent own)) (pending_on own cell)
+pair_reserved here own number cell = pair_found own (hears_reserved here own number) (calm_silent own)
+    (λ op. by_test (IsCalm own) (is_reserving op number) _ _ (λ e. pair_goes here _ op.cell) (λ e. calm_silent own)) (pending_on own cell)
 
-pub pair_pair_full : (here : JobContext) (own : PairState) (number : ℕ) (cell : Cell) → Leaves own (on_pair_full here own number cell)
+pub pair_pair_full : (here : JobContext) (own : PairState) (number : ℕ) (cell : Cell) → IsCalm own (on_pair_full here own number cell)
 unfolding on_pair_full
-pair_pair_full here own number cell = pair_found own (hears_pair_full here own number) (pair_silent own)
-    (λ op. by_test (Leaves own) (is_reserving op number && not op.stage.put) _ _
-    (λ e. pair_ends here (gives_back (without_pending own op.cell)) op op.kind ending.Full) (λ e. pair_silent own)) (pending_on own cell)
+pair_pair_full here own number cell = pair_found own (hears_pair_full here own number) (calm_silent own)
+    (λ op. by_test (IsCalm own) (is_reserving op number && not op.stage.put) _ _
+    (λ e. pair_ends here (gives_back (without_pending own op.cell)) op op.kind ending.Full) (λ e. calm_silent own)) (pending_on own cell)
 
-pub pair_replicated : (here : JobContext) (own : PairState) (number : ℕ) (cell : Cell) → Leaves own (on_replicated here own number cell)
+pub pair_replicated : (here : JobContext) (own : PairState) (number : ℕ) (cell : Cell) → IsCalm own (on_replicated here own number cell)
 unfolding on_replicated
-pair_replicated here own number cell = pair_found own (hears_replicated here own number) (pair_silent own)
-    (λ op. by_test (Leaves own) (is_replicating op number) _ _ (λ e. pair_goes here _ op.cell) (λ e. pair_silent own)) (pending_on own cell)
+pair_replicated here own number cell = pair_found own (hears_replicated here own number) (calm_silent own)
+    (λ op. by_test (IsCalm own) (is_replicating op number) _ _ (λ e. pair_goes here _ op.cell) (λ e. calm_silent own)) (pending_on own cell)
 
-pair_tells : (here : JobContext) (own : PairState) (cell : Cell) (number : ℕ) (how : FollowProgress) → Leaves own (tells here own cell number how)
-pair_tells here own cell number follow_progress.Reserved = pair_says_to own _ _ refl
-pair_tells here own cell number follow_progress.Replicated = pair_says_to own _ _ refl
+pair_tells : (here : JobContext) (own : PairState) (cell : Cell) (number : ℕ) (how : FollowProgress) → IsCalm own (tells here own cell number how)
+pair_tells here own cell number follow_progress.Reserved = calm_says own _ _ refl
+pair_tells here own cell number follow_progress.Replicated = calm_says own _ _ refl
 
-pair_reserves : (here : JobContext) (own : PairState) (cell : Cell) (number : ℕ) (has room : Bool) → Leaves own (reserves here own cell number has room)
+pair_reserves : (here : JobContext) (own : PairState) (cell : Cell) (number : ℕ) (has room : Bool) → IsCalm own (reserves here own cell number has room)
 pair_reserves here own cell number true room = pair_tells here _ cell number follow_progress.Reserved
 pair_reserves here own cell number false true = pair_tells here _ cell number follow_progress.Reserved
-pair_reserves here own cell number false false = pair_says_to own _ _ refl
+pair_reserves here own cell number false false = calm_says own _ _ refl
 
-pair_hears_reserve : (here : JobContext) (own : PairState) (cell : Cell) (number : ℕ) (o : Option LastOp) → Leaves own (hears_reserve here own cell number o)
+pair_hears_reserve : (here : JobContext) (own : PairState) (cell : Cell) (number : ℕ) (o : Option LastOp) → IsCalm own (hears_reserve here own cell number o)
 pair_hears_reserve here own cell number None = pair_reserves here own cell number false _
 pair_hears_reserve here own cell number (Some last) =
-    by_test (Leaves own) (nat_lt number last.op) _ _ (λ e. pair_silent own)
-    (λ e. by_test (Leaves own) (number == last.op) _ _ (λ f. pair_tells here own cell number last.progress) (λ f. pair_reserves here own cell number _ _))
+    by_test (IsCalm own) (nat_lt number last.op) _ _ (λ e. calm_silent own)
+    (λ e. by_test (IsCalm own) (number == last.op) _ _ (λ f. pair_tells here own cell number last.progress) (λ f. pair_reserves here own cell number _ _))
 
-pub pair_reserve : (here : JobContext) (own : PairState) (number : ℕ) (cell : Cell) → Leaves own (on_reserve here own number cell)
+pub pair_reserve : (here : JobContext) (own : PairState) (number : ℕ) (cell : Cell) → IsCalm own (on_reserve here own number cell)
 unfolding on_reserve
 pair_reserve here own number cell =
-    by_test (Leaves own) (is_second here.state here.me cell) _ _ (λ e. pair_hears_reserve here own cell number (last_on own cell)) (λ e. pair_silent own)
+    by_test (IsCalm own) (is_second here.state here.me cell) _ _ (λ e. pair_hears_reserve here own cell number (last_on own cell)) (λ e. calm_silent own)
 
 pair_once : (here : JobContext) (own : PairState) (number : ℕ) (key : Key) (bytes : List ℕ) (how : FollowProgress)
-    → Leaves own (follows_once here own number key bytes how)
+    → IsCalm own (follows_once here own number key bytes how)
 pair_once here own number key bytes follow_progress.Reserved = pair_tells here _ (cell_of key) number follow_progress.Replicated
 pair_once here own number key bytes follow_progress.Replicated = pair_tells here own (cell_of key) number follow_progress.Replicated
 
 pair_hears_replicate : (here : JobContext) (own : PairState) (number : ℕ) (key : Key) (bytes : List ℕ) (o : Option LastOp)
-    → Leaves own (hears_replicate here own number key bytes o)
-pair_hears_replicate here own number key bytes None = pair_silent own
+    → IsCalm own (hears_replicate here own number key bytes o)
+pair_hears_replicate here own number key bytes None = calm_silent own
 pair_hears_replicate here own number key bytes (Some last) =
-    by_test (Leaves own) (number == last.op) _ _ (λ e. pair_once here own number key bytes last.progress) (λ e. pair_silent own)
+    by_test (IsCalm own) (number == last.op) _ _ (λ e. pair_once here own number key bytes last.progress) (λ e. calm_silent own)
 
-pub pair_replicate : (here : JobContext) (own : PairState) (number : ℕ) (key : Key) (bytes : List ℕ) → Leaves own (on_replicate here own number key bytes)
+pub pair_replicate : (here : JobContext) (own : PairState) (number : ℕ) (key : Key) (bytes : List ℕ) → IsCalm own (on_replicate here own number key bytes)
 unfolding on_replicate
 pair_replicate here own number key bytes =
-    by_test (Leaves own) (is_second here.state here.me (cell_of key)) _ _ (λ e. pair_hears_replicate here own number key bytes (last_on own (cell_of key)))
-    (λ e. pair_silent own)
+    by_test (IsCalm own) (is_second here.state here.me (cell_of key)) _ _ (λ e. pair_hears_replicate here own number key bytes (last_on own (cell_of key)))
+    (λ e. calm_silent own)
 
 -- ### A tick
 

@@ -1,39 +1,29 @@
 -- What is done with a letter of the pairs, and each stage, is calm: what it says is handled at its revision alone, it puts no letter into the queue,
 -- and it forgets no Caught for which a ballot was started. A job may besides tell a client of another revision.
-use Rattle.law_log.proofs.Imports.{[], if◌then◌else◌, ◌++◌, ◌==◌, ◌∙◌, Actor, Among, Body, Cell, Copies, Job, JobContext, JobResult, Letter, None, Option}
-use Rattle.law_log.proofs.Imports.{PairState, Post, Progress, Some, ap, asked_by, at, at_other_rev, by_test, copies_again, copy_posts, copying_on, does}
-use Rattle.law_log.proofs.Imports.{false, fill_posts, handles, in-append, inl, inr, is_from_in, is_in, is_some, link_cmp, not, on_letter, only, option_map_or}
-use Rattle.law_log.proofs.Imports.{page_posts, pending_on, refl, silent, stages, wrong_rev, ℕ}
-use Rattle.law_log.proofs.CopyJobsLeaveLog.{IsCalm, IsKept, kept_itself, calm_silent, calm_copies, calm_mends, calm_hello_ask, calm_hello, calm_trims}
-use Rattle.law_log.proofs.CopyJobsLeaveLog.{calm_trim, calm_sync, calm_trimmed, calm_synced, calm_sync_full, dated_copy_posts, dated_page_posts}
+use Rattle.law_log.proofs.Imports.{[], if◌then◌else◌, ◌++◌, ◌==◌, Actor, Among, Body, Cell, Job, JobContext, JobResult, Letter, None, Option, PairState, Post}
+use Rattle.law_log.proofs.Imports.{Some, asked_by, at_other_rev, by_test, copies_again, copy_posts, copying_on, does, fill_posts, handles, in-append, inl}
+use Rattle.law_log.proofs.Imports.{inr, is_from_in, is_in, is_some, not, on_letter, only, page_posts, pending_on, refl, silent, stages, wrong_rev, ℕ}
+use Rattle.law_log.proofs.CopyJobsLeaveLog.{calm_copies, calm_mends, calm_hello_ask, calm_hello, calm_trims, calm_trim, calm_sync, calm_trimmed, calm_synced}
+use Rattle.law_log.proofs.CopyJobsLeaveLog.{calm_sync_full, dated_copy_posts, dated_page_posts}
 use Rattle.law_log.proofs.FillJobsLeaveLog.{calm_fill_full, calm_filled, calm_sweeps, dated_fill_posts, pair_fill}
-use Rattle.law_log.proofs.PairJobsLeaveLog.{IsDated, IsOther, Leaves, no_letter, other_dated, pair_goes, pair_read, pair_write, pair_reserve, pair_reserved}
-use Rattle.law_log.proofs.PairJobsLeaveLog.{pair_pair_full, pair_replicate, pair_replicated}
-use Rattle.law_log.proofs.ScheduleTurns.{no_posts}
+use Rattle.law_log.proofs.PairJobsLeaveLog.{IsDated, IsOther, other_dated, pair_goes, pair_read, pair_write, pair_reserve, pair_reserved, pair_pair_full}
+use Rattle.law_log.proofs.PairJobsLeaveLog.{pair_replicate, pair_replicated, IsCalm, IsKept, calm_silent, kept_itself}
+use Rattle.law_log.proofs.ScheduleTurns.{no_posts, no_letter}
 use Rattle.petal_msg.specs.declared.body.Body.TheVariants as body
 use Rattle.petal_msg.specs.declared.letter.Actor.TheVariants as actor
 use Rattle.spec_rules.specs.declared.job.Job.TheVariants as job
 
--- an operation leaves the copies as they are
-calm_pair : (own : PairState) (done : JobResult) → Leaves own done → IsCalm own done
-calm_pair own done pair = record {
-  quiet = pair.quiet;
-  kept = record {
-    flags = λ id h. ap (λ (x : Copies). option_map_or (λ (p : Progress). p.caught) (at link_cmp x.progress id) false) pair.copies ∙ h;
-  };
-}
-
 pub calm_handles : (here : JobContext) (own : PairState) (what : Body) → IsCalm own (handles here own what)
 unfolding handles
 calm_handles here own (body.Read client seq cell epoch) =
-    calm_pair own _ (pair_read here own client seq cell epoch)
-calm_handles here own (body.Write client seq cell epoch bytes) = calm_pair own _ (pair_write here own _)
-calm_handles here own (body.Reserve number cell) = calm_pair own _ (pair_reserve here own number cell)
-calm_handles here own (body.Reserved number cell) = calm_pair own _ (pair_reserved here own number cell)
-calm_handles here own (body.PairFull number cell) = calm_pair own _ (pair_pair_full here own number cell)
+    pair_read here own client seq cell epoch
+calm_handles here own (body.Write client seq cell epoch bytes) = pair_write here own _
+calm_handles here own (body.Reserve number cell) = pair_reserve here own number cell
+calm_handles here own (body.Reserved number cell) = pair_reserved here own number cell
+calm_handles here own (body.PairFull number cell) = pair_pair_full here own number cell
 calm_handles here own (body.Replicate number key version bytes) =
-    calm_pair own _ (pair_replicate here own number key bytes)
-calm_handles here own (body.Replicated number cell) = calm_pair own _ (pair_replicated here own number cell)
+    pair_replicate here own number key bytes
+calm_handles here own (body.Replicated number cell) = pair_replicated here own number cell
 calm_handles here own (body.HelloAsk map link after) = calm_hello_ask here own _ after
 calm_handles here own (body.Hello map link after block) = calm_hello here own _ after block
 calm_handles here own (body.Trim number cell epochs) = calm_trim here own number cell epochs
@@ -41,14 +31,14 @@ calm_handles here own (body.Trimmed number cell) = calm_trimmed here own number 
 calm_handles here own (body.Sync number key version index bytes) = calm_sync here own _
 calm_handles here own (body.Synced number cell index) = calm_synced here own number cell index
 calm_handles here own (body.SyncFull number cell) = calm_sync_full own number cell
-calm_handles here own (body.Fill key bytes) = calm_pair own _ (pair_fill here own _)
+calm_handles here own (body.Fill key bytes) = pair_fill here own _
 calm_handles here own (body.Filled key) = calm_filled here own key
 calm_handles here own (body.FillFull key) = calm_fill_full here own key
 calm_handles here own _ = calm_silent own
 
 pub calm_stages : (here : JobContext) (own : PairState) (cell : Cell) → IsCalm own (stages here own cell)
 calm_stages here own cell =
-    by_test (IsCalm own) (is_some (pending_on own cell)) _ _ (λ e. calm_pair own _ (pair_goes here own cell))
+    by_test (IsCalm own) (is_some (pending_on own cell)) _ _ (λ e. pair_goes here own cell)
     (λ e. by_test (IsCalm own) (is_some (copying_on own cell)) _ _ (λ f. calm_copies here own cell) (λ f. calm_trims here own cell))
 
 -- what a job of the pairs leaves: no letter of the log was sent or queued

@@ -14,6 +14,7 @@ use Rattle.law_log.proofs.ListPlaces.{put_here}
 use Rattle.law_log.proofs.AcceptorsInSchedule.{seen_promise, prepare_turn, accept_turn, learn_turn}
 use Rattle.law_log.proofs.ScheduleTurns.{Turns, HasTurn, apart_itself, apart_both, apart_keep, apart_send, apart_turn, by_letter, turned}
 use Rattle.law_log.proofs.ScheduleTurns.{still as nothing_happens, no_posts, low_keep, low_send, low_turn, seen_same, about_itself}
+use Rattle.law_state.proofs.TestFacts.{less_test}
 use Rattle.petal_command.specs.declared.pax.Pax.TheVariants as pax
 use Rattle.petal_msg.specs.declared.body.Body.TheVariants as body
 use Rattle.spec_paxos.specs.Schedule as schedule
@@ -125,15 +126,10 @@ unfolding Among
 first_among Idle rev (first ∷ wants) want e =
     by_test (λ (o : Option Command). o ≡ Some want → Among want (first ∷ wants)) (nat_lt rev greatest_place) (Some first) None
     (λ few f. inl (sym (same_some f))) (λ many f. none_some refl f) e
-first_among Idle rev [] want e = none_some refl e
-first_among (Collecting place ballot command heard best) rev wants want e = none_some refl e
-first_among (Voting place ballot command heard) rev wants want e = none_some refl e
+first_among _ rev _ want e = none_some refl e
 
 both_so : (a b : Bool) → a ≡ true → b ≡ true → (a && b) ≡ true
 both_so a b e f = cc
-
-below : (k m : ℕ) → k < m → nat_lt k m ≡ true
-below k m h = grind (arith, nat_tests)
 
 module _ (it : VotingLog) (Good : ℕ → Command → Type 0) (there : Phase) (is : it.p.proposers it.n ≡ Some there) where
   open it use {servers, n, log, p, low, seen, busy, inc, small, member}
@@ -185,16 +181,14 @@ module _ (it : VotingLog) (Good : ℕ → Command → Type 0) (there : Phase) (i
       let same : round_of (p.acceptors n place).promised ≡ round_of (acceptor_of log.records place).promised =
       ap (λ (a : Acceptor). round_of a.promised) (seen.acceptors place) in
       let free : is_unpromised (p.acceptors n place) b ≡ true = unpromised (p.acceptors n place).promised b (λ x i. low.acceptors n place x i) (omega arith) in
-      let goes : (nat_lt n servers && is_unpromised (p.acceptors n place) b) ≡ true = both_so (nat_lt n servers) _ (below n servers member) free in
+      let goes : (nat_lt n servers && is_unpromised (p.acceptors n place) b) ≡ true = both_so (nat_lt n servers) _ (less_test n servers member) free in
       record {
         events = Starts n place (next_round log) want Goes ∷ [];
         wanted = good_want place want (good want (ap (λ (b : Bool). if b then Some want else None) few));
         turns = rw (is, goes) (ballot_turn place b want refl free);
       })
       (λ many. nothing_happens servers n true log [] p Good low seen busy (λ post i. no_posts post i))
-  start_for Idle [] e good = nothing_happens servers n true log [] p Good low seen busy (λ post i. no_posts post i)
-  start_for (Collecting place ballot want heard best) wants e good = nothing_happens servers n true log [] p Good low seen busy (λ post i. no_posts post i)
-  start_for (Voting place ballot command heard) wants e good = nothing_happens servers n true log [] p Good low seen busy (λ post i. no_posts post i)
+  start_for _ _ e good = nothing_happens servers n true log [] p Good low seen busy (λ post i. no_posts post i)
 
   pub start_turn : (wants : List Command) → ((want : Command) → first_wanted log.phase (rev_of log) wants ≡ Some want → Good (next_place log) want)
       → HasTurn servers n true (starts voter log wants).log

@@ -9,7 +9,7 @@ use Rattle.spec_rules.specs.Posts.{Post}
 use Rattle.law_log.specs.AgreedLog.{IsBacked}
 use Rattle.law_log.proofs.FillJobsLeaveLog.{no_sweep}
 use Rattle.law_log.proofs.ProposersInSchedule.{all_backed}
-use Rattle.law_log.proofs.ScheduleTurns.{no_posts}
+use Rattle.law_log.proofs.ScheduleTurns.{no_posts, no_letter}
 use Rattle.petal_command.specs.declared.pax.Pax.TheVariants as pax
 use Rattle.spec_paxos.specs.Schedule as schedule
 use Rattle.spec_rules.specs.declared.job.Job.TheVariants as job
@@ -26,9 +26,7 @@ start_only : (phase : Phase) (wants : List Command) (letter : Letter) → Among 
 unfolding Among
 start_only Idle (want ∷ wants) letter (inl e) = let f : job.Letter letter ≡ job.Start = e in absurd cc
 start_only Idle (want ∷ wants) letter (inr h) = h
-start_only Idle [] letter h = h
-start_only (Collecting place ballot want heard best) wants letter h = h
-start_only (Voting place ballot command heard) wants letter h = h
+start_only _ _ letter h = h
 
 pub letter_is : (a b : Letter) → job.Letter a ≡ job.Letter b → a ≡ b
 letter_is a b e = cc
@@ -51,10 +49,6 @@ pub no_command : {A : Type 0} (c : Command) → Among c [] → A
 unfolding Among
 no_command c h = absurd h
 
-pub no_jobs : {A : Type 0} (letter : Letter) → Among (job.Letter letter) [] → A
-unfolding Among
-no_jobs letter h = absurd h
-
 no_mend : {A : Type 0} (rows : List LinkRow) (letter : Letter) → Among (job.Letter letter) (map (λ (row : LinkRow). job.Repair (id_of row)) rows) → A
 unfolding Among
 no_mend [] letter h = absurd h
@@ -73,7 +67,7 @@ tick_only here server letter h =
             | inl mend ↦ no_mend (filter (λ row. waits_for_job here server.own row row.state) here.state.links) letter mend
             | inr sweep ↦ no_sweep here server.own letter sweep
           ])
-          (λ e i. no_jobs letter i) other
+          (λ e i. no_letter letter i) other
     ]
 
 -- no letter is among the stages that follow an entry up
@@ -85,7 +79,7 @@ no_stage (row ∷ rows) letter (inr h) = no_stage rows letter h
 
 pub stages_only : {A : Type 0} (state : State) (me : ℕ) (entry : Option Command) (own : PairState) (letter : Letter)
     → Among (job.Letter letter) (jobs_by state me entry own) → A
-stages_only state me None own letter h = no_jobs letter h
+stages_only state me None own letter h = no_letter letter h
 stages_only state me (Some entry) own letter h = elim (in-append (job.Letter letter) (stage_jobs state entry own) (link_jobs state entry me) h) [
   | inl stage ↦ no_stage (filter (λ row. touches_cell state entry row.0) own.pairs.pending) letter stage
   | inr mend ↦ no_mend (filter (λ row. touches state entry row && is_repaired (after state entry) me row row.state) (after state entry).links) letter mend

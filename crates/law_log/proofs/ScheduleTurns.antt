@@ -1,11 +1,13 @@
 -- What changes in a schedule when one server does something.
-use Rattle.law_log.proofs.Imports.{[], ◌++◌, ◌+◌, ◌<◌, ◌↔◌, ◌∙◌, ◌∷◌, ◌≡◌, ◌≢◌, ◌⊎◌, Acceptor, Actor, Among, Ballot, Body, Bool, Boots, Collecting, Command}
-use Rattle.law_log.proofs.Imports.{Event, Goes, Handed, Idle, In, IsAbout, IsAskedFor, IsProposer, IsTold, IsWanted, Leave, List, Log, None, Option, Pax}
-use Rattle.law_log.proofs.Imports.{Phase, Post, Sent, Some, Starts, StateRecord, Stops, Vote, Voting, World, ap, cast, false, handed, happens, in_cons}
-use Rattle.law_log.proofs.Imports.{in_here, in_there, inl, inr, keep, learn, only, put_at_cases, refl, run, send, sent, subst, sym, true, turn, vote, ℕ}
+use Rattle.law_log.proofs.Imports.{[], ◌++◌, ◌+◌, ◌<◌, ◌↔◌, ◌∙◌, ◌∷◌, ◌≡◌, ◌≢◌, ◌⊎◌, Acceptor, Actor, Among, Ballot, Body, Bool, Collecting, Command, Event}
+use Rattle.law_log.proofs.Imports.{Goes, Handed, Idle, In, IsAbout, IsAskedFor, IsProposer, IsTold, IsWanted, Leave, Letter, List, Log, None, Option, Pax}
+use Rattle.law_log.proofs.Imports.{Phase, Post, Sent, Some, Starts, StateRecord, Stops, Vote, Voting, World, ap, cast, false, handed, in_cons, in_here}
+use Rattle.law_log.proofs.Imports.{in_there, inl, inr, keep, learn, only, put_at_cases, refl, run, send, sent, subst, sym, true, turn, vote, ℕ}
 use Rattle.law_log.specs.AgreedLog.{IsReached, IsLow, AreLow, IsSeenAt, IsBusyAs, IsBacked}
 use Rattle.law_log.proofs.ListPlaces.{placed, put_here, put_away, put_at_away}
+use Rattle.law_agreement.proofs.ChosenWasWanted.{run-append}
 use Rattle.petal_msg.specs.declared.body.Body.TheVariants as body
+use Rattle.spec_rules.specs.declared.job.Job.TheVariants as job
 
 -- ### Only one server's part changed
 
@@ -240,23 +242,21 @@ still servers n running log posts p Good low seen busy posted = record {
   turns = record { apart = apart_itself n p; low = low; seen = seen; busy = busy; posted = posted };
 }
 
+pub no_letter : {A : Type 0} (letter : Letter) → Among (job.Letter letter) [] → A
+unfolding Among
+no_letter letter h = absurd h
+
 pub no_posts : {A : Type 0} (post : Post) → Among post [] → A
 unfolding Among
 no_posts post h = absurd h
 
 -- ### A server stops
 
-pub run_on : (n : ℕ) (front back : List Event) (w : World) → run n (front ++ back) w ≡ run n back (run n front w)
-run_on n [] back w = refl
-run_on n (first ∷ front) back w = run_on n front back (happens n w first)
-
 pub wanted_on : (front back : List Event) (place : ℕ) (c : Command) → IsWanted (front ++ back) place c → IsWanted front place c ⊎ IsWanted back place c
 wanted_on [] back place c h = inr h
 wanted_on (Starts s at round want end ∷ front) back place c (inl is) = inl (inl is)
 wanted_on (Starts s at round want end ∷ front) back place c (inr h) = elim (wanted_on front back place c h) [ inl old ↦ inl (inr old) | inr new ↦ inr new ]
-wanted_on (Handed which to end ∷ front) back place c h = wanted_on front back place c h
-wanted_on (Stops s ∷ front) back place c h = wanted_on front back place c h
-wanted_on (Boots s end ∷ front) back place c h = wanted_on front back place c h
+wanted_on (_ ∷ front) back place c h = wanted_on front back place c h
 
 -- what it did stands, and nothing of what it would send
 pub stop_turn : (servers n : ℕ) (log : Log) (posts : List Post) (p : World) (Good : ℕ → Command → Type 0) → HasTurn servers n true log posts p Good
@@ -268,7 +268,7 @@ stop_turn servers n log posts p Good turn_of =
       events = turn_of.events ++ Stops n ∷ [];
       wanted = λ place command h.
           elim (wanted_on turn_of.events (Stops n ∷ []) place command h) [ inl old ↦ turn_of.wanted place command old | inr none ↦ absurd none ];
-      turns = subst (Turns servers n false log [] p) (sym (run_on servers turn_of.events (Stops n ∷ []) p)) (record {
+      turns = subst (Turns servers n false log [] p) (sym (run-append servers p turn_of.events (Stops n ∷ []))) (record {
         apart = apart_both n p q (turn q n None) t.apart (apart_turn n q None);
         low = low_turn q n None t.low;
         seen = seen_same n log.records log.applied q (turn q n None) (λ x i. i) (λ place. refl) (λ place. refl) refl

@@ -15,16 +15,15 @@ use Rattle.law_log.specs.AgreedLog.{IsBacked, IsBusyAs, IsCalledAnywhere, IsSaid
 use Rattle.law_log.proofs.OneCommandEachPlace.{IsFair, as_many, told_once}
 use Rattle.law_log.proofs.BootsRaiseIncarnations.{StoppedLog, fail_turn, no_proposer, wake_turn}
 use Rattle.law_log.proofs.CaughtsWanted.{kept_proposed}
-use Rattle.law_log.proofs.CopyJobsLeaveLog.{IsKept, kept_itself}
+use Rattle.law_log.proofs.PairJobsLeaveLog.{IsKept, kept_itself, dated_again, dated_backed, other_backed}
 use Rattle.law_log.proofs.PairLettersLeaveLog.{IsHarmless, harmless_job, dated_copies_again}
 use Rattle.law_log.proofs.LogJobsInSchedule.{JobLog, Outcome, applied_next, fine_wanted, job_done as log_job_done, one_longer, started}
-use Rattle.law_log.proofs.PairJobsLeaveLog.{dated_again, dated_backed, other_backed}
 use Rattle.law_log.proofs.ProposersInSchedule.{first_among, said_to_all}
-use Rattle.law_log.proofs.ScheduleTurns.{HasTurn, still, no_posts, stop_turn, turn_more}
+use Rattle.law_log.proofs.ScheduleTurns.{HasTurn, still, no_posts, stop_turn, turn_more, no_letter}
 use Rattle.law_log.proofs.ServersKeepWorlds.{Acts, Goes, ServerStep, before_of, server_at, IsLaterLife, KeepsStarted, Remembers, may_more, same_life}
 use Rattle.law_log.proofs.ServersKeepWorlds.{server_goes, server_sends, started_same}
 use Rattle.law_log.proofs.OwnWants.{good_own, reached_next}
-use Rattle.law_log.proofs.Queues.{ballot_backed, job_here, job_there, letter_is, no_command, no_jobs, stages_only, tick_only}
+use Rattle.law_log.proofs.Queues.{ballot_backed, job_here, job_there, letter_is, no_command, stages_only, tick_only}
 use Rattle.petal_msg.specs.declared.body.Body.TheVariants as body
 use Rattle.petal_msg.specs.declared.letter.Actor.TheVariants as actor
 use Rattle.spec_paxos.specs.Schedule as schedule
@@ -154,7 +153,7 @@ module _ (it : ServerStep) where
         incs = did.incs;
         wants = did.wants;
         leaves = did.leaves;
-        queued = λ letter h. no_jobs letter h;
+        queued = λ letter h. no_letter letter h;
         started = elim did.started [ inl lt ↦ inl lt | inr h ↦ inr (h.0, λ rev id f. minds_stopped to rev id (h.1 rev id f)) ];
         turn = stop_turn setting.servers n to.log posts P (Good (stopped to))
             (turn_more setting.servers n true to.log posts P (Good to) (Good (stopped to)) (good_more to (stopped to) (inr (refl, minds_stopped to)))
@@ -448,7 +447,7 @@ module _ (it : ServerStep) where
           incs = raised_inc;
           wants = λ c i. no_command c i;
           leaves = λ c i. no_command c i;
-          queued = λ letter h. no_jobs letter h;
+          queued = λ letter h. no_letter letter h;
           started = inl (omega arith);
           turn = wake_turn stopped_log (Good to);
         } in

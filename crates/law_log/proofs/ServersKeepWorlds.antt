@@ -10,7 +10,8 @@ use Rattle.spec_rules.specs.World.{World}
 use Rattle.law_log.specs.AgreedLog.{Catches, IsCalledAnywhere, IsSeenAt, IsBusyAs, IsBacked, IsSaidBy, IsLogged, Logged, MayWant, Minded, Drains, Moves}
 use Rattle.law_log.specs.AgreedLog.{Returns, Waits}
 use Rattle.law_log.specs.ProposedCommands.{HasStopped, IsCalledFor, IsOfLives, IsScripted}
-use Rattle.law_log.proofs.ScheduleTurns.{Turns, HasTurn, seen_apart, busy_same, told_more, reached_more, backed_more, run_on, wanted_on}
+use Rattle.law_log.proofs.ScheduleTurns.{Turns, HasTurn, seen_apart, busy_same, told_more, reached_more, backed_more, wanted_on}
+use Rattle.law_agreement.proofs.ChosenWasWanted.{run-append}
 use Rattle.petal_msg.specs.declared.letter.Actor.TheVariants as actor
 use Rattle.spec_paxos.specs.Schedule as schedule
 use Rattle.spec_rules.specs.declared.job.Job.TheVariants as job
@@ -258,7 +259,7 @@ module _ (it : ServerStep) (who : Sender) (own : who.from ≡ actor.Server it.n)
           events = l.events ++ acted.turn.events;
           is = subst (IsLogged Was setting (acts setting w n what stamp (record { server = to; letters = letters_of who 0 posts })).world
               (l.events ++ acted.turn.events))
-              (sym (run_on setting.servers l.events acted.turn.events begin)) kept;
+              (sym (run-append setting.servers begin l.events acted.turn.events)) kept;
         };
         grown = λ s place ballot command i.
             ((kept.servers s).votes place ballot command).0 (acted.turn.turns.apart.more _ (((l.is.servers s).votes place ballot command).1 i));

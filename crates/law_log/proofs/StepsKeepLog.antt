@@ -1,9 +1,9 @@
 -- Each legal step keeps what is kept, from the start on.
 use Rattle.law_log.proofs.Imports.{[], ◌++◌, ◌+◌, ◌<◌, ◌∷◌, ◌≡◌, ◌≤◌, Accepted, Actor, Among, AreStepsFrom, Asked, Ballot, Body, Call, Client, Command}
 use Rattle.law_log.proofs.Imports.{Deliver, In, Inc, IsTold, Letter, Line, List, MayActor, MayClient, Pax, Reaction, Record, Setting, Some, Step, Tick}
-use Rattle.law_log.proofs.Imports.{all_put_apart, ap, arith, begin, calls, client_sender, client_state, client_step, in-append, in_later, inl, inr, nat_lt}
-use Rattle.law_log.proofs.Imports.{nat_tests, next_line, none_some, put_same, reacts, refl, run, server_state, server_step, slice_get, stamped, start, step}
-use Rattle.law_log.proofs.Imports.{stepped, subst, sym, true, world_after, ℕ}
+use Rattle.law_log.proofs.Imports.{all_put_apart, ap, arith, begin, calls, client_sender, client_state, client_step, in-append, in_later, inl, inr, next_line}
+use Rattle.law_log.proofs.Imports.{none_some, put_same, reacts, refl, run, server_state, server_step, slice_get, stamped, start, step, stepped, subst, sym}
+use Rattle.law_log.proofs.Imports.{world_after, ℕ}
 use Rattle.spec_rules.specs.Server.{letters_of}
 use Rattle.spec_rules.specs.World.{World}
 use Rattle.law_log.specs.AgreedLog.{IsBacked, IsCalledAnywhere, IsSaidBy, IsOpen, Logged, Minded}
@@ -13,6 +13,7 @@ use Rattle.law_log.proofs.OneCommandEachPlace.{IsFair, scripted_anywhere}
 use Rattle.law_log.proofs.ServerStepsKeepLog.{server_steps}
 use Rattle.law_log.proofs.ScheduleTurns.{backed_more}
 use Rattle.law_log.proofs.ServersKeepWorlds.{AllRemember, Goes, Remembers, called_more, may_more, posted_by, same_life, started_same}
+use Rattle.law_state.proofs.TestFacts.{less_test, less_by}
 use Rattle.petal_msg.specs.declared.body.Body.TheVariants as body
 use Rattle.petal_msg.specs.declared.letter.Actor.TheVariants as actor
 use Rattle.spec_paxos.specs.Schedule as schedule
@@ -142,12 +143,6 @@ history_goes setting fair (own ∷ later) w l legal remember =
 
 -- ### The start
 
-below : (s n : ℕ) → s < n → nat_lt s n ≡ true
-below s n h = grind (arith, nat_tests)
-
-within : (s n : ℕ) → nat_lt s n ≡ true → s < n
-within s n e = grind (arith, nat_tests)
-
 no_vote : {B : Type 0} (place : ℕ) (ballot : Ballot) (command : Command) → In (Accepted place ballot command) (Inc 1 ∷ []) → B
 unfolding In
 no_vote place ballot command (inl e) = let f : Accepted place ballot command ≡ Inc 1 = e in absurd cc
@@ -166,10 +161,10 @@ start_logged setting = record {
       told = λ place command e. none_some refl e;
       applied = λ i command e. none_some refl e;
     };
-    known = λ s e. within s setting.servers e;
+    known = λ s e. less_by s setting.servers e;
     incs = λ s. refl;
     first = λ s. omega arith;
-    busy = λ s lt. record { proposer = (below s setting.servers lt, tt); asked = tt };
+    busy = λ s lt. record { proposer = (less_test s setting.servers lt, tt); asked = tt };
     low = record { acceptors = λ s place ballot e. none_some refl e; letters = λ from said h. absurd h };
     sent = λ letter h. absurd h;
     wanted = λ place command h. absurd h;

@@ -68,7 +68,7 @@ pub use Rattle.law_epochs.proofs.EntriesNeverEarly.{IsKnownBy, all_early, before
 pub use Rattle.law_epochs.proofs.EntryPredicates.{AreWithin, IsWithin, OfKey, asked_none, is_of_entries, logged_none, none_within, of_key_on, of_no_key}
 pub use Rattle.law_epochs.proofs.EpochScenes.{OneMore, Run, cut, end_of, ends_of}
 pub use Rattle.law_epochs.proofs.EpochsInHistories.{place_timely, running_timely, second_timely}
-pub use Rattle.law_epochs.proofs.FirstNewPlace.{one_in_other}
+pub use Rattle.law_steps.proofs.Records.{split_fronts}
 pub use Rattle.law_epochs.proofs.KeysToldByJobs.{IsMoverOwn, did_said, mover_store}
 pub use Rattle.law_epochs.proofs.PendingIsInTime.{opened_by, was_opened}
 pub use Rattle.law_epochs.proofs.ReportedHaveNoPending.{resting}

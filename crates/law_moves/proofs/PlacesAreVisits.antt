@@ -2,7 +2,7 @@
 -- with the operations that it had.
 use Rattle.law_moves.proofs.Imports.{[], if◌then◌else◌, ◌++◌, ◌∙◌, ◌∷◌, ◌≡◌, AreSteps, At, Cell, Good, IsSound, List, OneMore, PairState, Pairs, Record}
 use Rattle.law_moves.proofs.Imports.{Script, Some, WasThere, ap, arith, at_by, by_bool, by_run, chosen_log, counted, ends_of, first_state, inl, inr, is_at}
-use Rattle.law_moves.proofs.Imports.{is_some, none_before_none, none_some, one_in_other, past_link, run_of, setting_of, some_or_none, split_last, start}
+use Rattle.law_moves.proofs.Imports.{is_some, none_before_none, none_some, split_fronts, past_link, run_of, setting_of, some_or_none, split_last, start}
 use Rattle.law_moves.proofs.Imports.{start_good, start_plain, step_goes, subst, sym, true, true_false, ℕ}
 
 abbrev GoodAt : Script → List Record → Type 0
@@ -64,7 +64,7 @@ same_rest (x ∷ xs) ys zs e = same_rest xs ys zs (tails e)
 -- two times at one place tell the same
 same_there : (script : Script) (records : List Record) (n place : ℕ) (cell : Cell) (one other : Pairs)
     → WasThere (setting_of script) records n place cell one → WasThere (setting_of script) records n place cell other → one ≡ other
-same_there script records n place cell one other a b = elim (one_in_other a.before a.later b.before b.later (sym a.is ∙ b.is)) [
+same_there script records n place cell one other a b = elim (split_fronts a.before a.later b.before b.later (sym a.is ∙ b.is)) [
   | inl h ↦ sym (a.since h.0 b.later h.2 (subst (λ rs. is_at (setting_of script) n ((At script rs).servers n) place cell ≡ true) h.1 b.there))
       ∙ ap (λ rs. ((At script rs).servers n).own.pairs) (sym h.1) ∙ b.had
   | inr h ↦ sym a.had ∙ ap (λ rs. ((At script rs).servers n).own.pairs) h.1

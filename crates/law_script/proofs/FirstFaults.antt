@@ -287,9 +287,10 @@ fault_told n servers (s ∷ device ∷ kind ∷ k ∷ []) =
     ∙ and_cond n (is_device device) (is_kind kind) (numbers_only (server_place servers s ∷ place 1 1000000 k ∷ []))
 fault_told n servers (s ∷ device ∷ kind ∷ k ∷ other ∷ more) = refl
 
-settle_told : (n : ℕ) (request : Request) (words : List Word) → told (no_word words >>= (λ none. Ok request)) ≡ places_told n (bare_positions words) None
-settle_told n request [] = refl
-settle_told n request (other ∷ more) = refl
+-- a verb alone
+bare_told : {A : Type 0} (n : ℕ) (x : A) (words : List Word) → told (no_word words >>= (λ none. Ok x)) ≡ places_told n (bare_positions words) None
+bare_told n x [] = refl
+bare_told n x (other ∷ more) = refl
 
 operator_told : (n servers : ℕ) (words : List Word) → told (operator_request servers words) ≡ places_told n (operator_positions servers words) None
 unfolding operator_request
@@ -299,7 +300,7 @@ operator_told n servers (verb ∷ words) =
     (split n (is_word verb (codes "start")) _ _ _ _ (boot_told n servers _ words)
     (split n (is_word verb (codes "blank")) _ _ _ _ (boot_told n servers _ words)
     (split n (is_word verb (codes "fault")) _ _ _ _ (fault_told n servers words)
-    (split n (is_word verb (codes "settle")) _ _ _ _ (settle_told n _ words) refl))))
+    (split n (is_word verb (codes "settle")) _ _ _ _ (bare_told n _ words) refl))))
 
 -- ### Other lines
 
@@ -328,10 +329,6 @@ net_told n s (what ∷ k ∷ []) =
     net_split n (length s.lines == 0) (is_word what (codes "lose") && not (is_some s.lose)) (is_word what (codes "twice") && not (is_some s.twice)) _ _ _
     (numbered 2 1000000 k _ false None (λ a. refl)) (numbered 2 1000000 k _ false None (λ a. refl))
 net_told n s (what ∷ k ∷ other ∷ more) = refl
-
-wait_told : (n : ℕ) (after : Script) (words : List Word) → told (no_word words >>= (λ none. Ok after)) ≡ places_told n (bare_positions words) None
-wait_told n after [] = refl
-wait_told n after (other ∷ more) = refl
 
 -- ### Requests in their script
 
@@ -388,7 +385,7 @@ later_told s number (first ∷ words) =
     later_split s.servers s.servers (is_word first (codes "servers")) (is_word first (codes "net")) (is_word first (codes "wait"))
     (is_word first (codes "op")) (is_client first) _ _ _ _ _ _ _ _ _ _ _
     (net_told s.servers s words)
-    (wait_told s.servers _ words)
+    (bare_told s.servers _ words)
     (asks_told s.servers s number 8 (operator_request s.servers words) (operator_positions s.servers words) (operator_told s.servers s.servers words))
     (asks_told s.servers s number (slice_index first 0 - 97) (client_request s.servers words) (client_positions words) (client_told s.servers words))
 

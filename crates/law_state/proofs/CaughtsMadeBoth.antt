@@ -115,7 +115,8 @@ module _ (servers : ℕ) (front whole : List Command) (all : HasProperTuples ser
       → IsTouchedBy cell row (at it) it.entry
   touched_next it cell row is on = log_touched servers it.until it.entry cell row it.plain it.proper is on
 
-  abbrev caught_at : (until : List Command) (it : Next) (cell : Cell) (row : LinkRow) → IsPrefix (it.until ++ it.entry ∷ []) until → cell_link (at it) cell ≡ Some row
+  abbrev caught_at : (until : List Command) (it : Next) (cell : Cell) (row : LinkRow) → IsPrefix (it.until ++ it.entry ∷ []) until
+      → cell_link (at it) cell ≡ Some row
       → IsCaughtBy (at it) it.entry row → IsCaughtIn servers front until cell row
   caught_at until it cell row stands is acts =
       record { until = it.until; entry = it.entry; following = it.following; stands = stands; was = is; acts = acts }

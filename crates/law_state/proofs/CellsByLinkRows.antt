@@ -1,6 +1,6 @@
 -- What a state says of a cell, by the row of its link.
 use Rattle.law_state.proofs.Imports.{if◌then◌else◌, ◌&&◌, ◌==◌, ◌∙◌, ◌≡◌, ◌⊎◌, Bool, Both, Cell, LinkRow, Lost, None, Only, Option, Some, State, ap}
-use Rattle.law_state.proofs.Imports.{authority, both, both_true, by_bool, cell_link, false, first, has_server, in_both, inl, inr, is_some, is_up, lead}
+use Rattle.law_state.proofs.Imports.{authority, both, both_true, by_bool, cell_link, false, first, has_server, inl, inr, is_up, lead}
 use Rattle.law_state.proofs.Imports.{leaving, live, none_some, not, option_and_then, option_map, option_map_or, readable, row_authority, row_in_both}
 use Rattle.law_state.proofs.Imports.{row_lead, same_numbers, same_some, second, serves, some_or_none, state_lead, subst, sym, true, true_false, ℕ}
 use Rattle.law_state.specs.LinkRows.{ByBoth, ByNone, ByOne}
@@ -58,18 +58,6 @@ module _ (state : State) (cell : Cell) (row : LinkRow) (is : cell_link state cel
 
   pub lost_leads : row.state ≡ Lost → option_and_then (row_lead state) (cell_link state cell) ≡ None
   lost_leads so = link_lead_is ∙ ap (state_lead state row.primary) so
-
-  pub in_both_is : in_both state cell ≡ is_some (row_in_both row row.state)
-  in_both_is = ap (λ link. is_some (option_and_then (λ row. row_in_both row row.state) link)) is
-
-  pub both_in : row.state ≡ Both → in_both state cell ≡ true
-  both_in so = in_both_is ∙ ap (λ s. is_some (row_in_both row s)) so
-
-  pub alone_in_both : (holder : ℕ) (whole : Bool) → row.state ≡ Only holder whole → in_both state cell ≡ false
-  alone_in_both holder whole so = in_both_is ∙ ap (λ s. is_some (row_in_both row s)) so
-
-  pub lost_in_both : row.state ≡ Lost → in_both state cell ≡ false
-  lost_in_both so = in_both_is ∙ ap (λ s. is_some (row_in_both row s)) so
 
   -- where the cell is live
   module _ (lives : live state cell ≡ true) where

@@ -14,7 +14,7 @@ use Rattle.law_state.proofs.EntriesOnlyAdd.{entering, log_plain}
 use Rattle.law_state.specs.LinkRows.{IsServed, ByBoth, ByNone, ByOne}
 use Rattle.law_state.proofs.Caughts.{act_caught, acting_caught, alone_by, catch_so, caught_by, link_caught, row_in_both, row_uncaught, the_row, touch_by}
 use Rattle.law_state.proofs.Caughts.{touch_so}
-use Rattle.law_state.proofs.MembershipChanges.{found_itself}
+use Rattle.law_state.proofs.MembershipChanges.{found_itself, linked_at}
 use Rattle.law_state.proofs.GrownStates.{alone_not_both, lost_not_both}
 use Rattle.law_state.proofs.Joins.{joined_by, link_joined, row_beside, some_now, was_out, inc_beside as joined_beside}
 use Rattle.law_state.proofs.Leaves.{both_up, inc_beside, left_by, link_left, none_now, row_stays}
@@ -31,26 +31,16 @@ differ : (a b : ℕ) → (a == b) ≡ false → a ≢ b
 differ a b away e = true_false (ap (λ k. k == b) e ∙ number_itself b) away
 
 module _ (servers : ℕ) (s : State) (p : IsSettledState servers s) (cell : Cell) (row : LinkRow) (is : cell_link s cell ≡ Some row) where
-  itself : StaysSo cell row s s
-  itself = record { same = is; primary = refl; secondary = refl }
-
   -- the cell's row later, where each of its map's links that was found as this row is found so
   moved_link : (t : State) (now : LinkRow) → ((ids : List ℕ) → tuple_of s.maps cell.map ≡ Some ids → tuple_of t.maps cell.map ≡ Some ids)
       → ((link : ℕ) → link_at s.links cell.map link ≡ Some row → link_at t.links cell.map link ≡ Some now) → cell_link t cell ≡ Some now
-  moved_link t now maps links = elim (some_or_none (tuple_of s.maps cell.map)) [
-    | inl h ↦ ap (option_and_then (λ ids. link_at t.links cell.map (link_of (length ids) cell.block))) (maps h.0 h.1)
-        ∙ links (link_of (length h.0) cell.block)
-        (sym (ap (option_and_then (λ ids. link_at s.links cell.map (link_of (length ids) cell.block))) h.1) ∙ is)
-    | inr none ↦ none_some (ap (option_and_then (λ ids. link_at s.links cell.map (link_of (length ids) cell.block))) none) is
-  ]
+  moved_link t now maps links =
+      let h = linked_at s cell row is in
+      ap (option_and_then (λ ids. link_at t.links cell.map (link_of (length ids) cell.block))) (maps h.0 h.1) ∙ links (link_of (length h.0) cell.block) h.2
 
   -- it is found by its own map and number
   found_row : link_at s.links row.map row.link ≡ Some row
-  found_row = elim (some_or_none (tuple_of s.maps cell.map)) [
-    | inl h ↦ found_itself s cell.map (link_of (length h.0) cell.block) row
-        (sym (ap (option_and_then (λ ids. link_at s.links cell.map (link_of (length ids) cell.block))) h.1) ∙ is)
-    | inr none ↦ none_some (ap (option_and_then (λ ids. link_at s.links cell.map (link_of (length ids) cell.block))) none) is
-  ]
+  found_row = let h = linked_at s cell row is in found_itself s cell.map (link_of (length h.0) cell.block) row h.2
 
   -- the row is the same, or it is gone
   abbrev Stays : State → Type 0
@@ -253,13 +243,10 @@ gone_owner servers s p cell died = elim (owned_or_none servers s p cell) [
 
 -- a cell's link is of its map
 pub map_of : (servers : ℕ) (s : State) → IsSettledState servers s → (cell : Cell) (row : LinkRow) → cell_link s cell ≡ Some row → row.map ≡ cell.map
-map_of servers s p cell row is = elim (some_or_none (tuple_of s.maps cell.map)) [
-  | inl h ↦ (
-      let at = found_at (is_link cell.map (link_of (length h.0) cell.block)) s.links row
-      (sym (ap (option_and_then (λ ids. link_at s.links cell.map (link_of (length ids) cell.block))) h.1) ∙ is) in
-      same_numbers row.map cell.map (both_true (row.map == cell.map) (row.link == link_of (length h.0) cell.block) at.2).0)
-  | inr none ↦ none_some (ap (option_and_then (λ ids. link_at s.links cell.map (link_of (length ids) cell.block))) none) is
-]
+map_of servers s p cell row is =
+    let h = linked_at s cell row is in
+    let at = found_at (is_link cell.map (link_of (length h.0) cell.block)) s.links row h.2 in
+    same_numbers row.map cell.map (both_true (row.map == cell.map) (row.link == link_of (length h.0) cell.block) at.2).0
 
 -- an entry adds a place where it touches the link
 pub places_touched : (servers : ℕ) (log : List Command) (entry : Command) (row : LinkRow) → touches (state_after servers log) entry row ≡ true

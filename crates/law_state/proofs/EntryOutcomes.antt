@@ -1,7 +1,7 @@
 -- What a command comes to in a settled state: it is one of a few changes, and a fact that does not speak of one has one clause for all others.
 use Rattle.law_state.proofs.Imports.{◌+◌, ◌==◌, ◌≡◌, Bool, Caught, Command, DiskRow, Drained, Join, Leave, List, MakeDisk, Moved, None, Region, Snap, Some}
-use Rattle.law_state.proofs.Imports.{StartMove, State, Verdict, Whole, Witness, act, all_noted, by_test, false, is_head, is_new, is_some, is_taken, is_tuple, is_up_as}
-use Rattle.law_state.proofs.Imports.{latest, links_of, may_join, named, not, slice_get, told, true, with_disk, with_fence, with_link, with_move, ℕ}
+use Rattle.law_state.proofs.Imports.{StartMove, State, Verdict, Whole, Witness, act, all_noted, by_test, false, is_head, is_new, is_some, is_taken, is_tuple}
+use Rattle.law_state.proofs.Imports.{is_up_as, latest, links_of, may_join, named, not, slice_get, told, true, with_disk, with_fence, with_link, with_move, ℕ}
 use Rattle.law_state.specs.Plain.{HasProperTuple}
 use Rattle.law_state.specs.Tables.{IsSettledState}
 use Rattle.law_state.proofs.Caughts.{IsCatch, act_caught, caught_by}
@@ -47,7 +47,8 @@ module _ (servers : ℕ) (s : State) (p : IsSettledState servers s) where
       act_caught (Outcome servers s p (Caught of link holder inc other other_inc)) s of link holder inc other other_inc
       (Catches_up of link holder inc other other_inc) (Unchanged (Caught of link holder inc other other_inc))
   outcome (MakeDisk client seq name tuple) proper =
-      by_test (Outcome servers s p (MakeDisk client seq name tuple)) (not (is_new seq (latest s client))) s _ (λ old. Unchanged (MakeDisk client seq name tuple))
+      by_test (Outcome servers s p (MakeDisk client seq name tuple)) (not (is_new seq (latest s client))) s _
+      (λ old. Unchanged (MakeDisk client seq name tuple))
       (λ new. by_test (Outcome servers s p (MakeDisk client seq name tuple)) (is_some (named s.disks.rows name))
       (told s client seq Verdict.Exists) (told (with_disk s name tuple) client seq Verdict.Ok)
       (λ there. Tells (MakeDisk client seq name tuple) client seq Verdict.Exists)

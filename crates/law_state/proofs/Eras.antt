@@ -143,12 +143,6 @@ module _ (servers : ℕ) (s t : State) (p : IsUnsettled servers s) (acted : Acte
     settled = (let a = stage_was in let b = stage_now in let d = high in let c = on (omega arith) in omega arith);
   }
 
--- where the tables of disks and maps are the same
-pub kept_same : (servers : ℕ) (s t : State) (p : IsUnsettled servers s) (acted : Acted servers s t) (cell : Cell) (low : 1 ≤ stage_at s cell)
-    (high : stage_at s cell ≤ 2) → t.disks.rows ≡ s.disks.rows → IsKept servers s t p acted cell low high
-kept_same servers s t p acted cell low high same = kept_by_place servers s t p acted cell low high
-    (ap (λ rows. slice_get rows (rows_of servers s t p acted cell low high).place) same)
-
 -- ### A region that is on its way
 
 -- each other region is as it was

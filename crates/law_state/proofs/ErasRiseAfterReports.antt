@@ -402,7 +402,8 @@ module _ (which : Hold → Bool) (every : which All ≡ true) (nothing : which N
     still_by : IsAwaited (state_after servers front) n cell → 1 ≤ stage_at (state_after servers front) cell
         → stage_at (state_after servers front) cell ≤ 2 → StillOrReported (state_after servers whole)
     still_by awaited low high =
-        by_entries servers front whole all prefix (λ log. StillOrReported) still_or_reported (inl (still_itself (state_after servers front) n cell awaited low high))
+        by_entries servers front whole all prefix (λ log. StillOrReported) still_or_reported
+        (inl (still_itself (state_after servers front) n cell awaited low high))
 
   -- what is so after a Leave that acts
   left_still : (servers : ℕ) (s : State) → IsSettledState servers s → (other other_inc n inc : ℕ) (cell : Cell) → is_up_as s other other_inc ≡ true

@@ -1,12 +1,12 @@
 -- Disks that come later: where they stand, what they are named, and that their cells had no links before.
-use Rattle.law_state.proofs.Imports.{[], ◌++◌, ◌+◌, ◌<◌, ◌==◌, ◌||◌, ◌∙◌, ◌∷◌, ◌≡◌, ◌≤◌, ◌⊎◌, Cell, DiskRow, DiskView, In, LinkRow, List, None, Some, State}
-use Rattle.law_state.proofs.Imports.{ap, arith, cell_link, disk_of, drop, has_map, inl, inr, leaves, length, length-append, named, nat_lists_same, none_some}
-use Rattle.law_state.proofs.Imports.{number_itself, refl, same_name, same_some, slice_get, slice_get_past, slice_get_within, some_or_none, subst, suc, sym}
+use Rattle.law_state.proofs.Imports.{[], ◌++◌, ◌+◌, ◌<◌, ◌∙◌, ◌∷◌, ◌≡◌, ◌≤◌, ◌⊎◌, Cell, DiskRow, In, List, None, Some, State}
+use Rattle.law_state.proofs.Imports.{ap, arith, cell_link, drop, has_map, inl, inr, length, length-append, named, nat_lists_same, none_some}
+use Rattle.law_state.proofs.Imports.{refl, same_name, same_some, slice_get, slice_get_past, slice_get_within, some_or_none, subst, suc, sym}
 use Rattle.law_state.proofs.Imports.{true, zero, ℕ}
 use Rattle.law_state.specs.Tables.{IsGrown, IsLaterDisk, IsSettledState}
-use Rattle.law_state.proofs.Owners.{disk_on, map_made, no_owner}
+use Rattle.law_state.proofs.Owners.{no_owner}
 use Rattle.law_state.proofs.ListLookups.{found_at, get_in, get_last, get_within, in_get, get_drop}
-use Rattle.law_state.proofs.Steady.{found, owned_or_none, unlinked, viewed}
+use Rattle.law_state.proofs.Steady.{found, unlinked}
 use Rattle.spec_rules.specs.State as rules
 
 -- no disk of the list has the name of one that follows, one after another
@@ -25,24 +25,6 @@ module _ (servers : ℕ) (s : State) (p : IsSettledState servers s) where
   -- found by name
   pub known_row : (name : List ℕ) (row : DiskRow) → named s.disks.rows name ≡ Some row → In row s.disks.rows × (row.name ≡ name)
   known_row name row e = let at = found servers s p name row e in (in_get s.disks.rows at.0 row at.1, at.2)
-
-  pub viewed_row : (name : List ℕ) (disk : DiskView) → rules.find s name ≡ Some disk → HasRow s.disks.rows name disk.map
-  viewed_row name disk e =
-      let v = viewed servers s p name disk e in
-      let k = known_row name v.0 v.1 in
-      record {
-        row = v.0;
-        there = k.0;
-        name_is = k.1;
-        map_is = ap (λ b. b || leaves disk.map v.0.moving) (ap (λ (d : DiskView). d.map == disk.map) v.2 ∙ number_itself disk.map);
-      }
-
-  -- a cell that has a link is of a disk
-  pub linked_row : (cell : Cell) (link : LinkRow) → cell_link s cell ≡ Some link → (row : DiskRow) × In row s.disks.rows × (has_map cell.map row ≡ true)
-  linked_row cell link e = elim (owned_or_none servers s p cell) [
-    | inl h ↦ (let at = found_at (has_map cell.map) s.disks.rows h.0 h.1 in (h.0, in_get s.disks.rows at.0 h.0 at.1, at.2))
-    | inr none ↦ none_some (unlinked servers s p cell none) e
-  ]
 
   -- a cell past the last map has none
   pub past_link : (cell : Cell) → length s.maps ≤ cell.map → cell_link s cell ≡ None
@@ -65,45 +47,11 @@ module _ (servers : ℕ) (s t : State) (p : IsSettledState servers s) (q : IsSet
       let later = g.rows at.0 row at.1 in
       record { now = later.now; there = in_get t.disks.rows at.0 later.now later.is; so = later.so }
 
-  -- a cell that had a link, of a disk that is found later on the same map, is of that disk
-  pub row_of : (cell : Cell) (link : LinkRow) → cell_link s cell ≡ Some link → (name : List ℕ) (disk : DiskView) → rules.find t name ≡ Some disk
-      → disk.map ≡ cell.map
-      → HasRow s.disks.rows name cell.map
-  row_of cell link has name disk finds e =
-      let one = linked_row servers s p cell link has in
-      let at = get_in s.disks.rows one.0 one.1 in
-      let two = viewed_row servers t q name disk finds in
-      let there = get_in t.disks.rows two.row two.there in
-      let place : disk_of t.maps cell.map ≡ Some at.0 = disk_on s.maps t.maps cell.map at.0 g.maps (map_made s.maps at.0 cell.map one.0
-      (p.rows at.0 one.0 at.1) one.2) in
-      let other : disk_of t.maps cell.map ≡ Some there.0 =
-      map_made t.maps there.0 cell.map two.row (q.rows there.0 two.row there.1) (ap (λ m. has_map m two.row) (sym e) ∙ two.map_is) in
-      let same : at.0 ≡ there.0 = same_some (sym place ∙ other) in
-      let later = g.rows at.0 one.0 at.1 in
-      let now : later.now ≡ two.row = same_some (sym later.is ∙ ap (slice_get t.disks.rows) same ∙ there.1) in
-      record { row = one.0; there = one.1; name_is = sym later.so.name ∙ ap (λ (row : DiskRow). row.name) now ∙ two.name_is; map_is = one.2 }
-
   -- a disk that was made later stands after those before
   pub later_place : (row : DiskRow) → In row (later_rows s t) → (i : ℕ) × (slice_get t.disks.rows i ≡ Some row) × (length s.disks.rows ≤ i)
   later_place row h =
       let at = get_in (later_rows s t) row h in
       (length s.disks.rows + at.0, get_drop (length s.disks.rows) t.disks.rows at.0 row at.1, omega arith)
-
-  -- no cell of a disk that was made later had a link
-  pub none_before : (row : DiskRow) → In row (later_rows s t) → (cell : Cell) → has_map cell.map row ≡ true → cell_link s cell ≡ None
-  none_before row h cell has = elim (owned_or_none servers s p cell) [
-    | inr none ↦ unlinked servers s p cell none
-    | inl o ↦
-        let at = later_place row h in
-        let was = found_at (has_map cell.map) s.disks.rows o.0 o.1 in
-        let before : disk_of t.maps cell.map ≡ Some was.0 =
-        disk_on s.maps t.maps cell.map was.0 g.maps (map_made s.maps was.0 cell.map o.0 (p.rows was.0 o.0 was.1) was.2) in
-        let now : disk_of t.maps cell.map ≡ Some at.0 = map_made t.maps at.0 cell.map row (q.rows at.0 row at.1) has in
-        let same : was.0 ≡ at.0 = same_some (sym before ∙ now) in
-        let low = slice_get_within s.disks.rows was.0 o.0 was.1 in
-        let high = at.2 in
-        absurd (omega arith)
-  ]
 
   -- each disk that there is later was there before, or is one of these
   pub old_or_new : (row : DiskRow) → In row t.disks.rows → ((was : DiskRow) × In was s.disks.rows × IsLaterDisk was row) ⊎ In row (later_rows s t)

@@ -1,15 +1,13 @@
 -- What a state says of a cell's two servers and of a holder that is alone, and what a later one says of them.
-use Rattle.law_state.proofs.Imports.{◌∙◌, ◌≡◌, ◌≢◌, ◌⊎◌, Bool, Both, Cell, LinkRow, LinkState, Lost, None, Only, Option, Some, State, ap, by_bool, cell_link}
-use Rattle.law_state.proofs.Imports.{false, first, has_server, in_both, inl, inr, is_alone, is_alone_on, is_lead, is_some, is_the_one, is_up, is_up_as, lead}
-use Rattle.law_state.proofs.Imports.{none_some, number_itself, option_and_then, option_map, option_map_or, primary, refl, row_in_both, same_some, second}
-use Rattle.law_state.proofs.Imports.{secondary, some_or_none, sym, true, true_false, ℕ}
-use Rattle.spec_rules.specs.State.{live}
-use Rattle.law_state.specs.LinkRows.{IsServedBy, ByBoth, ByNone, ByOne, IsLater}
-use Rattle.law_state.specs.Homes.{HasDied}
+use Rattle.law_state.proofs.Imports.{◌∙◌, ◌≡◌, ◌⊎◌, Bool, Both, Cell, LinkRow, LinkState, Lost, None, Only, Option, Some, State, ap, by_bool, cell_link}
+use Rattle.law_state.proofs.Imports.{false, first, in_both, inl, inr, is_alone, is_alone_on, is_lead, is_some, is_the_one, is_up, is_up_as, lead}
+use Rattle.law_state.proofs.Imports.{number_itself, option_and_then, option_map, option_map_or, primary, refl, row_in_both, same_some, second, secondary, sym}
+use Rattle.law_state.proofs.Imports.{true, true_false, ℕ}
+use Rattle.law_state.specs.LinkRows.{IsServedBy, ByBoth, ByNone, ByOne}
 use Rattle.law_state.specs.Steady.{IsSteady}
-use Rattle.law_state.specs.LaterStates.{IsBelow}
 use Rattle.law_state.proofs.Caughts.{alone_by}
-use Rattle.law_state.proofs.CellsByLinkRows.{led_by, led_so, first_by, second_by, both_first, both_second}
+use Rattle.law_state.proofs.CellsByLinkRows.{led_by, led_so, second_by, both_first}
+use Rattle.law_state.proofs.TestFacts.{same_only}
 
 -- ### One state, by its definitions alone
 
@@ -78,58 +76,16 @@ module _ (state : State) (steady : IsSteady state) where
     | inr held ↦ true_false both (alone_not_both state n cell (so_alone state n cell held.row held.whole held.is held.so))
   ]
 
-  -- the link of a cell that is led
-  pub led_row : (n : ℕ) (cell : Cell) → is_lead state n cell ≡ true → (row : LinkRow) × (cell_link state cell ≡ Some row)
-  led_row n cell e = elim (led_by state steady cell n (is_the_one (lead state cell) n e)) [ inl b ↦ (b.0.row, b.0.is) | inr held ↦ (held.row, held.is) ]
-
-  -- a cell with a first server, or a second one, is in Both
-  pub first_both : (cell : Cell) (n : ℕ) → first state cell ≡ Some n → in_both state cell ≡ true
-  first_both cell n e = let b = first_by state steady cell n e in so_both state cell b.0.row b.0.is b.0.so
-
   pub second_both : (cell : Cell) (n : ℕ) → second state cell ≡ Some n → in_both state cell ≡ true
   second_both cell n e = let b = second_by state steady cell n e in so_both state cell b.0.row b.0.is b.0.so
-
-  pub first_primary : (cell : Cell) (n : ℕ) → first state cell ≡ Some n → primary state cell ≡ Some n
-  first_primary cell n e =
-      let b = first_by state steady cell n e in ap (option_map (λ (r : LinkRow). r.primary)) b.0.is ∙ ap Some b.1
 
   pub second_secondary : (cell : Cell) (n : ℕ) → second state cell ≡ Some n → secondary state cell ≡ Some n
   second_secondary cell n e =
       let b = second_by state steady cell n e in ap (option_map (λ (r : LinkRow). r.secondary)) b.0.is ∙ ap Some b.1
 
-  pub primary_first : (cell : Cell) (n : ℕ) → live state cell ≡ true → primary state cell ≡ Some n → in_both state cell ≡ true → first state cell ≡ Some n
-  primary_first cell n lives e both =
-      let b = both_row state cell both in
-      both_first state cell b.row b.is lives b.both ∙ sym (ap (option_map (λ (r : LinkRow). r.primary)) b.is) ∙ e
-
-  pub secondary_second : (cell : Cell) (n : ℕ) → live state cell ≡ true → secondary state cell ≡ Some n → in_both state cell ≡ true
-      → second state cell ≡ Some n
-  secondary_second cell n lives e both =
-      let b = both_row state cell both in
-      both_second state cell b.row b.is lives b.both ∙ sym (ap (option_map (λ (r : LinkRow). r.secondary)) b.is) ∙ e
-
-  -- the two servers of a cell are two
-  pub has_secondary : (cell : Cell) (n : ℕ) → primary state cell ≡ Some n → (m : ℕ) × (secondary state cell ≡ Some m) × (n ≢ m)
-  has_secondary cell n e = elim (some_or_none (cell_link state cell)) [
-    | inl there ↦
-        let l = steady.linked cell there.0 there.1 in
-        let one : there.0.primary ≡ n = same_some (sym (ap (option_map (λ (r : LinkRow). r.primary)) there.1) ∙ e) in
-        (there.0.secondary, ap (option_map (λ (r : LinkRow). r.secondary)) there.1, λ same. l.apart (one ∙ same))
-    | inr none ↦ none_some (ap (option_map (λ (r : LinkRow). r.primary)) none) e
-  ]
-
-  pub has_primary : (cell : Cell) (m : ℕ) → secondary state cell ≡ Some m → (n : ℕ) × (primary state cell ≡ Some n)
-  has_primary cell m e = elim (some_or_none (cell_link state cell)) [
-    | inl there ↦ (there.0.primary, ap (option_map (λ (r : LinkRow). r.primary)) there.1)
-    | inr none ↦ none_some (ap (option_map (λ (r : LinkRow). r.secondary)) none) e
-  ]
-
-  -- a holder that is alone is one of the cell's two servers, and the other one is not In with its first
-  -- incarnation
+  -- a holder that is alone is one of the cell's two servers
   pub record IsLeft (n : ℕ) (cell : Cell) (i j : ℕ) : Type 0 where
     pub one_of : (n ≡ i) ⊎ (n ≡ j)
-    pub first_out : n ≢ i → is_up_as state i 1 ≡ false
-    pub second_out : n ≢ j → is_up_as state j 1 ≡ false
 
   pub alone_left : (n : ℕ) (cell : Cell) (i j : ℕ) → is_alone_on state n cell ≡ true → primary state cell ≡ Some i → secondary state cell ≡ Some j
       → IsLeft n cell i j
@@ -137,49 +93,11 @@ module _ (state : State) (steady : IsSteady state) where
       let a = alone_row state n cell e in
       let first : a.row.primary ≡ i = same_some (sym (ap (option_map (λ (r : LinkRow). r.primary)) a.is) ∙ one) in
       let second : a.row.secondary ≡ j = same_some (sym (ap (option_map (λ (r : LinkRow). r.secondary)) a.is) ∙ two) in
-      by a.row.state a.alone first second (steady.linked cell a.row a.is).served
+      by first second a.alone (steady.linked cell a.row a.is).served
     where
-      holder_is : (h : ℕ) {a b : Bool} → Only n a ≡ Only h b → n ≡ h
-      holder_is h f = cc
-
-      by : (s : LinkState) {row : LinkRow} {whole : Bool} → row.state ≡ Only n whole → row.primary ≡ i → row.secondary ≡ j
-          → IsServedBy (is_up state) (λ k. is_up_as state k 1) row
-          → IsLeft n cell i j
-      by s alone first second (ByBoth both up up') = let f : Both ≡ Only n _ = sym both ∙ alone in absurd cc
-      by s alone first second (ByNone one other lost pair out) = let f : Lost ≡ Only n _ = sym lost ∙ alone in absurd cc
-      by s alone first second (ByOne holder other whole only (inl pair) out) =
-          let same : n ≡ holder = holder_is holder (sym alone ∙ only) in
-          let one : n ≡ i = same ∙ sym pair.0 ∙ first in
-          record { one_of = inl one; first_out = λ ne. absurd (ne one); second_out = λ ne. sym (ap (λ k. is_up_as state k 1) (sym pair.1 ∙ second)) ∙ out }
-      by s alone first second (ByOne holder other whole only (inr pair) out) =
-          let same : n ≡ holder = holder_is holder (sym alone ∙ only) in
-          let one : n ≡ j = same ∙ sym pair.1 ∙ second in
-          record { one_of = inr one; first_out = λ ne. sym (ap (λ k. is_up_as state k 1) (sym pair.0 ∙ first)) ∙ out; second_out = λ ne. absurd (ne one) }
-
--- ### A later state
-
-module _ (earlier later : State) (below : IsBelow earlier later) where
-  -- a side of a cell's link
-  side_on : (side : LinkRow → ℕ) → ((row now : LinkRow) → IsLater row now → side now ≡ side row) → (cell : Cell) (n : ℕ)
-      → option_map side (cell_link earlier cell) ≡ Some n → (option_map side (cell_link later cell) ≡ Some n) ⊎ HasDied later cell
-  side_on side same cell n e = elim (some_or_none (cell_link earlier cell)) [
-    | inl there ↦ elim (below.rows cell there.0 there.1) [
-      | inl now ↦ inl (ap (option_map side) now.is ∙ ap Some (same there.0 now.now now.so) ∙ sym (ap (option_map side) there.1) ∙ e)
-      | inr gone ↦ inr gone
-    ]
-    | inr none ↦ none_some (ap (option_map side) none) e
-  ]
-
-  pub primary_on : (cell : Cell) (n : ℕ) → primary earlier cell ≡ Some n → (primary later cell ≡ Some n) ⊎ HasDied later cell
-  primary_on = side_on (λ row. row.primary) (λ row now so. so.primary)
-
-  pub secondary_on : (cell : Cell) (n : ℕ) → secondary earlier cell ≡ Some n → (secondary later cell ≡ Some n) ⊎ HasDied later cell
-  secondary_on = side_on (λ row. row.secondary) (λ row now so. so.secondary)
-
--- ### An entry that touches a link
-
--- of a link in Both one server is Out after an entry that touches it
-pub record IsLeftOut (after_it : State) (row : LinkRow) : Type 0 where
-  pub server : ℕ
-  pub one_of : has_server server row ≡ true
-  pub out : is_up after_it server ≡ false
+      by : {row : LinkRow} {whole : Bool} → row.primary ≡ i → row.secondary ≡ j → row.state ≡ Only n whole
+          → IsServedBy (is_up state) (λ k. is_up_as state k 1) row → IsLeft n cell i j
+      by first second alone (ByBoth both up up') = let f : Both ≡ Only n _ = sym both ∙ alone in absurd cc
+      by first second alone (ByNone one other lost pair out) = let f : Lost ≡ Only n _ = sym lost ∙ alone in absurd cc
+      by first second alone (ByOne holder other whole only (inl pair) out) = record { one_of = inl (same_only (sym alone ∙ only) ∙ sym pair.0 ∙ first) }
+      by first second alone (ByOne holder other whole only (inr pair) out) = record { one_of = inr (same_only (sym alone ∙ only) ∙ sym pair.1 ∙ second) }

@@ -1,6 +1,7 @@
 -- A step that changes who is In, and the row of each link by itself: what is left to show of it where it keeps the tables plain.
-use Rattle.law_state.proofs.Imports.{◌==◌, ◌∙◌, ◌≡◌, ◌≤◌, In, LinkRow, Member, Some, State, View, ap, both_true, inl, is_link, last_inc, length, link_at, map}
-use Rattle.law_state.proofs.Imports.{option_map, same_numbers, slice_get, subst, sym, ℕ}
+use Rattle.law_state.proofs.Imports.{◌==◌, ◌∙◌, ◌≡◌, ◌≤◌, Cell, In, LinkRow, List, Member, Some, State, View, ap, both_true, cell_link, inl, inr, is_link}
+use Rattle.law_state.proofs.Imports.{last_inc, length, link_at, link_of, map, none_some, option_and_then, option_map, same_numbers, slice_get, some_or_none}
+use Rattle.law_state.proofs.Imports.{subst, sym, tuple_of, ℕ}
 use Rattle.law_state.specs.Ages.{age_of}
 use Rattle.law_state.specs.Homes.{stage_at}
 use Rattle.law_state.specs.LinkRows.{IsHeldOn, IsLater, IsLostOn, IsServed, IsServedOn}
@@ -17,6 +18,14 @@ found_itself s map at row e =
     let found = found_at (is_link map at) s.links row e in
     let h = both_true (row.map == map) (row.link == at) found.2 in
     (λ i. link_at s.links (same_numbers row.map map h.0 i) (same_numbers row.link at h.1 i)) ∙ e
+
+-- a cell's link is that of its block among its map's
+pub linked_at : (s : State) (cell : Cell) (row : LinkRow) → cell_link s cell ≡ Some row
+    → (ids : List ℕ) × (tuple_of s.maps cell.map ≡ Some ids) × (link_at s.links cell.map (link_of (length ids) cell.block) ≡ Some row)
+linked_at s cell row is = elim (some_or_none (tuple_of s.maps cell.map)) [
+  | inl h ↦ (h.0, h.1, sym (ap (option_and_then (λ ids. link_at s.links cell.map (link_of (length ids) cell.block))) h.1) ∙ is)
+  | inr none ↦ none_some (ap (option_and_then (λ ids. link_at s.links cell.map (link_of (length ids) cell.block))) none) is
+]
 
 -- the state after such a step
 abbrev pub changed_by : State → View → (LinkRow → LinkRow) → State

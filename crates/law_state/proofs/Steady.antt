@@ -20,6 +20,7 @@ use Rattle.law_state.proofs.SnapsQueueFences.{disk_is, disk_stands}
 use Rattle.law_state.proofs.NewMapLinks.{proper}
 use Rattle.law_state.proofs.GrownStates.{gone_on}
 use Rattle.law_state.proofs.EntriesOnlyAdd.{folding, log_plain}
+use Rattle.law_state.proofs.MembershipChanges.{linked_at}
 use Rattle.global_tables.specs.declared.fence.Member.TheVariants as member
 use Rattle.spec_rules.specs.State as rules
 
@@ -297,17 +298,16 @@ module _ (servers : ℕ) (s t : State) (p : IsSettledState servers s) (q : IsSet
 
   pub grown_below : IsBelow s t
   grown_below = record {
-    rows = λ cell row e. elim (some_or_none (tuple_of s.maps cell.map)) [
-      | inl h ↦ elim (g.links cell.map (link_of (length h.0) cell.block) row (sym (link_by servers s p cell h.0 h.1) ∙ e)) [
-        | inl later ↦ inl (record {
-          now = later.now;
-          is = link_by servers t q cell h.0 (tuple_on cell.map h.0 h.1) ∙ later.is;
-          goes_on = later.goes_on;
-        })
-        | inr gone ↦ inr (died servers t q cell gone)
-      ]
-      | inr none ↦ none_some (ap (option_and_then (λ ids. link_at s.links cell.map (link_of (length ids) cell.block))) none) e
-    ];
+    rows = λ cell row e.
+        let h = linked_at s cell row e in
+        elim (g.links cell.map (link_of (length h.0) cell.block) row h.2) [
+          | inl later ↦ inl (record {
+            now = later.now;
+            is = link_by servers t q cell h.0 (tuple_on cell.map h.0 h.1) ∙ later.is;
+            goes_on = later.goes_on;
+          })
+          | inr gone ↦ inr (died servers t q cell gone)
+        ];
     ages = g.ages;
     finds = found_later;
     snaps = λ disk name epoch e. snapshot_later disk name epoch (disk_at s.disks.rows disk) refl e;

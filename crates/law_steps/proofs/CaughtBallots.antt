@@ -1,9 +1,9 @@
 -- A ballot that a server starts for a Caught is of a link of which nothing is left to copy.
-use Rattle.law_steps.proofs.Imports.{◌++◌, ◌≡◌, Ask, Block, Caught, Command, In, JobContext, LinkRow, List, Log, NextCopy, None, Nothing, Option, PairState}
-use Rattle.law_steps.proofs.Imports.{Some, Voter, Wait, all_leaves, ap, by_test, caught_among, caught_links, draining, false, filter, first_among}
-use Rattle.law_steps.proofs.Imports.{first_wanted, fold, front_plain, id_of, in-append, inc_of, inl, inr, is_caught, is_due, is_in, is_nothing, join_only}
-use Rattle.law_steps.proofs.Imports.{kept_among, log_plain, move_among, moving, next_copy, other_of, own_join, own_leave, own_leaves, own_wants, refl}
-use Rattle.law_steps.proofs.Imports.{report_among, returning, rev_of, state_in, subst, sym, true, true_false, voter_of, wanted, wanted_by, with_leave, ℕ}
+use Rattle.law_steps.proofs.Imports.{◌++◌, ◌≡◌, Caught, Command, In, JobContext, LinkRow, List, Log, NextCopy, None, Nothing, Option, PairState, Some, Voter}
+use Rattle.law_steps.proofs.Imports.{all_leaves, ap, by_test, caught_among, caught_links, draining, false, filter, first_among, first_wanted, fold}
+use Rattle.law_steps.proofs.Imports.{front_plain, id_of, in-append, inc_of, inl, inr, is_caught, is_due, is_in, is_nothing, join_only, kept_among, log_plain}
+use Rattle.law_steps.proofs.Imports.{move_among, moving, next_copy, other_of, own_join, own_leave, own_leaves, own_wants, refl, report_among, returning}
+use Rattle.law_steps.proofs.Imports.{rev_of, state_in, subst, sym, true, true_false, voter_of, wanted, wanted_by, with_leave, ℕ}
 use Rattle.law_steps.specs.DidStep.{IsBallotFor, Starts}
 use Rattle.law_steps.proofs.KnownServer.{KnownServer, parts_of}
 
@@ -65,9 +65,7 @@ module _ (it : KnownServer) where
 
       is_it : (next : NextCopy) → is_nothing next ≡ true → next ≡ Nothing
       is_it Nothing e = refl
-      is_it Ask e = true_false e refl
-      is_it (Block cell) e = true_false e refl
-      is_it Wait e = true_false e refl
+      is_it _ e = true_false e refl
 
       no_join : In (Caught of link holder inc other other_inc) (own_join here.state here.me here.inc own.store.fresh)
           → IsBallotFor here own (record { map = of; link = link })

@@ -1,7 +1,7 @@
 -- What clients send is reads, writes, and words of the agreed log.
 use Rattle.law_steps.proofs.Imports.{◌||◌, ◌≡◌, Asked, Body, Bool, Client, In, Line, List, Logged, Option, Post, Reaction, State, Subject, is_asked}
 use Rattle.law_steps.proofs.Imports.{is_logged, refl, subject_of, true, true_false, ℕ}
-use Rattle.law_steps.specs.DidClient.{Turned, Says, Of_the_log, A_write, A_read, Goes_on, Is_told, Begins, Reads, Ends, Shown, Judges}
+use Rattle.law_steps.specs.DidClient.{Turned, Says, Of_the_log, A_write, A_read, Goes_on, Is_told, Begins}
 
 -- a read, a write, or a word of the agreed log
 abbrev pub is_ask : Body → Bool
@@ -22,7 +22,4 @@ unfolding In
 turned_asks heard servers lines c client _ _ (Goes_on reacted seq stays only) post h = says_asks _ c _ post (only.says post h)
 turned_asks heard servers lines c client _ _ (Is_told reacted asked h' is read seq stays only) post h = says_asks _ c _ post (only.says post h)
 turned_asks heard servers lines c client _ _ (Begins reacted line asked is free seq there called only) post h = says_asks _ c _ post (only.says post h)
-turned_asks heard servers lines c client _ _ (Reads asked bytes h' is e) post h = absurd h
-turned_asks heard servers lines c client _ _ (Ends asked how h' is e) post h = absurd h
-turned_asks heard servers lines c client _ _ (Shown asked rev sight given h' is e) post h = absurd h
-turned_asks heard servers lines c client _ _ (Judges after asked given is gone seq judged) post h = absurd h
+turned_asks heard servers lines c client _ _ _ post h = absurd h

@@ -14,6 +14,7 @@ use Rattle.law_steps.specs.DidClient.{Turned, Says, Of_the_log, A_write, A_read,
 use Rattle.law_steps.specs.DidClient.{By_witness, IsJudged, Stops_it, Stops_at, Fails_it, Starts_it, Blanks_it, Has_no_space, Is_settled, Goes_on, Is_told}
 use Rattle.law_steps.specs.DidClient.{Begins, Reads, Ends, Shown, Judges}
 use Rattle.law_state.proofs.Fronts.{front_itself, front_same, front_more, front_on}
+use Rattle.law_state.proofs.TestFacts.{was_true}
 use Rattle.petal_msg.specs.declared.body.Body.TheVariants as body
 use Rattle.petal_msg.specs.declared.letter.Actor.TheVariants as actor
 use Rattle.petal_msg.specs.declared.operation.Ending.TheVariants as ending
@@ -37,8 +38,7 @@ sent_on rev a b c (Anew at way) (As_it_was same_rev same_way) = Anew (same_rev �
 
 -- it is so too of one that differs in other things
 sent_as : (rev : ℕ) (old new other : Asked) → other.rev ≡ new.rev → other.old_way ≡ new.old_way → WasSent rev old new → WasSent rev old other
-sent_as rev old new other same_rev same_way (As_it_was at way) = As_it_was (same_rev ∙ at) (same_way ∙ way)
-sent_as rev old new other same_rev same_way (Anew at way) = Anew (same_rev ∙ at) (same_way ∙ way)
+sent_as rev old new other same_rev same_way sent = sent_on rev old new other sent (As_it_was same_rev same_way)
 
 -- one that has not gone the old way does not do so when it is sent
 still_new : (rev : ℕ) (old new : Asked) → old.old_way ≡ false → WasSent rev old new → new.old_way ≡ false
@@ -292,13 +292,9 @@ module _ (servers : ℕ) (lines : List Line) (w : World) (c : ℕ) where
       (λ t. stays_turn asked now is (record { line = refl; seq = refl; request = refl; told = refl; sent = As_it_was refl refl }))
       (λ all. by_test T (is_settled state (map (λ row. row.1) now.seen)) (answers client now answer.Ok) _
       (λ t. ends_turn refl (Shown asked rev sight answer.Ok h is
-      (Is_settled what at (same_numbers (length now.seen) (servers_of state) (no_longer (length now.seen == servers_of state) all)) t refl)))
+      (Is_settled what at (same_numbers (length now.seen) (servers_of state) (was_true (length now.seen == servers_of state) all)) t refl)))
       (λ t. stays_turn asked (record now { round = now.round + 1; seen = [] }) is
       (record { line = refl; seq = refl; request = refl; told = refl; sent = As_it_was refl refl })))
-    where
-      no_longer : (b : Bool) → not b ≡ false → b ≡ true
-      no_longer true e = refl
-      no_longer false e = sym e
 
   settle_turns : (asked : Asked) (rev : ℕ) (sight : Sight) → client.asked ≡ Some asked → Shows asked rev sight → asked.request ≡ request.Settle
       → T (settles state client asked sight)

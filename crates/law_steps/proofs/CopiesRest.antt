@@ -6,8 +6,8 @@ use Rattle.law_steps.proofs.Imports.{cell_cmp, cell_gone, cell_gone_apart, cell_
 use Rattle.law_steps.proofs.Imports.{found_at, found_itself, holder_of, holds_link, id_of, in-append, inl, inr, is_kept_on, is_link, is_link_under_way, is_on}
 use Rattle.law_steps.proofs.Imports.{is_under_way, needs_full_copy, last_copy, least, length, lesser, link_at, link_cmp, link_named, link_of, live, map}
 use Rattle.law_steps.proofs.Imports.{marked_blocks, nat_lt, next_block, next_copy, no_progress, none_some, option_and_then, option_map_or, progress_beside}
-use Rattle.law_steps.proofs.Imports.{progress_here, progress_on, proposed, refl, same_id, same_numbers, same_some, some_or_none, stored_blocks, subst, sym}
-use Rattle.law_steps.proofs.Imports.{true, true_false, tuple_of, unwrap_or, with_copied, with_copying, with_entry, with_full, with_last_copy, with_mark_on}
+use Rattle.law_steps.proofs.Imports.{progress_here, progress_on, proposed, refl, same_id, same_numbers, same_some, stored_blocks, subst, sym, true}
+use Rattle.law_steps.proofs.Imports.{true_false, tuple_of, unwrap_or, with_copied, with_copying, with_entry, with_full, with_last_copy, with_mark_on}
 use Rattle.law_steps.proofs.Imports.{with_page, with_progress, with_ticket, without_copying, ℕ}
 use Rattle.law_steps.specs.DidHolder.{DidHolder, CopyStep, Unmarks_copied, Closes_copy, TakenCopy, Copy_as_is, Copy_trimmed, Copy_synced, Asks_page}
 use Rattle.law_steps.specs.DidHolder.{Turns_page, Begins_copy, Goes_on_copying, Finds_it_full, Tidies, first_copy}
@@ -16,6 +16,8 @@ use Rattle.law_steps.specs.Did.{Did, Ignores, Refuses, By_read, By_lead, By_seco
 use Rattle.law_steps.specs.RestingCopies.{AreResting, CopyRests, LastRests}
 use Rattle.law_steps.proofs.OperationsRest.{same_cell_or_apart}
 use Rattle.law_steps.proofs.Subjects.{of_filler, of_lead, of_read, of_second, of_sweep}
+use Rattle.law_state.proofs.ListLookups.{in_filter}
+use Rattle.law_state.proofs.MembershipChanges.{linked_at}
 use Rattle.busy_marks.specs.declared.marks.MarkKind.TheVariants as mark
 
 -- ### What is left of it
@@ -89,22 +91,10 @@ blocks_on {X} cell state row (x ∷ xs) block h =
     (λ t i. elim i [ inl e ↦ (cell x, sym e, t) | inr j ↦ blocks_on cell state row xs block j ])
     (λ t i. blocks_on cell state row xs block i) h
 
--- of what a filter leaves
-in_filter : {X : Type 0} (test : X → Bool) (x : X) (xs : List X) → In x (filter test xs) → In x xs
-unfolding In
-in_filter test x [] h = h
-in_filter {X} test x (y ∷ xs) h =
-    by_test (λ (ys : List X). In x ys → In x (y ∷ xs)) (test y) (y ∷ filter test xs) (filter test xs)
-    (λ t i. elim i [ inl e ↦ inl e | inr j ↦ inr (in_filter test x xs j) ])
-    (λ t i. inr (in_filter test x xs i)) h
-
 -- a cell's row is found by its own map and number
 pub row_named : (state : State) (cell : Cell) (row : LinkRow) → cell_link state cell ≡ Some row → link_named state (id_of row) ≡ Some row
-row_named state cell row is = elim (some_or_none (tuple_of state.maps cell.map)) [
-  | inl h ↦ found_itself state cell.map (link_of (length h.0) cell.block) row
-      (sym (ap (option_and_then (λ ids. link_at state.links cell.map (link_of (length ids) cell.block))) h.1) ∙ is)
-  | inr none ↦ none_some (ap (option_and_then (λ ids. link_at state.links cell.map (link_of (length ids) cell.block))) none) is
-]
+row_named state cell row is =
+    let h = linked_at state cell row is in found_itself state cell.map (link_of (length h.0) cell.block) row h.2
 
 -- a cell on a link has its row
 pub on_row : (state : State) (id : LinkId) (row : LinkRow) → link_named state id ≡ Some row → (cell : Cell) → is_on state row cell ≡ true
@@ -152,7 +142,7 @@ cell_left state id row own named block i =
     whole : In block (if needs_full_copy row.state then filter (above (progress_on own row).copied) (stored_blocks state row own) else [])
         → In block (stored_blocks state row own)
     whole = by_test (λ (ys : List ℕ). In block ys → In block (stored_blocks state row own)) (needs_full_copy row.state) _ _
-        (λ t j. in_filter (above (progress_on own row).copied) block (stored_blocks state row own) j) (λ t j. in_none block j)
+        (λ t j. (in_filter (above (progress_on own row).copied) (stored_blocks state row own) block j).0) (λ t j. in_none block j)
 
 next_on : (state : State) (id : LinkId) (row : LinkRow) (own : PairState) → link_named state id ≡ Some row → (cell : Cell)
     → next_copy state row own ≡ Block cell

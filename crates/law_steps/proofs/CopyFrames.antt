@@ -1,8 +1,8 @@
 -- What a job of copies leaves as it is: what the server remembers of writes, but that its numbers go on; and it speaks of copies alone.
-use Rattle.law_steps.proofs.Imports.{[], ◌∙◌, ◌∷◌, ◌≡◌, ◌≤◌, Body, Cell, Copied, Copying, In, JobContext, JobResult, LastCopy, Letter, LinkId, LinkRow, None}
-use Rattle.law_steps.proofs.Imports.{Option, PairState, Pairs, Post, Progress, Some, above, ap, arith, begins_copy, by_test, caught_put, cell_cmp}
-use Rattle.law_steps.proofs.Imports.{cell_cmp_total, cell_link, cell_of, chain_in, epochs_of, inl, inr, key_at, page_wanted, progress_on, refl, repair_after}
-use Rattle.law_steps.proofs.Imports.{subject_of, subst, sym, true, with_copied, with_last_copy, with_page, with_progress, without_copying, ℕ}
+use Rattle.law_steps.proofs.Imports.{◌∙◌, ◌≡◌, ◌≤◌, Body, Cell, Copied, Copying, In, JobContext, JobResult, LastCopy, Letter, LinkRow, None, Option}
+use Rattle.law_steps.proofs.Imports.{PairState, Pairs, Post, Progress, Some, above, ap, arith, begins_copy, by_test, caught_put, cell_cmp, cell_cmp_total}
+use Rattle.law_steps.proofs.Imports.{cell_link, cell_of, chain_in, epochs_of, key_at, page_wanted, progress_on, refl, subject_of, subst, sym, true}
+use Rattle.law_steps.proofs.Imports.{with_copied, with_last_copy, with_page, with_progress, without_copying, ℕ}
 use Rattle.law_steps.specs.Ready.{IsRising}
 use Rattle.law_steps.proofs.TablesOfPuts.{put_rises, without_rises}
 use Rattle.law_steps.specs.DidHolder.{DidHolder, CopyStep, Asks_to_trim, Sends, Unmarks_copied, Closes_copy, TakenCopy, Copy_as_is, Copy_trimmed, Copy_synced}
@@ -10,6 +10,9 @@ use Rattle.law_steps.specs.DidHolder.{Asks_page, Turns_page, Begins_copy, Goes_o
 use Rattle.law_steps.specs.DidOther.{OtherReply, Replies, DidOther, first_last, TrimStep, Is_trimmed, Drops_entry, Answers_page, Is_copied_to}
 use Rattle.law_steps.specs.DidOther.{Goes_on_trimming, Puts_entry}
 use Rattle.law_steps.proofs.Letters.{posted}
+use Rattle.law_log.proofs.ScheduleTurns.{no_letter, no_posts}
+use Rattle.law_log.proofs.PairJobsLeaveLog.{only_stage}
+use Rattle.law_log.proofs.CopyJobsLeaveLog.{only_mend, mends_only}
 use Rattle.petal_msg.specs.declared.body.Body.TheVariants as body
 use Rattle.spec_rules.specs.declared.job.Job.TheVariants as job
 
@@ -22,28 +25,6 @@ pub record CopyFrame (own : PairState) (done : JobResult) : Type 0 where
   pub caught : (row : LinkRow) → (progress_on done.own row).caught ≡ (progress_on own row).caught
   pub says : (post : Post) → In post done.posts → subject_of post.body ≡ Copied
   pub no_letters : (letter : Letter) → In (job.Letter letter) done.jobs → ⊥
-
-no_jobs : (letter : Letter) → In (job.Letter letter) [] → ⊥
-unfolding In
-no_jobs letter h = h
-
-no_posts : {A : Type 0} (post : Post) → In post [] → A
-unfolding In
-no_posts post h = absurd h
-
-one_stage : (cell : Cell) (letter : Letter) → In (job.Letter letter) (job.Stage cell ∷ []) → ⊥
-unfolding In
-one_stage cell letter (inl e) = let f : job.Letter letter ≡ job.Stage cell = e in absurd cc
-one_stage cell letter (inr h) = h
-
-one_mend : (id : LinkId) (letter : Letter) → In (job.Letter letter) (job.Repair id ∷ []) → ⊥
-unfolding In
-one_mend id letter (inl e) = let f : job.Letter letter ≡ job.Repair id = e in absurd cc
-one_mend id letter (inr h) = h
-
-after_mend : (row : Option LinkRow) (letter : Letter) → In (job.Letter letter) (repair_after row) → ⊥
-after_mend None letter h = no_jobs letter h
-after_mend (Some row) letter h = one_mend _ letter h
 
 -- the pairs stay
 abbrev same : (own : PairState) (done : JobResult) → done.own.pairs ≡ own.pairs
@@ -115,17 +96,17 @@ frame_from own now done pending finished last le rises caught f = record {
 
 step_frame : (here : JobContext) (own : PairState) (cell : Cell) (copy : Copying) (done : JobResult) → CopyStep here own cell copy done → CopyFrame own done
 step_frame here own cell copy _ (Asks_to_trim fresh) = same own _ refl (λ r. refl) (λ h. h)
-    (λ post i. ap subject_of (posted _ (body.Trim copy.op cell (epochs_of (chain_in own.store.chains cell))) post i)) no_jobs
+    (λ post i. ap subject_of (posted _ (body.Trim copy.op cell (epochs_of (chain_in own.store.chains cell))) post i)) no_letter
 step_frame here own cell copy _ (Sends row trimmed is) = same own _ refl (λ r. refl) (λ h. h)
-    (λ post i. ap subject_of (posted _ (body.Sync copy.op (key_at cell row.0) row.1.version copy.index row.1.bytes) post i)) no_jobs
+    (λ post i. ap subject_of (posted _ (body.Sync copy.op (key_at cell row.0) row.1.version copy.index row.1.bytes) post i)) no_letter
 step_frame here own cell copy _ (Unmarks_copied kind synced left) = same own _ refl (λ r. refl) (λ h. h)
-    (λ post i. no_posts post i) (one_stage cell)
+    (λ post i. no_posts post i) (λ letter. only_stage letter cell)
 step_frame here own cell copy _ (Closes_copy synced left) =
     same own _ (copied_pairs (cell_link here.state cell) (without_copying own cell) cell.block)
     (copied_caught (cell_link here.state cell) (without_copying own cell) cell.block)
     (λ h. subst (IsRising cell_cmp) (sym (copied_pending (cell_link here.state cell) (without_copying own cell) cell.block))
     (without_rises cell_cmp own.copies.pending cell h))
-    (λ post i. no_posts post i) (after_mend (cell_link here.state cell))
+    (λ post i. no_posts post i) (mends_only (cell_link here.state cell))
 
 taken_frame : (heard : Body → Type 0) (own : PairState) (cell : Cell) (now : PairState) (copy : Copying) (done : JobResult)
     → TakenCopy heard own cell now copy → CopyFrame now done
@@ -138,26 +119,26 @@ taken_frame heard own cell now copy done (Copy_synced old h is trimmed lt) f =
 
 pub of_holder : (heard : Body → Type 0) (here : JobContext) (own : PairState) (done : JobResult) → DidHolder heard here own done → CopyFrame own done
 of_holder heard here own _ (Asks_page id row other held fresh) = same own _ refl (λ r. refl) (λ h. h)
-    (λ post i. ap subject_of (posted (Some other) (page_wanted own row) post i)) no_jobs
+    (λ post i. ap subject_of (posted (Some other) (page_wanted own row) post i)) no_letter
 of_holder heard here own _ (Turns_page id row other after block h held fresh at) =
     same own _ (page_pairs own row (progress_on own row) block) (page_caught own row block)
     (λ h. subst (IsRising cell_cmp) (sym (page_pending own row (progress_on own row) block)) h)
-    (λ post i. no_posts post i) (one_mend _)
+    (λ post i. no_posts post i) (λ letter. only_mend letter _)
 of_holder heard here own done (Begins_copy id row other cell _ held next step) =
     frame_from own (begins_copy own cell) done refl refl refl (omega arith) (λ r. put_rises cell_cmp_total own.copies.pending cell _ r) (λ row. refl)
     (step_frame here (begins_copy own cell) cell _ done step)
 of_holder heard here own done (Goes_on_copying cell now copy _ taken step) =
     taken_frame heard own cell now copy done taken (step_frame here now cell copy done step)
 of_holder heard here own _ (Finds_it_full cell copy h is trimmed lt) = same own _ refl (λ r. refl) (λ h. without_rises cell_cmp own.copies.pending cell h)
-    (λ post i. no_posts post i) no_jobs
+    (λ post i. no_posts post i) no_letter
 of_holder heard here own _ (Tidies id row block kind is both idle left) = same own _ refl (λ r. refl) (λ h. h)
-    (λ post i. no_posts post i) (one_mend _)
+    (λ post i. no_posts post i) (λ letter. only_mend letter _)
 
 trim_frame : (own : PairState) (cell : Cell) (last : LastCopy) (holder : ℕ) (done : JobResult) → TrimStep own cell last holder done → CopyFrame own done
 trim_frame own cell last holder _ (Is_trimmed none) = same own _ refl (λ r. refl) (λ h. h)
-    (λ post i. ap subject_of (posted (Some holder) (body.Trimmed last.op cell) post i)) no_jobs
+    (λ post i. ap subject_of (posted (Some holder) (body.Trimmed last.op cell) post i)) no_letter
 trim_frame own cell last holder _ (Drops_entry epoch epochs is) = same own _ refl (λ r. refl) (λ h. h)
-    (λ post i. no_posts post i) (one_stage cell)
+    (λ post i. no_posts post i) (λ letter. only_stage letter cell)
 
 -- what it answers is of copies
 reply_copied : (heard : Body → Type 0) (here : JobContext) (own : PairState) (to : Option ℕ) (said : Body) → OtherReply heard here own to said
@@ -167,11 +148,11 @@ reply_copied heard here own _ _ _ = refl
 
 pub of_other : (heard : Body → Type 0) (here : JobContext) (own : PairState) (done : JobResult) → DidOther heard here own done → CopyFrame own done
 of_other heard here own _ (Replies to said reply) = same own _ refl (λ r. refl) (λ h. h)
-    (λ post i. ap subject_of (posted to said post i) ∙ reply_copied heard here own to said reply) no_jobs
+    (λ post i. ap subject_of (posted to said post i) ∙ reply_copied heard here own to said reply) no_letter
 of_other heard here own done (Is_copied_to number cell epochs holder _ h held newer step) =
     frame_from own (with_last_copy own cell (first_last number epochs)) done refl refl refl (omega arith) (λ r. r) (λ row. refl)
     (trim_frame (with_last_copy own cell (first_last number epochs)) cell (first_last number epochs) holder done step)
 of_other heard here own done (Goes_on_trimming cell holder last _ held is step) = trim_frame own cell last holder done step
 of_other heard here own _ (Puts_entry entry holder last of_copy at room) =
     same own _ refl (λ r. refl) (λ h. h)
-    (λ post i. ap subject_of (posted (Some holder) (body.Synced entry.op (cell_of entry.key) entry.index) post i)) no_jobs
+    (λ post i. ap subject_of (posted (Some holder) (body.Synced entry.op (cell_of entry.key) entry.index) post i)) no_letter

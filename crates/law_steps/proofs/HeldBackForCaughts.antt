@@ -7,6 +7,8 @@ use Rattle.law_steps.proofs.Imports.{eq_by_cmp, false, has_proposed, holds_link,
 use Rattle.law_steps.proofs.Imports.{is_under_way, least, link_cmp, list_any, lookup, next_block, next_copy, none_some, not, number_itself, option_map_or}
 use Rattle.law_steps.proofs.Imports.{progress_beside, progress_on, proposed, refl, same_caught, same_id, sym, true, true_false, with_progress, ℕ}
 use Rattle.law_steps.specs.DidStep.{IsBallotFor, Starts}
+use Rattle.law_state.proofs.TestFacts.{or_first}
+use Rattle.law_state.proofs.NewMapLinks.{or_true}
 
 pub held_as_flag : (state : State) (own : PairState) (cell : Cell) (row : LinkRow) → cell_link state cell ≡ Some row
     → has_proposed state own cell ≡ is_flagged own (id_of row)
@@ -44,22 +46,14 @@ same_order Less e = true_false e refl
 same_order Equal e = refl
 same_order Greater e = true_false e refl
 
-first_so : (a b : Bool) → a ≡ true → (a || b) ≡ true
-first_so true b e = refl
-first_so false b e = true_false e refl
-
-later_so : (a b : Bool) → b ≡ true → (a || b) ≡ true
-later_so true b e = refl
-later_so false b e = e
-
 -- an operation that stands in a table is one of its rows
 any_at : (p : Cell → Bool) (t : Table Cell Pending) (cell : Cell) (op : Pending) → at cell_cmp t cell ≡ Some op → p cell ≡ true
     → list_any (λ (row : Cell × Pending). p row.0) t ≡ true
 unfolding at
 any_at p [] cell op e is = none_some refl e
 any_at p (row ∷ rows) cell op e is = by_bool (is_eq (cell_cmp cell row.0))
-    (λ t. first_so (p row.0) _ (ap p (sym (cell_cmp_same cell row.0 (same_order (cell_cmp cell row.0) t))) ∙ is))
-    (λ no. later_so (p row.0) _ (any_at p rows cell op
+    (λ t. or_first (p row.0) _ (ap p (sym (cell_cmp_same cell row.0 (same_order (cell_cmp cell row.0) t))) ∙ is))
+    (λ no. or_true (p row.0) _ (any_at p rows cell op
     (sym (ap (λ b. cond b (Some row.1) (lookup (is_at (cell_cmp cell)) rows)) no) ∙ e) is))
 
 idle_block : (state : State) (row : LinkRow) (own : PairState) (o : Option ℕ) → next_block state row own o ≡ Nothing → is_link_under_way state row own ≡ false

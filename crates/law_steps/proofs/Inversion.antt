@@ -6,12 +6,13 @@ use Rattle.law_steps.proofs.Imports.{same_numbers, true, wrong_rev, ℕ}
 use Rattle.law_steps.specs.Operations.{IsStaged}
 use Rattle.law_steps.specs.Did.{Did, Ignores, Refuses}
 use Rattle.law_steps.proofs.InvertRead.{did_read}
-use Rattle.law_steps.proofs.InvertLead.{not_false, did_fill, did_next, did_write, did_reserved, did_pair_full, did_replicated}
+use Rattle.law_steps.proofs.InvertLead.{did_fill, did_next, did_write, did_reserved, did_pair_full, did_replicated}
 use Rattle.law_steps.proofs.InvertFiller.{did_filled, did_fill_full}
 use Rattle.law_steps.proofs.InvertSweep.{did_sweeps}
 use Rattle.law_steps.proofs.InvertSecond.{did_reserve, did_replicate}
 use Rattle.law_steps.proofs.InvertHolder.{did_copies, did_mends, did_hello, did_trimmed, did_synced, did_sync_full}
 use Rattle.law_steps.proofs.InvertOther.{did_hello_ask, did_trim, did_trims, did_sync}
+use Rattle.law_state.proofs.TestFacts.{was_true}
 use Rattle.petal_msg.specs.declared.body.Body.TheVariants as body
 use Rattle.petal_msg.specs.declared.letter.Actor.TheVariants as actor
 use Rattle.spec_rules.specs.declared.job.Job.TheVariants as job
@@ -67,8 +68,8 @@ module _ (heard : Body → Type 0) (here : JobContext) (own : PairState) (steady
       by_test D (not (is_in here.state here.me here.inc)) _ _ (λ t. Ignores) (λ seat.
       by_test D (not (letter.rev == here.state.rev)) _ _ (λ t. other_rev letter letter.from) (λ same.
       by_test D (not (is_from_in here.state letter.inc letter.from)) _ _ (λ t. Ignores)
-      (λ t. did_handle (not_false (is_in here.state here.me here.inc) seat) letter.body
-      (h (same_numbers letter.rev here.state.rev (not_false (letter.rev == here.state.rev) same))))))
+      (λ t. did_handle (was_true (is_in here.state here.me here.inc) seat) letter.body
+      (h (same_numbers letter.rev here.state.rev (was_true (letter.rev == here.state.rev) same))))))
   did (job.Stage cell) h = by_test D (is_in here.state here.me here.inc) _ _
       (λ t. by_test D (is_some (pending_on own cell)) _ _ (λ s. did_next heard here own steady staged cell _ refl)
       (λ s. by_test D (is_some (copying_on own cell)) _ _ (λ u. did_copies heard here own cell (copying_on own cell) refl)

@@ -1,5 +1,5 @@
 -- What a server does so that a link is brought up to date is one of the kinds that the relation names: the holder's part.
-use Rattle.law_steps.proofs.Imports.{◌&&◌, ◌+◌, ◌<◌, ◌==◌, ◌≡◌, ◌≤◌, Ask, Block, Body, Bool, Both, Cell, CopyAction, Copying, JobContext, JobResult, LinkId}
+use Rattle.law_steps.proofs.Imports.{◌&&◌, ◌+◌, ◌<◌, ◌==◌, ◌≡◌, ◌≤◌, Ask, Block, Body, Both, Cell, CopyAction, Copying, JobContext, JobResult, LinkId}
 use Rattle.law_steps.proofs.Imports.{LinkRow, LinkState, Lost, MarkKind, NextCopy, None, Nothing, Only, Option, PairState, Some, State, Wait, arith}
 use Rattle.law_steps.proofs.Imports.{begins_copy, blocks_left, both_true, by_test, catches_up, cell_at, cell_same, chain_in, clears_old_marks, copies_on}
 use Rattle.law_steps.proofs.Imports.{copies_with, copy_acts, copy_stage, copying_on, false, get_within, goes_for, hears_hello, hears_page, hears_sync_full}
@@ -10,18 +10,12 @@ use Rattle.law_steps.proofs.Imports.{subst, sym, takes_mark, true, with_copying,
 use Rattle.law_steps.specs.Did.{Did, Ignores, By_holder}
 use Rattle.law_steps.specs.DidHolder.{CopyStep, Asks_to_trim, Sends, Unmarks_copied, Closes_copy, IsHeldWith, IsSynced, first_copy, Copy_as_is, Copy_trimmed}
 use Rattle.law_steps.specs.DidHolder.{Copy_synced, Asks_page, Turns_page, Begins_copy, Goes_on_copying, Finds_it_full, Tidies}
+use Rattle.law_state.proofs.TestFacts.{less_by, was_true}
 use Rattle.petal_msg.specs.declared.body.Body.TheVariants as body
 use Rattle.petal_msg.specs.declared.copying.CopyAction.TheVariants as copy_action
 
-less : (a b : ℕ) → nat_lt a b ≡ true → a < b
-less a b e = grind (arith, nat_tests)
-
 no_less : (a b : ℕ) → nat_lt a b ≡ false → b ≤ a
 no_less a b e = grind (arith, nat_tests)
-
-pub untrue : (b : Bool) → not b ≡ false → b ≡ true
-untrue true e = refl
-untrue false e = sym e
 
 -- ### A copy's next stage
 
@@ -41,9 +35,9 @@ module _ (here : JobContext) (own : PairState) (cell : Cell) (copy : Copying) wh
 
   pub copy_step : Step (copy_stage own.store cell copy)
   copy_step = by_test Step (not copy.trimmed) copy_action.Trim _ (λ t. Asks_to_trim (not_true copy.trimmed t))
-      (λ f. let trimmed = untrue copy.trimmed f in
+      (λ f. let trimmed = was_true copy.trimmed f in
       by_test Step (nat_lt copy.index (length (chain_in own.store.chains cell))) copy_action.Sync _
-      (λ lt. sends_next trimmed (less copy.index (length (chain_in own.store.chains cell)) lt))
+      (λ lt. sends_next trimmed (less_by copy.index (length (chain_in own.store.chains cell)) lt))
       (λ past. unmarks_or_closes (mark_left own.store cell) refl
       (record { trimmed = trimmed; past = no_less copy.index (length (chain_in own.store.chains cell)) past })))
 
@@ -163,7 +157,7 @@ module _ (heard : Body → Type 0) (here : JobContext) (own : PairState) where
   syncing cell copy number t =
       let b = both_true ((copy.op == number) && copy.trimmed) (nat_lt copy.index (length (chain_in own.store.chains cell))) t in
       let c = both_true (copy.op == number) copy.trimmed b.0 in
-      (same_numbers copy.op number c.0, c.1, less copy.index (length (chain_in own.store.chains cell)) b.1)
+      (same_numbers copy.op number c.0, c.1, less_by copy.index (length (chain_in own.store.chains cell)) b.1)
 
   did_hears_synced : (number : ℕ) (cell : Cell) (index : ℕ) → heard (body.Synced number cell index) → (o : Option Copying) → copying_on own cell ≡ o
       → D (hears_synced here own number cell index o)

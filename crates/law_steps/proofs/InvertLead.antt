@@ -1,9 +1,9 @@
 -- What a lead does for a write is one of the kinds that the relation names.
-use Rattle.law_steps.proofs.Imports.{if◌then◌else◌, ◌&&◌, ◌+◌, ◌<◌, ◌==◌, ◌||◌, ◌∙◌, ◌≡◌, ◌≤◌, ◌⊎◌, Again, Body, Bool, Cell, Copy, Finished, In, IsSteady}
+use Rattle.law_steps.proofs.Imports.{if◌then◌else◌, ◌&&◌, ◌+◌, ◌<◌, ◌==◌, ◌||◌, ◌∙◌, ◌≡◌, ◌≤◌, Again, Body, Bool, Cell, Copy, Finished, In, IsSteady}
 use Rattle.law_steps.proofs.Imports.{JobContext, JobResult, Moving, Newer, None, Older, Option, PairState, Pending, Post, Some, Stage, Wanted, acts}
 use Rattle.law_steps.proofs.Imports.{alone_action, ap, arith, at, both_action, both_true, by_bool, by_test, cell_of, cell_same, chain_in, copying_on}
 use Rattle.law_steps.proofs.Imports.{either_false, false, fill_operation, free_of, goes_on, goes_on_with, has_epoch, has_proposed, hears_fill}
-use Rattle.law_steps.proofs.Imports.{hears_pair_full, hears_replicated, hears_reserved, held, in_both, inl, inr, is_in, is_kept_back, is_lead, is_pending_for}
+use Rattle.law_steps.proofs.Imports.{hears_pair_full, hears_replicated, hears_reserved, held, in_both, is_in, is_kept_back, is_lead, is_pending_for}
 use Rattle.law_steps.proofs.Imports.{is_replicating, is_reserving, is_some, is_under_way, is_writes_held, leads_link, live, nat_cmp, nat_lt, nat_tests}
 use Rattle.law_steps.proofs.Imports.{next_stage, not, not_true, on_fill, on_write, only, opened, opens, opens_fill, operation, pending_on, post_to, refl}
 use Rattle.law_steps.proofs.Imports.{said, same_numbers, says, second, standing, subst, sym, takes, takes_newer, true, true_false, with_opened, with_paired}
@@ -15,6 +15,9 @@ use Rattle.law_steps.specs.DidLead.{IsNew, IsNewFill, Taken, As_it_is, As_told, 
 use Rattle.law_steps.specs.Did.{Did, Ignores, Refuses, For_a_write, By_copy_for_a_write, A_write, By_lead}
 use Rattle.law_steps.proofs.BusyLetters.{busy_not_held, busy_seq, held_not_busy, held_seq}
 use Rattle.law_steps.proofs.WhoLeads.{lead_links, link_alone}
+use Rattle.law_state.proofs.TestFacts.{was_true}
+use Rattle.law_state.proofs.SnapsQueueFences.{none_of}
+use Rattle.law_state.proofs.Owners.{either_of}
 use Rattle.petal_msg.specs.declared.body.Body.TheVariants as body
 use Rattle.petal_msg.specs.declared.letter.Actor.TheVariants as actor
 use Rattle.petal_msg.specs.declared.operation.Action.TheVariants as action
@@ -31,23 +34,11 @@ is_copying stage (Putting e) f g = true_false f (ap (λ (s : Stage). s.put) e)
 is_copying stage (Copying e) f g = e
 is_copying stage (Answering e) f g = true_false (ap (λ (s : Stage). s.paired) e) g
 
-pub not_false : (a : Bool) → not a ≡ false → a ≡ true
-not_false true e = refl
-not_false false e = true_false refl e
-
-is_none : {A : Type 0} (o : Option A) → is_some o ≡ false → o ≡ None
-is_none None e = refl
-is_none (Some x) e = true_false refl e
-
 pub no_free : (free : ℕ) → nat_lt 0 free ≡ false → free ≡ 0
 no_free free e = grind (arith, nat_tests)
 
 some_free : (free : ℕ) → nat_lt 0 free ≡ true → 0 < free
 some_free free e = grind (arith, nat_tests)
-
-either_one : (a b : Bool) → (a || b) ≡ true → (a ≡ true) ⊎ (b ≡ true)
-either_one true b e = inl refl
-either_one false b e = inr e
 
 newer : (last : Finished) (seq : ℕ) → nat_lt seq last.seq ≡ false → (seq == last.seq) ≡ false → last.seq + 1 ≤ seq
 newer last seq e f = grind (arith, nat_tests)
@@ -98,10 +89,10 @@ module _ (heard : Body → Type 0) (here : JobContext) (own : PairState) (steady
       subst (λ a. D (acts here now op a)) (sym (alone_next op lead apart))
       (by_test (λ a. D (acts here now op a)) (not op.stage.stale) _ _ (λ t. By_lead _ (Marks_alone now op taken alone (not_true _ t)))
       (λ stale. by_test (λ a. D (acts here now op a)) (not op.stage.put) _ _
-      (λ t. By_lead _ (Puts_alone now op taken alone (not_false _ stale) (not_true _ t)))
+      (λ t. By_lead _ (Puts_alone now op taken alone (was_true _ stale) (not_true _ t)))
       (λ put. by_test (λ a. D (acts here now op a)) op.stage.busy _ _
-      (λ t. By_lead _ (Unmarks_alone now op taken alone (not_false _ stale) (not_false _ put) t))
-      (λ free. By_lead _ (Closes_alone now op taken alone (not_false _ stale) (not_false _ put) free)))))
+      (λ t. By_lead _ (Unmarks_alone now op taken alone (was_true _ stale) (was_true _ put) t))
+      (λ free. By_lead _ (Closes_alone now op taken alone (was_true _ stale) (was_true _ put) free)))))
 
   pub staged_at : (cell : Cell) (op : Pending) → pending_on own cell ≡ Some op → pending_on own op.cell ≡ Some op
   staged_at cell op is = subst (λ (c : Cell). pending_on own c ≡ Some op) (sym (staged cell op is).own) is
@@ -160,7 +151,7 @@ module _ (heard : Body → Type 0) (here : JobContext) (own : PairState) (steady
       → is_under_way own want.cell ≡ busy → is_pending_for (pending_on own want.cell) want ≡ false → D (takes_newer here own want kept busy)
   did_newer want h lead new true busy e f other = Refuses (actor.Client want.client) (body.Held want.seq) (record { refused = refl; other = refl })
       (λ seq g. held_not_busy g)
-      (λ seq g. A_write want h (held_seq g) lead (either_one (is_writes_held (held here.state want.cell)) (has_proposed here.state own want.cell) e))
+      (λ seq g. A_write want h (held_seq g) lead (either_of (is_writes_held (held here.state want.cell)) (has_proposed here.state own want.cell) e))
   did_newer want h lead new false true e f other = did_busy want h lead other (pending_on own want.cell) refl (copying_on own want.cell) refl f
   did_newer want h lead new false false e f other =
       let idle = either_false (is_some (pending_on own want.cell)) (is_some (copying_on own want.cell)) f in
@@ -169,8 +160,8 @@ module _ (heard : Body → Type 0) (here : JobContext) (own : PairState) (steady
         wanted = h;
         lead = lead;
         newer = new;
-        none = is_none (pending_on own want.cell) idle.0;
-        uncopied = is_none (copying_on own want.cell) idle.1;
+        none = none_of (pending_on own want.cell) idle.0;
+        uncopied = none_of (copying_on own want.cell) idle.1;
         unfenced = free.0;
         unheld = free.1;
       }) (nat_lt 0 (free_of own.store)) refl
@@ -289,8 +280,8 @@ module _ (heard : Body → Type 0) (here : JobContext) (own : PairState) (steady
         wanted = h;
         seated = seated;
         lead = lead;
-        none = is_none (pending_on own (cell_of moving.key)) idle.0;
-        uncopied = is_none (copying_on own (cell_of moving.key)) idle.1;
+        none = none_of (pending_on own (cell_of moving.key)) idle.0;
+        uncopied = none_of (copying_on own (cell_of moving.key)) idle.1;
       }
 
   did_hears_fill : is_in here.state here.me here.inc ≡ true → (moving : Moving) → heard (body.Fill moving.key moving.bytes)
@@ -307,7 +298,7 @@ module _ (heard : Body → Type 0) (here : JobContext) (own : PairState) (steady
   did_hears_fill seated moving h lead false false false e f g =
       did_opens_fill moving (record {
         idle = idle_fill seated moving h lead e;
-        lacks = is_none (at nat_cmp (chain_in own.store.chains (cell_of moving.key)) moving.key.epoch) f;
+        lacks = none_of (at nat_cmp (chain_in own.store.chains (cell_of moving.key)) moving.key.epoch) f;
         unheld = g;
       }) (nat_lt 0 (free_of own.store)) refl
 

@@ -8,10 +8,8 @@ use Rattle.law_steps.specs.Did.{Did, Ignores, By_other}
 use Rattle.law_steps.specs.DidOther.{Replies, TrimStep, Is_trimmed, Drops_entry, IsOfCopy, first_last, Answers_page, Is_copied_to, Goes_on_trimming}
 use Rattle.law_steps.specs.DidOther.{Puts_entry, Has_entry, Has_no_slot}
 use Rattle.law_steps.proofs.InvertLead.{no_free}
+use Rattle.law_state.proofs.TestFacts.{less_by}
 use Rattle.petal_msg.specs.declared.body.Body.TheVariants as body
-
-less : (a b : ℕ) → nat_lt a b ≡ true → a < b
-less a b e = grind (arith, nat_tests)
 
 newer_copy : (last number : ℕ) → nat_lt number last ≡ false → (number == last) ≡ false → last < number
 newer_copy last number e f = grind (arith, nat_tests)
@@ -91,12 +89,12 @@ module _ (heard : Body → Type 0) (here : JobContext) (own : PairState) where
 
   did_puts : (entry : Entry) (holder : ℕ) (last : LastCopy) → IsOfCopy heard here own entry holder last → entry.index ≡ last.index → (room : Bool)
       → nat_lt 0 (free_of own.store) ≡ room → D (puts_entry own entry last holder room)
-  did_puts entry holder last of_copy at true e = By_other _ (Puts_entry entry holder last of_copy at (less 0 (free_of own.store) e))
+  did_puts entry holder last of_copy at true e = By_other _ (Puts_entry entry holder last of_copy at (less_by 0 (free_of own.store) e))
   did_puts entry holder last of_copy at false e = By_other _ (Replies _ _ (Has_no_slot entry holder last of_copy at (no_free (free_of own.store) e)))
 
   did_entry : (entry : Entry) (holder : ℕ) (last : LastCopy) → IsOfCopy heard here own entry holder last → D (hears_entry own entry holder last)
   did_entry entry holder last of_copy =
-      by_test D (nat_lt entry.index last.index) _ _ (λ t. By_other _ (Replies _ _ (Has_entry entry holder last of_copy (less entry.index last.index t))))
+      by_test D (nat_lt entry.index last.index) _ _ (λ t. By_other _ (Replies _ _ (Has_entry entry holder last of_copy (less_by entry.index last.index t))))
       (λ past. by_test D (entry.index == last.index) _ _
       (λ same. did_puts entry holder last of_copy (same_numbers entry.index last.index same) (nat_lt 0 (free_of own.store)) refl) (λ t. Ignores))
 

@@ -1,11 +1,11 @@
 -- Each step that is allowed is of one of the kinds that the relation names, and what each kind keeps holds after every history.
 use Rattle.law_steps.proofs.Imports.{[], ◌++◌, ◌<◌, ◌∙◌, ◌∷◌, ◌≡◌, Acted, Actor, AreSteps, AreStepsFrom, Blank, Cell, Client, Firm, Follows, Grows}
-use Rattle.law_steps.proofs.Imports.{HasProperTuples, In, IsBelow, IsPrefix, IsSteady, JobResult, List, Log, MayActor, MayServer, PairState, Pairs, Pending}
-use Rattle.law_steps.proofs.Imports.{Record, Script, Server, Setting, Some, State, Step, World, all_put, ap, append_assoc, arith, at, at-empty, awake}
-use Rattle.law_steps.proofs.Imports.{blanked, by_settled, cell_cmp, chosen_log, chosen_state, client_state, client_step, clock_of, crossed, false}
-use Rattle.law_steps.proofs.Imports.{front_plain, has_proposed, in_later, inl, inr, is_in, log_below, next_line, none_some, proposed, put_same, raised}
-use Rattle.law_steps.proofs.Imports.{reacts, received, refl, server_state, server_step, setting_of, settled_by, settling, start, state_after, state_in, stays}
-use Rattle.law_steps.proofs.Imports.{step, stepped, subst, sym, true, true_false, wakes, world_after, ℕ}
+use Rattle.law_steps.proofs.Imports.{HasProperTuples, In, IsBelow, IsPrefix, JobResult, List, Log, MayActor, MayServer, PairState, Pairs, Pending, Record}
+use Rattle.law_steps.proofs.Imports.{Script, Server, Setting, Some, State, Step, World, all_put, ap, append_assoc, arith, at, at-empty, awake, blanked}
+use Rattle.law_steps.proofs.Imports.{by_settled, cell_cmp, chosen_log, chosen_state, client_state, client_step, clock_of, crossed, false, front_plain}
+use Rattle.law_steps.proofs.Imports.{has_proposed, in_later, inl, inr, is_in, log_below, next_line, none_some, proposed, put_same, raised, reacts, received}
+use Rattle.law_steps.proofs.Imports.{refl, server_state, server_step, setting_of, settled_by, settling, start, state_after, state_in, stays, step, stepped}
+use Rattle.law_steps.proofs.Imports.{subst, sym, true, true_false, wakes, world_after, ℕ}
 use Rattle.spec_rules.specs.World.{acts}
 use Rattle.law_steps.specs.DidStep.{Handled, AreQueued, Worked, By_job, By_ballot, By_entry, Serving, Goes, Ends, Stays, Wakes, Fails, served_so, stopped_so}
 use Rattle.law_steps.specs.DidStep.{shown_so, own_place, Happens, Serves, Blanks, Turns}
@@ -22,6 +22,8 @@ use Rattle.law_steps.proofs.ServerStepKinds.{is_blank, server_serves}
 use Rattle.law_steps.proofs.OperationsRest.{did_ready}
 use Rattle.law_steps.proofs.ClientStepKinds.{is_call, client_turns}
 use Rattle.law_steps.proofs.OneWorld.{past_max, queues_later, ready_held, not_retired, proposed_copies, ready_at}
+use Rattle.law_log.proofs.LogInHistories.{latter, world_joins}
+use Rattle.spec_history.proofs.Onwards.{steps_begin}
 use Rattle.petal_msg.specs.declared.letter.Actor.TheVariants as actor
 pub use Rattle.law_steps.proofs.OneWorld.{own_plain, own_steady, chosen_steady, own_below, runs_at, runs_now, ready_chosen, chosen_below, proposed_pairs}
 
@@ -208,22 +210,6 @@ firm_now setting w [] firm = firm
 firm_now setting w (own ∷ later) firm = firm.0
 
 module _ (setting : Setting) where
-  -- what each kind of step keeps, at each steady state from what is chosen on, holds after every legal history
-  pub kept_above : (P : State → World → Type 0)
-      → ((state : State) → IsSteady state → (w v : World) → Ready setting state w → P state w → Happens setting state w v → P state v)
-      → (w : World) (records : List Record) → AreFirm setting w records → Rests setting w
-      → ((state : State) → IsSteady state → IsBelow (chosen_state setting w) state → P state w) → AreStepsFrom setting w records
-      → (state : State) → IsSteady state → IsBelow (chosen_state setting (world_after setting w records)) state → P state (world_after setting w records)
-  kept_above P keeps w [] firm rests p legal = p
-  kept_above P keeps w (own ∷ later) firm rests p legal =
-      let v = (stepped setting w own).world in
-      let next = firm_now setting v later firm.2 in
-      kept_above P keeps v later firm.2 (rests_next setting w own rests firm.0 legal.0 next)
-      (λ state steady below.
-      let up : IsBelow (chosen_state setting w) state = below_on _ _ _ (chosen_below setting w v next firm.1) below in
-      keeps state steady w v (record { rests = rests; firm = firm.0; below = up }) (p state steady up)
-      (happens setting w own rests firm.0 legal.0 next state below)) legal.1
-
   pub rests_after : (w : World) (records : List Record) → AreFirm setting w records → Rests setting w → AreStepsFrom setting w records
       → Rests setting (world_after setting w records)
   rests_after w [] firm rests legal = rests
@@ -238,8 +224,7 @@ module _ (setting : Setting) where
   -- the parts of a history
   pub front_legal : (w : World) (front following : List Record) → AreStepsFrom setting w (front ++ following)
       → AreStepsFrom setting w front × AreStepsFrom setting (world_after setting w front) following
-  front_legal w [] following legal = (tt, legal)
-  front_legal w (own ∷ front) following legal = let rest = front_legal (stepped setting w own).world front following legal.1 in ((legal.0, rest.0), rest.1)
+  front_legal w front following legal = (steps_begin setting w front following legal, latter setting w front following legal)
 
   pub front_firm : (w : World) (front following : List Record) → AreFirm setting w (front ++ following)
       → AreFirm setting w front × AreFirm setting (world_after setting w front) following
@@ -249,8 +234,7 @@ module _ (setting : Setting) where
 
   pub world_more : (w : World) (done : List Record) (own : Record)
       → world_after setting w (done ++ own ∷ []) ≡ (stepped setting (world_after setting w done) own).world
-  world_more w [] own = refl
-  world_more w (x ∷ done) own = world_more (stepped setting w x).world done own
+  world_more w done own = world_joins setting w done (own ∷ [])
 
 -- ### From the start
 

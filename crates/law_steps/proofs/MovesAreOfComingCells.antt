@@ -10,6 +10,7 @@ use Rattle.law_steps.proofs.Imports.{subst, sym, target, true, true_false, ℕ}
 use Rattle.law_steps.specs.DidLead.{IsNextFill}
 use Rattle.law_steps.proofs.CopiesRest.{on_row, row_named}
 use Rattle.law_steps.proofs.TicksAskAgain.{in_flat_map}
+use Rattle.law_state.proofs.ListLookups.{in_filter}
 
 -- ### The next key of a link
 
@@ -36,15 +37,6 @@ first_in (k ∷ keys) key e = by (first_key keys) (λ m is. first_in keys m is) 
     by (Some m) rest f = by_test (λ (x : Key). Some x ≡ Some key → In key (k ∷ keys)) (comes_before m k) m k
         (λ t g. inr (rest key g)) (λ t g. inl (sym (same_some g))) f
 
--- what a filter leaves is as it asks
-kept_so : {X : Type 0} (test : X → Bool) (xs : List X) (x : X) → In x (filter test xs) → test x ≡ true
-unfolding In
-kept_so test [] x h = absurd h
-kept_so {X} test (y ∷ xs) x h =
-    by_test (λ (ys : List X). In x ys → test x ≡ true) (test y) (y ∷ filter test xs) (filter test xs)
-    (λ t i. elim i [ inl e ↦ ap test e ∙ t | inr j ↦ kept_so test xs x j ])
-    (λ t i. kept_so test xs x i) h
-
 key_cell : (cell : Cell) (chain : Chain) (key : Key) → In key (map (λ row. key_at cell row.0) chain) → cell_of key ≡ cell
 unfolding In
 key_cell cell [] key h = absurd h
@@ -59,7 +51,7 @@ next_on state row region own key e =
     let there = kept_among (comes_next region (at link_cmp own.filled (id_of row))) (keys_in state row region own) key (first_in _ key e) in
     let test : Cell × Chain → Bool = λ held. is_on state row held.0 && (region_of held.0.block == region) in
     let found = in_flat_map keys_of (filter test own.store.chains) key there in
-    let so = both_true (is_on state row found.0.0) (region_of found.0.0.block == region) (kept_so test own.store.chains found.0 found.1) in
+    let so = both_true (is_on state row found.0.0) (region_of found.0.0.block == region) (in_filter test own.store.chains found.0 found.1).1 in
     let same : cell_of key ≡ found.0.0 = key_cell found.0.0 found.0.1 key found.2 in (
       ap (is_on state row) same ∙ so.0,
       ap (λ (c : Cell). region_of c.block) same ∙ same_numbers (region_of found.0.0.block) region so.1,

@@ -2,7 +2,7 @@
 use Rattle.law_steps.proofs.Imports.{[], ◌++◌, ◌+◌, ◌<◌, ◌∙◌, ◌∷◌, ◌≡◌, ◌≤◌, Bool, Caught, Cell, Command, Firm, HasDied, HasLater, HasProperTuples}
 use Rattle.law_steps.proofs.Imports.{HasStarted, In, IsBelow, IsCaughtStill, IsHeldBy, IsPrefix, IsSteady, Job, Letter, LinkRow, List, None, Only, Option}
 use Rattle.law_steps.proofs.Imports.{PairState, Pending, Setting, Some, State, Table, World, alone_not_both, alone_row, ap, arith, at, between, by_bool}
-use Rattle.law_steps.proofs.Imports.{cell_cmp, cell_link, chosen_log, chosen_state, client_state, false, front_plain, has_proposed, holder_is_one, holds_link}
+use Rattle.law_steps.proofs.Imports.{cell_cmp, cell_link, chosen_log, chosen_state, false, front_plain, has_proposed, holder_is_one, holds_link}
 use Rattle.law_steps.proofs.Imports.{id_of, in_both, in_once, in_up, inl, inr, is_alone_on, is_in, leads_link, length, link_named, live, log_alone, log_below}
 use Rattle.law_steps.proofs.Imports.{log_roles, log_steady, max, number_itself, other_of, proposed, refl, server_state, serves, so_alone, so_both, stage_at}
 use Rattle.law_steps.proofs.Imports.{state_after, subst, sym, true, true_false, ℕ}
@@ -12,6 +12,7 @@ use Rattle.law_steps.specs.Operations.{AtRest}
 use Rattle.law_steps.proofs.WhoLeads.{link_alone, live_stage, stage_live}
 use Rattle.law_state.proofs.Fronts.{front_itself, front_long, front_more, front_on}
 use Rattle.law_steps.proofs.HeldBackForCaughts.{held_as_flag}
+use Rattle.law_state.proofs.TestFacts.{same_only}
 
 pub past_max : (clock got stamp : ℕ) → max clock got + 1 ≤ stamp → clock < stamp
 past_max clock got stamp h = omega arith
@@ -159,9 +160,6 @@ module _ (setting : Setting) (w : World) (firm : Firm setting w) where
   pub own_below : (n : ℕ) → IsBelow (server_state setting w n) (chosen_state setting w)
   own_below n = log_below setting.servers _ _ firm.plain (firm.servers n)
 
-  pub client_below : (c : ℕ) → IsBelow (client_state setting w c) (chosen_state setting w)
-  client_below c = log_below setting.servers _ _ firm.plain (firm.clients c)
-
   -- a running server that is In as itself by some entries is so by each front of what is chosen that goes on from them
   pub runs_at : (front more : List Command) → IsPrefix front more → IsPrefix more (chosen_log setting w) → (n : ℕ) → (w.servers n).life.running ≡ true
       → is_in (state_after setting.servers front) n (w.servers n).life.inc ≡ true → is_in (state_after setting.servers more) n (w.servers n).life.inc ≡ true
@@ -200,9 +198,6 @@ module _ (setting : Setting) (w : World) (firm : Firm setting w) where
             let long = front_long (w.servers n).log.applied found.until found.following in
             held_as_flag (server_state setting w n) (w.servers n).own cell row is ∙ flag.1.flagged (omega arith))
       ]
-    where
-      same_only : {h k : ℕ} {one other : Bool} → Only h one ≡ Only k other → h ≡ k
-      same_only e = cc
 
   -- what rests where a server runs, rests at each front of what is chosen from its own entries on
   pub ready_at : Rests setting w → (n : ℕ) → (w.servers n).life.running ≡ true → (more : List Command) → IsPrefix (w.servers n).log.applied more

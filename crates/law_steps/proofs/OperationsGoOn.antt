@@ -57,9 +57,6 @@ written_says here own op kind.Copy post i = absurd i
 pub acts_say : (here : JobContext) (own : PairState) (op : Pending) (next : Action) (post : Post) → In post (acts here own op next).posts → GoesWell post.body
 unfolding In
 acts_say here own op action.Reserve post i = well post.body _ (posted _ _ post i) (refl, refl)
-acts_say here own op (action.Mark which) post i = absurd i
-acts_say here own op action.Put post i = absurd i
 acts_say here own op action.Replicate post i = well post.body _ (posted _ _ post i) (refl, refl)
-acts_say here own op (action.Unmark which) post i = absurd i
 acts_say here own op action.Answer post i = written_says here (without_pending own op.cell) op op.kind post i
-acts_say here own op action.Drop post i = absurd i
+acts_say here own op _ post i = absurd i

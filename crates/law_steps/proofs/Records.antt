@@ -33,12 +33,12 @@ split_one (x ∷ xs) y (b ∷ before) z later e = elim (split_one xs y before z 
   | inr more ↦ inr (more.0, λ i. heads e i ∷ more.1 i)
 ]
 
--- of two fronts of a list one goes on from the other
+-- of two fronts of a list one goes on from the other, and then so does what stands after the other
 pub split_fronts : {A : Type 0} (one rest two later : List A) → one ++ rest ≡ two ++ later
-    → ((more : List A) × (two ≡ one ++ more) × (rest ≡ more ++ later)) ⊎ ((more : List A) × (one ≡ two ++ more))
+    → ((more : List A) × (two ≡ one ++ more) × (rest ≡ more ++ later)) ⊎ ((more : List A) × (one ≡ two ++ more) × (later ≡ more ++ rest))
 split_fronts [] rest two later e = inl (two, refl, e)
-split_fronts (x ∷ one) rest [] later e = inr (x ∷ one, refl)
+split_fronts (x ∷ one) rest [] later e = inr (x ∷ one, refl, sym e)
 split_fronts (x ∷ one) rest (y ∷ two) later e = elim (split_fronts one rest two later (tails e)) [
-  | inl past ↦ inl (past.0, ap (λ zs. y ∷ zs) past.1 ∙ ap (λ z. z ∷ (one ++ past.0)) (sym (heads e)), past.2)
-  | inr before ↦ inr (before.0, ap (λ zs. x ∷ zs) before.1 ∙ ap (λ z. z ∷ (two ++ before.0)) (heads e))
+  | inl past ↦ inl (past.0, (λ i. sym (heads e) i ∷ past.1 i), past.2)
+  | inr before ↦ inr (before.0, (λ i. heads e i ∷ before.1 i), before.2)
 ]

@@ -1,8 +1,8 @@
 -- A pending operation goes on to its next stage: but for its stage and version it stays as it was, and so do all others.
-use Rattle.law_steps.proofs.Imports.{◌+◌, ◌∙◌, ◌≡◌, ◌≢◌, Action, Busy, Cell, In, JobContext, JobResult, PairState, Pairs, Pending, Post, Some, Stale, Table}
-use Rattle.law_steps.proofs.Imports.{Written, acts, ap, at, by_test, cell_apart, cell_cmp, cell_gone, cell_gone_apart, cell_same, chain_in, false, gives_back}
-use Rattle.law_steps.proofs.Imports.{inl, inr, marks, none_some, pending_on, put, puts, refl, same_some, subst, sym, true, unmarks, version_of, with_mark_at}
-use Rattle.law_steps.proofs.Imports.{with_paired, with_pending, with_reserved, without, without_pending}
+use Rattle.law_steps.proofs.Imports.{◌+◌, ◌∙◌, ◌≡◌, ◌≢◌, Action, Busy, Cell, In, JobContext, JobResult, PairState, Pairs, Pending, Post, Some, Stage, Stale}
+use Rattle.law_steps.proofs.Imports.{Table, Written, acts, ap, at, by_test, cell_apart, cell_cmp, cell_gone, cell_gone_apart, cell_same, chain_in, false}
+use Rattle.law_steps.proofs.Imports.{gives_back, inl, inr, marks, none_some, pending_on, put, puts, refl, same_some, subst, sym, true, unmarks, version_of}
+use Rattle.law_steps.proofs.Imports.{with_mark_at, with_paired, with_pending, with_reserved, without, without_pending, ℕ}
 use Rattle.law_steps.specs.DidLead.{Taken}
 use Rattle.law_steps.proofs.OperationsRest.{same_cell_or_apart}
 use Rattle.law_steps.proofs.Subjects.{of_ending}
@@ -21,6 +21,9 @@ pub record IsSame (old new : Pending) : Type 0 where
 
 pub same_itself : (op : Pending) → IsSame op op
 same_itself op = record { number = refl; kind = refl; client = refl; seq = refl; rev = refl; key = refl; bytes = refl }
+
+abbrev same_staged : (op : Pending) (version : ℕ) (stage : Stage) → IsSame op (record op { version = version; stage = stage })
+same_staged op version stage = record { number = refl; kind = refl; client = refl; seq = refl; rev = refl; key = refl; bytes = refl }
 
 pub same_on : (a b c : Pending) → IsSame a b → IsSame b c → IsSame a c
 same_on a b c one two = record {
@@ -90,20 +93,18 @@ module _ (own : PairState) (op : Pending) (is : at cell_cmp own.pairs.pending op
   pub marked : Restages own (marks (with_pending own (with_reserved op)) (with_reserved op) Busy)
   unfolding In
   marked = stays_else _ _ refl
-      (was_put_twice (with_reserved op) (with_mark_at (with_reserved op) Busy true)
-      (record { number = refl; kind = refl; client = refl; seq = refl; rev = refl; key = refl; bytes = refl })) (λ post i. i)
+      (was_put_twice (with_reserved op) (with_mark_at (with_reserved op) Busy true) (same_staged op _ _)) (λ post i. i)
 
   pub has_put : Restages own (puts own op)
   unfolding In
   has_put = stays_else _ _ refl
       (was_put own.pairs.pending (record op { version = version_of (chain_in own.store.chains op.cell) + 1; stage = record op.stage { put = true } })
-      (record { number = refl; kind = refl; client = refl; seq = refl; rev = refl; key = refl; bytes = refl }) (λ q ne. refl)) (λ post i. i)
+      (same_staged op _ _) (λ q ne. refl)) (λ post i. i)
 
   pub unmarked : Restages own (unmarks (with_pending own (with_paired op)) (with_paired op) Busy)
   unfolding In
   unmarked = stays_else _ _ refl
-      (was_put_twice (with_paired op) (with_mark_at (with_paired op) Busy false)
-      (record { number = refl; kind = refl; client = refl; seq = refl; rev = refl; key = refl; bytes = refl })) (λ post i. i)
+      (was_put_twice (with_paired op) (with_mark_at (with_paired op) Busy false) (same_staged op _ _)) (λ post i. i)
 
 -- ### By a holder that is alone, which takes an operation up
 
@@ -164,24 +165,17 @@ module _ (own now : PairState) (op : Pending) (taken : Taken own now op) where
 
   pub marked_alone : Restages own (marks now op Stale)
   unfolding In
-  marked_alone =
-      restaged _ (with_mark_at op Stale true)
-      (record { number = refl; kind = refl; client = refl; seq = refl; rev = refl; key = refl; bytes = refl }) refl refl refl refl
-      (λ post i. i)
+  marked_alone = restaged _ (with_mark_at op Stale true) (same_staged op _ _) refl refl refl refl (λ post i. i)
 
   pub put_alone : Restages own (puts now op)
   unfolding In
   put_alone =
       restaged _ (record op { version = version_of (chain_in now.store.chains op.cell) + 1; stage = record op.stage { put = true } })
-      (record { number = refl; kind = refl; client = refl; seq = refl; rev = refl; key = refl; bytes = refl }) refl refl refl refl
-      (λ post i. i)
+      (same_staged op _ _) refl refl refl refl (λ post i. i)
 
   pub unmarked_alone : Restages own (unmarks now op Busy)
   unfolding In
-  unmarked_alone =
-      restaged _ (with_mark_at op Busy false)
-      (record { number = refl; kind = refl; client = refl; seq = refl; rev = refl; key = refl; bytes = refl }) refl refl refl refl
-      (λ post i. i)
+  unmarked_alone = restaged _ (with_mark_at op Busy false) (same_staged op _ _) refl refl refl refl (λ post i. i)
 
   -- whatever it does next, as on a cell that is no longer live: what is pending then was so before
   was_gone : (cell : Cell) (o : Pending) → at cell_cmp (without cell_cmp now.pairs.pending op.cell) cell ≡ Some o → Was own cell o
@@ -190,16 +184,12 @@ module _ (own now : PairState) (op : Pending) (taken : Taken own now op) where
   pub was_acted : (here : JobContext) (next : Action) (cell : Cell) (o : Pending)
       → at cell_cmp (acts here now op next).own.pairs.pending cell ≡ Some o → Was own cell o
   was_acted here action.Reserve cell o there = was_before cell o there
-  was_acted here (action.Mark which) cell o there =
-      was_alone (with_mark_at op which true)
-      (record { number = refl; kind = refl; client = refl; seq = refl; rev = refl; key = refl; bytes = refl }) cell o there
+  was_acted here (action.Mark which) cell o there = was_alone (with_mark_at op which true) (same_staged op _ _) cell o there
   was_acted here action.Put cell o there =
       was_alone (record op { version = version_of (chain_in now.store.chains op.cell) + 1; stage = record op.stage { put = true } })
-      (record { number = refl; kind = refl; client = refl; seq = refl; rev = refl; key = refl; bytes = refl }) cell o there
+      (same_staged op _ _) cell o there
   was_acted here action.Replicate cell o there = was_before cell o there
-  was_acted here (action.Unmark which) cell o there =
-      was_alone (with_mark_at op which false)
-      (record { number = refl; kind = refl; client = refl; seq = refl; rev = refl; key = refl; bytes = refl }) cell o there
+  was_acted here (action.Unmark which) cell o there = was_alone (with_mark_at op which false) (same_staged op _ _) cell o there
   was_acted here action.Answer cell o there =
       was_gone cell o (ap (λ t. at cell_cmp t cell) (sym (of_ending here (without_pending now op.cell) op op.kind Written).pending) ∙ there)
   was_acted here action.Drop cell o there =

@@ -1,8 +1,9 @@
 -- Rows of a table that was made by puts: each row is what stands at its key.
-use Rattle.law_steps.proofs.Imports.{[], ◌∙◌, ◌∷◌, ◌≡◌, ◌⊎◌, Bool, Equal, Greater, In, IsTotalOrder, Less, List, Ordering, Some, Table, ap, at, cond, false}
-use Rattle.law_steps.proofs.Imports.{filter, inl, inr, insert_entry, is_at, is_eq, lookup, match_ordering, ordering_reverse, put, refl, subst, sym}
-use Rattle.law_steps.proofs.Imports.{tied_itself, true, without}
+use Rattle.law_steps.proofs.Imports.{[], ◌∙◌, ◌∷◌, ◌≡◌, ◌⊎◌, Bool, Equal, Greater, In, IsTotalOrder, Less, Ordering, Some, Table, ap, at, cond, false, filter}
+use Rattle.law_steps.proofs.Imports.{inl, inr, insert_entry, is_at, is_eq, lookup, match_ordering, ordering_reverse, put, refl, subst, sym, tied_itself, true}
+use Rattle.law_steps.proofs.Imports.{without}
 use Rattle.law_steps.specs.Ready.{IsRising}
+use Rattle.law_state.proofs.ListLookups.{in_filter}
 
 -- a row of this key stands in the table
 abbrev HasKey : {K X : Type 0} → Table K X → K → Type 0
@@ -63,20 +64,12 @@ rising_put {K} {X} {R} o (e ∷ es) k x h =
       )
     ] refl
 
-in_filter : {A : Type 0} (p : A → Bool) (xs : List A) (x : A) → In x (filter p xs) → In x xs
-unfolding In
-in_filter p [] x h = h
-in_filter {A} p (y ∷ ys) x h = elim (p y) as (λ b. In x (cond b (y ∷ filter p ys) (filter p ys)) → In x (y ∷ ys)) [
-  | true ↦ λ i. elim i [ inl e ↦ inl e | inr j ↦ inr (in_filter p ys x j) ]
-  | false ↦ λ i. inr (in_filter p ys x i)
-] h
-
 pub rising_filter : {K X : Type 0} (R : K → K → Ordering) (p : K × X → Bool) (t : Table K X) → IsRising R t → IsRising R (filter p t)
 rising_filter R p [] h = tt
 rising_filter R p (e ∷ es) h =
     let later = rising_filter R p es h.1 in
     elim (p e) as (λ b. IsRising R (cond b (e ∷ filter p es) (filter p es))) [
-      | true ↦ ((λ other i. h.0 other (in_filter p es other i)), later)
+      | true ↦ ((λ other i. h.0 other (in_filter p es other i).0), later)
       | false ↦ later
     ]
 

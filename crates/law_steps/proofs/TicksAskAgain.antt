@@ -1,11 +1,11 @@
 -- At a tick a server asks again for what its operations and copies wait for, and for nothing else.
-use Rattle.law_steps.proofs.Imports.{[], ◌++◌, ◌∷◌, ◌≡◌, Action, Ask, Block, Cell, Copy, In, LinkRow, List, MarkKind, NextCopy, None, Nothing, Option}
-use Rattle.law_steps.proofs.Imports.{Pending, Post, Some, Stage, Stored, Wait, alone_action, ask_posts, awaited, ballot_posts, both_action, by_bool, by_test}
-use Rattle.law_steps.proofs.Imports.{cell_cmp, cell_cmp_total, chain_in, copies_again, copy_awaited, copy_posts, copy_stage, copying_on, epochs_of, false}
-use Rattle.law_steps.proofs.Imports.{fill_posts, fills_row, flat_map, has_proposed, in-append, in_both, inl, inr, is_in, key_at, leads_link, length, live}
-use Rattle.law_steps.proofs.Imports.{mark_left, nat_lt, next_copy, next_stage, not, not_true, only, option_map_or, other_in, page_asked, page_for, page_posts}
-use Rattle.law_steps.proofs.Imports.{pending_on, post_to, refl, second, sends_entry, sent_again, slice_get, subject_of, subst, sym, tick_posts, true}
-use Rattle.law_steps.proofs.Imports.{true_false, voter_of, ℕ}
+use Rattle.law_steps.proofs.Imports.{[], ◌++◌, ◌∷◌, ◌≡◌, Action, Ask, Cell, Copy, In, LinkRow, List, MarkKind, NextCopy, None, Option, Pending, Post, Some}
+use Rattle.law_steps.proofs.Imports.{Stage, Stored, alone_action, ask_posts, awaited, ballot_posts, both_action, by_bool, by_test, cell_cmp, cell_cmp_total}
+use Rattle.law_steps.proofs.Imports.{chain_in, copies_again, copy_awaited, copy_posts, copy_stage, copying_on, epochs_of, false, fill_posts, fills_row}
+use Rattle.law_steps.proofs.Imports.{flat_map, has_proposed, in-append, in_both, inl, inr, is_in, key_at, leads_link, length, live, mark_left, nat_lt}
+use Rattle.law_steps.proofs.Imports.{next_copy, next_stage, not, not_true, only, option_map_or, other_in, page_asked, page_for, page_posts, pending_on}
+use Rattle.law_steps.proofs.Imports.{post_to, refl, second, sends_entry, sent_again, slice_get, subject_of, subst, sym, tick_posts, true, true_false}
+use Rattle.law_steps.proofs.Imports.{voter_of, ℕ}
 use Rattle.law_steps.specs.Operations.{IsStaged, Waiting, Putting, Copying, Answering, waiting, putting, copying, answering}
 use Rattle.law_steps.specs.DidLead.{Asks, A_trim, A_copied_entry, A_page, An_entry_to_move, Of_the_log, other_on}
 use Rattle.law_steps.specs.DidStep.{IsSeatedOrMute, is_between}
@@ -13,11 +13,12 @@ use Rattle.law_steps.specs.Ready.{IsRising}
 use Rattle.law_steps.proofs.KnownServer.{KnownServer, parts_of}
 use Rattle.law_steps.proofs.TablesOfPuts.{at_row}
 use Rattle.law_steps.proofs.InvertFiller.{row_fills}
-use Rattle.law_steps.proofs.InvertHolder.{unpaged, untrue}
+use Rattle.law_steps.proofs.InvertHolder.{unpaged}
 use Rattle.law_steps.proofs.InvertLead.{asks_slot, asks_copy, both_next, alone_next}
 use Rattle.law_steps.proofs.WhoLeads.{retired_second}
 use Rattle.law_steps.proofs.LogJobs.{ballot_logged, ask_logged}
 use Rattle.law_steps.proofs.IdleServers.{logged_apart}
+use Rattle.law_state.proofs.TestFacts.{was_true}
 use Rattle.petal_msg.specs.declared.body.Body.TheVariants as body
 use Rattle.petal_msg.specs.declared.copying.CopyAction.TheVariants as copy_action
 use Rattle.petal_msg.specs.declared.operation.Action.TheVariants as action
@@ -52,12 +53,8 @@ module _ (it : KnownServer) where
   retired_sends : (op : Pending) → second here.state op.cell ≡ None → (next : Action) (post : Post) → In post (awaited here own op next) → ⊥
   unfolding In
   retired_sends op none action.Reserve post i = subst (λ o. In post (post_to o (body.Reserve op.op op.cell))) none i
-  retired_sends op none (action.Mark which) post i = i
-  retired_sends op none action.Put post i = i
   retired_sends op none action.Replicate post i = subst (λ o. In post (post_to o (body.Replicate op.op op.key op.version op.bytes))) none i
-  retired_sends op none (action.Unmark which) post i = i
-  retired_sends op none action.Answer post i = i
-  retired_sends op none action.Drop post i = i
+  retired_sends op none _ post i = i
 
   asked_again : (op : Pending) → pending_on own op.cell ≡ Some op → (post : Post) → In post (sent_again here own op) → A post
   unfolding In
@@ -113,7 +110,7 @@ module _ (it : KnownServer) where
       by_test (λ a. In post (copy_awaited here own cell copy a) → A post) (not copy.trimmed) copy_action.Trim _
       (λ t h. trim_asks cell copy is (not_true copy.trimmed t) (other_on here cell) refl post h)
       (λ t. by_test (λ a. In post (copy_awaited here own cell copy a) → A post) (nat_lt copy.index (length (chain_in own.store.chains cell))) copy_action.Sync _
-      (λ u h. entry_asks cell copy is (untrue copy.trimmed t) _ refl (other_on here cell) refl post h)
+      (λ u h. entry_asks cell copy is (was_true copy.trimmed t) _ refl (other_on here cell) refl post h)
       (λ u. silent_end (mark_left own.store cell)))
     where
       silent_end : (o : Option MarkKind) → In post (copy_awaited here own cell copy (option_map_or copy_action.Unmark o copy_action.Close)) → A post
@@ -134,9 +131,7 @@ module _ (it : KnownServer) where
     where
       by : (next : NextCopy) → next_copy here.state row own ≡ next → In post (page_asked own row other next) → A post
       by Ask f i = only A _ post i (A_page row other there e (unpaged here.state row own f))
-      by (Block cell) f i = absurd i
-      by Wait f i = absurd i
-      by Nothing f i = absurd i
+      by _ f i = absurd i
 
   pages_ask : (post : Post) → In post (page_posts here own) → A post
   pages_ask post h =

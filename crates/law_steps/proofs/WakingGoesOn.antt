@@ -22,9 +22,7 @@ IsTold place (entry ∷ records) = (chooses place entry ≡ true) ⊎ IsTold pla
 
 one_place : (entry : StateRecord) (p q : ℕ) → chooses p entry ≡ true → chooses q entry ≡ true → p ≡ q
 one_place (Chosen place c) p q e f = sym (same_numbers place p e) ∙ same_numbers place q f
-one_place (Inc inc) p q e f = true_false e refl
-one_place (Promise place b) p q e f = true_false e refl
-one_place (Accepted place b c) p q e f = true_false e refl
+one_place _ p q e f = true_false e refl
 
 chosen_by : (place : ℕ) (row : Row) (entry : StateRecord) (c : Command) → (row_after place row entry).chosen ≡ Some c
     → (row.chosen ≡ Some c) ⊎ (chooses place entry ≡ true)

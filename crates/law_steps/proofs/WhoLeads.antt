@@ -2,15 +2,12 @@
 use Rattle.law_steps.proofs.Imports.{if◌then◌else◌, ◌<◌, ◌==◌, ◌≡◌, ◌≤◌, Bool, Both, Cell, DiskRow, Fenced, LinkRow, LinkState, Lost, New, None, Old, Only}
 use Rattle.law_steps.proofs.Imports.{Option, RegionState, Some, State, ap, arith, by_test, cell_link, false, in_both, is_alone, is_alone_on, is_lead, is_some}
 use Rattle.law_steps.proofs.Imports.{is_the, is_up, leads_link, live, live_new, live_old, live_under, move_region, new_stage, not, old_stage, option_and_then}
-use Rattle.law_steps.proofs.Imports.{option_map, option_map_or, owner, refl, region_of, row_in_both, row_lead, second, stage_at, stage_by, state_lead, sym}
-use Rattle.law_steps.proofs.Imports.{true, true_false, tuple_of, ℕ}
+use Rattle.law_steps.proofs.Imports.{option_map, option_map_or, owner, refl, region_of, row_in_both, row_lead, second, stage_at, stage_by, state_lead, true}
+use Rattle.law_steps.proofs.Imports.{true_false, tuple_of, ℕ}
 use Rattle.spec_rules.specs.State.{leaving}
+use Rattle.law_state.proofs.TestFacts.{was_true}
 
 -- ### The lead
-
-unlive : (b : Bool) → not b ≡ false → b ≡ true
-unlive true e = refl
-unlive false e = sym e
 
 -- who takes a cell's writes leads its link, and the cell is live
 pub lead_links : (state : State) (n : ℕ) (cell : Cell) → is_lead state n cell ≡ true → (live state cell ≡ true) × (leads_link state n cell ≡ true)
@@ -18,7 +15,7 @@ lead_links state n cell =
     by_test (λ (o : Option ℕ). is_the o n ≡ true → (live state cell ≡ true) × (leads_link state n cell ≡ true)) (not (live state cell)) None _
     (λ retired e. true_false e refl)
     (λ on. by_test (λ (o : Option ℕ). is_the o n ≡ true → (live state cell ≡ true) × (leads_link state n cell ≡ true)) (leaving state cell) None _
-    (λ goes e. true_false e refl) (λ stays e. (unlive (live state cell) on, e)))
+    (λ goes e. true_false e refl) (λ stays e. (was_true (live state cell) on, e)))
 
 alone_by : (state : State) (n primary : ℕ) (row : LinkRow) (s : LinkState) → is_the (state_lead state primary s) n ≡ true → is_some (row_in_both row s) ≡ false
     → is_alone n s ≡ true
