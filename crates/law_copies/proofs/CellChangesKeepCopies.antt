@@ -1,12 +1,28 @@
 -- What happens to one cell keeps its two copies together.
-use Rattle.law_copies.proofs.Imports.{◌+◌, ◌<◌, ◌≡◌, ◌≤◌, Body, Key, List, None, Pending, Replicated, Reserved, Some, arith, false, inl, inr, nat_cmp}
-use Rattle.law_copies.proofs.Imports.{progress, put, true, version_of, ℕ}
-use Rattle.law_copies.specs.Pair.{Pair, far, ceiling, Grows, PairOk, IsPutting, Keeps, Known}
+use Rattle.law_copies.proofs.Imports.{◌+◌, ◌<◌, ◌≡◌, ◌≤◌, Body, Cell, Key, List, None, PairState, Pending, Replicated, Reserved, Some, arith, at, cell_cmp}
+use Rattle.law_copies.proofs.Imports.{chain_in, false, inl, inr, nat_cmp, progress, put, subst, sym, true, version_of, ℕ}
+use Rattle.law_copies.specs.Pair.{Pair, pair_of, far, ceiling, Grows, PairOk, IsPutting, Keeps, Known}
 use Rattle.petal_msg.specs.declared.body.Body.TheVariants as body
 
 -- nothing happens to the cell, but new numbers may be given to others
 pub stays : (pair : Pair) (next : ℕ) → PairOk pair → pair.next ≤ next → Keeps pair (record pair { next = next })
 stays pair next ok le = grind arith
+
+-- so it is where the first server keeps its copy and its operation, and the number of the next one only grows
+pub first_stays : (own new second : PairState) (cell : Cell) → chain_in new.store.chains cell ≡ chain_in own.store.chains cell
+    → at cell_cmp new.pairs.pending cell ≡ at cell_cmp own.pairs.pending cell → own.pairs.next ≤ new.pairs.next → PairOk (pair_of own second cell)
+    → Keeps (pair_of own second cell) (pair_of new second cell)
+first_stays own new second cell chain pending next ok =
+    subst (Keeps (pair_of own second cell)) (λ i. record (pair_of new second cell) { first = sym chain i; pending = sym pending i })
+    (stays (pair_of own second cell) new.pairs.next ok next)
+
+-- and where the second one keeps its copy and its last operation
+pub second_stays : (first own new : PairState) (cell : Cell) → chain_in new.store.chains cell ≡ chain_in own.store.chains cell
+    → at cell_cmp new.pairs.last cell ≡ at cell_cmp own.pairs.last cell → PairOk (pair_of first own cell)
+    → Keeps (pair_of first own cell) (pair_of first new cell)
+second_stays first own new cell chain last ok =
+    subst (Keeps (pair_of first own cell)) (λ i. record (pair_of first new cell) { second = sym chain i; last = sym last i })
+    (stays (pair_of first own cell) first.pairs.next ok (omega arith))
 
 -- a new operation opens
 pub opens : (pair : Pair) (op : Pending) → PairOk pair → pair.pending ≡ None → op.op ≡ pair.next → op.stage.reserved ≡ false → op.stage.put ≡ false

@@ -1,30 +1,29 @@
 -- What is kept after an entry that a server applies.
 use Rattle.law_copies.proofs.Imports.{[], ◌++◌, ◌+◌, ◌<◌, ◌==◌, ◌∙◌, ◌∷◌, ◌≡◌, ◌≢◌, ◌≤◌, ◌⊎◌, Body, Bool, Both, Cell, Command, In, IsMarked, IsPrefix}
 use Rattle.law_copies.proofs.Imports.{IsRising, IsToBeCopied, Letter, LinkRow, List, None, Only, Option, PairState, Pairs, Pending, Progress, Record, Some}
-use Rattle.law_copies.proofs.Imports.{StaysSo, Store, World, about, ap, arith, at, at-empty, cell_cmp, chain_in, chosen_log, false, front_plain, has_mark}
-use Rattle.law_copies.proofs.Imports.{has_server, id_of, inc_of, inl, inr, is_clients, is_flagged, is_in, is_some, length, log_steady, mark_on, nat_cmp}
-use Rattle.law_copies.proofs.Imports.{none_some, option_map_or, other_between, other_of, pending_on, primary_is_one, refl, same_or_apart, same_some}
-use Rattle.law_copies.proofs.Imports.{secondary_is_one, server_state, some_or_none, state_after, state_in, subst, sym, true, ℕ}
+use Rattle.law_copies.proofs.Imports.{StaysSo, Store, World, about, ap, arith, at, cell_cmp, chain_in, chosen_log, false, front_plain, has_mark, has_server}
+use Rattle.law_copies.proofs.Imports.{id_of, inc_of, inl, inr, is_flagged, is_in, is_some, length, log_steady, mark_on, nat_cmp, none_some, option_map_or}
+use Rattle.law_copies.proofs.Imports.{other_between, other_of, pending_on, primary_is_one, refl, same_or_apart, same_some, secondary_is_one, server_state}
+use Rattle.law_copies.proofs.Imports.{state_after, state_in, subst, sym, true, ℕ}
 use Rattle.law_copies.specs.CopyProgress.{AreAlike, AreCopying, IsPage, IsTold, links_of}
-use Rattle.law_copies.specs.GoodCopies.{AloneOk, AreTwins, BothOk, SaidOk, StaysLeft, pair_at}
-use Rattle.law_copies.specs.Pair.{IsRecalled, Known, PairOk, far, pair_of}
+use Rattle.law_copies.specs.GoodCopies.{AloneOk, BothOk, SaidOk, StaysLeft, pair_at}
+use Rattle.law_copies.specs.Pair.{pair_of}
 use Rattle.law_copies.specs.LoneSteps.{AreFilled}
 use Rattle.law_copies.specs.Visits.{AliveIn, IsLinked, half, place_by, with_stores}
 use Rattle.law_copies.proofs.VisitsAfterSteps.{then_of, IsAt, IsThen, KeepsFlags, counted_up, none_before, some_after, stored_by, visited_apart, visited_by}
 use Rattle.law_copies.proofs.AtEntry.{AtEntry, step_of}
 use Rattle.law_copies.proofs.BlankJoinsMakePlaces.{joins_at}
 use Rattle.law_copies.proofs.LeftByEntry.{KeepsAll}
-use Rattle.law_copies.proofs.FramesKeepFronts.{LeavesStore, alike_same, filled_framed, marked_back, marked_on, other_is_one, pair_same, recalled_on}
-use Rattle.law_copies.proofs.FramesKeepFronts.{to_copy_on}
+use Rattle.law_copies.proofs.FramesKeepFronts.{LeavesStore, alike_same, filled_framed, marked_back, marked_on, other_is_one, recalled_on, to_copy_on}
 use Rattle.law_copies.proofs.NewcomersRememberNothing.{IsFresh, fresh_alike, fresh_first, fresh_first_known, fresh_holder, fresh_holder_told, fresh_other}
 use Rattle.law_copies.proofs.NewcomersRememberNothing.{fresh_other_told, fresh_second}
-use Rattle.law_copies.proofs.NewPlaces.{half_store}
+use Rattle.law_copies.proofs.NewPlaces.{twins_lacking, twins_of, twins_recalled}
+use Rattle.law_copies.proofs.UnequalIsMarked.{AreRecalled}
 use Rattle.law_copies.proofs.ServedAtLaterFronts.{holder_is_one}
-use Rattle.law_copies.proofs.OtherIsNotHolder.{other_apart}
 use Rattle.law_copies.proofs.PlacesByFronts.{one_row}
 use Rattle.law_copies.proofs.StepsLeaveCopies.{stores_leave}
 use Rattle.law_copies.proofs.StepsKeepCopies.{GoesOn, IsSoundOwn, IsTrue, KeepsFronts, good_after}
-use Rattle.law_copies.proofs.UnchangedCells.{holder_stays, other_stays, stays_alike, IsLacking, PairGoes, goes_same}
+use Rattle.law_copies.proofs.UnchangedCells.{holder_stays, other_stays, stays_alike, PairGoes, goes_on, goes_same}
 use Rattle.law_copies.proofs.EntriesComeToPlaces as entering
 
 module _ (it : AtEntry) where
@@ -65,11 +64,11 @@ module _ (it : AtEntry) where
 
   -- ### The server's visit of a place
 
-  data Arriving (place : ℕ) (cell : Cell) (row : LinkRow) : Type 0 where
-    Is_as_it_was : visits k place cell ≡ good.visits k place cell → Arriving place cell row
-    Has_come : good.visits k place cell ≡ None → visits k place cell ≡ Some new → IsFresh new row cell → (row.state ≡ Both → pending_on new cell ≡ None)
-        → Arriving place cell row
-    Has_stayed : good.visits k place cell ≡ Some old → visits k place cell ≡ Some new → KeepsAll old new row cell → Arriving place cell row
+  data Arriving (n place : ℕ) (cell : Cell) (row : LinkRow) : Type 0 where
+    Is_as_it_was : visits n place cell ≡ good.visits n place cell → Arriving n place cell row
+    Has_come : good.visits n place cell ≡ None → visits n place cell ≡ Some new → IsFresh new row cell → (row.state ≡ Both → pending_on new cell ≡ None)
+        → Arriving n place cell row
+    Has_stayed : good.visits n place cell ≡ Some old → visits n place cell ≡ Some new → KeepsAll old new row cell → Arriving n place cell row
 
   alive_there : (cell : Cell) → AliveIn (state_in setting.servers server.log) cell → AliveIn (server_state setting w k) cell
   alive_there = entering.alive_before it
@@ -101,9 +100,9 @@ module _ (it : AtEntry) where
       (joins_at setting top step.plain front server.log.applied cell row there.row k prefix step.within is there.linked has has_there there.at
       ∙ counts there.seat)
 
-  arriving : (front : List Command) (cell : Cell) (row : LinkRow) → IsPrefix front top → IsLinked setting front cell row → has_server k row ≡ true
-      → Arriving (place_by setting front row) cell row
-  arriving front cell row prefix is has = elim (visited_by (step_of it) k (place_by setting front row) cell) [
+  arriving_here : (front : List Command) (cell : Cell) (row : LinkRow) → IsPrefix front top → IsLinked setting front cell row → has_server k row ≡ true
+      → Arriving k (place_by setting front row) cell row
+  arriving_here front cell row prefix is has = elim (visited_by (step_of it) k (place_by setting front row) cell) [
     | inl same ↦ Is_as_it_was same
     | inr now ↦ (
         let there = now.there in
@@ -120,139 +119,81 @@ module _ (it : AtEntry) where
         ])
   ]
 
+  arriving : (front : List Command) (cell : Cell) (row : LinkRow) → IsPrefix front top → IsLinked setting front cell row → (n : ℕ)
+      → has_server n row ≡ true → Arriving n (place_by setting front row) cell row
+  arriving front cell row prefix is n has = elim (same_or_apart n k) [
+    | inl e ↦ subst (λ m. Arriving m (place_by setting front row) cell row) (sym e)
+        (arriving_here front cell row prefix is (subst (λ m. has_server m row ≡ true) e has))
+    | inr ne ↦ Is_as_it_was (apart_visit n (place_by setting front row) cell ne)
+  ]
+
   -- ### In Both
 
-  pair_then : (front : List Command) (place : ℕ) (cell : Cell) (n m : ℕ) (one other : Option PairState) → visits n place cell ≡ one
-      → visits m place cell ≡ other
-      → pair_of (half one (olds front n)) (half other (olds front m)) cell ≡ pair_at (news front) visits place cell n m
-  pair_then front place cell n m one other e f =
-      pair_same one other (olds front n) (olds front m) (news front n) (news front m) cell (leaves front n cell).chain (leaves front m cell).chain
-      ∙ (λ i. pair_of (half (sym e i) (news front n)) (half (sym f i) (news front m)) cell)
+  module _ (front : List Command) (n place : ℕ) (cell : Cell) (row : LinkRow) where
+    abbrev was : PairState
+    was = half (good.visits n place cell) (olds front n)
 
-  pair_before : (front : List Command) (place : ℕ) (cell : Cell) (n m : ℕ) (one other : Option PairState) → good.visits n place cell ≡ one
-      → good.visits m place cell ≡ other
-      → pair_at (olds front) good.visits place cell n m ≡ pair_of (half one (olds front n)) (half other (olds front m)) cell
-  pair_before front place cell n m one other e f = λ i. pair_of (half (e i) (olds front n)) (half (f i) (olds front m)) cell
+    abbrev now : PairState
+    now = half (visits n place cell) (news front n)
 
-  -- the server is the first one
-  first_goes : (front : List Command) (place : ℕ) (cell : Cell) (row : LinkRow) (m : ℕ) → row.state ≡ Both → m ≢ k → Arriving place cell row
-      → PairGoes (pair_at (olds front) good.visits place cell k m) (pair_at (news front) visits place cell k m)
-  first_goes front place cell row m both ne (Is_as_it_was same) =
-      goes_same _ _ (pair_before front place cell k m (good.visits k place cell) (good.visits m place cell) refl refl
-      ∙ pair_then front place cell k m (good.visits k place cell) (good.visits m place cell) same (apart_visit m place cell ne))
-  first_goes front place cell row m both ne (Has_come none is fresh free) =
-      let other = good.visits m place cell in
-      let second = half other (olds front m) in
-      let before = pair_before front place cell k m None other none refl in
-      let after = pair_then front place cell k m (Some new) other is (apart_visit m place cell ne) in
-      record {
-        ok = λ h. subst PairOk after (fresh_first new row cell fresh (olds front k) second counts_on (free both) (subst PairOk before h));
-        known = λ said h. subst (λ p. Known p said) after
-            (fresh_first_known new row cell fresh (olds front k) second said counts_on (free both) (subst (λ p. Known p said) before h));
-        lacks = λ h. subst IsLacking after (λ op is fill le. none_some (free both) is);
-      }
-  first_goes front place cell row m both ne (Has_stayed was is keeps) =
-      let other = good.visits m place cell in
-      let second = half other (olds front m) in
-      goes_same _ _ (pair_before front place cell k m (Some old) other was refl
-      ∙ (λ i. record {
-        first = chain_in (olds front k).chains cell;
-        second = chain_in second.store.chains cell;
-        pending = sym keeps.keeps.rest.pending i;
-        next = sym keeps.next i;
-        last = at cell_cmp second.pairs.last cell;
-      })
-      ∙ pair_then front place cell k m (Some new) other is (apart_visit m place cell ne))
+    chain_is : chain_in (news front n).chains cell ≡ chain_in (olds front n).chains cell
+    chain_is = (leaves front n cell).chain
 
-  -- the second one
-  second_goes : (front : List Command) (place : ℕ) (cell : Cell) (row : LinkRow) (n : ℕ) → n ≢ k → Arriving place cell row
-      → PairGoes (pair_at (olds front) good.visits place cell n k) (pair_at (news front) visits place cell n k)
-  second_goes front place cell row n ne (Is_as_it_was same) =
-      goes_same _ _ (pair_before front place cell n k (good.visits n place cell) (good.visits k place cell) refl refl
-      ∙ pair_then front place cell n k (good.visits n place cell) (good.visits k place cell) (apart_visit n place cell ne) same)
-  second_goes front place cell row n ne (Has_come none is fresh free) =
-      let other = good.visits n place cell in
-      goes_same _ _ (pair_before front place cell n k other None refl none
-      ∙ fresh_second new row cell fresh (olds front k) (half other (olds front n))
-      ∙ pair_then front place cell n k other (Some new) (apart_visit n place cell ne) is)
-  second_goes front place cell row n ne (Has_stayed was is keeps) =
-      let other = good.visits n place cell in
-      let first = half other (olds front n) in
-      goes_same _ _ (pair_before front place cell n k other (Some old) refl was
-      ∙ (λ i. record {
-        first = chain_in first.store.chains cell;
-        second = chain_in (olds front k).chains cell;
-        pending = at cell_cmp first.pairs.pending cell;
-        next = first.pairs.next;
-        last = sym keeps.keeps.rest.followed i;
-      })
-      ∙ pair_then front place cell n k other (Some new) (apart_visit n place cell ne) is)
+    -- the server is the first one, and was and is this in mind
+    first_by : (second : PairState) (one one' : Option PairState) → good.visits n place cell ≡ one → visits n place cell ≡ one'
+        → PairGoes (pair_of (half one (olds front n)) second cell) (pair_of (half one' (olds front n)) second cell)
+        → PairGoes (pair_of was second cell) (pair_of now second cell)
+    first_by second one one' e e' g =
+        subst (λ p. PairGoes p (pair_of now second cell)) (λ i. pair_of (half (sym e i) (olds front n)) second cell)
+        (subst (PairGoes (pair_of (half one (olds front n)) second cell))
+        (λ i. record (pair_of (half (sym e' i) (news front n)) second cell) { first = sym chain_is i }) g)
 
-  apart_goes : (front : List Command) (place : ℕ) (cell : Cell) (n m : ℕ) → n ≢ k → m ≢ k
-      → PairGoes (pair_at (olds front) good.visits place cell n m) (pair_at (news front) visits place cell n m)
-  apart_goes front place cell n m ne ne' =
-      goes_same _ _ (pair_before front place cell n m (good.visits n place cell) (good.visits m place cell) refl refl
-      ∙ pair_then front place cell n m (good.visits n place cell) (good.visits m place cell) (apart_visit n place cell ne) (apart_visit m place cell ne'))
+    first_goes : (second : PairState) → row.state ≡ Both → Arriving n place cell row → PairGoes (pair_of was second cell) (pair_of now second cell)
+    first_goes second both (Is_as_it_was same) = first_by second (good.visits n place cell) (good.visits n place cell) refl same (goes_same _ _ refl)
+    first_goes second both (Has_come none is fresh free) = first_by second None (Some new) none is (record {
+      ok = fresh_first new row cell fresh (olds front n) second counts_on (free both);
+      known = λ said. fresh_first_known new row cell fresh (olds front n) second said counts_on (free both);
+      lacks = λ h op there. none_some (free both) there;
+    })
+    first_goes second both (Has_stayed before is keeps) = first_by second (Some old) (Some new) before is (goes_same _ _
+        (λ i. record (pair_of (half (Some new) (olds front n)) second cell) { pending = sym keeps.keeps.rest.pending i; next = sym keeps.next i }))
+
+    -- it is the second one
+    second_by : (first : PairState) (one one' : Option PairState) → good.visits n place cell ≡ one → visits n place cell ≡ one'
+        → pair_of first (half one (olds front n)) cell ≡ pair_of first (half one' (olds front n)) cell
+        → PairGoes (pair_of first was cell) (pair_of first now cell)
+    second_by first one one' e e' same = goes_same _ _
+        ((λ i. pair_of first (half (e i) (olds front n)) cell) ∙ same
+        ∙ (λ i. record (pair_of first (half (sym e' i) (news front n)) cell) { second = sym chain_is i }))
+
+    second_goes : (first : PairState) → Arriving n place cell row → PairGoes (pair_of first was cell) (pair_of first now cell)
+    second_goes first (Is_as_it_was same) = second_by first (good.visits n place cell) (good.visits n place cell) refl same refl
+    second_goes first (Has_come none is fresh free) = second_by first None (Some new) none is (fresh_second new row cell fresh (olds front n) first)
+    second_goes first (Has_stayed before is keeps) = second_by first (Some old) (Some new) before is
+        (λ i. record (pair_of first (half (Some new) (olds front n)) cell) { last = sym keeps.keeps.rest.followed i })
+
+    -- what is pending there was so before
+    recalled_then : row.state ≡ Both → Arriving n place cell row → AreRecalled was cell → AreRecalled now cell
+    recalled_then both arrived recalled op there =
+        recalled_on (olds front n) (news front n) cell op (leaves front n cell) (recalled op (by arrived))
+      where
+        pending : Option PairState → Option Pending
+        pending visit = at cell_cmp (half visit (olds front n)).pairs.pending cell
+
+        by : Arriving n place cell row → pending (good.visits n place cell) ≡ Some op
+        by (Is_as_it_was same) = ap pending (sym same) ∙ there
+        by (Has_come none is fresh free) = none_some (free both) (sym (ap pending is) ∙ there)
+        by (Has_stayed before is keeps) = ap pending before ∙ sym keeps.keeps.rest.pending ∙ sym (ap pending is) ∙ there
 
   pair_goes : (front : List Command) (cell : Cell) (row : LinkRow) → IsPrefix front top → IsLinked setting front cell row → row.state ≡ Both
       → PairGoes (pair_at (olds front) good.visits (place_by setting front row) cell row.primary row.secondary)
       (pair_at (news front) visits (place_by setting front row) cell row.primary row.secondary)
   pair_goes front cell row prefix is both =
       let place = place_by setting front row in
-      let two = (log_steady setting.servers front (front_plain setting.servers front top step.plain prefix)).linked cell row is in
-      elim (same_or_apart row.primary k) [
-        | inl e ↦ subst (λ n. PairGoes (pair_at (olds front) good.visits place cell n row.secondary)
-            (pair_at (news front) visits place cell n row.secondary)) (sym e)
-            (first_goes front place cell row row.secondary both (λ f. two.apart (e ∙ sym f)) (arriving front cell row prefix is (primary_is_one row k e)))
-        | inr ne ↦ elim (same_or_apart row.secondary k) [
-          | inl e ↦ subst (λ m. PairGoes (pair_at (olds front) good.visits place cell row.primary m) (pair_at (news front) visits place cell row.primary m))
-              (sym e)
-              (second_goes front place cell row row.primary ne (arriving front cell row prefix is (secondary_is_one row k e)))
-          | inr ne' ↦ apart_goes front place cell row.primary row.secondary ne ne'
-        ]
-      ]
-
-  recalled_then : (front : List Command) (cell : Cell) (row : LinkRow) → IsPrefix front top → IsLinked setting front cell row
-      → AreTwins (olds front) good.visits (place_by setting front row) cell row.primary row.secondary → (own : PairState) (op : Pending)
-      → visits row.primary (place_by setting front row) cell ≡ Some own → at cell_cmp own.pairs.pending cell ≡ Some op → row.state ≡ Both
-      → IsRecalled op (news front row.primary) cell
-  recalled_then front cell row prefix is twins own op visit there both =
-      let place = place_by setting front row in
-      recalled_on (olds front row.primary) (news front row.primary) cell op (leaves front row.primary cell)
-      (elim (same_or_apart row.primary k) [
-        | inl e ↦ (
-            let mine : visits k place cell ≡ Some own = ap (λ n. visits n place cell) (sym e) ∙ visit in
-            let was : (before : PairState) → good.visits k place cell ≡ Some before → good.visits row.primary place cell ≡ Some before =
-            λ before f. ap (λ n. good.visits n place cell) e ∙ f in
-            by (arriving front cell row prefix is (primary_is_one row k e)) mine was)
-        | inr ne ↦ twins.recalled own op (sym (apart_visit row.primary place cell ne) ∙ visit) there
-      ])
-    where
-      by : Arriving (place_by setting front row) cell row → visits k (place_by setting front row) cell ≡ Some own
-          → ((before : PairState) → good.visits k (place_by setting front row) cell ≡ Some before
-          → good.visits row.primary (place_by setting front row) cell ≡ Some before)
-          → IsRecalled op (olds front row.primary) cell
-      by (Is_as_it_was same) mine was = twins.recalled own op (was own (sym same ∙ mine)) there
-      by (Has_come none now fresh free) mine was =
-          none_some (free both) (ap (λ (o : PairState). at cell_cmp o.pairs.pending cell) (same_some (sym now ∙ mine)) ∙ there)
-      by (Has_stayed before now keeps) mine was =
-          twins.recalled old op (was old before) (sym keeps.keeps.rest.pending
-          ∙ ap (λ (o : PairState). at cell_cmp o.pairs.pending cell) (same_some (sym now ∙ mine)) ∙ there)
-
-  lacking_before : (front : List Command) (place : ℕ) (cell : Cell) (n m : ℕ) → AreTwins (olds front) good.visits place cell n m
-      → IsLacking (pair_at (olds front) good.visits place cell n m)
-  lacking_before front place cell n m twins op is fill le = elim (some_or_none (good.visits n place cell)) [
-    | inl h ↦ ap (λ (a : Store). at nat_cmp (chain_in a.chains cell) op.key.epoch) (half_store (good.visits m place cell) (olds front m))
-        ∙ twins.lacks h.0 op h.1 (sym (ap (λ x. at cell_cmp (half x (olds front n)).pairs.pending cell) h.1) ∙ is) fill le
-    | inr none ↦ none_some (ap (λ x. at cell_cmp (half x (olds front n)).pairs.pending cell) none ∙ at-empty cell_cmp cell) is
-  ]
-
-  lacking_then : (front : List Command) (place : ℕ) (cell : Cell) (n m : ℕ) → IsLacking (pair_at (news front) visits place cell n m)
-      → (own : PairState) (op : Pending) → visits n place cell ≡ Some own → at cell_cmp own.pairs.pending cell ≡ Some op → is_clients op.kind ≡ false
-      → far (pair_at (news front) visits place cell n m) ≤ op.op + op.op → at nat_cmp (chain_in (news front m).chains cell) op.key.epoch ≡ None
-  lacking_then front place cell n m lacking own op visit there fill le =
-      ap (λ (a : Store). at nat_cmp (chain_in a.chains cell) op.key.epoch) (sym (half_store (visits m place cell) (news front m)))
-      ∙ lacking op (ap (λ x. at cell_cmp (half x (news front n)).pairs.pending cell) visit ∙ there) fill le
+      goes_on (first_goes front row.primary place cell row (was front row.secondary place cell row) both
+      (arriving front cell row prefix is row.primary (primary_is_one row row.primary refl)))
+      (second_goes front row.secondary place cell row (now front row.primary place cell row)
+      (arriving front cell row prefix is row.secondary (secondary_is_one row row.secondary refl)))
 
   pub both_entered : (front : List Command) (cell : Cell) (row : LinkRow) → IsPrefix front top → IsLinked setting front cell row → row.state ≡ Both
       → BothOk setting top next_stores visits reached front cell row
@@ -261,87 +202,62 @@ module _ (it : AtEntry) where
         let place = place_by setting front row in
         let twins = (good.both front cell row prefix is both).twins lives (let more = up cell in omega arith) in
         let goes = pair_goes front cell row prefix is both in
-        record {
-          pair = goes.ok twins.pair;
-          recalled = λ own op visit there. recalled_then front cell row prefix is twins own op visit there both;
-          lacks = lacking_then front place cell row.primary row.secondary
-              (goes.lacks (lacking_before front place cell row.primary row.secondary twins));
-        };
+        twins_of (news front) visits place cell row.primary row.secondary (goes.ok twins.pair)
+        (recalled_then front row.primary place cell row both (arriving front cell row prefix is row.primary (primary_is_one row row.primary refl))
+        (twins_recalled (olds front) good.visits place cell row.primary row.secondary twins))
+        (goes.lacks (twins_lacking (olds front) good.visits place cell row.primary row.secondary twins));
   }
 
   -- ### Alone
 
-  abbrev links_at : List Command → Cell → ℕ
-  links_at front cell = links_of (state_after setting.servers front) cell.map
+  -- what is so of the two servers' parts, and of letters, is so then
+  record AloneGoes (links : ℕ) (cell : Cell) (row : LinkRow) (one two one' two' : Option PairState) : Type 0 where
+    copying : AreCopying links row cell one two → AreCopying links row cell one' two'
+    told : AreCopying links row cell one two → (said : Body) → (about said).cell ≡ Some cell → IsTold row one two said → IsTold row one' two' said
+    alike : (a b : Store) → AreAlike row cell a b one → AreAlike row cell a b one'
 
-  -- what is so of the two servers' parts and stores, and of letters, is so then
-  record AloneGoes (front : List Command) (place : ℕ) (cell : Cell) (row : LinkRow) (holder other : ℕ) : Type 0 where
-    copying : AreCopying (links_at front cell) row cell (good.visits holder place cell) (good.visits other place cell)
-        → AreCopying (links_at front cell) row cell (visits holder place cell) (visits other place cell)
-    told : AreCopying (links_at front cell) row cell (good.visits holder place cell) (good.visits other place cell) → (said : Body)
-        → (about said).cell ≡ Some cell
-        → IsTold row (good.visits holder place cell) (good.visits other place cell) said → IsTold row (visits holder place cell) (visits other place cell) said
-    alike : AreAlike row cell (olds front holder) (olds front other) (good.visits holder place cell)
-        → AreAlike row cell (news front holder) (news front other) (visits holder place cell)
+  module _ (links n place : ℕ) (cell : Cell) (row : LinkRow) (beside : Option PairState) where
+    -- of the holder
+    holder_by : (one one' : Option PairState) → good.visits n place cell ≡ one → visits n place cell ≡ one' → AloneGoes links cell row one beside one' beside
+        → AloneGoes links cell row (good.visits n place cell) beside (visits n place cell) beside
+    holder_by one one' e e' g =
+        subst (λ x. AloneGoes links cell row x beside (visits n place cell) beside) (sym e)
+        (subst (λ x. AloneGoes links cell row one beside x beside) (sym e') g)
 
-  -- by other names
-  alone_by : (front : List Command) (place : ℕ) (cell : Cell) (row : LinkRow) (holder other : ℕ) (one two one' two' : Option PairState)
-      → good.visits holder place cell ≡ one → good.visits other place cell ≡ two → visits holder place cell ≡ one' → visits other place cell ≡ two'
-      → (AreCopying (links_at front cell) row cell one two → AreCopying (links_at front cell) row cell one' two')
-      → (AreCopying (links_at front cell) row cell one two → (said : Body) → (about said).cell ≡ Some cell → IsTold row one two said
-      → IsTold row one' two' said)
-      → (AreAlike row cell (olds front holder) (olds front other) one → AreAlike row cell (olds front holder) (olds front other) one')
-      → AloneGoes front place cell row holder other
-  alone_by front place cell row holder other one two one' two' e f e' f' copying told alike = record {
-    copying = λ h. to_new (λ x y. AreCopying (links_at front cell) row cell x y) (copying (to_old (λ x y. AreCopying (links_at front cell) row cell x y) h));
-    told = λ h said of t. to_new (λ x y. IsTold row x y said)
-        (told (to_old (λ x y. AreCopying (links_at front cell) row cell x y) h) said of (to_old (λ x y. IsTold row x y said) t));
-    alike = λ h. alike_same row cell (olds front holder) (olds front other) (news front holder) (news front other) (visits holder place cell)
-        (leaves front holder cell) (leaves front other cell)
-        (subst (AreAlike row cell (olds front holder) (olds front other)) (sym e')
-        (alike (subst (AreAlike row cell (olds front holder) (olds front other)) e h)));
-  }
-    where
-      to_old : (P : Option PairState → Option PairState → Type 0) → P (good.visits holder place cell) (good.visits other place cell) → P one two
-      to_old P h = subst (λ x. P x two) e (subst (P (good.visits holder place cell)) f h)
+    holder_goes : Arriving n place cell row → AloneGoes links cell row (good.visits n place cell) beside (visits n place cell) beside
+    holder_goes (Is_as_it_was same) = holder_by (good.visits n place cell) (good.visits n place cell) refl same
+        (record { copying = λ h. h; told = λ h said of t. t; alike = λ a b h. h })
+    holder_goes (Has_come none is fresh free) = holder_by None (Some new) none is (record {
+      copying = fresh_holder new row cell fresh links beside (rising_on cell);
+      told = λ h said of. fresh_holder_told new row cell fresh beside said of;
+      alike = fresh_alike new row cell fresh;
+    })
+    holder_goes (Has_stayed before is keeps) = holder_by (Some old) (Some new) before is (record {
+      copying = λ h. (holder_stays links old new row cell beside keeps h).0;
+      told = λ h said of. (holder_stays links old new row cell beside keeps h).1 said of;
+      alike = λ a b. stays_alike old new row cell a b keeps.pages;
+    })
 
-      to_new : (P : Option PairState → Option PairState → Type 0) → P one' two' → P (visits holder place cell) (visits other place cell)
-      to_new P h = subst (λ x. P x (visits other place cell)) (sym e') (subst (P one') (sym f') h)
+    -- of the other server
+    other_by : (two two' : Option PairState) → good.visits n place cell ≡ two → visits n place cell ≡ two' → AloneGoes links cell row beside two beside two'
+        → AloneGoes links cell row beside (good.visits n place cell) beside (visits n place cell)
+    other_by two two' e e' g =
+        subst (λ x. AloneGoes links cell row beside x beside (visits n place cell)) (sym e)
+        (subst (AloneGoes links cell row beside two beside) (sym e') g)
 
-  apart_alone : (front : List Command) (place : ℕ) (cell : Cell) (row : LinkRow) (holder other : ℕ) → visits holder place cell ≡ good.visits holder place cell
-      → visits other place cell ≡ good.visits other place cell → AloneGoes front place cell row holder other
-  apart_alone front place cell row holder other e f =
-      alone_by front place cell row holder other (good.visits holder place cell) (good.visits other place cell) (good.visits holder place cell)
-      (good.visits other place cell)
-      refl refl e f (λ h. h) (λ h said of t. t) (λ h. h)
-
-  holder_alone : (front : List Command) (place : ℕ) (cell : Cell) (row : LinkRow) (other : ℕ) → other ≢ k → Arriving place cell row
-      → AloneGoes front place cell row k other
-  holder_alone front place cell row other ne (Is_as_it_was same) = apart_alone front place cell row k other same (apart_visit other place cell ne)
-  holder_alone front place cell row other ne (Has_come none is fresh free) =
-      let beside = good.visits other place cell in
-      alone_by front place cell row k other None beside (Some new) beside none refl is (apart_visit other place cell ne)
-      (fresh_holder new row cell fresh (links_at front cell) beside (rising_on cell)) (λ h said of. fresh_holder_told new row cell fresh beside said of)
-      (fresh_alike new row cell fresh (olds front k) (olds front other))
-  holder_alone front place cell row other ne (Has_stayed was is keeps) =
-      let beside = good.visits other place cell in
-      alone_by front place cell row k other (Some old) beside (Some new) beside was refl is (apart_visit other place cell ne)
-      (λ h. (holder_stays (links_at front cell) old new row cell beside keeps h).0)
-      (λ h said of. (holder_stays (links_at front cell) old new row cell beside keeps h).1 said of)
-      (stays_alike old new row cell (olds front k) (olds front other) keeps.pages)
-
-  other_alone : (front : List Command) (place : ℕ) (cell : Cell) (row : LinkRow) (holder : ℕ) → holder ≢ k → Arriving place cell row
-      → AloneGoes front place cell row holder k
-  other_alone front place cell row holder ne (Is_as_it_was same) = apart_alone front place cell row holder k (apart_visit holder place cell ne) same
-  other_alone front place cell row holder ne (Has_come none is fresh free) =
-      let by = good.visits holder place cell in
-      alone_by front place cell row holder k by None by (Some new) refl none (apart_visit holder place cell ne) is
-      (fresh_other new row cell fresh (links_at front cell) by) (λ h said of. fresh_other_told new row cell fresh by said) (λ h. h)
-  other_alone front place cell row holder ne (Has_stayed was is keeps) =
-      let by = good.visits holder place cell in
-      alone_by front place cell row holder k by (Some old) by (Some new) refl was (apart_visit holder place cell ne) is
-      (λ h. (other_stays (links_at front cell) old new row cell by keeps h).0)
-      (λ h said of. (other_stays (links_at front cell) old new row cell by keeps h).1 said of) (λ h. h)
+    other_goes : Arriving n place cell row → AloneGoes links cell row beside (good.visits n place cell) beside (visits n place cell)
+    other_goes (Is_as_it_was same) = other_by (good.visits n place cell) (good.visits n place cell) refl same
+        (record { copying = λ h. h; told = λ h said of t. t; alike = λ a b h. h })
+    other_goes (Has_come none is fresh free) = other_by None (Some new) none is (record {
+      copying = fresh_other new row cell fresh links beside;
+      told = λ h said of. fresh_other_told new row cell fresh beside said;
+      alike = λ a b h. h;
+    })
+    other_goes (Has_stayed before is keeps) = other_by (Some old) (Some new) before is (record {
+      copying = λ h. (other_stays links old new row cell beside keeps h).0;
+      told = λ h said of. (other_stays links old new row cell beside keeps h).1 said of;
+      alike = λ a b h. h;
+    })
 
   module _ (front : List Command) (cell : Cell) (row : LinkRow) (holder : ℕ) (whole : Bool) (prefix : IsPrefix front top)
       (is : IsLinked setting front cell row) (alone : row.state ≡ Only holder whole) where
@@ -355,21 +271,19 @@ module _ (it : AtEntry) where
     holds = holder_is_one (state_after setting.servers front) (log_steady setting.servers front (front_plain setting.servers front top step.plain prefix))
         holder cell row is alone
 
-    two : other ≢ holder
-    two = other_apart row holder
-        ((log_steady setting.servers front (front_plain setting.servers front top step.plain prefix)).linked cell row is).apart
+    abbrev links : ℕ
+    links = links_of (state_after setting.servers front) cell.map
 
-    arrives : {n : ℕ} → n ≡ k → has_server n row ≡ true → Arriving place cell row
-    arrives e has = arriving front cell row prefix is (subst (λ n. has_server n row ≡ true) e has)
-
-    alone_goes : AloneGoes front place cell row holder other
-    alone_goes = elim (same_or_apart holder k) [
-      | inl e ↦ subst (λ n. AloneGoes front place cell row n other) (sym e) (holder_alone front place cell row other (λ f. two (f ∙ sym e)) (arrives e holds))
-      | inr ne ↦ elim (same_or_apart other k) [
-        | inl e ↦ subst (AloneGoes front place cell row holder) (sym e) (other_alone front place cell row holder ne (arrives e (other_is_one row holder)))
-        | inr ne' ↦ apart_alone front place cell row holder other (apart_visit holder place cell ne) (apart_visit other place cell ne')
-      ]
-    ]
+    alone_goes : AloneGoes links cell row (good.visits holder place cell) (good.visits other place cell) (visits holder place cell) (visits other place cell)
+    alone_goes =
+        let one = holder_goes links holder place cell row (good.visits other place cell) (arriving front cell row prefix is holder holds) in
+        let two = other_goes links other place cell row (visits holder place cell)
+        (arriving front cell row prefix is other (other_is_one row holder)) in
+        record {
+          copying = λ h. two.copying (one.copying h);
+          told = λ h said of t. two.told (one.copying h) said of (one.told h said of t);
+          alike = one.alike;
+        }
 
     -- a visit is as it was, or it is the server's own part as it is then, with the store that counts by the front
     visit_so : (n : ℕ) (own : PairState) → has_server n row ≡ true → visits n place cell ≡ Some own
@@ -401,7 +315,8 @@ module _ (it : AtEntry) where
           beside = λ lives last.
               let beside = ok.beside lives (let more = up cell in omega arith) in
               record {
-                alike = alone_goes.alike beside.alike;
+                alike = alike_same row cell (olds front holder) (olds front other) (news front holder) (news front other) (visits holder place cell)
+                    (leaves front holder cell) (leaves front other cell) (alone_goes.alike (olds front holder) (olds front other) beside.alike);
                 still = λ own e. elim (visit_so other own (other_is_one row holder) e) [
                   | inl was ↦ beside.still own was ∙ sym (leaves front other cell).chain
                   | inr now ↦ ap (λ (s : Store). chain_in s.chains cell) now

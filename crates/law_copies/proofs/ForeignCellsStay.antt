@@ -4,9 +4,8 @@ use Rattle.law_copies.proofs.Imports.{IsHeld, IsInBoth, IsLinked, IsSteady, JobC
 use Rattle.law_copies.proofs.Imports.{cell_holder, cell_link, retired_second, false, has_server, holder_of, inl, inr, is_alone, is_second, is_the_one}
 use Rattle.law_copies.proofs.Imports.{leads_link, link_led_by, live, live_stage, none_some, option_and_then, other_of, primary_is_one, row_lead, same_some}
 use Rattle.law_copies.proofs.Imports.{second, second_by, secondary_is_one, stage_at, sym, true, true_false, ℕ}
-use Rattle.law_copies.specs.LoneSteps.{IsBare, IsFit, IsNotOf, KeepsCell, KeepsRest}
+use Rattle.law_copies.specs.LoneSteps.{IsBare, IsFit, IsNotOf, KeepsCell}
 use Rattle.law_copies.proofs.RolesOfWorkers.{IsHeldHere, RoleIn, alone_both, idle_both, led_alive, not_both, only_alone, other_alone, other_row, role_keeps}
-use Rattle.law_copies.proofs.RolesOfWorkers.{role_rest}
 
 -- a cell with a second server is live
 pub second_live : (here : JobContext) (cell : Cell) → is_second here.state here.me cell ≡ true → live here.state cell ≡ true
@@ -52,12 +51,9 @@ module _ (heard : Body → Type 0) (here : JobContext) (own : PairState) (fit : 
     aside _ (By_other done d) other = idle.no_other other.holder other.held
     aside _ _ none = none
 
-    -- where the cell's link isn't in Both; and where it is, an old mark may go
+    -- where the cell's link isn't in Both: where it is, an old mark may go
     pub did_keeps : (IsBothRow here.state q → ⊥) → KeepsCell q own done.own
     did_keeps no_both = role_keeps heard here own fit q alive done did (aside done did) (λ old. no_both (idle_both here own q old).0)
-
-    pub did_rest : KeepsRest q own done.own
-    did_rest = role_rest heard here own fit q alive done did (aside done did)
 
 -- ### Who is idle at a cell
 

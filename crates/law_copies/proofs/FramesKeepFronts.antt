@@ -1,14 +1,14 @@
 -- What is kept at a front where a step leaves the cell as it is at both servers of the link: what they were at the place, and their
 -- stores' chain and marks.
 use Rattle.law_copies.proofs.Imports.{[], ◌+◌, ◌==◌, ◌∙◌, ◌≡◌, ◌≤◌, ◌⊎◌, Body, Bool, Busy, Cell, Command, IsMarked, IsToBeCopied, LinkRow, List, MarkKind}
-use Rattle.law_copies.proofs.Imports.{None, Only, Option, PairState, Pending, Some, Stale, Store, ap, arith, at, by_test, cell_cmp, chain_in, has_server, inl}
-use Rattle.law_copies.proofs.Imports.{inr, is_marked, is_some, nat_cmp, no_pairs, none_some, other_of, primary_is_one, refl, secondary_is_one, some_or_none}
-use Rattle.law_copies.proofs.Imports.{state_after, subst, sym, true, ℕ}
+use Rattle.law_copies.proofs.Imports.{Only, Option, PairState, Pending, Some, Stale, Store, ap, arith, at, by_test, chain_in, has_server, inl, inr, is_marked}
+use Rattle.law_copies.proofs.Imports.{is_some, nat_cmp, none_some, other_of, primary_is_one, refl, secondary_is_one, some_or_none, state_after, subst, sym}
+use Rattle.law_copies.proofs.Imports.{true, ℕ}
 use Rattle.law_copies.specs.CopyProgress.{AreAlike, AreCopying, IsCovered, IsPage, IsTold, links_of, Is_equal, Is_marked_here, Is_marked_there}
 use Rattle.law_copies.specs.CopyProgress.{Is_to_be_copied}
 use Rattle.law_copies.specs.GoodCopies.{AloneOk, AreBeside, AreTwins, BothOk, SaidOk, pair_at}
 use Rattle.law_copies.specs.Pair.{IsRecalled, Known, PairOk, far, pair_of}
-use Rattle.law_copies.specs.Visits.{AliveIn, HasFilled, half, place_by}
+use Rattle.law_copies.specs.Visits.{AliveIn, HasFilled, Visits, half, place_by}
 use Rattle.law_copies.proofs.PlacesByFronts.{has_filled_on}
 use Rattle.law_copies.proofs.VisitsAfterSteps.{then_of, counted_up, none_before}
 use Rattle.law_copies.proofs.AtStep.{AtStep}
@@ -54,34 +54,7 @@ recalled_on old new cell op same r = record {
 -- the pair of the same memory and the same chains
 pub pair_same : (one other : Option PairState) (a b a' b' : Store) (cell : Cell) → chain_in a'.chains cell ≡ chain_in a.chains cell
     → chain_in b'.chains cell ≡ chain_in b.chains cell → pair_of (half one a) (half other b) cell ≡ pair_of (half one a') (half other b') cell
-pair_same None None a b a' b' cell e f = λ i. record {
-  first = sym e i;
-  second = sym f i;
-  pending = at cell_cmp no_pairs.pending cell;
-  next = no_pairs.next;
-  last = at cell_cmp no_pairs.last cell;
-}
-pair_same (Some x) None a b a' b' cell e f = λ i. record {
-  first = sym e i;
-  second = sym f i;
-  pending = at cell_cmp x.pairs.pending cell;
-  next = x.pairs.next;
-  last = at cell_cmp no_pairs.last cell;
-}
-pair_same None (Some y) a b a' b' cell e f = λ i. record {
-  first = sym e i;
-  second = sym f i;
-  pending = at cell_cmp no_pairs.pending cell;
-  next = no_pairs.next;
-  last = at cell_cmp y.pairs.last cell;
-}
-pair_same (Some x) (Some y) a b a' b' cell e f = λ i. record {
-  first = sym e i;
-  second = sym f i;
-  pending = at cell_cmp x.pairs.pending cell;
-  next = x.pairs.next;
-  last = at cell_cmp y.pairs.last cell;
-}
+pair_same one other a b a' b' cell e f = λ i. record (pair_of (half one a) (half other b) cell) { first = sym e i; second = sym f i }
 
 -- ### Alike
 
@@ -109,6 +82,47 @@ pub other_is_one : (row : LinkRow) (n : ℕ) → has_server (other_of n row) row
 other_is_one row n = by_test (λ m. has_server m row ≡ true) (row.primary == n) row.secondary row.primary
     (λ e. secondary_is_one row row.secondary refl) (λ e. primary_is_one row row.primary refl)
 
+-- ### At a place, by the stores and visits before and then
+
+module _ (olds news : ℕ → Store) (visits later : Visits) (place : ℕ) (cell : Cell) where
+  -- a server's visit stays, and what it has of the cell
+  pub record StaysAt (n : ℕ) : Type 0 where
+    pub visit : later n place cell ≡ visits n place cell
+    pub store : LeavesStore (olds n) (news n) cell
+
+  module _ (n m : ℕ) (one : StaysAt n) (two : StaysAt m) where
+    pub pair_stays : pair_at olds visits place cell n m ≡ pair_at news later place cell n m
+    pair_stays =
+        pair_same (visits n place cell) (visits m place cell) (olds n) (olds m) (news n) (news m) cell one.store.chain two.store.chain
+        ∙ (λ i. pair_of (half (sym one.visit i) (news n)) (half (sym two.visit i) (news m)) cell)
+
+    pub twins_stay : AreTwins olds visits place cell n m → AreTwins news later place cell n m
+    twins_stay twins = record {
+      pair = subst PairOk pair_stays twins.pair;
+      recalled = λ own op is there. recalled_on (olds n) (news n) cell op one.store (twins.recalled own op (sym one.visit ∙ is) there);
+      lacks = λ own op is there fill le.
+          ap (λ c. at nat_cmp c op.key.epoch) two.store.chain
+          ∙ twins.lacks own op (sym one.visit ∙ is) there fill (subst (λ p. far p ≤ op.op + op.op) (sym pair_stays) le);
+    }
+
+    pub beside_stays : (row : LinkRow) → AreBeside olds visits place row cell n m → AreBeside news later place row cell n m
+    beside_stays row beside = record {
+      alike = subst (AreAlike row cell (news n) (news m)) (sym one.visit)
+          (alike_same row cell (olds n) (olds m) (news n) (news m) (visits n place cell) one.store two.store beside.alike);
+      still = λ own is. beside.still own (sym two.visit ∙ is) ∙ sym two.store.chain;
+    }
+
+  page_stays : (other : ℕ) → StaysAt other → (after block : Option ℕ) → IsPage cell (olds other) (visits other place cell) after block
+      → IsPage cell (news other) (later other place cell) after block
+  page_stays other two after block page = record {
+    met = ap is_some two.visit ∙ page.met;
+    least = λ ahead upto marked. page.least ahead upto (marked_back (olds other) (news other) cell two.store marked);
+  }
+
+-- where the stores are the same
+pub same_stays : (old new : ℕ → Store) (visits : Visits) (place : ℕ) (cell : Cell) (n : ℕ) → new n ≡ old n → StaysAt old new visits visits place cell n
+same_stays old new visits place cell n same = record { visit = refl; store = store_same (old n) (new n) cell same }
+
 -- ### At a front
 
 module _ (it : AtStep) where
@@ -124,44 +138,9 @@ module _ (it : AtStep) where
   abbrev pub LeavesBoth : List Command → (place : ℕ) → Cell → LinkRow → Type 0
   LeavesBoth front place cell row = (n : ℕ) → has_server n row ≡ true → LeavesAt front n place cell
 
-  pub pair_framed : (front : List Command) (place : ℕ) (cell : Cell) (n m : ℕ) → AliveIn (state_after setting.servers top) cell
-      → LeavesAt front n place cell → LeavesAt front m place cell
-      → pair_at (olds front) visits place cell n m ≡ pair_at (news front) later place cell n m
-  pair_framed front place cell n m alive one two =
-      pair_same (visits n place cell) (visits m place cell) (olds front n) (olds front m) (news front n) (news front m) cell (one.store alive).chain
-      (two.store alive).chain
-      ∙ (λ i. pair_of (half (sym one.visit i) (news front n)) (half (sym two.visit i) (news front m)) cell)
-
-  pub twins_framed : (front : List Command) (place : ℕ) (cell : Cell) (n m : ℕ) → AliveIn (state_after setting.servers top) cell
-      → LeavesAt front n place cell → LeavesAt front m place cell → AreTwins (olds front) visits place cell n m
-      → AreTwins (news front) later place cell n m
-  twins_framed front place cell n m alive one two twins =
-      let same = pair_framed front place cell n m alive one two in
-      record {
-        pair = subst PairOk same twins.pair;
-        recalled = λ own op is there. recalled_on (olds front n) (news front n) cell op (one.store alive) (twins.recalled own op (sym one.visit ∙ is) there);
-        lacks = λ own op is there fill le.
-            ap (λ c. at nat_cmp c op.key.epoch) (two.store alive).chain
-            ∙ twins.lacks own op (sym one.visit ∙ is) there fill (subst (λ p. far p ≤ op.op + op.op) (sym same) le);
-      }
-
-  pub beside_framed : (front : List Command) (place : ℕ) (row : LinkRow) (cell : Cell) (holder other : ℕ) → AliveIn (state_after setting.servers top) cell
-      → LeavesAt front holder place cell → LeavesAt front other place cell
-      → AreBeside (olds front) visits place row cell holder other → AreBeside (news front) later place row cell holder other
-  beside_framed front place row cell holder other alive one two beside = record {
-    alike = subst (AreAlike row cell (news front holder) (news front other)) (sym one.visit)
-        (alike_same row cell (olds front holder) (olds front other) (news front holder) (news front other) (visits holder place cell) (one.store alive)
-        (two.store alive) beside.alike);
-    still = λ own is. beside.still own (sym two.visit ∙ is) ∙ sym (two.store alive).chain;
-  }
-
-  pub page_framed : (front : List Command) (place : ℕ) (cell : Cell) (other : ℕ) (after block : Option ℕ)
-      → AliveIn (state_after setting.servers top) cell → LeavesAt front other place cell
-      → IsPage cell (olds front other) (visits other place cell) after block → IsPage cell (news front other) (later other place cell) after block
-  page_framed front place cell other after block alive two page = record {
-    met = ap is_some two.visit ∙ page.met;
-    least = λ ahead upto marked. page.least ahead upto (marked_back (olds front other) (news front other) cell (two.store alive) marked);
-  }
+  stays : (front : List Command) (n place : ℕ) (cell : Cell) → AliveIn (state_after setting.servers top) cell → LeavesAt front n place cell
+      → StaysAt (olds front) (news front) visits later place cell n
+  stays front n place cell alive one = record { visit = one.visit; store = one.store alive }
 
   somes : (n place : ℕ) (cell : Cell) (own : PairState) → visits n place cell ≡ Some own → (o : PairState) × (later n place cell ≡ Some o)
   somes n place cell own visit = elim (some_or_none (later n place cell)) [ inl h ↦ h | inr none ↦ none_some (none_before it n place cell none) visit ]
@@ -187,9 +166,11 @@ module _ (it : AtStep) where
   pub both_framed : (front : List Command) (cell : Cell) (row : LinkRow) → LeavesBoth front (place_by setting front row) cell row
       → BothOk setting top good.stores visits good.reached front cell row → BothOk setting top next later reached front cell row
   both_framed front cell row leaves ok = record {
-    twins = λ alive last. twins_framed front (place_by setting front row) cell row.primary row.secondary alive
-        (leaves row.primary (primary_is_one row row.primary refl)) (leaves row.secondary (secondary_is_one row row.secondary refl))
-        (ok.twins alive (last_before cell (place_by setting front row) last));
+    twins = λ alive last. let place = place_by setting front row in
+        twins_stay (olds front) (news front) visits later place cell row.primary row.secondary
+        (stays front row.primary place cell alive (leaves row.primary (primary_is_one row row.primary refl)))
+        (stays front row.secondary place cell alive (leaves row.secondary (secondary_is_one row row.secondary refl)))
+        (ok.twins alive (last_before cell place last));
   }
 
   -- what is so of the visits alone
@@ -219,7 +200,8 @@ module _ (it : AtStep) where
       let two = leaves other (other_is_one row holder) in
       record {
         copying = copying_framed (links_of (state_after setting.servers front) cell.map) place cell row holder one.visit two.visit ok.copying;
-        beside = λ alive last. beside_framed front place row cell holder other alive one two (ok.beside alive (last_before cell place last));
+        beside = λ alive last. beside_stays (olds front) (news front) visits later place cell holder other (stays front holder place cell alive one)
+            (stays front other place cell alive two) row (ok.beside alive (last_before cell place last));
         stays = λ alive own is beyond.
             let was = ok.stays alive own (sym one.visit ∙ is) (λ p lt. none_before it other p cell (beyond p lt)) in (
               λ marked. marked_on (olds front holder) (news front holder) cell (one.store alive) (was.0 marked),
@@ -236,15 +218,17 @@ module _ (it : AtStep) where
       let place = place_by setting front row in
       record {
         both = λ alive both last of. subst (λ p. Known p said)
-            (pair_framed front place cell row.primary row.secondary alive (leaves row.primary (primary_is_one row row.primary refl))
-            (leaves row.secondary (secondary_is_one row row.secondary refl)))
+            (pair_stays (olds front) (news front) visits later place cell row.primary row.secondary
+            (stays front row.primary place cell alive (leaves row.primary (primary_is_one row row.primary refl)))
+            (stays front row.secondary place cell alive (leaves row.secondary (secondary_is_one row row.secondary refl))))
             (ok.both alive both (last_before cell place last) of);
         alone = λ holder whole alone of.
             told_framed place cell row holder said (leaves holder (has holder whole alone)).visit
             (leaves (other_of holder row) (other_is_one row holder)).visit
             (ok.alone holder whole alone of);
         page = λ alive holder whole after block alone is last.
-            page_framed front place cell (other_of holder row) after block alive (leaves (other_of holder row) (other_is_one row holder))
+            page_stays (olds front) (news front) visits later place cell (other_of holder row)
+            (stays front (other_of holder row) place cell alive (leaves (other_of holder row) (other_is_one row holder))) after block
             (ok.page alive holder whole after block alone is (last_before cell place last));
         met = λ holder whole after block alone is.
             ap is_some (leaves (other_of holder row) (other_is_one row holder)).visit ∙ ok.met holder whole after block alone is;

@@ -1,33 +1,132 @@
 -- Each job of the holder of a link keeps a cell of it.
-use Rattle.law_copies.proofs.Imports.{◌+◌, ◌<◌, ◌∙◌, ◌≡◌, ◌≢◌, ◌≤◌, Asks_page, Asks_to_trim, Begins, Begins_copy, Body, By_filler, By_holder, By_lead}
-use Rattle.law_copies.proofs.Imports.{By_other, By_read, By_second, By_sweep, Cell, Closes_copy, Copies, CopyStep, Copy_as_is, Copy_synced, Copy_trimmed}
-use Rattle.law_copies.proofs.Imports.{Copying, Did, DidHolder, DidOther, Drops_entry, Finds_it_full, Goes_on, Goes_on_copying, Goes_on_trimming, IsCopying}
-use Rattle.law_copies.proofs.Imports.{IsHeldWith, Is_copied_to, Is_trimmed, JobContext, JobResult, LastCopy, LinkId, LinkRow, None, Option, PairState, Pairs}
-use Rattle.law_copies.proofs.Imports.{Post, Progress, Says, Sends, Some, Stale, TakenCopy, Tidies, TrimStep, Turns_page, Unmarks_copied, about, above, ap}
-use Rattle.law_copies.proofs.Imports.{arith, at, begins_copy, by_bool, cell_at, cell_cmp, cell_gone, cell_gone_apart, cell_holder, cell_link, cell_same}
-use Rattle.law_copies.proofs.Imports.{chain_in, closed_pairs, closed_store, closes, copying_on, did_count, eq_by_cmp, false, first_copy, first_last}
-use Rattle.law_copies.proofs.Imports.{holder_cell, id_of, inl, inr, length, letters_of_job, link_cmp, link_named, link_of, none_some, of_filler, of_holder}
-use Rattle.law_copies.proofs.Imports.{of_read, of_second, of_sweep, page_cell, progress_beside, progress_on, refl, same_block, same_cell_or_apart, same_id}
-use Rattle.law_copies.proofs.Imports.{same_some, silent, some_or_none, subst, sym, true, true_false, turned, with_copied, with_copying, with_full}
-use Rattle.law_copies.proofs.Imports.{with_last_copy, with_mark_on, with_page, without_copying, ℕ}
+use Rattle.law_copies.proofs.Imports.{[], ◌+◌, ◌<◌, ◌∙◌, ◌≡◌, ◌≢◌, ◌≤◌, ◌⊎◌, Asks_page, Asks_to_trim, Begins, Begins_copy, Body, Busy, By_filler, By_holder}
+use Rattle.law_copies.proofs.Imports.{By_lead, By_other, By_read, By_second, By_sweep, Cell, Closes, Closes_alone, Closes_copy, Copies, CopyStep, Copy_as_is}
+use Rattle.law_copies.proofs.Imports.{Copy_synced, Copy_trimmed, Copying, Did, DidHolder, DidLead, DidOther, Drops_entry, Finds_it_full, Gives_up, Goes_on}
+use Rattle.law_copies.proofs.Imports.{Goes_on_copying, Goes_on_retired, Goes_on_trimming, IsCopying, IsHeldWith, IsIdle, IsMarked, IsRising, IsTaken}
+use Rattle.law_copies.proofs.Imports.{Is_copied_to, Is_trimmed, JobContext, JobResult, LastCopy, LinkId, LinkRow, Marks, Marks_alone, None, Opens}
+use Rattle.law_copies.proofs.Imports.{Opens_alone, Opens_fill, Opens_fill_alone, Option, PairState, Pairs, Pending, Post, Progress, Puts, Puts_alone, Says}
+use Rattle.law_copies.proofs.Imports.{Sends, Some, Stale, Store, Taken, TakenCopy, Tidies, TrimStep, Turns_page, Unmarks, Unmarks_alone, Unmarks_copied}
+use Rattle.law_copies.proofs.Imports.{about, above, ap, arith, at, begins_copy, by_bool, cell_at, cell_cmp, cell_gone, cell_gone_apart, cell_holder}
+use Rattle.law_copies.proofs.Imports.{cell_link, cell_of, cell_same, chain_in, chain_put, closed_pairs, closed_store, closes, copying_on, did_count, ends}
+use Rattle.law_copies.proofs.Imports.{eq_by_cmp, false, fill_operation, first_copy, first_last, gives_back, has_proposed, held_as_flag, holder_cell, id_of}
+use Rattle.law_copies.proofs.Imports.{in_both, inl, inr, is_alone, is_flagged, is_marked, lead_cell, length, letters_of_job, link_cmp, link_named, link_of}
+use Rattle.law_copies.proofs.Imports.{live, mark_kept, marks, nat_cmp, none_some, of_ending, of_filler, of_holder, of_lead, of_read, of_second, of_sweep}
+use Rattle.law_copies.proofs.Imports.{operation, page_cell, pending_on, progress_beside, progress_on, puts, refl, same_block, same_cell_or_apart, same_id}
+use Rattle.law_copies.proofs.Imports.{same_some, silent, some_or_none, stage_live, stale_kept, subst, sym, taking, true, true_false, turned, unmarks}
+use Rattle.law_copies.proofs.Imports.{version_of, with_copied, with_copying, with_full, with_last_copy, with_mark_on, with_opened, with_page, with_ticket}
+use Rattle.law_copies.proofs.Imports.{without_copying, without_pending, worked, ℕ}
 use Rattle.law_copies.specs.CopyProgress.{AreCopying, IsLeft, IsTold}
 use Rattle.law_copies.specs.LoneSteps.{HolderKeeps, IsHolding, KeepsCell}
 use Rattle.law_copies.proofs.BlocksOnLinks.{on_block}
-use Rattle.law_copies.proofs.EmptyCellsHaveNoChain.{has_entry}
+use Rattle.law_copies.proofs.EmptyCellsHaveNoChain.{has_entry, no_entries}
 use Rattle.law_copies.proofs.OwnPartFrames.{copied_alike, copying_beside, keeps_between, keeps_itself}
 use Rattle.law_copies.proofs.HolderChanges.{HolderStep, step_on}
 use Rattle.law_copies.proofs.LeftToCopy.{IsNext, next_is}
 use Rattle.law_copies.proofs.CopiesGoOn.{IsOnward, begun_onward, closed_onward, copied_itself, ended_onward, going_onward, onward_by, onward_tables}
-use Rattle.law_copies.proofs.HolderPace.{IsPaced, link_itself, paced_beside, paced_copied}
+use Rattle.law_copies.proofs.HolderPace.{IsPaced, link_itself, paced_beside, paced_copied, paced_table}
 use Rattle.law_copies.proofs.CopyLetters.{telling}
 use Rattle.law_copies.proofs.RolesOfWorkers.{RoleIn, alone_not_second, cell_map, holder_not_other, kept_lives, named_id, one_named, page_on, role_keeps}
+use Rattle.law_copies.proofs.RolesOfWorkers.{alone_not_in_both, alone_not_row, idle_both, only_alone}
 use Rattle.law_copies.proofs.WorkedCell.{cell_apart_from}
+use Rattle.law_copies.proofs.EpochsRise.{did_rising}
 use Rattle.petal_msg.specs.declared.body.Body.TheVariants as body
 use Rattle.law_copies.proofs.CopyMoves as moves
 use Rattle.law_copies.proofs.HolderSteps as steps
-use Rattle.law_copies.proofs.HolderWrites as writes
+use Rattle.petal_msg.specs.declared.operation.Ending.TheVariants as ending
 
 module _ (heard : Body → Type 0) (here : JobContext) (links : ℕ) (row : LinkRow) (vo : Option PairState) (own : PairState) where
+  -- ### A write on the cell
+
+  module _ (now : PairState) (op : Pending) (taken : Taken own now op) (f : IsHolding heard here links row op.cell own vo) where
+    abbrev k : IsTaken own now op
+    k = taking own now op taken
+
+    abbrev unflagged : is_flagged own (id_of row) ≡ false
+    unflagged = steps.pending_unflagged heard f.old k.old k.was
+
+    keyed : cell_of op.key ≡ op.cell
+    keyed = ap (λ (o : Pending). cell_of o.key) k.is ∙ (f.fit.ready.staged op.cell k.old k.was).keyed
+
+    taken_marks : IsMarked own.store op.cell → IsMarked now.store op.cell
+    taken_marks m = subst (λ (s : Store). IsMarked s op.cell) (sym k.store) m
+
+    -- an operation of a cell that is not retired is of a live one
+    lives : live here.state op.cell ≡ true
+    lives = stage_live here.state op.cell (f.fit.ready.staged op.cell k.old k.was).born f.alive
+
+    -- the block is marked stale, where the stage says so
+    stale_there : op.stage.stale ≡ true → is_marked now.store Stale op.cell ≡ true
+    stale_there stale =
+        let old_stale : k.old.stage.stale ≡ true = sym (ap (λ (o : Pending). o.stage.stale) k.is) ∙ stale in
+        ap (λ (s : Store). is_marked s Stale op.cell) k.store ∙ (f.fit.marks op.cell k.old lives k.was).stale old_stale
+
+    taken_chain : chain_in now.store.chains op.cell ≡ chain_in own.store.chains op.cell
+    taken_chain = ap (λ (s : Store). chain_in s.chains op.cell) k.store
+
+    taken_step : (to : PairState) → to.copies ≡ now.copies → to.pairs.next ≡ now.pairs.next
+        → (IsMarked now.store op.cell → IsMarked to.store op.cell)
+        → (chain_in to.store.chains op.cell ≡ chain_in now.store.chains op.cell) ⊎ IsMarked to.store op.cell
+        → (chain_in now.store.chains op.cell ≢ [] → chain_in to.store.chains op.cell ≢ [])
+        → IsRising nat_cmp (chain_in to.store.chains op.cell) → HolderStep heard links row op.cell vo own to
+    taken_step to copies next marks chain stored rises =
+        steps.write_step heard f.old (steps.pending_idle heard f.old k.old k.was) unflagged to (copies ∙ k.copies)
+        (let e = next in let e' = k.next in omega arith)
+        (λ m. marks (taken_marks m)) (elim chain [ inl same ↦ inl (same ∙ taken_chain) | inr m ↦ inr m ])
+        (λ some. stored (λ none. some (sym taken_chain ∙ none))) rises
+
+    marks_at : IsRising nat_cmp (chain_in (marks now op Stale).own.store.chains op.cell)
+        → HolderStep heard links row op.cell vo own (marks now op Stale).own
+    marks_at rises = taken_step (marks now op Stale).own refl refl
+        (λ m. elim m [
+          | inl busy ↦ inl (mark_kept now.store Stale Busy op.cell op.cell busy)
+          | inr stale ↦ inr (mark_kept now.store Stale Stale op.cell op.cell stale)
+        ]) (inl refl) (λ some. some) rises
+
+    -- the cell has an entry once it is put
+    put_some : chain_in (puts now op).own.store.chains op.cell ≢ []
+    put_some none = no_entries (chain_in now.store.chains (cell_of op.key)) op.key.epoch
+        (record { version = version_of (chain_in now.store.chains op.cell) + 1; bytes = op.bytes })
+        (sym (chain_put now.store.chains (cell_of op.key) _) ∙ ap (chain_in (puts now op).own.store.chains) keyed ∙ none)
+
+    puts_at : op.stage.stale ≡ true → IsRising nat_cmp (chain_in (puts now op).own.store.chains op.cell)
+        → HolderStep heard links row op.cell vo own (puts now op).own
+    puts_at stale rises = taken_step (puts now op).own refl refl (λ m. m) (inr (inr (stale_there stale))) (λ some. put_some) rises
+
+    unmarks_at : op.stage.stale ≡ true → IsRising nat_cmp (chain_in (unmarks now op Busy).own.store.chains op.cell)
+        → HolderStep heard links row op.cell vo own (unmarks now op Busy).own
+    unmarks_at stale rises = taken_step (unmarks now op Busy).own refl refl
+        (λ m. inr (stale_kept now.store op.cell op.cell ∙ stale_there stale)) (inl refl) (λ some. some) rises
+
+    closes_at : IsRising nat_cmp (chain_in (ends here (without_pending now op.cell) op op.kind ending.Written).own.store.chains op.cell)
+        → HolderStep heard links row op.cell vo own (ends here (without_pending now op.cell) op op.kind ending.Written).own
+    closes_at rises =
+        let e = of_ending here (without_pending now op.cell) op op.kind ending.Written in
+        taken_step (ends here (without_pending now op.cell) op op.kind ending.Written).own e.copies e.next
+        (λ m. subst (λ (s : Store). IsMarked s op.cell) (sym e.store) m) (inl (ap (λ (s : Store). chain_in s.chains op.cell) e.store))
+        (λ some none. some (ap (λ (s : Store). chain_in s.chains op.cell) (sym e.store) ∙ none)) rises
+
+  gives_up_at : (op : Pending) → pending_on own op.cell ≡ Some op → (f : IsHolding heard here links row op.cell own vo)
+      → HolderStep heard links row op.cell vo own (ends here (gives_back (without_pending own op.cell)) op op.kind ending.Full).own
+  gives_up_at op is f =
+      let e = of_ending here (gives_back (without_pending own op.cell)) op op.kind ending.Full in
+      let chain : chain_in (ends here
+      (gives_back (without_pending own op.cell)) op op.kind ending.Full).own.store.chains op.cell ≡ chain_in own.store.chains op.cell =
+      ap (λ (s : Store). chain_in s.chains op.cell) e.store in
+      steps.write_step heard f.old (steps.pending_idle heard f.old op is)
+      (steps.pending_unflagged heard f.old op is) _ e.copies (let n = e.next in omega arith)
+      (λ m. subst (λ (s : Store). IsMarked s op.cell) (sym e.store) m) (inl chain) (λ some none. some (sym chain ∙ none))
+      (subst (IsRising nat_cmp) (sym chain) (f.fit.rising op.cell))
+
+  opens_at : (op : Pending) → copying_on own op.cell ≡ None → has_proposed here.state own op.cell ≡ false
+      → (f : IsHolding heard here links row op.cell own vo)
+      → HolderStep heard links row op.cell vo own (marks (with_opened own op) op Stale).own
+  opens_at op uncopied unheld f = steps.write_step heard f.old uncopied
+      (sym (held_as_flag here.state own op.cell row f.is) ∙ unheld) _ refl (omega arith)
+      (λ m. elim m [
+        | inl busy ↦ inl (mark_kept (with_ticket own.store) Stale Busy op.cell op.cell busy)
+        | inr stale ↦ inr (mark_kept (with_ticket own.store) Stale Stale op.cell op.cell stale)
+      ]) (inl refl) (λ some. some) (f.fit.rising op.cell)
+
   -- ### A copy of the cell
 
   module _ (cell : Cell) where
@@ -100,33 +199,93 @@ module _ (heard : Body → Type 0) (here : JobContext) (links : ℕ) (row : Link
     abbrev Step : JobResult → Type 0
     Step done = HolderStep heard links row cell vo own done.own
 
+    mine : is_alone here.me row.state ≡ true
+    mine = only_alone here.me row f.whole f.held
+
     at_cell : (c : Cell) → cell ≡ c → IsHolding heard here links row c own vo
-    at_cell = writes.at_cell heard here links row vo own cell f
+    at_cell c e = subst (λ (q : Cell). IsHolding heard here links row q own vo) e f
+
+    -- it has no idle mark, which is of a link in Both
+    no_idle : IsIdle here own cell → ⊥
+    no_idle idle = alone_not_row here f.fit.steady cell row f.is here.me mine (idle_both here own cell idle).0
 
     kept : (done : JobResult) → KeepsCell cell own done.own → own.pairs.next ≤ done.own.pairs.next → IsPaced row own done.own
         → IsOnward links row cell own done.own → Step done
-    kept = writes.kept heard here links row vo own cell f
+    kept done k next paced onward = steps.kept_step heard f.old done.own k next paced onward
 
+    -- where nothing is changed of copies at the holder
     same_paced : (to : PairState) → to.copies.progress ≡ own.copies.progress → to.copies.pending ≡ own.copies.pending
         → IsPaced row own to × IsOnward links row cell own to
-    same_paced = writes.same_paced heard here links row vo own cell f
+    same_paced to progress pending = let paced = paced_table row own to progress in
+        (paced, onward_tables links row cell own to progress pending paced)
+
+    beside : (done : JobResult) (did : Did heard here own done) → worked heard here own done did ≢ Some cell → KeepsCell cell own done.own
+    beside done did ne = cell_apart_from heard here own f.fit.ready cell f.alive (f.fit.bare cell) done did ne no_idle
+
+    -- at this cell, or apart from it
+    either : (c : Cell) (done : JobResult) → (cell ≡ c → IsHolding heard here links row c own vo → HolderStep heard links row c vo own done.own)
+        → (cell ≢ c → Step done) → Step done
+    either c done here_it apart = elim (same_cell_or_apart cell c) [
+      | inl e ↦ subst (λ (q : Cell). HolderStep heard links row q vo own done.own) (sym e) (here_it e (at_cell c e))
+      | inr ne ↦ apart ne
+    ]
+
+    -- ### Writes
+
+    lead_apart : (done : JobResult) (d : DidLead heard here own done) → lead_cell heard here own done d ≢ Some cell → Step done
+    lead_apart done d ne =
+        let copies = (of_lead heard here own done d).copies in
+        let paced = same_paced done.own (ap (λ (c : Copies). c.progress) copies) (ap (λ (c : Copies). c.pending) copies) in
+        kept done (beside done (By_lead done d) ne) (did_count heard here own done (By_lead done d)) paced.0 paced.1
+
+    lead_at : (c : Cell) (done : JobResult) (d : DidLead heard here own done) → lead_cell heard here own done d ≡ Some c
+        → (cell ≡ c → IsHolding heard here links row c own vo → HolderStep heard links row c vo own done.own) → Step done
+    lead_at c done d is here_it = either c done here_it (λ ne. lead_apart done d (λ e. ne (same_some (sym e ∙ is))))
+
+    both_not : (c : Cell) (done : JobResult) (d : DidLead heard here own done) → lead_cell heard here own done d ≡ Some c → in_both here.state c ≡ true
+        → Step done
+    both_not c done d is both = lead_at c done d is (λ e g. alone_not_in_both here f.fit.steady cell row f.is here.me mine
+        (subst (λ (q : Cell). in_both here.state q ≡ true) (sym e) both))
+
+    rises : (done : JobResult) → DidLead heard here own done → (c : Cell) → IsRising nat_cmp (chain_in done.own.store.chains c)
+    rises done d c = did_rising heard here own f.fit.rising done (By_lead done d) c
+
+    lead_step : (done : JobResult) → DidLead heard here own done → Step done
+    lead_step _ (Gives_up op h is reserved put) = lead_at op.cell _ (Gives_up op h is reserved put) refl (λ e g. gives_up_at op is g)
+    lead_step _ (Opens want new both) = both_not want.cell _ (Opens want new both) refl both
+    lead_step _ (Marks op h is both stage) = both_not op.cell _ (Marks op h is both stage) refl both
+    lead_step _ (Puts op is both stage) = both_not op.cell _ (Puts op is both stage) refl both
+    lead_step _ (Unmarks op h is both stage) = both_not op.cell _ (Unmarks op h is both stage) refl both
+    lead_step _ (Closes op is both stage) = both_not op.cell _ (Closes op is both stage) refl both
+    lead_step _ (Opens_alone want new alone) = lead_at want.cell _ (Opens_alone want new alone) refl
+        (λ e g. opens_at (operation here own.pairs.next want) new.uncopied new.unheld g)
+    lead_step _ (Marks_alone now op taken alone fresh) = lead_at op.cell _ (Marks_alone now op taken alone fresh) refl
+        (λ e g. marks_at now op taken g (rises _ (Marks_alone now op taken alone fresh) op.cell))
+    lead_step _ (Puts_alone now op taken alone stale put) = lead_at op.cell _ (Puts_alone now op taken alone stale put) refl
+        (λ e g. puts_at now op taken g stale (rises _ (Puts_alone now op taken alone stale put) op.cell))
+    lead_step _ (Unmarks_alone now op taken alone stale put busy) = lead_at op.cell _ (Unmarks_alone now op taken alone stale put busy) refl
+        (λ e g. unmarks_at now op taken g stale (rises _ (Unmarks_alone now op taken alone stale put busy) op.cell))
+    lead_step _ (Closes_alone now op taken alone stale put free) = lead_at op.cell _ (Closes_alone now op taken alone stale put free) refl
+        (λ e g. closes_at now op taken g (rises _ (Closes_alone now op taken alone stale put free) op.cell))
+    lead_step _ (Opens_fill moving new room both) = both_not (cell_of moving.key) _ (Opens_fill moving new room both) refl both
+    lead_step _ (Opens_fill_alone moving new room alone) = lead_at (cell_of moving.key) _ (Opens_fill_alone moving new room alone) refl
+        (λ e g. opens_at (fill_operation here own.pairs.next moving) new.uncopied new.unheld g)
+    lead_step _ (Goes_on_retired now op taken off) = lead_at op.cell _ (Goes_on_retired now op taken off) refl (λ e g. true_false (lives now op taken g) off)
+    lead_step done d = lead_apart done d (λ e. none_some refl e)
 
     -- ### Copies
 
-    beside : (done : JobResult) (d : DidHolder heard here own done) → holder_cell heard here own done d ≢ Some cell → KeepsCell cell own done.own
-    beside done d ne = cell_apart_from heard here own f.fit.ready cell f.alive (f.fit.bare cell) done (By_holder done d) ne
-        (writes.no_idle heard here links row vo own cell f)
-
     holder_apart : (done : JobResult) (d : DidHolder heard here own done) → holder_cell heard here own done d ≢ Some cell
         → IsPaced row own done.own → IsOnward links row cell own done.own → Step done
-    holder_apart done d ne paced onward = kept done (beside done d ne) (of_holder heard here own done d).next paced onward
+    holder_apart done d ne paced onward = kept done (beside done (By_holder done d) ne) (of_holder heard here own done d).next paced onward
 
     -- a cell's row is the link's, where it is this cell
     page_apart : (id : LinkId) (r : LinkRow) (after block : Option ℕ) → heard (body.Hello id.map id.link after block)
         → link_named here.state id ≡ Some r → eq_by_cmp link_cmp (id_of row) (id_of r) ≡ false → page_cell r block ≢ Some cell
     page_apart id r after None h named apart = λ e. none_some refl e
     page_apart id r after (Some block) h named apart = λ e.
-        let on : cell_link here.state cell ≡ Some r = ap (cell_link here.state) (sym (same_some e)) ∙ (page_on heard here own f.fit id r after block h named).0 in
+        let on : cell_link here.state cell ≡ Some r =
+        ap (cell_link here.state) (sym (same_some e)) ∙ (page_on heard here own f.fit id r after block h named).0 in
         let same : row ≡ r = same_some (sym f.is ∙ on) in
         true_false (ap (λ (x : LinkRow). eq_by_cmp link_cmp (id_of row) (id_of x)) (sym same) ∙ link_itself (id_of row)) apart
 
@@ -182,14 +341,6 @@ module _ (heard : Body → Type 0) (here : JobContext) (links : ℕ) (row : Link
         (λ no. holder_apart _ (Turns_page id r other after block h held fresh at) (page_apart id r after block h held.is no)
         (page_paced r block no) (page_onward r block no))
 
-    -- a copy is at the cell, or apart from it
-    copy_either : (c : Cell) (done : JobResult) → (IsHolding heard here links row c own vo → HolderStep heard links row c vo own done.own)
-        → (cell ≢ c → Step done) → Step done
-    copy_either c done here_it apart = elim (same_cell_or_apart cell c) [
-      | inl e ↦ subst (λ (q : Cell). HolderStep heard links row q vo own done.own) (sym e) (here_it (at_cell c e))
-      | inr ne ↦ apart ne
-    ]
-
     -- a copy of another cell is taken up
     record IsTakenUp (c : Cell) (now : PairState) (copy : Copying) : Type 0 where
       step : HolderStep heard links row cell vo own now
@@ -244,7 +395,7 @@ module _ (heard : Body → Type 0) (here : JobContext) (links : ℕ) (row : Link
     goes_apart c ne now copy done taken step =
         let one = taken_apart c ne now copy taken in
         let of = taken_paged c now copy taken in
-        let k = beside done (Goes_on_copying c now copy done taken step) (λ e. ne (sym (same_some e))) in
+        let k = beside done (By_holder done (Goes_on_copying c now copy done taken step)) (λ e. ne (sym (same_some e))) in
         step_on heard links row cell vo own now done.own one.step
         (step_apart c ne now one.step.copying copy one.is of.0 of.1 of.2 done (keeps_between cell own now done.own one.kept k) step)
 
@@ -261,8 +412,8 @@ module _ (heard : Body → Type 0) (here : JobContext) (links : ℕ) (row : Link
     holder_step _ (Turns_page id r other after block h held fresh at) = turns_page id r other after block h held fresh at
     holder_step done (Begins_copy id r other c _ held next step) =
         let n = next_is here.state id r own held.is c next in
-        copy_either c done
-        (λ g.
+        either c done
+        (λ e g.
         let same : r ≡ row = same_some (sym n.is ∙ g.is) in
         begins_at c g (subst (λ (x : LinkRow). IsNext here.state x own c) same n) done step)
         (λ ne. let begun = sym (begun_own c done step) in
@@ -270,10 +421,10 @@ module _ (heard : Body → Type 0) (here : JobContext) (links : ℕ) (row : Link
         (subst (IsPaced row own) begun (record { paged = refl; after = refl; flag = refl }))
         (subst (IsOnward links row cell own) begun
         (begun_onward here.state links row cell f.is f.links_are c ne own r n (kept_lives heard here own f.fit cell f.alive))))
-    holder_step done (Goes_on_copying c now copy _ taken step) = copy_either c done (λ g. goes_on_at c g now copy done taken step)
+    holder_step done (Goes_on_copying c now copy _ taken step) = either c done (λ e g. goes_on_at c g now copy done taken step)
         (λ ne. goes_apart c ne now copy done taken step)
-    holder_step _ (Finds_it_full c copy h is trimmed lt) = copy_either c (silent (with_full (without_copying own c) true))
-        (λ g. full_at c g copy is trimmed lt)
+    holder_step _ (Finds_it_full c copy h is trimmed lt) = either c (silent (with_full (without_copying own c) true))
+        (λ e g. full_at c g copy is trimmed lt)
         (λ ne. let onward = ended_onward here.state links row cell f.is f.links_are c ne own in
         holder_apart _ (Finds_it_full c copy h is trimmed lt) (λ e. ne (sym (same_some e))) (record { paged = refl; after = refl; flag = refl })
         (record { late = onward.late; yet = onward.yet; others = onward.others; page = onward.page }))
@@ -301,14 +452,14 @@ module _ (heard : Body → Type 0) (here : JobContext) (links : ℕ) (row : Link
     -- ### All of them
 
     not_held : {A : Type 0} (holder : ℕ) → cell_holder here cell ≡ Some holder → A
-    not_held holder held = holder_not_other here f.fit.steady cell row f.is (writes.mine heard here links row vo own cell f) holder held
+    not_held holder held = holder_not_other here f.fit.steady cell row f.is mine holder held
 
     -- the cell is not worked on, and nothing is changed of copies at the holder
     unworked : (done : JobResult) (did : Did heard here own done) → (RoleIn heard here own f.fit done did cell → ⊥)
         → done.own.copies.progress ≡ own.copies.progress → done.own.copies.pending ≡ own.copies.pending → Step done
     unworked done did no_role progress pending =
         let paced = same_paced done.own progress pending in
-        kept done (role_keeps heard here own f.fit cell f.alive done did no_role (writes.no_idle heard here links row vo own cell f))
+        kept done (role_keeps heard here own f.fit cell f.alive done did no_role no_idle)
         (did_count heard here own done did) paced.0 paced.1
 
     same_copies : (done : JobResult) (did : Did heard here own done) → (RoleIn heard here own f.fit done did cell → ⊥)
@@ -316,9 +467,9 @@ module _ (heard : Body → Type 0) (here : JobContext) (links : ℕ) (row : Link
     same_copies done did no_role same = unworked done did no_role (ap (λ (c : Copies). c.progress) same) (ap (λ (c : Copies). c.pending) same)
 
     did_step : (done : JobResult) → Did heard here own done → Step done
-    did_step done (By_lead _ d) = writes.lead_step heard here links row vo own cell f done d
+    did_step done (By_lead _ d) = lead_step done d
     did_step done (By_second _ d) = same_copies done (By_second done d)
-        (λ so. alone_not_second here f.fit.steady cell row f.is here.me (writes.mine heard here links row vo own cell f) so)
+        (λ so. alone_not_second here f.fit.steady cell row f.is here.me mine so)
         (of_second heard here own done d).copies
     did_step done (By_holder _ d) = holder_step done d
     did_step done (By_other _ d) =

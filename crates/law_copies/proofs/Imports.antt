@@ -16,10 +16,10 @@ pub use Rattle.law_log.proofs.Imports.{HasProperTuple, HasProperTuples, IsSettle
 pub use Rattle.law_log.proofs.Imports.{Log, NextCopy, Pending, Post, Reaction, Script, Step, Stored, Wait, about, above, acts, all_put_apart, awake}
 pub use Rattle.law_log.proofs.Imports.{begins_copy, blanked, cell_at, cell_holder, cell_of, chain_in, client_sender, closes, copying_on, ended, ends}
 pub use Rattle.law_log.proofs.Imports.{eq_by_cmp, fill_operation, gives_back, has_proposed, holds_link, id_of, is_eq, is_flagged, is_logged, is_second}
-pub use Rattle.law_log.proofs.Imports.{is_under_way, key_at, last_copy, link_named, log_plain, map, moved_as, nat_cmp, nat_cmp_total, no_progress, other_in}
-pub use Rattle.law_log.proofs.Imports.{pending_on, post_of, progress_on, proposed, put_apart, put_same, puts_entry, raised, ranked, reacts, same_block}
-pub use Rattle.law_log.proofs.Imports.{sender, server_state, setting_of, silent, stamped, start, state_in, stays, subject_of, tells, tied_itself, wakes}
-pub use Rattle.law_log.proofs.Imports.{with_copied, with_copying, with_full, with_last_copy, with_opened, with_page, with_progress, without_copying}
+pub use Rattle.law_log.proofs.Imports.{is_under_way, key_at, last_copy, last_on, link_named, log_plain, map, moved_as, nat_cmp, nat_cmp_total, no_progress}
+pub use Rattle.law_log.proofs.Imports.{other_in, pending_on, post_of, progress_on, proposed, put_apart, put_same, puts_entry, raised, ranked, reacts}
+pub use Rattle.law_log.proofs.Imports.{same_block, sender, server_state, setting_of, silent, stamped, start, state_in, stays, subject_of, tells, tied_itself}
+pub use Rattle.law_log.proofs.Imports.{wakes, with_copied, with_copying, with_full, with_last_copy, with_opened, with_page, with_progress, without_copying}
 pub use Rattle.law_log.proofs.Imports.{without_pending, world_after}
 unfoldable pub use Rattle.law_log.proofs.Imports.{next_copy, put_at}
 pub use Rattle.law_steps.specs.Imports.{Busy, IsBelow, MarkKind, Nothing, Paired, Sender, Stage, Stale, StaysSo, Subject, Table, before_blanks, cell_cmp}
@@ -40,7 +40,7 @@ pub use Rattle.law_jobs.specs.Imports.{Sets_apart, Taken, TakenCopy, Turns_page,
 pub use Rattle.law_jobs.proofs.Imports.{Asks_page, Asks_to_trim, By_filler, By_read, By_sweep, Closes_copy, CopyStep, Copy_as_is, Copy_synced, Copy_trimmed}
 pub use Rattle.law_jobs.proofs.Imports.{Declines, Drops_entry, Handled, Happens, Is_trimmed, Promises, Refuses, Replies, Rests, Sends, Tidies, TrimStep}
 pub use Rattle.law_jobs.proofs.Imports.{Unmarks_copied, always_firm, at_apart, at_same, chains_at, is_mark, is_marked, last_happens, mark_on, of_read}
-pub use Rattle.law_jobs.proofs.Imports.{of_sweep, own_place, rests_after, row_named, same_cell_or_apart, same_mark, start_rests, taking, world_more}
+pub use Rattle.law_jobs.proofs.Imports.{of_sweep, own_place, rests_after, row_named, same_cell_or_apart, same_mark, start_rests, taking}
 pub use Rattle.law_copies.specs.Imports.{AtRest, IsMarked, IsReady, IsRising, IsToBeCopied, WasStarted, blank_joins_in, is_between, kept_store, no_pairs}
 pub use Rattle.law_copies.specs.Imports.{one_put_ahead, with_store}
 pub use Rattle.std.proofs.lemmas.Bool.{cases_lt}
@@ -54,10 +54,10 @@ pub use Rattle.law_jobs.proofs.JobsAreEffects.{at_keeps, effects_at, job_keeps}
 pub use Rattle.law_jobs.proofs.JobsKeepChains.{chains_keep}
 pub use Rattle.law_jobs.proofs.JobsSay.{letters_of_job}
 pub use Rattle.law_jobs.proofs.MarksApart.{mark_beside, mark_kept, mark_there, stale_kept, unmark_beside, unmark_none}
-pub use Rattle.law_jobs.proofs.Runs.{At, OneMore, Run, before_part, by_run, firm_in, grown_in, happened_in, longer, more_of, run_of, setting_in, since}
+pub use Rattle.law_jobs.proofs.Runs.{At, OneMore, Run, before_part, by_run, firm_in, grown_in, happened_in, longer, more_of, rests_in, run_of, setting_in}
+pub use Rattle.law_jobs.proofs.Runs.{since, stepped_in}
 pub use Rattle.law_jobs.specs.Effects.{Counts, Drops, Effect, Ends_copy, Idle, IsAt, IsCopiedFor, IsIdle, IsPutAt, Is_begun, Is_copied, Is_further, May}
 pub use Rattle.law_jobs.specs.Effects.{Of_key, Of_operation, Sets, applied}
-pub use Rattle.law_jobs.specs.Imports.{last_on}
 pub use Rattle.law_jobs.specs.Sayings.{Asks_copy, Asks_slot, Begins, Ends_fill, Goes_on, Has_copy, Has_slot, IsCopying, Is_sync_full, Is_synced, Moves}
 pub use Rattle.law_jobs.specs.Sayings.{Moves_on, Says, Syncs, Tells_page, Trims}
 pub use Rattle.law_jobs.specs.Worked.{holder_cell, lead_cell, other_cell, page_cell, second_cell, worked}
@@ -86,7 +86,7 @@ pub use Rattle.law_state.specs.LinkRows.{IsLater}
 pub use Rattle.law_state.specs.Steady.{IsLinked}
 pub use Rattle.law_steps.proofs.ClientLetters.{turned_asks}
 pub use Rattle.law_steps.proofs.CopiesRest.{among_least, cell_left, in_none, on_row, same_cell}
-pub use Rattle.law_steps.proofs.CopyFrames.{of_holder}
+pub use Rattle.law_steps.proofs.CopyFrames.{of_holder, of_other}
 pub use Rattle.law_steps.proofs.FillsByJobs.{Fills, Stood, Writes, did_come}
 pub use Rattle.law_state.proofs.Fronts.{below_itself, front_itself, front_long, front_more, front_on, front_within, one_front}
 pub use Rattle.law_steps.proofs.HeldBackForCaughts.{held_as_flag}
@@ -106,8 +106,9 @@ pub use Rattle.law_steps.proofs.Ties.{running_fronts, stays_alone, stays_both}
 pub use Rattle.law_steps.proofs.WakingGoesOn.{may_wake}
 pub use Rattle.law_steps.proofs.WhoLeads.{lead_links, led_by_link, live_stage, stage_live}
 pub use Rattle.law_steps.specs.DidSecond.{with_tickets}
-pub use Rattle.law_steps.specs.DidStep.{Blanks, By_ballot, By_entry, By_job, Ends, Fails, Goes, IsBallotFor, IsSeatedOrMute, Serves, Serving, Starts, Stays}
-pub use Rattle.law_steps.specs.DidStep.{Turns, Wakes, Worked, served_so, shown_so, stopped_so, without_rev}
+pub use Rattle.law_steps.specs.DidStep.{Blanks, By_ballot, By_entry, By_job, Ends, Fails, Goes, IsBallotFor, IsSeatedOrMute, Serves, Serving, Starts}
+pub use Rattle.law_steps.specs.DidStep.{Stays, Turns, Wakes}
+pub use Rattle.law_steps.specs.DidStep.{Worked, served_so, shown_so, stopped_so, without_rev}
 pub use Rattle.law_steps.specs.Operations.{putting}
 pub use Rattle.law_steps.specs.ProposedCommands.{WasReturning}
 pub use Rattle.law_steps.specs.WakingServers.{AllMayWake}
@@ -121,3 +122,5 @@ pub use Rattle.spec_rules.specs.Crossing.{is_blank_join, touches_link}
 pub use Rattle.spec_rules.specs.Store.{empty_store, settled}
 pub use Rattle.spec_rules.specs.World.{counted, counted_by, kept, kept_by}
 pub use Rattle.spec_state.specs.State.{start as first_state}
+pub use Rattle.law_steps.specs.DidSweep.{cell_swept}
+pub use Rattle.law_steps.proofs.KindsInHistories.{own_steady}

@@ -7,7 +7,7 @@ use Rattle.law_copies.proofs.Imports.{progress_beside, progress_on, proposed, re
 use Rattle.law_copies.proofs.Imports.{true_false, ℕ}
 use Rattle.law_copies.specs.Visits.{AliveIn}
 use Rattle.law_copies.specs.CopyProgress.{links_of}
-use Rattle.law_copies.specs.Pair.{HaveMarks, IsRecalled, Keeps, PairOk, pair_of}
+use Rattle.law_copies.specs.Pair.{HaveMarks, IsRecalled, pair_of}
 use Rattle.law_copies.specs.LoneSteps.{AreFilled, HolderKeeps, IsFollowing, IsHolding, OtherKeeps}
 use Rattle.law_copies.proofs.CellInBoth.{CellInBoth}
 use Rattle.law_copies.proofs.AtSeat.{AtSeat}
@@ -130,28 +130,6 @@ module _ (it : AtSeat) where
     rises : (cell : Cell) → IsRising nat_cmp (chain_in own.store.chains cell) → IsRising nat_cmp (chain_in to.store.chains cell)
     rises cell r = subst (λ (s : Store). IsRising nat_cmp (chain_in s.chains cell)) (sym store_same) r
 
-    first_keeps : (second : PairState) (cell : Cell) → PairOk (pair_of own second cell) → Keeps (pair_of own second cell) (pair_of to second cell)
-    first_keeps second cell ok =
-        subst (Keeps (pair_of own second cell)) (λ i. record {
-          first = chain_in (sym store_same i).chains cell;
-          second = chain_in second.store.chains cell;
-          pending = at cell_cmp (sym pairs_same i).pending cell;
-          next = (sym pairs_same i).next;
-          last = at cell_cmp second.pairs.last cell;
-        })
-        (moves.stays (pair_of own second cell) own.pairs.next ok (omega arith))
-
-    second_keeps : (first : PairState) (cell : Cell) → PairOk (pair_of first own cell) → Keeps (pair_of first own cell) (pair_of first to cell)
-    second_keeps first cell ok =
-        subst (Keeps (pair_of first own cell)) (λ i. record {
-          first = chain_in first.store.chains cell;
-          second = chain_in (sym store_same i).chains cell;
-          pending = at cell_cmp first.pairs.pending cell;
-          next = first.pairs.next;
-          last = at cell_cmp (sym pairs_same i).last cell;
-        })
-        (moves.stays (pair_of first own cell) first.pairs.next ok (omega arith))
-
     -- of a link that the server's state has not it has nothing in mind
     held_pages : (row : LinkRow)
         → ((id : LinkId) (of : LinkRow) → link_named (server_state setting w k) id ≡ Some of → eq_by_cmp link_cmp (id_of row) (id_of of) ≡ false)
@@ -201,7 +179,8 @@ module _ (it : AtSeat) where
     pub ballot_keeping : IsKeeping setting w k begun
     ballot_keeping = record {
       lead = λ cell row second is alive both leads ok known. record {
-        keeps = first_keeps second cell ok;
+        keeps = moves.first_stays own to second cell (ap (λ (s : Store). chain_in s.chains cell) store_same)
+            (ap (λ (p : Pairs). at cell_cmp p.pending cell) pairs_same) (let e = ap (λ (p : Pairs). p.next) pairs_same in omega arith) ok;
         recalled = λ op there.
             let was = ap (λ (p : Pairs). at cell_cmp p.pending cell) (sym pairs_same) ∙ there in
             let staged = (rests.pending k).staged cell op was in
@@ -214,7 +193,8 @@ module _ (it : AtSeat) where
         rising = rises cell;
       };
       second = λ cell row first is alive both follows ok known. record {
-        keeps = second_keeps first cell ok;
+        keeps = moves.second_stays first own to cell (ap (λ (s : Store). chain_in s.chains cell) store_same)
+            (ap (λ (p : Pairs). at cell_cmp p.last cell) pairs_same) ok;
         lacks = λ old op there fill le. ap (λ (s : Store). at nat_cmp (chain_in s.chains cell) op.key.epoch) store_same
             ∙ old op there fill (subst (λ (p : Pairs). progress (at cell_cmp p.last cell) ≤ op.op + op.op) pairs_same le);
         says = λ post i of. known_mute (pair_of first to cell) post.body (mute post i);

@@ -12,8 +12,7 @@ use Rattle.law_copies.proofs.VisitsAfterSteps.{counted_up, none_before, then_of,
 use Rattle.law_copies.proofs.AtJob.{AtJob, step_at}
 use Rattle.law_copies.proofs.BlankJoinsMakePlaces.{joins_at}
 use Rattle.law_copies.proofs.FramesKeepFronts.{LeavesAt, LeavesBoth, LeavesStore, alone_framed, both_framed, filled_framed, filled_on, marked_on, marks_back}
-use Rattle.law_copies.proofs.FramesKeepFronts.{other_is_one, store_same, to_copy_on}
-use Rattle.law_copies.proofs.NewPlaces.{beside_same, twins_same}
+use Rattle.law_copies.proofs.FramesKeepFronts.{StaysAt, beside_stays, other_is_one, same_stays, store_same, to_copy_on, twins_stay}
 use Rattle.law_copies.proofs.ServedAtLaterFronts.{IsCaughtUp, alone_not_lost, alone_or_flagged, alone_since, both_since, holder_is_one, holds_since}
 use Rattle.law_copies.proofs.ServedAtLaterFronts.{same_only}
 use Rattle.law_copies.proofs.OtherIsNotHolder.{other_apart}
@@ -157,9 +156,11 @@ module _ (it : AtJob) where
       → place_by setting front row ≡ place_by setting f row → AreTwins (news front) visits (place_by setting front row) cell row.primary row.secondary
       → AreTwins (news f) visits (place_by setting f row) cell row.primary row.secondary
   twins_moved f cell row prefix is mine e twins = subst (λ place. AreTwins (news f) visits place cell row.primary row.secondary) e
-      (twins_same (news front) (news f) visits (place_by setting front row) cell row.primary row.secondary
-      (sym (news_here f cell row row.primary prefix is mine e (primary_is_one row row.primary refl)))
-      (sym (news_here f cell row row.secondary prefix is mine e (secondary_is_one row row.secondary refl))) twins)
+      (twins_stay (news front) (news f) visits visits (place_by setting front row) cell row.primary row.secondary
+      (here row.primary (primary_is_one row row.primary refl)) (here row.secondary (secondary_is_one row row.secondary refl)) twins)
+    where
+      here : (n : ℕ) → has_server n row ≡ true → StaysAt (news front) (news f) visits visits (place_by setting front row) cell n
+      here n has = same_stays (news front) (news f) visits (place_by setting front row) cell n (sym (news_here f cell row n prefix is mine e has))
 
   pub both_kept : (f : List Command) (cell : Cell) (row : LinkRow) → IsPrefix f top → IsLinked setting f cell row → row.state ≡ Both
       → BothOk setting top next visits reached f cell row
@@ -504,7 +505,9 @@ module _ (it : AtJob) where
                 (subst (λ place. AreCopying (links_of (server_state setting w k) cell.map) row cell (visits holder place cell) (visits other_one place cell))
                 e now.copying);
             beside = λ lives last. subst (λ place. AreBeside (news f) visits place row cell holder other_one) e
-                (beside_same (news front) (news f) visits (place_by setting front row) cell row holder other_one (sym one) (sym two_is)
+                (beside_stays (news front) (news f) visits visits (place_by setting front row) cell holder other_one
+                (same_stays (news front) (news f) visits (place_by setting front row) cell holder (sym one))
+                (same_stays (news front) (news f) visits (place_by setting front row) cell other_one (sym two_is)) row
                 (now.beside lives (subst (λ place. good.reached cell ≤ place) (sym e) (last_old cell there last))));
             stays = λ lives o visit beyond. subst (StaysLeft row cell o) one
                 (now.stays lives o (ap (λ p. visits holder p cell) e ∙ visit) (λ p lt. beyond p (let same = e in omega arith)));

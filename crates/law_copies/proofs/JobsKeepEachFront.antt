@@ -10,7 +10,7 @@ use Rattle.law_copies.specs.Pair.{HaveMarks, Known, pair_of}
 use Rattle.law_copies.specs.LoneSteps.{AreFilled}
 use Rattle.law_copies.specs.Visits.{AliveIn, IsLinked, half, place_by, with_stores}
 use Rattle.law_copies.proofs.AtJob.{AtJob, seat_at, step_at}
-use Rattle.law_copies.proofs.FramesKeepFronts.{LeavesBoth, said_framed}
+use Rattle.law_copies.proofs.FramesKeepFronts.{said_framed}
 use Rattle.law_copies.proofs.MuteLettersTellNothing.{known_mute, told_mute}
 use Rattle.law_copies.proofs.RolesOfWorkers.{other_row}
 use Rattle.law_copies.proofs.StepsKeepCopies.{GoesOn, IsSoundOwn, IsTrue, good_after}
@@ -33,9 +33,6 @@ module _ (it : AtJob) where
 
   abbrev front : List Command
   front = (w.servers k).log.applied
-
-  abbrev Leaves : List Command → ℕ → Cell → LinkRow → Type 0
-  Leaves f place cell row = LeavesBoth (step_at it) f place cell row
 
   abbrev IsElsewhere : (place : ℕ) → Cell → Type 0
   IsElsewhere place cell = (row : LinkRow) → IsLinked setting front cell row → AliveIn (server_state setting w k) cell → place ≢ place_by setting front row

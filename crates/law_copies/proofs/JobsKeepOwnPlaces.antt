@@ -1,18 +1,18 @@
 -- What a job of a server that is In as itself keeps at the places of its own entries.
-use Rattle.law_copies.proofs.Imports.{[], ◌+◌, ◌<◌, ◌∙◌, ◌≡◌, ◌≢◌, ◌≤◌, ◌⊎◌, Body, Bool, Both, Cell, Command, Handled, In, IsMarked, IsToBeCopied, LinkRow}
-use Rattle.law_copies.proofs.Imports.{List, None, Only, Option, PairState, Pairs, Post, Server, Some, Store, about, ap, at, at-empty, blank_joins_in}
-use Rattle.law_copies.proofs.Imports.{cell_cmp, chain_in, chosen_log, has_server, id_of, inl, inr, is_alone, is_flagged, is_in, is_some, needs_full_copy, nat_cmp}
-use Rattle.law_copies.proofs.Imports.{none_some, other_between, other_of, primary_is_one, refl, same_numbers, same_or_apart, same_some, secondary_is_one}
-use Rattle.law_copies.proofs.Imports.{server_state, some_or_none, state_after, state_in, subst, sym, true, ℕ}
+use Rattle.law_copies.proofs.Imports.{[], ◌<◌, ◌∙◌, ◌≡◌, ◌≢◌, ◌≤◌, ◌⊎◌, Body, Bool, Both, Cell, Command, Handled, In, IsMarked, IsToBeCopied, LinkRow, List}
+use Rattle.law_copies.proofs.Imports.{None, Only, Option, PairState, Post, Some, Store, about, ap, blank_joins_in, chain_in, chosen_log, has_server, id_of}
+use Rattle.law_copies.proofs.Imports.{inl, inr, is_alone, is_flagged, is_in, is_some, needs_full_copy, other_between, other_of, primary_is_one, refl, same_numbers}
+use Rattle.law_copies.proofs.Imports.{same_or_apart, same_some, secondary_is_one, server_state, state_after, state_in, subst, sym, true, ℕ}
 use Rattle.law_copies.specs.BothSteps.{LacksFill}
 use Rattle.law_copies.specs.CopyProgress.{AreAlike, AreCopying, IsCovered, IsLeft, IsPage, IsTold, Is_marked_here, Is_to_be_copied, NotCopied, links_of}
 use Rattle.law_copies.specs.GoodCopies.{AreBeside, AreTwins, StaysLeft, pair_at}
-use Rattle.law_copies.specs.Pair.{IsRecalled, Known, PairOk, far, pair_of}
+use Rattle.law_copies.specs.Pair.{Known, PairOk, pair_of}
 use Rattle.law_copies.specs.LoneSteps.{HolderKeeps, IsLeftBy, OtherKeeps}
 use Rattle.law_copies.specs.Visits.{AliveIn, HasFilled, IsLinked, Visits, half, place_by, store_by}
 use Rattle.law_copies.proofs.PlacesByFronts.{has_filled_on}
 use Rattle.law_copies.proofs.AtJob.{AtJob, seat_at, step_at}
-use Rattle.law_copies.proofs.NewPlaces.{half_store}
+use Rattle.law_copies.proofs.NewPlaces.{twins_lacking, twins_of, twins_recalled}
+use Rattle.law_copies.proofs.UnequalIsMarked.{AreRecalled}
 use Rattle.law_copies.proofs.FramesKeepFronts.{LeavesStore, alike_same, marks_back, store_same}
 use Rattle.law_copies.proofs.ServedAtLaterFronts.{holder_is_one, unseen_beyond}
 use Rattle.law_copies.proofs.CellChangesKeepCopies.{known_later}
@@ -46,9 +46,6 @@ module _ (it : AtJob) where
 
   pub nones : (n place : ℕ) (cell : Cell) → visits n place cell ≡ None → good.visits n place cell ≡ None
   nones = none_before (step_at it)
-
-  pub own_now : (v.servers k).own ≡ done.own
-  own_now = ap (λ (s : Server). s.own) job.step.here ∙ job.own_is
 
   -- the stores by the server's own entries, before and then
   abbrev pub olds : ℕ → Store
@@ -120,12 +117,12 @@ module _ (it : AtJob) where
     was_here : good.visits k place cell ≡ Some own
     was_here = seated.here_visit (seat_at it) cell row is alive
 
-    -- what the second server had nothing of, by the stores that count
-    was_lacking : (n m : ℕ) (lead : PairState) → good.visits n place cell ≡ Some lead → AreTwins olds good.visits place cell n m
-        → pair_at olds good.visits place cell n m ≡ pair_of lead (beside m) cell → LacksFill lead (beside m) cell
-    was_lacking n m lead visit twins same op there fill le =
-        ap (λ (a : Store). at nat_cmp (chain_in a.chains cell) op.key.epoch) (half_store (good.visits m place cell) (olds m))
-        ∙ twins.lacks lead op visit there fill (subst (λ p. far p ≤ op.op + op.op) (sym same) le)
+    -- as one of the two servers
+    mine_was : (n : ℕ) → n ≡ k → beside n ≡ own
+    mine_was n e = ap beside e ∙ (λ i. half (was_here i) (store_was i))
+
+    mine_now : (n : ℕ) → n ≡ k → done.own ≡ half (visits n place cell) (news n)
+    mine_now n e = own_half ∙ (λ i. half (visits (sym e i) place cell) (news (sym e i)))
 
     both_first : IsAliveLast → row.state ≡ Both → row.primary ≡ k → BothNow
     both_first lives both leads =
@@ -139,20 +136,13 @@ module _ (it : AtJob) where
         (primary_is_one row k leads) in
         let new_at : pair_of done.own (beside m) cell ≡ pair_at news visits place cell row.primary m =
         (λ i. pair_of (own_half i) (beside_now m ne i) cell) ∙ (λ i. pair_at news visits place cell (sym leads i) m) in
-        let mine : (o : PairState) → visits row.primary place cell ≡ Some o → done.own ≡ o =
-        λ o visit. same_some (sym (visit_now cell row is alive) ∙ ap (λ n. visits n place cell) (sym leads) ∙ visit) in
         record {
-          twins = record {
-            pair = subst PairOk new_at keeps.keeps.ok;
-            recalled = λ o op visit there. subst (λ s. IsRecalled op s cell) (sym (ap news leads ∙ store_now))
-                (keeps.recalled op (ap (λ (x : PairState). at cell_cmp x.pairs.pending cell) (mine o visit) ∙ there));
-            lacks = λ o op visit there fill le.
-                ap (λ (a : Store). at nat_cmp (chain_in a.chains cell) op.key.epoch)
-                (store_apart m ne ∙ sym (half_store (good.visits m place cell) (olds m)))
-                ∙ keeps.lacks
-                (was_lacking row.primary m own (ap (λ n. good.visits n place cell) leads ∙ was_here) old_twins old_at) op
-                (ap (λ (x : PairState). at cell_cmp x.pairs.pending cell) (mine o visit) ∙ there) fill (subst (λ p. far p ≤ op.op + op.op) (sym new_at) le);
-          };
+          twins = twins_of news visits place cell row.primary m (subst PairOk new_at keeps.keeps.ok)
+              (subst (λ a. AreRecalled a cell) (mine_now row.primary leads) keeps.recalled)
+              (subst (λ b. LacksFill (half (visits row.primary place cell) (news row.primary)) b cell) (beside_now m ne)
+              (subst (λ a. LacksFill a (beside m) cell) (mine_now row.primary leads)
+              (keeps.lacks (subst (λ a. LacksFill a (beside m) cell) (mine_was row.primary leads)
+              (twins_lacking olds good.visits place cell row.primary m old_twins)))));
           known = λ said h. subst (λ p. Known p said) new_at
               (known_later (pair_of own (beside m) cell) (pair_of done.own (beside m) cell) keeps.keeps.grows said (subst (λ p. Known p said) old_at h));
           says = λ post i of. subst (λ p. Known p post.body) new_at (keeps.says post i of);
@@ -171,32 +161,16 @@ module _ (it : AtJob) where
         let twins = seated.twins_here (seat_at it) cell row is alive lives both
         (secondary_is_one row k follows) in
         record {
-          twins = record {
-            pair = subst PairOk new_at keeps.keeps.ok;
-            recalled = λ o op visit there. subst (λ s. IsRecalled op s cell) (sym (store_apart n ne))
-                (twins.recalled o op (sym (visit_apart n place cell ne) ∙ visit) there);
-            lacks = λ o op visit there fill le.
-                let was = sym (visit_apart n place cell ne) ∙ visit in
-                let memory : (half (good.visits n place cell) (olds n)).pairs ≡ o.pairs = ap (λ x. (half x (olds n)).pairs) was in
-                ap (λ (a : Store). at nat_cmp (chain_in a.chains cell) op.key.epoch) (ap news follows ∙ store_now)
-                ∙ keeps.lacks (second_lacking n twins old_at follows) op (ap (λ (p : Pairs). at cell_cmp p.pending cell) memory ∙ there) fill
-                (subst (λ p. far p ≤ op.op + op.op) (sym new_at) le);
-          };
+          twins = twins_of news visits place cell n row.secondary (subst PairOk new_at keeps.keeps.ok)
+              (subst (λ a. AreRecalled a cell) (beside_now n ne) (twins_recalled olds good.visits place cell n row.secondary twins))
+              (subst (λ a. LacksFill a (half (visits row.secondary place cell) (news row.secondary)) cell) (beside_now n ne)
+              (subst (λ b. LacksFill (beside n) b cell) (mine_now row.secondary follows)
+              (keeps.lacks (subst (λ b. LacksFill (beside n) b cell) (mine_was row.secondary follows)
+              (twins_lacking olds good.visits place cell n row.secondary twins)))));
           known = λ said h. subst (λ p. Known p said) new_at
               (known_later (pair_of (beside n) own cell) (pair_of (beside n) done.own cell) keeps.keeps.grows said (subst (λ p. Known p said) old_at h));
           says = λ post i of. subst (λ p. Known p post.body) new_at (keeps.says post i of);
         }
-      where
-        -- what this server lacks as the second one
-        second_lacking : (n : ℕ) → AreTwins olds good.visits place cell n row.secondary
-            → pair_at olds good.visits place cell n row.secondary ≡ pair_of (beside n) own cell → row.secondary ≡ k → LacksFill (beside n) own cell
-        second_lacking n twins same follows op there fill le = elim (some_or_none (good.visits n place cell)) [
-          | inl h ↦
-              ap (λ (a : Store). at nat_cmp (chain_in a.chains cell) op.key.epoch) (sym (ap olds follows ∙ store_was))
-              ∙ twins.lacks h.0 op h.1 (sym (ap (λ x. at cell_cmp (half x (olds n)).pairs.pending cell) h.1) ∙ there) fill
-              (subst (λ p. far p ≤ op.op + op.op) (sym same) le)
-          | inr none ↦ none_some (ap (λ x. at cell_cmp (half x (olds n)).pairs.pending cell) none ∙ at-empty cell_cmp cell) there
-        ]
 
     pub both_now : IsAliveLast → row.state ≡ Both → has_server k row ≡ true → BothNow
     both_now lives both has = elim (other_between row k has) [ inl p ↦ both_second lives both p.1 | inr p ↦ both_first lives both p.0 ]

@@ -1,6 +1,6 @@
 -- What a step of the first server of a cell in Both keeps of its two copies.
-use Rattle.law_copies.proofs.Imports.{◌+◌, ◌∙◌, ◌≡◌, ◌≢◌, ◌≤◌, Body, Busy, By_lead, Cell, Chain, Closes, Closes_alone, DidLead, Gives_up, Goes_on_retired}
-use Rattle.law_copies.proofs.Imports.{JobResult, Marks, Marks_alone, None, Opens, Opens_alone, Opens_fill, Opens_fill_alone, Option, PairState, Pending, Puts}
+use Rattle.law_copies.proofs.Imports.{◌+◌, ◌∙◌, ◌≡◌, ◌≢◌, Body, Busy, By_lead, Cell, Chain, Closes, Closes_alone, DidLead, Gives_up, Goes_on_retired, JobResult}
+use Rattle.law_copies.proofs.Imports.{Marks, Marks_alone, None, Opens, Opens_alone, Opens_fill, Opens_fill_alone, Option, PairState, Pending, Puts}
 use Rattle.law_copies.proofs.Imports.{Puts_alone, Some, Stage, Store, Taken, Unmarks, Unmarks_alone, about, ap, at, both_not_alone, cell_cmp, cell_gone}
 use Rattle.law_copies.proofs.Imports.{cell_of, cell_same, chain_in, chain_put, did_count, ends, false, fill_operation, gives_back, inl, inr, is_alone_on}
 use Rattle.law_copies.proofs.Imports.{lead_cell, live, marks, nat_cmp, none_some, of_ending, operation, put, puts, putting, refl, same_cell_or_apart}
@@ -28,27 +28,11 @@ module _ (it : CellInBoth) (second_own : PairState) (ok : PairOk (pair_of it.own
   known_at : (said : Body) → heard said → (q : Cell) → (about said).cell ≡ Some q → q ≡ cell → Known (pair_of own second_own q) said
   known_at said h q is e = subst (λ (c : Cell). Known (pair_of own second_own c) said) (sym e) (known said h (is ∙ ap Some e))
 
-  -- ### Frames
-
-  -- copy and operation stay, and the number of the next one only grows
-  pub off : (new : PairState) → chain_in new.store.chains cell ≡ chain_in own.store.chains cell
-      → at cell_cmp new.pairs.pending cell ≡ at cell_cmp own.pairs.pending cell → own.pairs.next ≤ new.pairs.next
-      → Keeps (pair_of own second_own cell) (pair_of new second_own cell)
-  off new chain pending next =
-      subst (Keeps (pair_of own second_own cell)) (λ i. record {
-        first = sym chain i;
-        second = chain_in second_own.store.chains cell;
-        pending = sym pending i;
-        next = new.pairs.next;
-        last = at cell_cmp second_own.pairs.last cell;
-      })
-      (moves.stays (pair_of own second_own cell) new.pairs.next ok next)
-
   -- a job beside the cell
   beside : (done : JobResult) (d : DidLead heard here own done) → lead_cell heard here own done d ≢ Some cell → K done.own
   beside done d ne =
       let rest = rest_apart heard here own fit.ready cell alive (fit.bare cell) done (By_lead done d) ne in
-      off done.own rest.chain rest.pending (did_count heard here own done (By_lead done d))
+      moves.first_stays own done.own second_own cell rest.chain rest.pending (did_count heard here own done (By_lead done d)) ok
 
   -- and one that may be at the cell
   at_cell : (q : Cell) (done : JobResult) (d : DidLead heard here own done) → lead_cell heard here own done d ≡ Some q

@@ -20,7 +20,6 @@ pub mod CopyMoves
 pub mod HolderPace
 pub mod CopiesGoOn
 pub mod HolderSteps
-pub mod HolderWrites
 pub mod HolderJobs
 pub mod BallotsFindAllCopied
 pub mod CellChangesKeepCopies
@@ -39,7 +38,6 @@ pub mod NextEntry
 pub mod NewEntryKeepsFronts
 pub mod KeptEntryByEntry
 pub mod JoinsBetweenFronts
-pub mod BesideTwins
 pub mod TwinsAgree
 pub mod UnequalIsMarked
 pub mod CopiesGround
@@ -65,7 +63,6 @@ pub mod JobsAtEachFront
 pub mod JobsKeepEachFront
 pub mod CellsWithoutLink
 pub mod JobsAndBallotsKeep
-pub mod AtWork
 pub mod CopiesKnownOfWorlds
 pub mod CopiesAtStart
 pub mod WakingKeepsCopies

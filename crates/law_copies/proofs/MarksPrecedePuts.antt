@@ -1,98 +1,83 @@
 -- In every legal history each put of a lead fell on a block that was marked on its device.
-use Rattle.law_copies.proofs.Imports.{[], ◌++◌, ◌∙◌, ◌∷◌, ◌≡◌, ◌≢◌, Acted, AreSteps, Blanks, By_ballot, By_entry, By_job, Cell, Did, Ends, Fails, Firm, Goes}
-use Rattle.law_copies.proofs.Imports.{Handled, Happens, IsMarked, IsSeatedOrMute, IsSound, JobResult, List, MarksFirst, Record, Rests, Script, Server, Serves}
-use Rattle.law_copies.proofs.Imports.{Serving, Setting, State, Stays, Step, Store, Turns, Wakes, World, always_firm, ap, append_assoc, before_part}
-use Rattle.law_copies.proofs.Imports.{below_itself, blanked, chain_in, chosen_log, chosen_state, counted, crossed, history_is_firm, inl, inr, is_in, kept}
-use Rattle.law_copies.proofs.Imports.{last_happens, leads_link, live, own_place, put_apart, put_at, put_same, refl, rests_after, same_or_apart, server_state}
-use Rattle.law_copies.proofs.Imports.{setting_of, settling, start, start_rests, stays, subst, sym, true, true_false, world_after, world_more, ℕ}
-use Rattle.law_copies.specs.GoodCopies.{Good}
-use Rattle.law_copies.proofs.AtSeat.{AtSeat, IsAtWork}
-use Rattle.law_copies.proofs.AtWork.{at_work}
+use Rattle.law_copies.proofs.Imports.{[], ◌++◌, ◌∙◌, ◌∷◌, ◌≡◌, ◌≢◌, Acted, AreSteps, Blanks, By_ballot, By_entry, By_job, Cell, Ends, Goes, Handled, Happens}
+use Rattle.law_copies.proofs.Imports.{IsMarked, IsSound, JobResult, List, Log, MarksFirst, PairState, Record, Run, Script, Server, Serves, Serving, Setting}
+use Rattle.law_copies.proofs.Imports.{State, Step, Store, Turns, Worked, World, all_put_apart, ap, append_assoc, before_part, below_itself, blanked, chain_in}
+use Rattle.law_copies.proofs.Imports.{chosen_state, crossed, firm_in, happened_in, inl, inr, is_in, kept, leads_link, live, longer, more_of, own_place}
+use Rattle.law_copies.proofs.Imports.{proposed, refl, rests_in, server_state, setting_in, settled_by, settling, stepped_in, subst, sym, true, true_false, ℕ}
+use Rattle.law_jobs.proofs.Runs.{after}
+use Rattle.law_copies.proofs.AtSeat.{AtSeat}
+use Rattle.law_copies.proofs.StoreHistories.{in_counts, in_own}
 use Rattle.law_copies.proofs.BallotsFindAllCopied.{ballot_alike}
 use Rattle.law_copies.proofs.CopiesInHistories.{good_after}
 use Rattle.law_copies.proofs.LeadsFindMarks.{job_marked}
 use Rattle.law_copies.proofs.PlacesBeforeJobs.{fit, idle_copies}
-use Rattle.law_copies.proofs.PlacesBeforeJobs as seated
 
-module _ (setting : Setting) (records : List Record) (w : World) (firm : Firm setting w) (rests : Rests setting w)
-    (good : Good setting records (chosen_log setting w) (counted setting w))
-    (works : (k : ℕ) → (w.servers k).life.running ≡ true → is_in (server_state setting w k) k (w.servers k).life.inc ≡ true
-    → IsAtWork setting w (kept setting w) k) where
-  abbrev at_seat : (k : ℕ) → IsAtWork setting w (kept setting w) k → AtSeat
-  at_seat k at = record {
-    ground = record { setting = setting; records = records; w = w; stores = kept setting w; good = good; firm = firm; rests = rests };
+module _ (run : Run) (cell : Cell) where
+  abbrev setting : Setting
+  setting = setting_in run
+
+  abbrev w : World
+  w = after run
+
+  abbrev seated : (k : ℕ) → (w.servers k).life.running ≡ true → is_in (server_state setting w k) k (w.servers k).life.inc ≡ true → AtSeat
+  seated k runs seat = record {
+    ground = record {
+      setting = setting;
+      records = run.records;
+      w = w;
+      stores = kept setting w;
+      good = good_after run.script run.records run.sound run.legal;
+      firm = firm_in run;
+      rests = rests_in run;
+    };
     k = k;
-    works = at;
+    works = record {
+      runs = runs;
+      seat = seat;
+      real = in_own run.script run.records k run.sound run.legal runs seat (w.servers k).own.store;
+      counts = in_counts run.script run.records k (w.servers k).log.applied run.sound run.legal ((firm_in run).servers k) seat;
+    };
   }
 
-  -- in a job of a server that leads the cell
-  job_first : (k : ℕ) (done : JobResult) → (w.servers k).life.running ≡ true → Did (Handled w k) (own_place setting w k) (w.servers k).own done
-      → IsSeatedOrMute (own_place setting w k) (w.servers k).own done → (cell : Cell) → live (server_state setting w k) cell ≡ true
-      → leads_link (server_state setting w k) k cell ≡ true → chain_in done.own.store.chains cell ≢ chain_in (w.servers k).own.store.chains cell
-      → IsMarked (w.servers k).own.store cell
-  job_first k done runs did (inl seat) cell on lead changed =
-      let at = works k runs seat in
-      (job_marked (Handled w k) (own_place setting w k) (w.servers k).own (fit (at_seat k at))
-      (idle_copies (at_seat k at)) done did).first cell on lead changed
-  job_first k done runs did (inr apart) cell on lead changed = absurd (changed (ap (λ o. chain_in o.store.chains cell) apart.same))
+  -- where the server comes to have this, its cell was marked if it led the cell and has another copy of it
+  abbrev IsFirst : ℕ → PairState → Type 0
+  IsFirst n to = (w.servers n).life.running ≡ true → live (server_state setting w n) cell ≡ true → leads_link (server_state setting w n) n cell ≡ true
+      → chain_in to.store.chains cell ≢ chain_in (w.servers n).own.store.chains cell → IsMarked (w.servers n).own.store cell
 
-  server_first : (k : ℕ) (what : Step) (acted : Acted) → Serving setting w k what acted → (cell : Cell) → live (server_state setting w k) cell ≡ true
-      → leads_link (server_state setting w k) k cell ≡ true → chain_in acted.server.own.store.chains cell ≢ chain_in
-      (w.servers k).own.store.chains cell → IsMarked (w.servers k).own.store cell
-  server_first k what _ (Goes _ _ queue runs
-      (By_job log done same did seat) queued works) cell on lead changed = job_first k done runs did seat cell on lead changed
-  server_first k what _ (Goes _ _ queue runs (By_ballot log started posts same starts logged) queued works) cell on lead changed =
-      absurd (changed (ap (λ (s : Store). chain_in s.chains cell) (ballot_alike (server_state setting w k) (w.servers k).own started).2))
-  server_first k what _ (Goes _ _ queue runs (By_entry log entry more front) queued works) cell on lead changed =
-      absurd (changed (ap (λ t. chain_in t cell) (settling (own_place setting w k) entry (crossed (server_state setting w k) entry (w.servers k).own)).chains))
-  server_first k what _ (Ends _ _ runs (By_job log done same did seat)) cell on lead changed = job_first k done runs did seat cell on lead changed
-  server_first k what _ (Ends _ _ runs (By_ballot log started posts same starts logged)) cell on lead changed =
-      absurd (changed (ap (λ (s : Store). chain_in s.chains cell) (ballot_alike (server_state setting w k) (w.servers k).own started).2))
-  server_first k what _ (Ends _ _ runs (By_entry log entry more front)) cell on lead changed =
-      absurd (changed (ap (λ t. chain_in t cell) (settling (own_place setting w k) entry (crossed (server_state setting w k) entry (w.servers k).own)).chains))
-  server_first k what _ (Stays who posts from shown) cell on lead changed = absurd (changed refl)
-  server_first k what _ (Wakes booted asleep) cell on lead changed = absurd (changed refl)
-  server_first k what _ (Fails booted asleep) cell on lead changed = absurd (changed refl)
+  same_first : (n : ℕ) (to : PairState) → to.store.chains ≡ (w.servers n).own.store.chains → IsFirst n to
+  same_first n to same runs on lead changed = absurd (changed (ap (λ t. chain_in t cell) same))
 
-  happens_first : (v : World) → Happens setting (chosen_state setting v) w v → (n : ℕ) (cell : Cell) → (w.servers n).life.running ≡ true
-      → live (server_state setting w n) cell ≡ true → leads_link (server_state setting w n) n cell ≡ true
-      → chain_in (v.servers n).own.store.chains cell ≢ chain_in (w.servers n).own.store.chains cell → IsMarked (w.servers n).own.store cell
-  happens_first v what n cell runs on lead changed = by (chosen_state setting v) v what lead changed
-    where
-      by : (state : State) (u : World) → Happens setting state w u → leads_link (server_state setting w n) n cell ≡ true
-          → chain_in (u.servers n).own.store.chains cell ≢ chain_in (w.servers n).own.store.chains cell → IsMarked (w.servers n).own.store cell
-      by state _ (Serves k stamp step acted lt small unblanked serving) lead changed = elim (same_or_apart n k) [
-        | inl e ↦
-            subst (λ i. IsMarked (w.servers i).own.store cell) (sym e)
-            (server_first k step acted serving cell (subst (λ i. live (server_state setting w i) cell ≡ true) e on)
-            (subst (λ i. leads_link (server_state setting w i) i cell ≡ true) e lead)
-            (λ same. changed
-            (ap (λ i. chain_in (put_at w.servers k acted.server i).own.store.chains cell) e
-            ∙ ap (λ (s : Server). chain_in s.own.store.chains cell) (put_same w.servers k acted.server) ∙ same
-            ∙ ap (λ (i : ℕ). chain_in (w.servers i).own.store.chains cell) (sym e))))
-        | inr ne ↦ absurd (changed (ap (λ (s : Server). chain_in s.own.store.chains cell) (put_apart w.servers k acted.server n ne)))
-      ]
-      by state _ (Blanks k stamp lt small asleep) lead changed = elim (same_or_apart n k) [
-        | inl e ↦ true_false runs (ap (λ i. (w.servers i).life.running) e ∙ asleep)
-        | inr ne ↦ absurd (changed (ap (λ (s : Server). chain_in s.own.store.chains cell)
-            (put_apart w.servers k (stays (blanked (w.servers k))).server n ne)))
-      ]
-      by state _ (Turns c stamp in_call reacted lt c_lt turned onward) lead changed = absurd (changed refl)
+  worked_first : (k : ℕ) (log : Log) (done : JobResult) → Worked setting w k log done → IsFirst k done.own
+  worked_first k _ _ (By_job log done same did (inl seat)) =
+      λ runs. let it = seated k runs seat in
+      (job_marked (Handled w k) (own_place setting w k) (w.servers k).own (fit it) (idle_copies it) done did).first cell
+  worked_first k _ _ (By_job log done same did (inr apart)) = same_first k done.own (ap (λ (o : PairState). o.store.chains) apart.same)
+  worked_first k _ _ (By_ballot log started posts same starts logged) =
+      same_first k (proposed (server_state setting w k) (w.servers k).own started)
+      (ap (λ (s : Store). s.chains) (ballot_alike (server_state setting w k) (w.servers k).own started).2)
+  worked_first k _ _ (By_entry log entry more front) =
+      let own = crossed (server_state setting w k) entry (w.servers k).own in
+      same_first k (settled_by (own_place setting w k) entry own) (settling (own_place setting w k) entry own).chains
+
+  server_first : (k : ℕ) (what : Step) (acted : Acted) → Serving setting w k what acted → IsFirst k acted.server.own
+  server_first k what _ (Goes log done queue runs worked queued works) = worked_first k log done worked
+  server_first k what _ (Ends log done runs worked) = worked_first k log done worked
+  server_first k what acted _ = same_first k acted.server.own refl
+
+  happens_first : (state : State) (v : World) → Happens setting state w v → (n : ℕ) → IsFirst n (v.servers n).own
+  happens_first state _ (Serves k stamp step acted lt small unblanked serving) =
+      all_put_apart w.servers k acted.server (λ n (s : Server). IsFirst n s.own) (λ n ne. same_first n (w.servers n).own refl)
+      (server_first k step acted serving)
+  happens_first state _ (Blanks k stamp lt small asleep) = all_put_apart w.servers k (blanked (w.servers k)) (λ n (s : Server). IsFirst n s.own)
+      (λ n ne. same_first n (w.servers n).own refl) (λ runs. true_false runs asleep)
+  happens_first state _ (Turns c stamp in_call reacted lt c_lt turned onward) = λ n. same_first n (w.servers n).own refl
 
 pub marks_first : (script : Script) (records : List Record) → IsSound script → AreSteps script records → MarksFirst script records
 marks_first script records sound legal front back own e n cell =
-    let setting = setting_of script in
-    let w = world_after setting (start setting) front in
-    let all = front ++ own ∷ [] in
-    let v = world_after setting (start setting) all in
-    let legal_all = before_part script all back (subst (AreSteps script) (e ∙ sym (append_assoc front (own ∷ []) back)) legal) in
-    let legal_front = before_part script front (own ∷ []) legal_all in
-    let firm = history_is_firm script front sound legal_front in
-    let rests = rests_after setting (start setting) front (always_firm script front sound legal_front) (start_rests script) legal_front in
-    let happens = last_happens script front own (always_firm script all sound legal_all) legal_all (chosen_state setting v)
-    (below_itself (chosen_state setting v)) in
+    let it = more_of script sound front own (before_part script (front ++ own ∷ []) back
+    (subst (AreSteps script) (e ∙ sym (append_assoc front (own ∷ []) back)) legal)) in
+    let happens = happened_in it (chosen_state (setting_in it.prior) (after (longer it))) (below_itself _) in
     record {
-      marked = λ runs on leads changed. happens_first setting front w firm rests (good_after script front sound legal_front)
-          (at_work script front sound legal_front) v happens n cell runs on leads
-          (λ same. changed (ap (λ (u : World). chain_in (u.servers n).own.store.chains cell) (sym (world_more setting (start setting) front own)) ∙ same));
+      marked = λ runs on leads changed. happens_first it.prior cell _ (after (longer it)) happens n runs on leads
+          (λ same. changed (ap (λ (v : World). chain_in (v.servers n).own.store.chains cell) (sym (stepped_in it)) ∙ same));
     }

@@ -16,10 +16,10 @@ use Rattle.law_copies.specs.LoneSteps.{AreFilled, IsBare}
 use Rattle.law_copies.specs.Visits.{AliveIn, AreReached, HasFilled, IsHere, IsLinked, Visits, place_by, store_by}
 use Rattle.law_copies.proofs.PlacesByFronts.{has_filled_on, reached_on, below_at, front_or_all, links_up, other_later}
 use Rattle.law_copies.proofs.BlankJoinsMakePlaces.{joins_at, store_at}
-use Rattle.law_copies.proofs.FramesKeepFronts.{other_is_one}
+use Rattle.law_copies.proofs.FramesKeepFronts.{StaysAt, beside_stays, other_is_one, same_stays, twins_stay}
 use Rattle.law_copies.proofs.ServedAtLaterFronts.{alone_not_lost, holder_is_one, other_than}
 use Rattle.law_copies.proofs.MuteLettersTellNothing.{said_mute}
-use Rattle.law_copies.proofs.NewPlaces.{beside_same, both_cover, cover_again, in_common, new_alone, new_twins, twins_same}
+use Rattle.law_copies.proofs.NewPlaces.{both_cover, cover_again, in_common, new_alone, new_twins}
 use Rattle.law_copies.proofs.BlankJoinsRenewLinks.{blanked_alone, counts_same, filled_cover, joined_not_both, joins_so, no_blank_join, no_chains}
 use Rattle.law_copies.proofs.AtNext.{AtNext, next_of, IsGrownTo}
 use Rattle.law_copies.proofs.NextEntry.{alive_before, born_then, by_next, front_stores, later_then, next_store, next_stores, no_blank, no_caught, no_leave}
@@ -87,6 +87,13 @@ module _ (it : AtNext) where
   same_store cell now n is end same has = store_at setting next all stores next top cell now now n (front_itself next)
       (front_more top entry) end is has has same
 
+  same_here : (cell : Cell) (now : LinkRow) (n : ℕ) → IsLinked setting top cell now → IsLinked setting next cell now
+      → place_by setting next now ≡ place_by setting top now → has_server n now ≡ true
+      → StaysAt (store_by setting stores top) (store_by setting stores next) good.visits good.visits (place_by setting top now) cell n
+  same_here cell now n is end same has =
+      same_stays (store_by setting stores top) (store_by setting stores next) good.visits (place_by setting top now) cell n
+      (same_store cell now n is end same has)
+
   -- two equal copies, of which nobody has anything in memory
   made_twins : (cell : Cell) (now : LinkRow) → ((k : ℕ) → good.visits k (place_by setting next now) cell ≡ None)
       → (AliveIn here cell → chain_in (new now.primary).chains cell ≡ chain_in (new now.secondary).chains cell)
@@ -101,9 +108,10 @@ module _ (it : AtNext) where
   both_next cell now end both = by_next it cell now end
       (λ is same. record {
         twins = λ alive last. subst (λ place. AreTwins (store_by setting stores next) good.visits place cell now.primary now.secondary) (sym same)
-            (twins_same (store_by setting stores top) (store_by setting stores next) good.visits (place_by setting top now) cell now.primary now.secondary
-            (same_store cell now now.primary is end same (primary_is_one now now.primary refl))
-            (same_store cell now now.secondary is end same (secondary_is_one now now.secondary refl))
+            (twins_stay (store_by setting stores top) (store_by setting stores next) good.visits good.visits (place_by setting top now) cell
+            now.primary now.secondary
+            (same_here cell now now.primary is end same (primary_is_one now now.primary refl))
+            (same_here cell now now.secondary is end same (secondary_is_one now now.secondary refl))
             ((both_on top cell now (front_itself top) (good.both top cell now (front_itself top) is both)).twins alive
             (subst (λ place. good.reached cell ≤ place) same last)));
       })
@@ -277,7 +285,8 @@ module _ (it : AtNext) where
             (sym (links_up setting next all top next cell now (front_more top entry) (front_itself next) is))
             (subst (λ place. AreCopying (links_of here cell.map) now cell (good.visits holder place cell) (good.visits other place cell)) (sym same) a.copying);
         beside = λ alive last. subst (λ place. AreBeside (store_by setting stores next) good.visits place now cell holder other) (sym same)
-            (beside_same (store_by setting stores top) (store_by setting stores next) good.visits (place_by setting top now) cell now holder other one two
+            (beside_stays (store_by setting stores top) (store_by setting stores next) good.visits good.visits (place_by setting top now) cell holder other
+            (same_here cell now holder is end same has) (same_here cell now other is end same (other_is_one now holder)) now
             (a.beside alive (subst (λ place. good.reached cell ≤ place) same last)));
         stays = λ alive own visit beyond. subst (λ s. StaysLeft now cell own s) (sym one)
             (a.stays alive own (ap (λ p. good.visits holder p cell) (sym same) ∙ visit) (λ p lt. beyond p (let e = same in omega arith)));

@@ -1,10 +1,11 @@
 -- Two copies at a new place of their link, and by other stores that have the same of the cell.
-use Rattle.law_copies.proofs.Imports.{[], ◌+◌, ◌∙◌, ◌≡◌, ◌≤◌, ◌⊎◌, Cell, Command, LinkRow, List, None, Option, PairState, Pending, Setting, Some, Store, ap}
-use Rattle.law_copies.proofs.Imports.{arith, at, at-empty, cell_cmp, chain_in, has_server, inl, inr, needs_full_copy, nat_cmp, none_some, other_between, other_of}
-use Rattle.law_copies.proofs.Imports.{refl, state_after, subst, sym, true, ℕ}
-use Rattle.law_copies.specs.CopyProgress.{AreAlike, IsCovered, Is_equal, Is_marked_here, Is_marked_there, Is_to_be_copied}
-use Rattle.law_copies.specs.GoodCopies.{AloneOk, AreBeside, AreTwins}
-use Rattle.law_copies.specs.Pair.{IsRecalled, PairOk, far, pair_of}
+use Rattle.law_copies.proofs.Imports.{[], ◌∙◌, ◌≡◌, ◌⊎◌, Cell, Command, LinkRow, List, None, Option, PairState, Pending, Setting, Some, Store, ap, arith, at}
+use Rattle.law_copies.proofs.Imports.{at-empty, cell_cmp, chain_in, has_server, inl, inr, needs_full_copy, none_some, other_between, other_of, refl, some_or_none}
+use Rattle.law_copies.proofs.Imports.{state_after, subst, sym, true, ℕ}
+use Rattle.law_copies.specs.CopyProgress.{IsCovered, Is_equal, Is_marked_here, Is_marked_there, Is_to_be_copied}
+use Rattle.law_copies.specs.BothSteps.{LacksFill}
+use Rattle.law_copies.specs.GoodCopies.{AloneOk, AreTwins}
+use Rattle.law_copies.specs.Pair.{PairOk, pair_of}
 use Rattle.law_copies.specs.Visits.{AliveIn, HasFilled, Visits, half, place_by, store_by}
 use Rattle.law_copies.proofs.UnequalIsMarked.{AreRecalled, covered_first, covered_second}
 
@@ -21,15 +22,39 @@ in_common f row holder has same = elim (other_between row holder has) [
 -- ### Two copies of a link in Both
 
 pub half_store : (visit : Option PairState) (store : Store) → (half visit store).store ≡ store
-half_store None store = refl
-half_store (Some own) store = refl
+half_store visit store = refl
 
--- what a server has in memory of the place it recalls
-recalled_half : (visit : Option PairState) (a : Store) (cell : Cell)
-    → ((own : PairState) (op : Pending) → visit ≡ Some own → at cell_cmp own.pairs.pending cell ≡ Some op → IsRecalled op a cell)
-    → AreRecalled (half visit a) cell
-recalled_half None a cell recalled op there = none_some (at-empty cell_cmp cell) there
-recalled_half (Some own) a cell recalled op there = recalled own op refl there
+-- what two servers that were at the place have in mind, and what each of them has: both tell the same
+module _ (stores : ℕ → Store) (visits : Visits) (place : ℕ) (cell : Cell) (n m : ℕ) where
+  abbrev lead : PairState
+  lead = half (visits n place cell) (stores n)
+
+  abbrev second : PairState
+  second = half (visits m place cell) (stores m)
+
+  pending_at : {own : PairState} → visits n place cell ≡ Some own → at cell_cmp lead.pairs.pending cell ≡ at cell_cmp own.pairs.pending cell
+  pending_at visit = ap (λ o. at cell_cmp (half o (stores n)).pairs.pending cell) visit
+
+  -- one of them that is pending was in mind
+  minded : {A : Type 0} (op : Pending) → at cell_cmp lead.pairs.pending cell ≡ Some op
+      → ((own : PairState) → visits n place cell ≡ Some own → at cell_cmp own.pairs.pending cell ≡ Some op → A) → A
+  minded op there so = elim (some_or_none (visits n place cell)) [
+    | inl h ↦ so h.0 h.1 (sym (pending_at h.1) ∙ there)
+    | inr none ↦ none_some (ap (λ o. at cell_cmp (half o (stores n)).pairs.pending cell) none ∙ at-empty cell_cmp cell) there
+  ]
+
+  pub twins_recalled : AreTwins stores visits place cell n m → AreRecalled lead cell
+  twins_recalled twins op there = minded op there (λ own visit is. twins.recalled own op visit is)
+
+  pub twins_lacking : AreTwins stores visits place cell n m → LacksFill lead second cell
+  twins_lacking twins op there fill le = minded op there (λ own visit is. twins.lacks own op visit is fill le)
+
+  pub twins_of : PairOk (pair_of lead second cell) → AreRecalled lead cell → LacksFill lead second cell → AreTwins stores visits place cell n m
+  twins_of pair recalled lacking = record {
+    pair = pair;
+    recalled = λ own op visit there. recalled op (pending_at visit ∙ there);
+    lacks = λ own op visit there fill le. lacking op (pending_at visit ∙ there) fill le;
+  }
 
 module _ (stores : ℕ → Store) (visits : Visits) (place : ℕ) (row now : LinkRow) (cell : Cell)
     (twins : AreTwins stores visits place cell row.primary row.secondary) where
@@ -40,27 +65,17 @@ module _ (stores : ℕ → Store) (visits : Visits) (place : ℕ) (row now : Lin
   second_half = half (visits row.secondary place cell) (stores row.secondary)
 
   recalled : AreRecalled lead_half cell
-  recalled = recalled_half (visits row.primary place cell) (stores row.primary) cell twins.recalled
-
-  lead_store : lead_half.store ≡ stores row.primary
-  lead_store = half_store (visits row.primary place cell) (stores row.primary)
-
-  second_store : second_half.store ≡ stores row.secondary
-  second_store = half_store (visits row.secondary place cell) (stores row.secondary)
+  recalled = twins_recalled stores visits place cell row.primary row.secondary twins
 
   -- where one of them holds it alone from then on, an unequal block is marked
   pub both_cover : (holder : ℕ) → has_server holder row ≡ true → IsCovered now cell (stores holder) (stores (other_of holder row)) None
   both_cover holder has = elim (other_between row holder has) [
     | inr pair ↦
         subst (λ n. IsCovered now cell (stores n) (stores (other_of holder row)) None) pair.0
-        (subst (λ m. IsCovered now cell (stores row.primary) (stores m) None) pair.1
-        (subst (λ a. IsCovered now cell a (stores row.secondary) None) lead_store
-        (subst (λ b. IsCovered now cell lead_half.store b None) second_store (covered_first now lead_half second_half cell None twins.pair recalled))))
+        (subst (λ m. IsCovered now cell (stores row.primary) (stores m) None) pair.1 (covered_first now lead_half second_half cell None twins.pair recalled))
     | inl pair ↦
         subst (λ n. IsCovered now cell (stores n) (stores (other_of holder row)) None) pair.1
-        (subst (λ m. IsCovered now cell (stores row.secondary) (stores m) None) pair.0
-        (subst (λ a. IsCovered now cell a (stores row.primary) None) second_store
-        (subst (λ b. IsCovered now cell second_half.store b None) lead_store (covered_second now lead_half second_half cell twins.pair recalled))))
+        (subst (λ m. IsCovered now cell (stores row.secondary) (stores m) None) pair.0 (covered_second now lead_half second_half cell twins.pair recalled))
   ]
 
 -- what covers the copies at one place covers them at the next one, at which the holder has heard of no block
@@ -114,24 +129,3 @@ new_alone setting top stores visits reached front cell row holder unseen covered
   stays = λ alive own visited beyond. none_some (unseen holder) visited;
   unfilled = unfilled;
 }
-
--- ### The same two stores
-
-module _ (old new : ℕ → Store) (visits : Visits) (place : ℕ) (cell : Cell) where
-  pub twins_same : (n m : ℕ) → new n ≡ old n → new m ≡ old m → AreTwins old visits place cell n m → AreTwins new visits place cell n m
-  twins_same n m one two twins = record {
-    pair = subst (λ a. PairOk (pair_of (half (visits n place cell) a) (half (visits m place cell) (new m)) cell)) (sym one)
-        (subst (λ b. PairOk (pair_of (half (visits n place cell) (old n)) (half (visits m place cell) b) cell)) (sym two) twins.pair);
-    recalled = λ own op visit there. subst (λ a. IsRecalled op a cell) (sym one) (twins.recalled own op visit there);
-    lacks = λ own op visit there fill le. subst (λ b. at nat_cmp (chain_in b.chains cell) op.key.epoch ≡ None) (sym two)
-        (twins.lacks own op visit there fill (subst (λ k. k ≤ op.op + op.op)
-        (λ i. far (pair_of (half (visits n place cell) (one i)) (half (visits m place cell) (two i)) cell)) le));
-  }
-
-  pub beside_same : (row : LinkRow) (holder other : ℕ) → new holder ≡ old holder → new other ≡ old other
-      → AreBeside old visits place row cell holder other → AreBeside new visits place row cell holder other
-  beside_same row holder other one two beside = record {
-    alike = subst (λ a. AreAlike row cell a (new other) (visits holder place cell)) (sym one)
-        (subst (λ b. AreAlike row cell (old holder) b (visits holder place cell)) (sym two) beside.alike);
-    still = λ own visit. beside.still own visit ∙ ap (λ (s : Store). chain_in s.chains cell) (sym two);
-  }

@@ -3,10 +3,10 @@ use Rattle.law_copies.proofs.Imports.{[], ◌+◌, ◌<◌, ◌∙◌, ◌∷◌
 use Rattle.law_copies.proofs.Imports.{Some, Stored, ap, arith, at, at_apart, at_same, cell_of, cell_same, chain_in, chain_put, copying_on, epochs_beyond}
 use Rattle.law_copies.proofs.Imports.{epochs_of, false, first_last, inl, inr, key_at, last_copy, nat_cmp, nat_cmp_total, put, put_rises, puts_entry, refl}
 use Rattle.law_copies.proofs.Imports.{same_or_apart, same_some, slice_get, subst, sym, true, true_false, with_last_copy, without_entry, ℕ}
-use Rattle.law_copies.specs.CopyProgress.{AreCopying, HasPut, HasSent, IsFollowed, IsLastCopy, IsOfLast, IsSent, IsTrimming, number_above}
+use Rattle.law_copies.specs.CopyProgress.{AreCopying, HasSent, IsFollowed, IsLastCopy, IsOfLast, IsSent, IsTrimming, number_above}
 use Rattle.law_copies.specs.LoneSteps.{IsLeftBy, KeepsRest, StaysTold}
 use Rattle.law_copies.proofs.CopyEpochs.{IsWithin, among, beyond, same_beyond, within, within_put}
-use Rattle.law_copies.proofs.LastCopies.{GoesOn, GoesOnward, of_last, stays_told, to_put, trimmed_of}
+use Rattle.law_copies.proofs.LastCopies.{GoesOn, GoesOnward, of_last, stays_told, trimmed_of}
 use Rattle.law_copies.proofs.ChainsRise.{row_at}
 
 -- ### What is to show of the last copy
@@ -282,6 +282,3 @@ module _ (it : CopiedEntry) where
 
   pub put_by : IsLeftBy row vh q
   put_by = record { by = of_this.own; met = of_this.met; left = of_this.left index_is }
-
-  pub put_says : HasPut (Some to) q entry.op entry.index
-  put_says = to_put to q next put_last entry.op entry.index (omega arith) (λ e. omega arith)

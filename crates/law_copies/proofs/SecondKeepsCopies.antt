@@ -25,27 +25,13 @@ module _ (heard : Body → Type 0) (here : JobContext) (first own : PairState) (
   known_at : (said : Body) → heard said → (q : Cell) → (about said).cell ≡ Some q → q ≡ cell → Known (pair_of first own q) said
   known_at said h q is e = subst (λ (c : Cell). Known (pair_of first own c) said) (sym e) (known said h (is ∙ ap Some e))
 
-  -- copy and last operation stay
-  pub off : (new : PairState) → chain_in new.store.chains cell ≡ chain_in own.store.chains cell
-      → at cell_cmp new.pairs.last cell ≡ at cell_cmp own.pairs.last cell
-      → Keeps (pair_of first own cell) (pair_of first new cell)
-  off new chain last =
-      subst (Keeps (pair_of first own cell)) (λ i. record {
-        first = chain_in first.store.chains cell;
-        second = sym chain i;
-        pending = at cell_cmp first.pairs.pending cell;
-        next = first.pairs.next;
-        last = sym last i;
-      })
-      (moves.stays (pair_of first own cell) first.pairs.next ok (omega arith))
-
   -- a step that changes the copy and the last operation of one cell
   at_cell : (q : Cell) (new : PairState) → ((c : Cell) → c ≢ q → chain_in new.store.chains c ≡ chain_in own.store.chains c)
       → ((c : Cell) → c ≢ q → at cell_cmp new.pairs.last c ≡ at cell_cmp own.pairs.last c)
       → (q ≡ cell → Keeps (pair_of first own q) (pair_of first new q)) → Keeps (pair_of first own cell) (pair_of first new cell)
   at_cell q new chains last keeps = elim (same_cell_or_apart cell q) [
     | inl e ↦ subst (λ (c : Cell). Keeps (pair_of first own c) (pair_of first new c)) (sym e) (keeps (sym e))
-    | inr ne ↦ off new (chains cell ne) (last cell ne)
+    | inr ne ↦ moves.second_stays first own new cell (chains cell ne) (last cell ne) ok
   ]
 
   reserves_keeps : (number : ℕ) (q : Cell) (tickets : ℕ) → heard (body.Reserve number q) → progress (at cell_cmp own.pairs.last q) ≤ number + number
@@ -81,6 +67,6 @@ module _ (heard : Body → Type 0) (here : JobContext) (first own : PairState) (
 
   pub second_keeps : (done : JobResult) → DidSecond heard here own done → F done.own
   second_keeps _ (Sets_apart number q tickets h s le) = reserves_keeps number q tickets h le
-  second_keeps _ (Promises number q how s is) = subst F (sym (told_own here own q number how)) (off own refl refl)
-  second_keeps _ (Declines number q h s no_room) = off own refl refl
+  second_keeps _ (Promises number q how s is) = subst F (sym (told_own here own q number how)) (moves.second_stays first own own cell refl refl ok)
+  second_keeps _ (Declines number q h s no_room) = moves.second_stays first own own cell refl refl ok
   second_keeps _ (Follows number key version bytes h s is) = follows_keeps number key version bytes h is

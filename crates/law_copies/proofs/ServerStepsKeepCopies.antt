@@ -1,7 +1,7 @@
 -- Each step of a server that is allowed keeps what is kept of two copies, by the stores that count.
 use Rattle.law_copies.proofs.Imports.{[], if◌then◌else◌, ◌++◌, ◌==◌, ◌∙◌, ◌∷◌, ◌≡◌, ◌≤◌, ◌⊎◌, Acted, BeforeBlank, By_ballot, By_entry, By_job, Caught}
-use Rattle.law_copies.proofs.Imports.{Command, Ends, Fails, Goes, In, IsPrefix, IsRising, JobResult, Letter, List, None, Option, PairState, Post, Sender}
-use Rattle.law_copies.proofs.Imports.{Server, Serving, Setting, Some, Starts, State, Stays, Step, Store, Wakes, World, acts, ap, awake, before_blanks}
+use Rattle.law_copies.proofs.Imports.{Command, Ends, Fails, Goes, In, IsPrefix, IsRising, JobResult, Letter, List, Log, None, Option, PairState, Post, Sender}
+use Rattle.law_copies.proofs.Imports.{Server, Serving, Setting, Some, Starts, State, Stays, Step, Store, Wakes, Worked, World, acts, ap, awake, before_blanks}
 use Rattle.law_copies.proofs.Imports.{blank_joins_in, by_bool, chain_in, counted_by, crossed, false, front_itself, front_more, has_mark, in-append, inl, inr}
 use Rattle.law_copies.proofs.Imports.{is_between, is_in, kept, kept_store, last_copy, letters_of, live, logged_apart, map, mark_on, nat_cmp, own_place}
 use Rattle.law_copies.proofs.Imports.{post_of, proposed, put_apart, put_same, raised, refl, sender, served_so, server_state, settled_by, settling, shown_so}
@@ -74,6 +74,10 @@ module _ (it : OneMore) where
 
   abbrev seated : (k : ℕ) → (w.servers k).life.running ≡ true → is_in (server_state setting w k) k (w.servers k).life.inc ≡ true → AtSeat
   seated k runs seat = record { ground = ground; k = k; works = at_work k runs seat }
+
+  no_posts : (post : Post) → In post [] → is_between (subject_of post.body) ≡ false
+  unfolding In
+  no_posts post i = absurd i
 
   -- ### A step of a server
 
@@ -178,6 +182,18 @@ module _ (it : OneMore) where
           (λ cell alive. record { chain = ap (λ t. chain_in t cell) same; marks = λ kind. ap (λ ms. has_mark (mark_on kind cell) ms) marks_same })
           own (then_so then_world then_is) sound (mute_letters step who posts is mute)
 
+    -- it sends what its work says; or it stops, and none of its letters is of pairs or copies
+    data Sends (done : JobResult) : Type 0 where
+      Of_job : acted.letters ≡ letters_of (sender (own_place setting w k)) 0 done.posts → Sends done
+      Of_stop : (who : Sender) (posts : List Post) → acted.letters ≡ letters_of who 0 posts
+          → ((post : Post) → In post posts → is_between (subject_of post.body) ≡ false) → Sends done
+
+    quiet_says : (done : JobResult) → ((post : Post) → In post done.posts → is_between (subject_of post.body) ≡ false) → Sends done
+        → ((who : Sender) (posts : List Post) → acted.letters ≡ letters_of who 0 posts
+        → ((post : Post) → In post posts → is_between (subject_of post.body) ≡ false) → GoesTo then_world) → GoesTo then_world
+    quiet_says done mute (Of_job is) goes = goes (sender (own_place setting w k)) done.posts is mute
+    quiet_says done mute (Of_stop who posts is quiet) goes = goes who posts is quiet
+
     -- a server that is In as itself does a job, or starts a ballot
     module _ (runs : (w.servers k).life.running ≡ true) (seat : is_in (server_state setting w k) k (w.servers k).life.inc ≡ true) (done : JobResult)
         (keeping : IsKeeping setting w k done) (own_is : acted.server.own ≡ done.own) (applied : acted.server.log.applied ≡ (w.servers k).log.applied)
@@ -197,16 +213,10 @@ module _ (it : OneMore) where
           jobs.job_good the_job own (then_so then_world then_is)
           (sent_by (IsTold (same_step applied)) told)
 
-      -- its letters go
-      job_sends : acted.letters ≡ letters_of (sender (own_place setting w k)) 0 done.posts → GoesTo then_world
-      job_sends is = job_goes (λ letter i.
-          jobs.sends the_job stamp letter
-          (subst (λ letters. In letter (stamped stamp letters)) is i))
-
-      -- or it stops, and tells the others that
-      job_stops : (who : Sender) (posts : List Post) → acted.letters ≡ letters_of who 0 posts
-          → ((post : Post) → In post posts → is_between (subject_of post.body) ≡ false) → GoesTo then_world
-      job_stops who posts is mute = job_goes (λ letter i.
+      -- its letters go; or it stops, and tells the others that
+      job_says : Sends done → GoesTo then_world
+      job_says (Of_job is) = job_goes (λ letter i. jobs.sends the_job stamp letter (subst (λ letters. In letter (stamped stamp letters)) is i))
+      job_says (Of_stop who posts is mute) = job_goes (λ letter i.
           let step = same_step applied in
           posts_mute setting top (stored (at_step good step)) (later (at_step good step))
           (reached_then (at_step good step)) who stamp posts mute letter
@@ -246,55 +256,30 @@ module _ (it : OneMore) where
           }))
           own (then_so then_world then_is) (mute_letters entry_step who posts is mute)
 
-  no_posts : (post : Post) → In post [] → is_between (subject_of post.body) ≡ false
-  unfolding In
-  no_posts post i = absurd i
+    -- what a running server does
+    worked_goes : (log : Log) (done : JobResult) → (w.servers k).life.running ≡ true → Worked setting w k log done → acted.server.own ≡ done.own
+        → acted.server.log.applied ≡ log.applied → acted.server.life.inc ≡ (w.servers k).life.inc → Sends done → GoesTo then_world
+    worked_goes _ _ runs (By_job log done same did (inl seat)) own_is applied inc sends =
+        job_says runs seat done (job_keeping (seated k runs seat) done did) own_is (applied ∙ same) inc sends
+    worked_goes _ _ runs (By_job log done same did (inr apart)) own_is applied inc sends =
+        quiet_says done apart.mute sends (quiet_goes (own_is ∙ apart.same) (applied ∙ same) (λ on. runs) inc)
+    worked_goes _ _ runs (By_ballot log started posts same starts logged) own_is applied inc sends =
+        let done : JobResult = record { own = proposed (server_state setting w k) (w.servers k).own started; posts = posts; jobs = [] } in
+        by_bool (is_in (server_state setting w k) k (w.servers k).life.inc)
+        (λ seat. job_says runs seat done (ballot_keeping (seated k runs seat) started posts starts logged) own_is (applied ∙ same) inc sends)
+        (λ out. quiet_says done (λ post i. logged_apart (subject_of post.body) (logged post i)) sends
+        (quiet_goes (own_is ∙ out_ballot setting w k started starts out) (applied ∙ same) (λ on. runs) inc))
+    worked_goes _ _ runs (By_entry log entry more front) own_is applied inc sends =
+        let left = settled_by (own_place setting w k) entry (crossed (server_state setting w k) entry (w.servers k).own) in
+        quiet_says (silent left) no_posts sends (entry_goes runs entry (applied ∙ more) (subst (λ f. IsPrefix f top) (sym applied) front) own_is inc)
 
   pub server_goes : (k stamp : ℕ) (what : Step) (acted : Acted) → before_blanks what setting w k ≡ w.before_blank → Serving setting w k what acted
       → GoesTo (acts setting w k what stamp acted).world
-  server_goes k stamp what _ unblanked (Goes _ _ queue runs (By_job log done same did (inl seat)) queued works) =
-      job_sends k stamp what (served_so setting w k log done queue) unblanked runs seat done
-      (job_keeping (seated k runs seat) done did) refl same refl refl
-  server_goes k stamp what _ unblanked (Goes _ _ queue runs (By_job log done same did (inr apart)) queued works) =
-      quiet_goes k stamp what (served_so setting w k log done queue) unblanked apart.same same (λ on. runs) refl
-      (sender (own_place setting w k)) done.posts refl apart.mute
-  server_goes k stamp what _ unblanked (Goes _ _ queue runs (By_ballot log started posts same starts logged) queued works) =
-      let done : JobResult = record { own = proposed (server_state setting w k) (w.servers k).own started; posts = posts; jobs = [] } in
-      let acted = served_so setting w k log done queue in
-      by_bool (is_in (server_state setting w k) k (w.servers k).life.inc)
-      (λ seat. job_sends k stamp what acted unblanked runs seat done
-      (ballot_keeping (seated k runs seat) started posts starts logged) refl same refl refl)
-      (λ out. quiet_goes k stamp what acted unblanked (out_ballot setting w k started starts out) same (λ on. runs) refl
-      (sender (own_place setting w k)) posts refl
-      (λ post i. logged_apart (subject_of post.body) (logged post i)))
-  server_goes k stamp what _ unblanked (Goes _ _ queue runs (By_entry log entry more front) queued works) =
-      entry_goes k stamp what (served_so setting w k log (silent
-      (settled_by (own_place setting w k) entry (crossed (server_state setting w k) entry (w.servers k).own))) queue)
-      unblanked runs entry more front refl refl
-      (sender (own_place setting w k)) [] refl no_posts
-  server_goes k stamp what _ unblanked (Ends _ _ runs (By_job log done same did (inl seat))) =
-      job_stops k stamp what (stopped_so setting w k log done) unblanked runs seat done
-      (job_keeping (seated k runs seat) done did) refl same refl
-      (without_rev (own_place setting w k)) _ refl
-      (all_down k (w.servers k).life.inc _)
-  server_goes k stamp what _ unblanked (Ends _ _ runs (By_job log done same did (inr apart))) =
-      quiet_goes k stamp what (stopped_so setting w k log done) unblanked apart.same same (λ on. runs) refl (without_rev (own_place setting w k)) _ refl
-      (all_down k (w.servers k).life.inc _)
-  server_goes k stamp what _ unblanked (Ends _ _ runs (By_ballot log started posts same starts logged)) =
-      let done : JobResult = record { own = proposed (server_state setting w k) (w.servers k).own started; posts = posts; jobs = [] } in
-      let acted = stopped_so setting w k log done in
-      by_bool (is_in (server_state setting w k) k (w.servers k).life.inc)
-      (λ seat. job_stops k stamp what acted unblanked runs seat done
-      (ballot_keeping (seated k runs seat) started posts starts logged) refl same refl
-      (without_rev (own_place setting w k)) _ refl (all_down k (w.servers k).life.inc _))
-      (λ out. quiet_goes k stamp what acted unblanked (out_ballot setting w k started starts out) same (λ on. runs) refl
-      (without_rev (own_place setting w k)) _ refl
-      (all_down k (w.servers k).life.inc _))
-  server_goes k stamp what _ unblanked (Ends _ _ runs (By_entry log entry more front)) =
-      entry_goes k stamp what (stopped_so setting w k log (silent
-      (settled_by (own_place setting w k) entry (crossed (server_state setting w k) entry (w.servers k).own))))
-      unblanked runs entry more front refl refl
-      (without_rev (own_place setting w k)) _ refl (all_down k (w.servers k).life.inc _)
+  server_goes k stamp what _ unblanked (Goes log done queue runs worked queued works) =
+      worked_goes k stamp what (served_so setting w k log done queue) unblanked log done runs worked refl refl refl (Of_job refl)
+  server_goes k stamp what _ unblanked (Ends log done runs worked) =
+      worked_goes k stamp what (stopped_so setting w k log done) unblanked log done runs worked refl refl refl
+      (Of_stop (without_rev (own_place setting w k)) _ refl (all_down k (w.servers k).life.inc _))
   server_goes k stamp what _ unblanked (Stays who posts from shown) =
       quiet_goes k stamp what (shown_so w k who posts) unblanked refl refl (λ on. on) refl who posts refl (λ post i. ap is_between (shown post i))
   server_goes k stamp what _ unblanked (Wakes booted asleep) =

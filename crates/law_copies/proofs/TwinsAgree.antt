@@ -8,6 +8,7 @@ use Rattle.law_copies.proofs.Imports.{pending_on, progress, refl, row_lead, same
 use Rattle.law_copies.proofs.Imports.{subst, sym, tells, told_own, true, true_false, with_last, with_tickets, ℕ}
 use Rattle.law_copies.specs.BothSteps.{LacksFill, LeadKeeps, SecondKeeps}
 use Rattle.law_copies.specs.Pair.{AreCopies, IsRecalled, Keeps, Known, PairOk, pair_of, ceiling_of}
+use Rattle.law_copies.proofs.CellChangesKeepCopies.{first_stays, second_stays}
 use Rattle.law_copies.proofs.CellInBoth.{CellInBoth}
 use Rattle.law_copies.proofs.MuteLettersTellNothing.{logged_known, known_mute, ended_mute, moved_mute}
 use Rattle.law_copies.proofs.LeadsFindMarks.{job_marked}
@@ -19,7 +20,7 @@ use Rattle.law_copies.specs.Pair as pair
 use Rattle.law_jobs.specs.Sayings as says
 use Rattle.law_copies.proofs.LeadKeepsCopies as lead
 use Rattle.law_copies.proofs.SecondKeepsCopies as follow
-use Rattle.law_copies.proofs.BesideTwins as beside
+use Rattle.law_copies.proofs.CellInBoth as beside
 
 module _ (it : CellInBoth) where
   open it use {heard, here, own, fit, cell, row, is_row, alive, both_row}
@@ -33,14 +34,10 @@ module _ (it : CellInBoth) where
       abbrev Kept : PairState → Type 0
       Kept new = Keeps (pair_of own second cell) (pair_of new second cell)
 
-      kept_off : (new : PairState) → chain_in new.store.chains cell ≡ chain_in own.store.chains cell
-          → at cell_cmp new.pairs.pending cell ≡ at cell_cmp own.pairs.pending cell → own.pairs.next ≤ new.pairs.next → Kept new
-      kept_off = lead.off it second ok known
-
       unworked : (done : JobResult) (did : Did heard here own done) → (RoleIn heard here own fit done did cell → ⊥) → Kept done.own
       unworked done did no_role =
           let rest = role_rest heard here own fit cell alive done did no_role in
-          kept_off done.own rest.chain rest.pending (did_count heard here own done did)
+          first_stays own done.own second cell rest.chain rest.pending (did_count heard here own done did) ok
 
       step_kept : (done : JobResult) → Did heard here own done → Kept done.own
       step_kept _ (By_lead done d) = lead.lead_keeps it second ok known done d
@@ -168,7 +165,7 @@ module _ (it : CellInBoth) where
       step_follows : (done : JobResult) → Did heard here own done → Keeps (pair_of first own cell) (pair_of first done.own cell)
       step_follows done did = elim (follows_or_stays done did) [
         | inl d ↦ follow.second_keeps heard here first own cell ok known done d
-        | inr same ↦ follow.off heard here first own cell ok known done.own same.0 same.1
+        | inr same ↦ second_stays first own done.own cell same.0 same.1 ok
       ]
 
       -- ### What it says

@@ -11,7 +11,6 @@ use Rattle.law_copies.specs.GoodCopies.{AreTwins, Good, pair_at, store_of}
 use Rattle.law_copies.specs.Pair.{pair_of}
 use Rattle.law_copies.specs.Visits.{AliveIn, IsLinked, half, place_by, store_by}
 use Rattle.law_copies.proofs.UnequalIsMarked.{copied}
-use Rattle.law_copies.proofs.NewPlaces.{half_store}
 use Rattle.law_copies.proofs.CopiesInHistories.{good_after}
 use Rattle.law_copies.proofs.PlacesByFronts.{alive_on, linked_alive, one_place, places_up}
 
@@ -93,10 +92,10 @@ module _ (setting : Setting) (records : List Record) (w : World) (firm : Firm se
         same_some (sym visit ∙ ap (λ p. good.visits n p cell) (sym same) ∙ h.is) ∙ h.same
 
     first_chain : (pair_at stores good.visits place cell n m).first ≡ chain_in (store_of at_top n).chains cell
-    first_chain = ap (λ (s : Store). chain_in s.chains cell) (half_store (good.visits n place cell) (stores n) ∙ good.now n)
+    first_chain = ap (λ (s : Store). chain_in s.chains cell) (good.now n)
 
     second_chain : (pair_at stores good.visits place cell n m).second ≡ chain_in (store_of at_top m).chains cell
-    second_chain = ap (λ (s : Store). chain_in s.chains cell) (half_store (good.visits m place cell) (stores m) ∙ good.now m)
+    second_chain = ap (λ (s : Store). chain_in s.chains cell) (good.now m)
 
     both_copies : Copies (chain_in (store_of at_top n).chains cell) (chain_in (store_of at_top m).chains cell) (is_at_work now at_top n)
         (at cell_cmp (at_top.servers n).own.pairs.pending cell) (is_marked (store_of at_top n) Busy cell)

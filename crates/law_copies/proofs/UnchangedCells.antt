@@ -61,3 +61,6 @@ pub record PairGoes (old new : Pair) : Type 0 where
 
 pub goes_same : (old new : Pair) → old ≡ new → PairGoes old new
 goes_same old new same = record { ok = subst PairOk same; known = λ said. subst (λ p. Known p said) same; lacks = subst IsLacking same }
+
+pub goes_on : {a b c : Pair} → PairGoes a b → PairGoes b c → PairGoes a c
+goes_on one two = record { ok = λ h. two.ok (one.ok h); known = λ said h. two.known said (one.known said h); lacks = λ h. two.lacks (one.lacks h) }

@@ -65,7 +65,8 @@ module _ (heard : Body → Type 0) (here : JobContext) (own : PairState)
         }) ∙ same
     each_rest now (Drops key) may is same = elim (same_cell_or_apart q (cell_of key)) [
       | inl e ↦
-          let none : chain_in own.store.chains q ≡ [] = elim is [ inl there ↦ absurd (apart (cell_of key) there e) | inr off ↦ (unborn (cell_of key) e off).chain ] in
+          let none : chain_in own.store.chains q ≡ [] =
+          elim is [ inl there ↦ absurd (apart (cell_of key) there e) | inr off ↦ (unborn (cell_of key) e off).chain ] in
           let was : chain_in now.store.chains q ≡ [] = ap (λ (r : CellRest). r.chain) same ∙ none in
           (λ i. record (rest_of q now) { chain = (drop_none now.store key q was ∙ sym was) i }) ∙ same
       | inr other ↦ (λ i. record (rest_of q now) { chain = drop_apart now.store key q other i }) ∙ same

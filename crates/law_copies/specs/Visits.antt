@@ -3,8 +3,7 @@
 use Rattle.law_copies.specs.Imports.{Cell, Command, IsPrefix, LinkRow, PairState, Pairs, Record, Server, Setting, State, Store, World, blank_joins_in}
 use Rattle.law_copies.specs.Imports.{cell_link, is_in, no_copies, no_pairs, places_from, serves, stage_at, start, start_world, state_after, state_in}
 use Rattle.law_copies.specs.Imports.{with_store, world_after}
-use Rattle.std.specs.Prelude.{[], if◌then◌else◌, ◌&&◌, ◌++◌, ◌<◌, ◌==◌, ◌≡◌, ◌≤◌, ◌⊎◌, Bool, List, None, Option, Some, false, nat_eq, nat_lt, option_map}
-use Rattle.std.specs.Prelude.{true, ℕ}
+use Rattle.std.specs.Prelude.{[], if◌then◌else◌, ◌&&◌, ◌++◌, ◌<◌, ◌==◌, ◌≡◌, ◌≤◌, ◌⊎◌, Bool, List, Option, Some, false, nat_eq, nat_lt, option_map, true, ℕ}
 use Rattle.std.specs.Option.{option_map_or}
 
 -- the cell is not retired by this state
@@ -37,8 +36,12 @@ IsLinked setting front cell row = cell_link (state_after setting.servers front) 
 
 -- what a server has in memory of a place: nothing, where it was not there; with this store
 abbrev pub half : Option PairState → Store → PairState
-half None store = record { pairs = no_pairs; copies = no_copies; filled = []; store = store }
-half (Some own) store = record { pairs = own.pairs; copies = own.copies; filled = own.filled; store = store }
+half visit store = record {
+  pairs = option_map_or (λ (own : PairState). own.pairs) visit no_pairs;
+  copies = option_map_or (λ (own : PairState). own.copies) visit no_copies;
+  filled = option_map_or (λ (own : PairState). own.filled) visit [];
+  store = store;
+}
 
 -- the place of the cell's link by the server's own entries
 abbrev pub place_on : Setting → Server → Cell → Option ℕ

@@ -224,7 +224,8 @@ module _ (heard : Body → Type 0) (here : JobContext) (own : PairState) where
   holder_to _ (Finds_it_full cell copy h is trimmed lt) =
       Then (without_copying own cell) (effect.Is_full true) (Then own (effect.Ends_copy cell) As_it_was tt refl)
       (λ e. inl (record { cell = cell; copy = copy; said = h; copying = is; trimmed = trimmed; left = lt })) tt
-  holder_to _ (Tidies id row block which is both idle left) = Then own (effect.Unmarks which (cell_at row block)) As_it_was tt (inr (inr (Idle id row block is both idle)))
+  holder_to _ (Tidies id row block which is both idle left) =
+      Then own (effect.Unmarks which (cell_at row block)) As_it_was tt (inr (inr (Idle id row block is both idle)))
   holder_to _ _ = As_it_was
 
   trim_to : (now : PairState) (cell : Cell) (last : LastCopy) (holder : ℕ) (done : JobResult) → TrimStep now cell last holder done → To (Some cell) now

@@ -1,16 +1,15 @@
 -- The names that this crate takes from others, in one place.
-pub use Rattle.law_state.specs.Imports.{Cell, LinkId, LinkRow, PairState, Progress, Setting, World, is_lead}
+pub use Rattle.law_state.specs.Imports.{Both, Cell, LinkId, LinkRow, PairState, Progress, Setting, World, is_lead}
 unfoldable pub use Rattle.law_state.specs.Imports.{at}
-pub use Rattle.law_steps.specs.Imports.{Actor, Block, Body, Copying, Ending, Entry, Finished, JobContext, Key, LastCopy, LastOp, MarkKind, Moving, Pending}
-pub use Rattle.law_steps.specs.Imports.{Post, Stage, Stored, Table, Wanted, above, begins_copy, bytes_of, cell_at, cell_cmp, cell_holder, cell_of, chain_in}
-pub use Rattle.law_steps.specs.Imports.{coming, copying_on, ended, entry_at, epochs_beyond, epochs_of, fill_operation, first, free_of, holder_of, idle_mark}
-pub use Rattle.law_steps.specs.Imports.{in_both, is_alone_on, is_logged, is_second, key_at, last_copy, last_on, least, link_named, live, marked_blocks}
-pub use Rattle.law_steps.specs.Imports.{old_lead, operation, other_in, page_wanted, pending_on, progress_on, second, subject_of, with_copying, with_filled}
-pub use Rattle.law_steps.specs.Imports.{with_full, with_last_copy, with_pending, without_copying, without_entry, without_mark_on, without_pending}
+pub use Rattle.law_steps.specs.Imports.{Actor, Block, Body, Copying, Ending, Entry, Finished, JobContext, JobResult, Key, LastCopy, LastOp, MarkKind, Moving}
+pub use Rattle.law_steps.specs.Imports.{Pending, Post, Stage, Stored, Table, Wanted, above, begins_copy, bytes_of, cell_at, cell_cmp, cell_holder, cell_of}
+pub use Rattle.law_steps.specs.Imports.{chain_in, coming, copying_on, ended, entry_at, epochs_beyond, epochs_of, fill_operation, first, free_of, holder_of}
+pub use Rattle.law_steps.specs.Imports.{idle_mark, in_both, is_alone_on, is_logged, is_second, key_at, last_copy, last_on, least, link_named, live}
+pub use Rattle.law_steps.specs.Imports.{marked_blocks, old_lead, operation, other_in, page_wanted, pending_on, progress_on, second, subject_of, with_copying}
+pub use Rattle.law_steps.specs.Imports.{with_filled, with_full, with_last_copy, with_pending, without_copying, without_entry, without_mark_on}
+pub use Rattle.law_steps.specs.Imports.{without_pending}
 unfoldable pub use Rattle.law_steps.specs.Imports.{next_copy}
-pub use Rattle.law_log.proofs.Imports.{JobResult}
 pub use Rattle.law_state.specs.Histories.{AreSteps, IsSound, Record, Script, setting_of, start, world_after}
-pub use Rattle.law_state.specs.Imports.{Both}
 pub use Rattle.law_steps.specs.Did.{By_holder, By_lead, By_other, By_second, Did, IsBusy, IsHeldBack, IsRefusal}
 pub use Rattle.law_steps.specs.DidFiller.{IsNextKey, filled_to}
 pub use Rattle.law_steps.specs.DidHolder.{Begins_copy, DidHolder, Finds_it_full, Goes_on_copying, IsHeldWith, TakenCopy, Turns_page, first_copy}
