@@ -85,8 +85,8 @@ keep_sound o w h s records g =
 
 -- ### A letter that asks for no vote
 
-abbrev pub IsQuiet : Letter → Type 0
-IsQuiet l = (p : ℕ) (b : Ballot) (v : Command) → l ≡ Accept p b v → ⊥
+abbrev pub IsMute : Letter → Type 0
+IsMute l = (p : ℕ) (b : Ballot) (v : Command) → l ≡ Accept p b v → ⊥
 
 turned_later : (w : World) (s : ℕ) (l : Letter) (q : Option Phase) → IsLater w (turn (send w s l) s q)
 turned_later w s l q = record {
@@ -111,11 +111,11 @@ backed_one_more : (o : Setting) (w : World) → Sound o w → (s : ℕ) (l : Let
 backed_one_more o w h s l fact f x i =
     elim (in_cons (sent f x) (sent s l) w.letters i) [ inl e ↦ let of : f ≡ s = cc in let is : x ≡ l = cc in rw (of, is) fact | inr old ↦ h.backed f x old ]
 
--- a quiet letter asks for nothing
-asked_before : (w : World) (s : ℕ) (l : Letter) → IsQuiet l → (p : ℕ) (d : Ballot) (v : Command) → Asked (send w s l) p d v → Asked w p d v
+-- a mute letter asks for nothing
+asked_before : (w : World) (s : ℕ) (l : Letter) → IsMute l → (p : ℕ) (d : Ballot) (v : Command) → Asked (send w s l) p d v → Asked w p d v
 asked_before w s l quiet p d v i = elim (in_cons _ _ _ i) [ inl e ↦ absurd (quiet p d v (cc)) | inr old ↦ old ]
 
-asks_still : (w : World) (s : ℕ) (l : Letter) → IsQuiet l → (q : Option Phase) → AsksOnly w q → AsksOnly (send w s l) q
+asks_still : (w : World) (s : ℕ) (l : Letter) → IsMute l → (q : Option Phase) → AsksOnly w q → AsksOnly (send w s l) q
 asks_still w s l quiet None h = h
 asks_still w s l quiet (Some Idle) h = h
 asks_still w s l quiet (Some (Started told heard)) h = λ p d v i. h p d v (asked_before w s l quiet p d v i)
@@ -139,7 +139,7 @@ started_once o w h s l fresh f g b d i j e = elim (in_cons _ _ _ i) [
   ]
 ]
 
-pub send_sound : (o : Setting) (w : World) → Sound o w → (s : ℕ) (l : Letter) → IsQuiet l → IsFresh w l → IsBacked o w s l → Sound o (send w s l)
+pub send_sound : (o : Setting) (w : World) → Sound o w → (s : ℕ) (l : Letter) → IsMute l → IsFresh w l → IsBacked o w s l → Sound o (send w s l)
 send_sound o w h s l quiet fresh fact = record {
   backed = λ f x i. later_backed o w _ (sent_later w s l) f x (backed_one_more o w h s l fact f x i);
   knows = λ i. later_knows o w _ (sent_later w s l) i _ (h.knows i);
@@ -257,7 +257,7 @@ asks_sound o w h s told stands asked p v k only may safe =
 -- all that can change at once, each with what it rests on. To keep another fact over every schedule, keep it at each of these
 pub data IsMove (o : Setting) (e : Event) (w : World) : World → Type 0 where
   Keeps : (s : ℕ) → (records : List StateRecord) → IsGrown o w s records → IsMove o e w (keep w s records)
-  Sends : (s : ℕ) → (l : Letter) → IsQuiet l → IsFresh w l → IsBacked o w s l → IsMove o e w (send w s l)
+  Sends : (s : ℕ) → (l : Letter) → IsMute l → IsFresh w l → IsBacked o w s l → IsMove o e w (send w s l)
   Turns : (s : ℕ) → (q : Option Phase) → Knows o w s q → AsksOnly w q → IsMove o e w (turn w s q)
   Asks : (s : ℕ) → (told : Told) → (stands : Bool) → (asked : Option Ask) → (p : ℕ) → (want : Command) → Knows o w s (Some (Standing told stands asked))
       → AsksOnly w (Some (Standing told stands asked)) → MayAsk told asked p → e ≡ Proposes s p want

@@ -28,8 +28,8 @@ use Rattle.spec_paxos.proofs.standing.Listed.{listing}
 use Rattle.spec_paxos.specs.standing.Listing.{IsListing}
 use Rattle.spec_paxos.proofs.standing.Reported.{in_reported, reported_in, reported_rises}
 use Rattle.law_agreement.proofs.MovesKeepFacts.{one_server, not_in_nobody}
-use Rattle.law_agreement.proofs.Quorum.{majorities_meet}
-use Rattle.law_agreement.proofs.SchedulesKeepFacts.{either, for_them, joined, at_true}
+use Rattle.law_agreement.proofs.Quorum.{either, majorities_meet}
+use Rattle.law_agreement.proofs.SchedulesKeepFacts.{for_them, joined, at_true}
 use Rattle.law_standing.proofs.StandingFacts.{HasPromised, HasPledged, HasVoted, IsGreatestBelow, AreCast, Asked, Prepared, IsSafe, IsPromise, IsBacked}
 use Rattle.law_standing.proofs.StandingFacts.{HasHeard, IsSafeInRange, Knows, AsksOnly, Sound}
 use Rattle.law_standing.proofs.LaterStandingWorlds.{later_pledged}
