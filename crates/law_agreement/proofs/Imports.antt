@@ -15,6 +15,7 @@ pub use Rattle.petal_command.specs.declared.pax.Pax.{Pax}
 pub use Rattle.petal_command.specs.declared.pax.Pax.TheVariants.{Accept, Accepted, Chosen, Prepare, Promise, Refuse}
 pub use Rattle.spec_paxos.proofs.Committed.{acceptance_is, acceptance_self, at_place}
 pub use Rattle.spec_paxos.proofs.Members.{in_cons, in_got, in_here, in_nil, in_there, put_at_cases, put_cases}
+pub use Rattle.spec_paxos.proofs.standing.Reported.{higher_ranks}
 pub use Rattle.spec_paxos.specs.Acceptor.{Acceptor, accept, is_open, is_unpromised, promise, rank, refusal}
 pub use Rattle.spec_paxos.specs.Chosen.{Devices, IsChosenBy, acceptance_at, before_first, chosen_at, chosen_from, chosen_log, has_voted, last_place}
 pub use Rattle.spec_paxos.specs.Chosen.{vote_place, votes_for, wins}
@@ -29,4 +30,3 @@ pub use Rattle.spec_paxos.specs.Schedule.{starting, starts, turn, vote}
 pub use Rattle.spec_paxos.specs.declared.phase.Phase.{Phase}
 pub use Rattle.spec_paxos.specs.declared.phase.Phase.TheVariants.{Collecting, Idle, Voting}
 pub use Rattle.spec_paxos.specs.declared.record.StateRecord.{StateRecord}
-pub use Rattle.spec_paxos.specs.declared.record.StateRecord.TheVariants.{Inc}

@@ -3,16 +3,15 @@ use Rattle.law_agreement.proofs.Imports.{[], if◌then◌else◌, ◌&&◌, ◌<
 use Rattle.law_agreement.proofs.Imports.{Collecting, Command, End, Event, Goes, Handed, Idle, In, IsChosen, IsMajority, List, None, Option, Pax, Phase}
 use Rattle.law_agreement.proofs.Imports.{Prepare, Promise, Refuse, Sent, Some, Starts, Stops, StopsAfter, StopsBefore, Voting, World, arith, arrives, begin}
 use Rattle.law_agreement.proofs.Imports.{boots, collected, collecting, comes_out, counted, counts, ended, false, get_or-set_other, handed, happens}
-use Rattle.law_agreement.proofs.Imports.{has_majority, hear, higher, in_got, in_here, in_nil, in_there, inl, inr, is_for, is_in, is_open, is_unpromised, keep}
-use Rattle.law_agreement.proofs.Imports.{learn, nat_lt, nat_tests, not, number, promise, put_at_cases, raise, rank_of, refl, refusal, run, same, send, sent}
-use Rattle.law_agreement.proofs.Imports.{set, started, starting, starts, subst, sym, to_propose, true, turn, vote, ℕ}
+use Rattle.law_agreement.proofs.Imports.{has_majority, hear, higher, higher_ranks, in_got, in_here, in_nil, in_there, inl, inr, is_for, is_in, is_open}
+use Rattle.law_agreement.proofs.Imports.{is_unpromised, keep, learn, nat_lt, nat_tests, not, number, promise, put_at_cases, raise, rank_of, refl, refusal}
+use Rattle.law_agreement.proofs.Imports.{run, same, send, sent, set, started, starting, starts, subst, sym, to_propose, true, turn, vote, ℕ}
 use Rattle.law_agreement.proofs.ScheduleFacts.{promised, HasPromised, IsGreatestBelow, HasCast, SomeoneCast, Asked, IsSafe, IsBacked, Knows, HasNotAsked}
 use Rattle.law_agreement.proofs.ScheduleFacts.{Holds}
 use Rattle.law_agreement.proofs.LaterWorldsSay.{later_cast}
 use Rattle.law_agreement.proofs.MovesKeepFacts.{keep_later, cast_in, one_server, not_in_nobody, Origin, HasOrigin, Promises, Casts, Sends, Turns, Asks}
 use Rattle.law_agreement.proofs.MovesKeepFacts.{Learns, Raises, move_holds, Leads, Still, goes, last, keeps}
 use Rattle.law_agreement.proofs.Quorum.{meet, either}
-use Rattle.spec_paxos.proofs.standing.Reported.{higher_ranks}
 
 -- tests
 

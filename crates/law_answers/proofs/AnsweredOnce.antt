@@ -1,11 +1,11 @@
 -- No line is answered twice: what a client has open, and what it has still to call, has no answer.
-use Rattle.law_answers.proofs.Imports.{[], ◌++◌, ◌+◌, ◌∙◌, ◌∷◌, ◌≡◌, ◌≤◌, ◌⊎◌, Actor, Answer, AreRising, AreSteps, AreStepsFrom, Asked, Begins}
-use Rattle.law_answers.proofs.Imports.{Body, Bool, Client, Follows, Goes_on, Heard, In, IsAnswered, IsMoment, IsOpenLine, Is_told, Judges, Line, List}
-use Rattle.law_answers.proofs.Imports.{MayActor, None, Option, Reaction, Reads, Record, Run, Script, Setting, Some, StaysOpen, Step, StepResult, Table}
-use Rattle.law_answers.proofs.Imports.{Turned, World, after, all_put_apart, answer_of, answers_in, ap, arith, at, at-empty, at_apart, by_bool, by_run}
-use Rattle.law_answers.proofs.Imports.{client_state, client_step, client_turns, fold, front_legal, inl, inr, is_answered, is_call, is_some, last_moment}
-use Rattle.law_answers.proofs.Imports.{lines_of, moment_more, nat_cmp, next_line, none_some, refl, same_or_apart, same_some, setting_of, slice_get}
-use Rattle.law_answers.proofs.Imports.{start, step, stepped, subst, sym, true, true_false, with_answer, with_given, world_after, ℕ}
+use Rattle.law_answers.proofs.Imports.{[], ◌++◌, ◌+◌, ◌∙◌, ◌∷◌, ◌≡◌, ◌≤◌, ◌⊎◌, Actor, Answer, AreRising, AreSteps, AreStepsFrom, Asked, Begins, Body, Bool}
+use Rattle.law_answers.proofs.Imports.{Client, Follows, Goes_on, Heard, In, IsAnswered, IsMoment, IsOpenLine, Is_told, Judges, Line, List, MayActor, None}
+use Rattle.law_answers.proofs.Imports.{Option, Reaction, Reads, Record, Run, Script, Setting, Some, StaysOpen, Step, StepResult, Table, Turned, World, after}
+use Rattle.law_answers.proofs.Imports.{all_put_apart, answer_of, answers_in, ap, arith, at, at-empty, at_apart, by_bool, by_run, client_state, client_step}
+use Rattle.law_answers.proofs.Imports.{client_turns, fold, front_legal, inl, inr, is_answered, is_call, is_some, last_moment, lines_of, moment_more, nat_cmp}
+use Rattle.law_answers.proofs.Imports.{next_line, none_some, refl, same_or_apart, same_some, setting_of, slice_get, start, step, stepped, subst, sym, true}
+use Rattle.law_answers.proofs.Imports.{true_false, with_answer, with_given, world_after, ℕ}
 use Rattle.law_answers.proofs.LinesHavePlaces.{line_at, one_client, one_place}
 use Rattle.petal_msg.specs.declared.letter.Actor.TheVariants as actor
 use Rattle.law_steps.specs.DidClient as happens

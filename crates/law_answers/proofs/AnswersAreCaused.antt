@@ -1,10 +1,10 @@
 -- Each answer has its cause, by the step that gave it, in view of the log at the end of the history.
-use Rattle.law_answers.proofs.Imports.{[], ◌++◌, ◌+◌, ◌<◌, ◌==◌, ◌∙◌, ◌∷◌, ◌≡◌, ◌≤◌, Actor, Answer, AreCaused, AreRising, Asked, Begins}
-use Rattle.law_answers.proofs.Imports.{Blanks_it, Body, Bool, By_verdict, By_witness, CauseOf, Client, Command, Ending, Ends, Fails_it, Firm, Goes_on}
-use Rattle.law_answers.proofs.Imports.{HasProperTuples, HasVerdict, HasWitness, Has_no_space, Heard, In, IsJudged, IsPrefix, IsReason, IsSeenAs, Is_settled}
-use Rattle.law_answers.proofs.Imports.{Is_told, Judges, Line, List, MayActor, None, OneMore, Option, Reaction, Reads, Request, Run, Setting, Shown, Sight}
-use Rattle.law_answers.proofs.Imports.{Some, Starts_it, State, Step, Stops_at, Stops_it, Turned, WasTold, Witness, World, after, answer_of, ap, append_assoc}
-use Rattle.law_answers.proofs.Imports.{arith, asking_after, at_moment, between, both_true, by_test, chosen_log, chosen_state, client_state, client_step}
+use Rattle.law_answers.proofs.Imports.{[], ◌++◌, ◌+◌, ◌<◌, ◌==◌, ◌∙◌, ◌∷◌, ◌≡◌, ◌≤◌, Actor, Answer, AreCaused, AreRising, Asked, Begins, Blanks_it, Body}
+use Rattle.law_answers.proofs.Imports.{Bool, By_verdict, By_witness, CauseOf, Client, Command, Ending, Ends, Fails_it, Firm, Goes_on, HasProperTuples}
+use Rattle.law_answers.proofs.Imports.{HasVerdict, HasWitness, Has_no_space, Heard, In, IsJudged, IsPrefix, IsReason, IsSeenAs, Is_settled, Is_told, Judges}
+use Rattle.law_answers.proofs.Imports.{Line, List, MayActor, None, OneMore, Option, Reaction, Reads, Request, Run, Setting, Shown, Sight, Some, Starts_it}
+use Rattle.law_answers.proofs.Imports.{State, Step, Stops_at, Stops_it, Turned, WasTold, Witness, World, after, answer_of, ap, append_assoc, arith}
+use Rattle.law_answers.proofs.Imports.{asking_after, at_moment, between, both_true, by_test, chosen_log, chosen_state, client_state, client_step}
 use Rattle.law_answers.proofs.Imports.{client_turns, command_of, false, firm_in, firm_then, first_at_start, first_state, follows_in, front_on, history_grows}
 use Rattle.law_answers.proofs.Imports.{in_get, is_in, is_read, is_snap, is_witness, is_write, latest, length, length-append, lines_of, log_below, log_plain}
 use Rattle.law_answers.proofs.Imports.{log_steady, longer, may_answer, named, next_line, none_some, put_same, reacts, refl, refusal, same_numbers, same_some}

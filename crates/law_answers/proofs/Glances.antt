@@ -2,11 +2,11 @@
 -- fails: its glance comes right after the boot that its line gave, and finds the server stopped.
 use Rattle.law_answers.proofs.Imports.{[], ◌++◌, ◌+◌, ◌<◌, ◌==◌, ◌∙◌, ◌∷◌, ◌≡◌, ◌≢◌, ◌≤◌, Actor, Answer, AreRising, AreSteps, Arm, Asked, Begins, Blank}
 use Rattle.law_answers.proofs.Imports.{Blanked, Bool, Boot, Booted, Call, Client, Control, Deed, Deliver, Ends, Glance, Goes_on, Heard, In, IsDone, IsFree}
-use Rattle.law_answers.proofs.Imports.{IsGlanceDue, IsMoment, IsSeenAs, IsSettleGlance, IsSound, Is_told, Judges, Letter, Line, List, MayActor}
-use Rattle.law_answers.proofs.Imports.{MayGlance, MayServer, None, Option, Reaction, Reads, Record, Script, Server, Setting, Shown, Some, StaysOpen, Step}
-use Rattle.law_answers.proofs.Imports.{Stop, StopIn, Stopped, Tick, Turned, Work, WorkEnd, World, acts, all_put, answer_of, ap, append-nil, append_assoc}
-use Rattle.law_answers.proofs.Imports.{arith, by_test, client_state, client_step, client_turns, controls, false, front_legal, glanced_in, here_of, in-append}
-use Rattle.law_answers.proofs.Imports.{inl, inr, lines_of, names, next_line, none_some, operator, put_apart, put_same, reacts, refl, same_numbers, same_some}
+use Rattle.law_answers.proofs.Imports.{IsGlanceDue, IsMoment, IsSeenAs, IsSettleGlance, IsSound, Is_told, Judges, Letter, Line, List, MayActor, MayGlance}
+use Rattle.law_answers.proofs.Imports.{MayServer, None, Option, Reaction, Reads, Record, Script, Server, Setting, Shown, Some, StaysOpen, Step, Stop, StopIn}
+use Rattle.law_answers.proofs.Imports.{Stopped, Tick, Turned, Work, WorkEnd, World, acts, all_put, answer_of, ap, append-nil, append_assoc, arith, by_test}
+use Rattle.law_answers.proofs.Imports.{client_state, client_step, client_turns, controls, false, front_legal, glanced_in, here_of, in-append, inl, inr}
+use Rattle.law_answers.proofs.Imports.{lines_of, names, next_line, none_some, operator, put_apart, put_same, reacts, refl, same_numbers, same_some}
 use Rattle.law_answers.proofs.Imports.{server_state, server_step, setting_of, shown, slice_get, start, stays, step, subst, sym, true, true_false, world_after}
 use Rattle.law_answers.proofs.Imports.{world_more, ℕ}
 use Rattle.law_answers.proofs.Lines.{open_last, IsOpenFor, asks_to_boot, line_of, open_for}

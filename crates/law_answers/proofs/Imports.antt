@@ -4,56 +4,56 @@ pub use Rattle.law_state.specs.Imports.{PairState, Record, Region, Server, Setti
 pub use Rattle.law_state.specs.Imports.{cell_link, chosen_log, chosen_state, disk_at, find, is_in, is_up_as, leads_link, leaving, may_join, named, servers_of}
 pub use Rattle.law_state.specs.Imports.{serves, snapshot_named, state_after}
 unfoldable pub use Rattle.law_state.specs.Imports.{In, at}
-pub use Rattle.law_state.proofs.Imports.{Bool, FenceKind, Latest, List, None, Option, Some, Verdict, [], act, ap, append-nil, append_assoc, arith, both_true}
-pub use Rattle.law_state.proofs.Imports.{by_bool, by_test, completes, cond, confirmed, effect, false, filter, first, fold-append, following, frozen}
-pub use Rattle.law_state.proofs.Imports.{if◌then◌else◌, in-append, in_both, in_former, in_later, inl, inr, is_new, is_some, is_taken, is_the_one, latest}
-pub use Rattle.law_state.proofs.Imports.{lead, length, length-append, length-set, links_of, map, move_fenced, move_of, moved_by, nat_le, nat_lists_same}
-pub use Rattle.law_state.proofs.Imports.{nat_lt, nat_tests, none_some, not, not_true, note, number_itself, option_map, option_map_or, passed, range_with_len}
-pub use Rattle.law_state.proofs.Imports.{readable, refl, replicate, row_fenced, row_frozen, row_moving, same_numbers, same_or_apart, same_some, second}
-pub use Rattle.law_state.proofs.Imports.{servers_in, settled, slice_get, slice_get_past, slice_get_within, some_or_none, subst, suc, sym, told, true}
-pub use Rattle.law_state.proofs.Imports.{true_false, unwrap_or, view-effect, with_disk, with_fence, with_move, zero, ℕ, ◌&&◌, ◌++◌, ◌+◌, ◌<◌, ◌==◌, ◌||◌, ◌∙◌}
-pub use Rattle.law_state.proofs.Imports.{◌∷◌, ◌≡◌, ◌≢◌, ◌≤◌, ◌⊎◌}
+pub use Rattle.law_state.proofs.Imports.{[], if◌then◌else◌, ◌&&◌, ◌++◌, ◌+◌, ◌<◌, ◌==◌, ◌||◌, ◌∙◌, ◌∷◌, ◌≡◌, ◌≢◌, ◌≤◌, ◌⊎◌, Bool, FenceKind, Latest, List}
+pub use Rattle.law_state.proofs.Imports.{None, Option, Some, Verdict, act, ap, append-nil, append_assoc, arith, both_true, by_bool, by_test, completes, cond}
+pub use Rattle.law_state.proofs.Imports.{confirmed, effect, false, filter, first, fold-append, following, frozen, in-append, in_both, in_former, in_later}
+pub use Rattle.law_state.proofs.Imports.{inl, inr, is_new, is_some, is_taken, is_the_one, latest, lead, length, length-append, length-set, links_of, map}
+pub use Rattle.law_state.proofs.Imports.{move_fenced, move_of, moved_by, nat_le, nat_lists_same, nat_lt, nat_tests, none_some, not, not_true, note}
+pub use Rattle.law_state.proofs.Imports.{number_itself, option_map, option_map_or, passed, range_with_len, readable, refl, replicate, row_fenced, row_frozen}
+pub use Rattle.law_state.proofs.Imports.{row_moving, same_numbers, same_or_apart, same_some, second, servers_in, settled, slice_get, slice_get_past}
+pub use Rattle.law_state.proofs.Imports.{slice_get_within, some_or_none, subst, suc, sym, told, true, true_false, unwrap_or, view-effect, with_disk}
+pub use Rattle.law_state.proofs.Imports.{with_fence, with_move, zero, ℕ}
 pub use Rattle.law_log.proofs.Imports.{Acted, Actor, After, Answer, AreSteps, AreStepsFrom, Arm, Asked, Before, Blank, Body, Boot, Call, Client, CommitEnd}
-pub use Rattle.law_log.proofs.Imports.{Copies, Deliver, Ending, Firm, Glance, HasProperTuple, HasProperTuples, IsSettledState, IsSound, Job, JobContext}
-pub use Rattle.law_log.proofs.Imports.{JobResult, Key, Learning, Letter, Line, Log, LogDone, MayActor, MayClient, MayServer, Moving, Pending, Post, Reaction}
-pub use Rattle.law_log.proofs.Imports.{Request, Script, Sight, Step, Stop, StopIn, Tick, Work, WorkEnd, about, acts, all_put, all_put_apart, answered_where}
+pub use Rattle.law_log.proofs.Imports.{Deliver, Ending, Firm, Glance, HasProperTuple, HasProperTuples, IsSettledState, IsSound, Job, JobContext, JobResult}
+pub use Rattle.law_log.proofs.Imports.{Key, Learning, Letter, Line, Log, LogDone, MayActor, MayClient, MayServer, Moving, Pending, Post, Reaction, Request}
+pub use Rattle.law_log.proofs.Imports.{Script, Sight, Step, Stop, StopIn, Table, Tick, Work, WorkEnd, about, acts, all_put, all_put_apart, answered_where}
 pub use Rattle.law_log.proofs.Imports.{answers, asks_and_sends, at_other_rev, awake, blanked, boots, calls, cell_of, chain_in, client_sender, client_state}
-pub use Rattle.law_log.proofs.Imports.{client_step, command_of, down_posts, ended, entered, epoch_for, faults, flat_map, free_of, glance_sender, glances}
-pub use Rattle.law_log.proofs.Imports.{goes_out, goes_out_where, goes_the_old_way, hears, hears_any, hears_of, here_of, holds_link, is_eq, is_from_in}
-pub use Rattle.law_log.proofs.Imports.{is_log_job, is_logged, is_overfull, is_read, is_second, is_settled, is_witness, is_write, job_done, judged, judged_by}
-pub use Rattle.law_log.proofs.Imports.{known, lines_of, link_named, log_plain, moved_as, nat_cmp, nat_cmp_total, next_entries, next_line, next_place}
-pub use Rattle.law_log.proofs.Imports.{pending_on, post_of, post_to, proposed, put_apart, put_same, raised, reacts, readers, replies, rests, rev_of, rounds}
-pub use Rattle.law_log.proofs.Imports.{sees, sees_for, sees_from, sender, sends_or_proposes, server_state, server_step, setting_of, settles, silent, stages}
-pub use Rattle.law_log.proofs.Imports.{stamped, start, stays, stays_open, stepped, stopped, stops, subject_of, takes_all, takes_entries, takes_entry}
-pub use Rattle.law_log.proofs.Imports.{then_goes_out, tick_posts, tied_itself, to_propose, verdict_for, voter_of, wakes, wanted_by, way_now, with_sight}
-pub use Rattle.law_log.proofs.Imports.{witnessed, worked, works, world_after, wrong_rev}
+pub use Rattle.law_log.proofs.Imports.{client_step, command_of, down_posts, ended, entered, epoch_for, faults, flat_map, free_of, get_last, get_within}
+pub use Rattle.law_log.proofs.Imports.{glance_sender, glances, goes_out, goes_out_where, goes_the_old_way, hears, hears_any, hears_of, here_of, holds_link}
+pub use Rattle.law_log.proofs.Imports.{is_eq, is_from_in, is_log_job, is_logged, is_overfull, is_read, is_second, is_settled, is_witness, is_write, job_done}
+pub use Rattle.law_log.proofs.Imports.{judged, judged_by, known, lines_of, link_named, log_plain, moved_as, nat_cmp, nat_cmp_total, next_entries, next_line}
+pub use Rattle.law_log.proofs.Imports.{next_place, pending_on, post_of, post_to, proposed, put_apart, put_same, raised, reacts, readers, replies, rests}
+pub use Rattle.law_log.proofs.Imports.{rev_of, rounds, sees, sees_for, sees_from, sender, sends_or_proposes, server_state, server_step, setting_of, settles}
+pub use Rattle.law_log.proofs.Imports.{silent, stages, stamped, start, stays, stays_open, stepped, stopped, stops, subject_of, takes_all, takes_entries}
+pub use Rattle.law_log.proofs.Imports.{takes_entry, then_goes_out, tick_posts, tied_itself, to_propose, verdict_for, voter_of, wakes, wanted_by, way_now}
+pub use Rattle.law_log.proofs.Imports.{with_sight, witnessed, worked, works, world_after, wrong_rev}
 unfoldable pub use Rattle.law_log.proofs.Imports.{applies, does, goes_on, handles, heard, hears_log, learns, log_does, next_retired, nobody, number, on_ask}
 unfoldable pub use Rattle.law_log.proofs.Imports.{on_news, on_pair_full, on_pax, on_propose, on_read, on_replicate, on_replicated, on_reserve, on_reserved}
 unfoldable pub use Rattle.law_log.proofs.Imports.{on_write, put_at, refusal, repairs, starts, step, sweeps, ticked}
-pub use Rattle.law_steps.specs.Imports.{Finished, Glanced, Paired, Refused, Sender, Subject, Table, bytes_of, cell_cmp, crossed, entry_at, letters_of, live}
+pub use Rattle.law_steps.specs.Imports.{Finished, Glanced, Paired, Refused, Sender, Subject, bytes_of, cell_cmp, crossed, entry_at, letters_of, live}
 pub use Rattle.law_steps.specs.Imports.{settled_by}
-pub use Rattle.law_steps.proofs.Imports.{ByBoth, ByNone, ByOne, Follows, Greater, HasDied, IsSteady, Less, Logged, Pairs, at-empty, between, by_settled}
-pub use Rattle.law_steps.proofs.Imports.{clock_of, found_at, front_plain, get_within, has_stage, history_grows, in_once, in_up, insert_entry, is_asked, is_at}
-pub use Rattle.law_steps.proofs.Imports.{is_clients, is_none, log_below, log_rev, log_roles, log_steady, logged, lookup, match_ordering, settling}
+pub use Rattle.law_steps.proofs.Imports.{ByBoth, ByNone, ByOne, Copies, Follows, Greater, HasDied, IsSteady, Less, Logged, Pairs, at-empty, between}
+pub use Rattle.law_steps.proofs.Imports.{by_settled, clock_of, either_of, found_at, front_itself, front_long, front_on, front_plain, has_stage, history_grows}
+pub use Rattle.law_steps.proofs.Imports.{in_once, in_up, insert_entry, is_asked, is_at, is_clients, is_none, log_below, log_rev, log_roles, log_steady}
+pub use Rattle.law_steps.proofs.Imports.{logged, lookup, match_ordering, none_of, one_front, or_true, settling}
 unfoldable pub use Rattle.law_steps.proofs.Imports.{put, without}
-pub use Rattle.law_jobs.specs.Imports.{FoundNoSlot, IsBusy, IsHeldBack, IsNewFill, IsReadable, IsRefusal}
-pub use Rattle.law_jobs.proofs.Imports.{A_slot, An_entry_to_move, Asks, By_read, Did, Handled, IsMoment, Not_here, Rests, Shows, Was, always_firm, at_apart}
-pub use Rattle.law_jobs.proofs.Imports.{at_same, front_legal, last_moment, moment_more, own_place, retired_second, was_same, with_answer, world_more, ◌-◌}
+pub use Rattle.law_jobs.specs.Imports.{Did, FoundNoSlot, IsBusy, IsHeldBack, IsNewFill, IsReadable, IsRefusal}
+pub use Rattle.law_jobs.proofs.Imports.{◌-◌, A_slot, An_entry_to_move, Asks, By_read, Handled, IsMoment, Not_here, Rests, Shows, Was, always_firm, at_apart}
+pub use Rattle.law_jobs.proofs.Imports.{at_same, front_legal, last_moment, moment_more, own_place, retired_second, was_same, with_answer, world_more}
 pub use Rattle.law_copies.specs.Imports.{IsRising, no_pairs}
-pub use Rattle.law_copies.proofs.Imports.{Asks_slot, At, Blanks, By_ballot, By_entry, By_job, Effect, Ends_fill, Fails, Goes, IsLinked, IsSeatedOrMute, May}
-pub use Rattle.law_copies.proofs.Imports.{Moves, Moves_on, OneMore, Read_asked, Run, Serves, Serving, Stays, Turns, Wakes, Worked, Write_asked, applied}
-pub use Rattle.law_copies.proofs.Imports.{at_row, before_part, below_itself, both_row, by_run, cases_lt, did_count, firm_in, first_state, front_itself}
-pub use Rattle.law_copies.proofs.Imports.{front_long, front_on, grown_in, happened_in, in_get, in_map, job_keeps, letters_of_job, longer, more_of, none_of}
-pub use Rattle.law_copies.proofs.Imports.{one_front, own_steady, primary_is_one, put_rises, run_of, said, served_so, setting_in, shown_so, since, stopped_so}
+pub use Rattle.law_copies.proofs.Imports.{Asks_slot, At, By_ballot, By_entry, By_job, Effect, Ends_fill, Fails, Goes, IsLinked, May, Moves, Moves_on, OneMore}
+pub use Rattle.law_copies.proofs.Imports.{Read_asked, Run, Serving, Stays, Wakes, Worked, Write_asked, applied, at_row, before_part, both_row, by_run}
+pub use Rattle.law_copies.proofs.Imports.{cases_lt, did_count, firm_in, first_state, in_get, in_map, job_keeps, letters_of_job, longer, more_of}
+pub use Rattle.law_copies.proofs.Imports.{primary_is_one, put_rises, rests_in, run_of, said, served_so, setting_in, shown_so, since, stepped_in, stopped_so}
 pub use Rattle.law_copies.proofs.Imports.{turned_asks, without_rev}
 pub use Rattle.law_requests.specs.Imports.{line_by}
 pub use Rattle.law_requests.proofs.Imports.{A_read, A_write, Anew, Answered, As_it_was, Begins, Blanks_it, By_operation, By_verdict, By_witness, Fails_it}
 pub use Rattle.law_requests.proofs.Imports.{For_a_fill, For_a_write, Goes_on, Had_no_slot, HasCome, HasEnded, Has_no_space, Heard, IsFinishedFor, IsJudged}
-pub use Rattle.law_requests.proofs.Imports.{IsReason, IsSame, IsSeenAs, Is_declined, Is_new, Is_settled, Is_told, Judges, Of_the_log, Reads, Repeats, Says}
-pub use Rattle.law_requests.proofs.Imports.{Shown, Starts_it, StaysOpen, Stood, Stops_at, Stops_it, Turned, after, both_leads, did_come, did_finish}
-pub use Rattle.law_requests.proofs.Imports.{is_refused, lead_is, names, proposed_pairs, rests_in, runs_now, write_refusal}
+pub use Rattle.law_requests.proofs.Imports.{IsReason, IsSame, IsSeatedOrMute, IsSeenAs, Is_declined, Is_new, Is_settled, Is_told, Judges, Of_the_log, Reads}
+pub use Rattle.law_requests.proofs.Imports.{Repeats, Says, Shown, Starts_it, StaysOpen, Stood, Stops_at, Stops_it, Turned, after, both_leads, did_come}
+pub use Rattle.law_requests.proofs.Imports.{did_finish, is_refused, lead_is, names, own_steady, proposed_pairs, runs_now, write_refusal}
 pub use Rattle.law_moves.specs.Imports.{IsServing}
-pub use Rattle.law_moves.proofs.Imports.{or_true, stage_facts, to_server}
+pub use Rattle.law_moves.proofs.Imports.{stage_facts, to_server}
 pub use Rattle.law_answers.specs.Imports.{Event, Look, Read, accepted, asked_by, look_for, old_data, operator, reads_old}
 pub use Rattle.std.proofs.Common.{take}
 pub use Rattle.std.proofs.Math.Seq.{take-append_seam}
@@ -65,7 +65,7 @@ pub use Rattle.law_copies.proofs.ChainsRise.{all_left}
 pub use Rattle.law_copies.specs.Pair.{owns_of}
 pub use Rattle.law_jobs.proofs.LettersWereSent.{WasSent, answers_in, sent_since, stays_sent, was_sent}
 pub use Rattle.law_jobs.proofs.OperationsCome.{finished_of}
-pub use Rattle.law_jobs.proofs.Runs.{at_moment, firm_then, follows_in, grown_then, stepped_in}
+pub use Rattle.law_jobs.proofs.Runs.{at_moment, firm_then, follows_in, grown_then}
 pub use Rattle.law_jobs.specs.Effects.{HearsNone, Is_full}
 pub use Rattle.law_jobs.specs.Sayings.{Has_no_slot, to_client}
 pub use Rattle.law_log.proofs.CopyJobsLeaveLog.{calm_mends}
@@ -98,12 +98,12 @@ pub use Rattle.law_state.proofs.Disks.{first_at_start}
 pub use Rattle.law_state.proofs.EntriesOnlyAdd.{acting}
 pub use Rattle.law_state.proofs.Fences.{IsRequeued, IsUnsettled, get_after, head_get, ready_by, requeued_awaiting, requeued_itself, requeued_reported}
 pub use Rattle.law_state.proofs.FencesPass.{here_row, one_passed, passed_beside, passed_here, passing, region_beside, region_here, settled_keeps}
-pub use Rattle.law_state.proofs.ListLookups.{find_after, find_front, find_here, get_last, get_set_beside, get_set_here, text_itself}
+pub use Rattle.law_state.proofs.ListLookups.{find_after, find_front, find_here, get_set_beside, get_set_here, text_itself}
 pub use Rattle.law_state.proofs.LoneHolders.{lead_first, second_both}
 pub use Rattle.law_state.proofs.Moments.{first_moment, moment_later}
 pub use Rattle.law_state.proofs.MovesOfDisks.{IsNoting, act_moved, act_note, act_start}
 pub use Rattle.law_state.proofs.NamedCells.{asked_takes}
-pub use Rattle.law_state.proofs.Owners.{disk_at_is, either_of}
+pub use Rattle.law_state.proofs.Owners.{disk_at_is}
 pub use Rattle.law_state.proofs.SnapsQueueFences.{act_drained, act_snap}
 pub use Rattle.law_state.specs.LinkRows.{IsBetween}
 pub use Rattle.law_state.specs.Tables.{IsFence, IsForSnapshot, IsGrown, IsLaterDisk, Of_disk, Of_region}
@@ -114,7 +114,7 @@ pub use Rattle.law_steps.proofs.Letters.{Said, one_post, said as said_in}
 pub use Rattle.law_steps.proofs.LogJobs.{LogFrame, applied_entry, applied_none, ask_logged, ballot_logged, letter_frame_of, start_frame_of}
 pub use Rattle.law_steps.proofs.ServerStepKinds.{server_serves}
 pub use Rattle.law_steps.specs.DidClient.{Ends, answer_of}
-pub use Rattle.law_steps.specs.DidStep.{Ends as Stops_so, Goes as Serves_on, IsIdle, served}
+pub use Rattle.law_steps.specs.DidStep.{IsIdle, Goes as Serves_on, Ends as Stops_so, served}
 pub use Rattle.script_lines.specs.Printed.{answer_line}
 pub use Rattle.script_lines.specs.Requests.{is_snap}
 pub use Rattle.spec_history.specs.Causes.{AreCaused, CauseOf, HasVerdict, HasWitness, WasTold, has_made, is_moving, is_name_taken, lacks_disk, may_answer}

@@ -3,9 +3,9 @@ use Rattle.law_answers.proofs.Imports.{◌<◌, ◌∙◌, ◌≡◌, ◌≤◌,
 use Rattle.law_answers.proofs.Imports.{Finished, For_a_fill, For_a_write, FoundNoSlot, Had_no_slot, Handled, HasCome, Has_no_slot, In, IsFinishedFor}
 use Rattle.law_answers.proofs.Imports.{IsSeatedOrMute, IsSteady, Is_declined, Is_new, JobContext, JobResult, List, Moves, Moves_on, None, PairState, Pending}
 use Rattle.law_answers.proofs.Imports.{Post, Refused, Repeats, Some, Stood, Table, Was, Work, World, ap, arith, at, both_first, both_leads, both_row, by_bool}
-use Rattle.law_answers.proofs.Imports.{cell_cmp, chosen_log, retired_second, did_come, did_count, did_finish, ended, false, finished_of, first, in_both, in_once}
-use Rattle.law_answers.proofs.Imports.{inl, inr, is_clients, is_in, is_logged, is_second, is_the_one, lead_first, leads_link, letters_of_job, live, moved_as}
-use Rattle.law_answers.proofs.Imports.{none_some, one_client, one_front, own_place, own_steady, pending_on, put, refl, same_some, second, second_both}
+use Rattle.law_answers.proofs.Imports.{cell_cmp, chosen_log, did_come, did_count, did_finish, ended, false, finished_of, first, in_both, in_once, inl, inr}
+use Rattle.law_answers.proofs.Imports.{is_clients, is_in, is_logged, is_second, is_the_one, lead_first, leads_link, letters_of_job, live, moved_as, none_some}
+use Rattle.law_answers.proofs.Imports.{one_client, one_front, own_place, own_steady, pending_on, put, refl, retired_second, same_some, second, second_both}
 use Rattle.law_answers.proofs.Imports.{state_after, subject_of, subst, sym, to_client, to_server, true, was_same, ℕ}
 use Rattle.law_answers.proofs.SlotLetters.{Duty, no_duty, is_of_slots, not_full, logged_not_full, TellsNone, JobRefuses, Scene, still, moved_not_full}
 use Rattle.law_answers.proofs.SlotLetters.{one_server}

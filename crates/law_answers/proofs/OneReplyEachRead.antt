@@ -1,10 +1,10 @@
 -- What a server sends to whoever reads: the reply to the one read that it handles in the step.
 use Rattle.law_answers.proofs.Imports.{[], ◌∙◌, ◌∷◌, ◌≡◌, Acted, Actor, Body, Bool, By_ballot, By_entry, By_job, By_read, Cell, Did, Fails, Glanced, Goes}
-use Rattle.law_answers.proofs.Imports.{Grounded, Handled, In, IsReadable, IsSeatedOrMute, IsSteady, JobResult, Letter, List, Lives, NeverRetired, None, Not_here}
-use Rattle.law_answers.proofs.Imports.{Option, PairState, Post, SaysOk, Scene, Sender, Serving, Setting, Shows, Some, Stays, Step, Subject, Wakes, World, ap}
-use Rattle.law_answers.proofs.Imports.{awake, bytes_of, chain_in, down_posts, entry_at, false, inl, inr, is_logged, is_looked, job_tells, letters_of, map}
-use Rattle.law_answers.proofs.Imports.{mute_data, never_retired, own_place, owns_of, post_of, raised, refl, rev_of, said, same_data, sender, server_state}
-use Rattle.law_answers.proofs.Imports.{servers_of, stamped, subject_of, sym, true, true_false, without_rev, ℕ}
+use Rattle.law_answers.proofs.Imports.{Grounded, Handled, In, IsReadable, IsSeatedOrMute, IsSteady, JobResult, Letter, List, Lives, NeverRetired, None}
+use Rattle.law_answers.proofs.Imports.{Not_here, Option, PairState, Post, SaysOk, Scene, Sender, Serving, Setting, Shows, Some, Stays, Step, Subject, Wakes}
+use Rattle.law_answers.proofs.Imports.{World, ap, awake, bytes_of, chain_in, down_posts, entry_at, false, inl, inr, is_logged, is_looked, job_tells}
+use Rattle.law_answers.proofs.Imports.{letters_of, map, mute_data, never_retired, own_place, owns_of, post_of, raised, refl, rev_of, said, same_data, sender}
+use Rattle.law_answers.proofs.Imports.{server_state, servers_of, stamped, subject_of, sym, true, true_false, without_rev, ℕ}
 use Rattle.law_steps.specs.DidStep.{Ends}
 use Rattle.petal_msg.specs.declared.body.Body.TheVariants as body
 use Rattle.petal_msg.specs.declared.letter.Actor.TheVariants as actor

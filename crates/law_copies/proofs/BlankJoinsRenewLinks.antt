@@ -1,8 +1,8 @@
 -- An entry that counts as a Join with an empty store: of which server it is, and what becomes of the server's links.
 use Rattle.law_copies.proofs.Imports.{[], if◌then◌else◌, ◌&&◌, ◌++◌, ◌<◌, ◌==◌, ◌||◌, ◌∙◌, ◌∷◌, ◌≡◌, ◌≢◌, Bool, Both, Cell, Chain, Command, Join, LinkRow}
 use Rattle.law_copies.proofs.Imports.{LinkState, List, Lost, None, Only, Setting, State, Store, ap, append-nil, at-empty, blank_joins_in, blanked_state}
-use Rattle.law_copies.proofs.Imports.{both_true, by_bool, cell_cmp, chain_in, counts_joins, false, front_itself, has_server, inl, inr, needs_full_copy}
-use Rattle.law_copies.proofs.Imports.{joined_counts, joins_blank, may_join, number_itself, refl, row_blanked, row_joined, same_numbers, slice_get}
+use Rattle.law_copies.proofs.Imports.{both_true, by_bool, cell_cmp, chain_in, counts_joins, false, front_itself, has_server, inl, inr, joined_counts}
+use Rattle.law_copies.proofs.Imports.{joins_blank, may_join, needs_full_copy, number_itself, refl, row_blanked, row_joined, same_numbers, slice_get}
 use Rattle.law_copies.proofs.Imports.{state_after, subst, sym, true, true_false, unwrap_or, ℕ}
 use Rattle.law_copies.specs.CopyProgress.{IsCovered, Is_equal, Is_to_be_copied}
 use Rattle.law_copies.proofs.ServedAtLaterFronts.{same_only}

@@ -1,9 +1,9 @@
 -- A job leaves a cell whose link the server is not of, or that has no link.
 use Rattle.law_copies.proofs.Imports.{◌<◌, ◌∙◌, ◌≡◌, ◌⊎◌, Body, Both, ByBoth, ByNone, ByOne, By_holder, By_lead, By_other, By_second, Cell, Did, IsBothRow}
 use Rattle.law_copies.proofs.Imports.{IsHeld, IsInBoth, IsLinked, IsSteady, JobContext, JobResult, LinkRow, Lost, None, PairState, Some, ap, arith, by_bool}
-use Rattle.law_copies.proofs.Imports.{cell_holder, cell_link, retired_second, false, has_server, holder_of, inl, inr, is_alone, is_second, is_the_one}
-use Rattle.law_copies.proofs.Imports.{leads_link, link_led_by, live, live_stage, none_some, option_and_then, other_of, primary_is_one, row_lead, same_some}
-use Rattle.law_copies.proofs.Imports.{second, second_by, secondary_is_one, stage_at, sym, true, true_false, ℕ}
+use Rattle.law_copies.proofs.Imports.{cell_holder, cell_link, false, has_server, holder_of, inl, inr, is_alone, is_second, is_the_one, leads_link}
+use Rattle.law_copies.proofs.Imports.{link_led_by, live, live_stage, none_some, option_and_then, other_of, primary_is_one, retired_second, row_lead}
+use Rattle.law_copies.proofs.Imports.{same_some, second, second_by, secondary_is_one, stage_at, sym, true, true_false, ℕ}
 use Rattle.law_copies.specs.LoneSteps.{IsBare, IsFit, IsNotOf, KeepsCell}
 use Rattle.law_copies.proofs.RolesOfWorkers.{IsHeldHere, RoleIn, alone_both, idle_both, led_alive, not_both, only_alone, other_alone, other_row, role_keeps}
 

@@ -11,27 +11,29 @@ pub use Rattle.law_state.proofs.Imports.{joins_blank, left_state, length, length
 pub use Rattle.law_state.proofs.Imports.{not_true, number_itself, option_and_then, option_map, option_map_or, refl, row_lead, same_numbers, same_or_apart}
 pub use Rattle.law_state.proofs.Imports.{same_some, second, secondary, slice_get, slice_get-map, slice_get_within, some_or_none, state_lead, subst, sym}
 pub use Rattle.law_state.proofs.Imports.{touches, true, true_false, unwrap_or, ℕ}
-pub use Rattle.law_log.proofs.Imports.{if◌then◌else◌, ◌||◌, Acted, AreSteps, Ask, Blank, Block, Body, Copies, Copying, Ending, Entry, Equal, Firm}
-pub use Rattle.law_log.proofs.Imports.{HasProperTuple, HasProperTuples, IsSettledState, IsSound, JobContext, JobResult, Key, LastCopy, LastOp, Letter, Life}
-pub use Rattle.law_log.proofs.Imports.{Log, NextCopy, Pending, Post, Reaction, Script, Step, Stored, Wait, about, above, acts, all_put_apart, awake}
-pub use Rattle.law_log.proofs.Imports.{begins_copy, blanked, cell_at, cell_holder, cell_of, chain_in, client_sender, closes, copying_on, ended, ends}
-pub use Rattle.law_log.proofs.Imports.{eq_by_cmp, fill_operation, gives_back, has_proposed, holds_link, id_of, is_eq, is_flagged, is_logged, is_second}
-pub use Rattle.law_log.proofs.Imports.{is_under_way, key_at, last_copy, last_on, link_named, log_plain, map, moved_as, nat_cmp, nat_cmp_total, no_progress}
-pub use Rattle.law_log.proofs.Imports.{other_in, pending_on, post_of, progress_on, proposed, put_apart, put_same, puts_entry, raised, ranked, reacts}
-pub use Rattle.law_log.proofs.Imports.{same_block, sender, server_state, setting_of, silent, stamped, start, state_in, stays, subject_of, tells, tied_itself}
-pub use Rattle.law_log.proofs.Imports.{wakes, with_copied, with_copying, with_full, with_last_copy, with_opened, with_page, with_progress, without_copying}
-pub use Rattle.law_log.proofs.Imports.{without_pending, world_after}
+pub use Rattle.law_log.proofs.Imports.{if◌then◌else◌, ◌||◌, Acted, AreSteps, Ask, Blank, Block, Body, Copying, Ending, Entry, Equal, Firm, HasProperTuple}
+pub use Rattle.law_log.proofs.Imports.{HasProperTuples, IsSettledState, IsSound, JobContext, JobResult, Key, LastCopy, LastOp, Letter, Life, Log, NextCopy}
+pub use Rattle.law_log.proofs.Imports.{Pending, Post, Reaction, Script, Step, Stored, Table, Wait, about, above, acts, all_put_apart, awake, begins_copy}
+pub use Rattle.law_log.proofs.Imports.{blanked, cell_at, cell_holder, cell_of, chain_in, client_sender, closes, copying_on, ended, ends, eq_by_cmp}
+pub use Rattle.law_log.proofs.Imports.{fill_operation, gives_back, has_proposed, holds_link, id_of, is_eq, is_flagged, is_logged, is_second, is_under_way}
+pub use Rattle.law_log.proofs.Imports.{key_at, last_copy, last_on, link_named, log_plain, map, moved_as, nat_cmp, nat_cmp_total, no_progress, other_in}
+pub use Rattle.law_log.proofs.Imports.{pending_on, post_of, progress_on, proposed, put_apart, put_same, puts_entry, raised, ranked, reacts, same_block}
+pub use Rattle.law_log.proofs.Imports.{sender, server_state, setting_of, silent, stamped, start, state_in, stays, subject_of, tells, tied_itself, wakes}
+pub use Rattle.law_log.proofs.Imports.{with_copied, with_full, with_last_copy, with_opened, with_page, with_progress, without_copying, without_pending}
+pub use Rattle.law_log.proofs.Imports.{world_after}
 unfoldable pub use Rattle.law_log.proofs.Imports.{next_copy, put_at}
-pub use Rattle.law_steps.specs.Imports.{Busy, IsBelow, MarkKind, Nothing, Paired, Sender, Stage, Stale, StaysSo, Subject, Table, before_blanks, cell_cmp}
-pub use Rattle.law_steps.specs.Imports.{crossed, epochs_beyond, epochs_of, follows, holder_of, least, letters_of, live, marked_blocks, marks, operation, puts}
-pub use Rattle.law_steps.specs.Imports.{settled_by, stage_at, unmarks, with_last, with_paired, with_pending, with_reserved, without_entry, without_mark_on}
-pub use Rattle.law_steps.proofs.Imports.{ByBoth, ByNone, ByOne, Chain, Greater, HasDied, HasStarted, IsCaughtStill, IsSteady, Less, Logged, Mark, Ordering}
-pub use Rattle.law_steps.proofs.Imports.{Pairs, Store, alone_row, at-empty, at-where, blocks_left, cell_apart, cell_cmp_same, cell_cmp_total, cell_gone}
-pub use Rattle.law_steps.proofs.Imports.{cell_gone_apart, cell_same, dies, either_false, ends_cell, ends_link, found_at, front_plain, history_grows}
-pub use Rattle.law_steps.proofs.Imports.{history_is_firm, in_once, is_asked, is_at, is_clients, is_kept_on, is_link_under_way, is_none, is_on, needs_full_copy}
-pub use Rattle.law_steps.proofs.Imports.{lesser, log_alone, log_below, log_steady, lookup, max, next_block, no_copies, out_has_stopped, progress_beside}
-pub use Rattle.law_steps.proofs.Imports.{progress_here, row_in_both, same_caught, same_id, same_place, settling, so_both, stage_most, stored_blocks}
-pub use Rattle.law_steps.proofs.Imports.{touches_cell, up_some, version_of, who_is_in_has_begun, with_mark_at, with_mark_on, with_ticket}
+pub use Rattle.law_steps.specs.Imports.{Busy, IsBelow, MarkKind, Nothing, Paired, Sender, Stage, Stale, StaysSo, Subject, before_blanks, cell_cmp, crossed}
+pub use Rattle.law_steps.specs.Imports.{epochs_beyond, epochs_of, follows, holder_of, least, letters_of, live, marked_blocks, marks, operation, puts}
+pub use Rattle.law_steps.specs.Imports.{settled_by, stage_at, unmarks, with_copying, with_last, with_paired, with_pending, with_reserved, without_entry}
+pub use Rattle.law_steps.specs.Imports.{without_mark_on}
+pub use Rattle.law_steps.proofs.Imports.{ByBoth, ByNone, ByOne, Chain, Copies, Greater, HasDied, HasStarted, IsCaughtStill, IsSteady, Less, Logged, Mark}
+pub use Rattle.law_steps.proofs.Imports.{Ordering, Pairs, Store, alone_row, at-empty, at-where, below_itself, blocks_left, cell_apart, cell_cmp_same}
+pub use Rattle.law_steps.proofs.Imports.{cell_cmp_total, cell_gone, cell_gone_apart, cell_same, dies, either_false, ends_cell, ends_link, found_at}
+pub use Rattle.law_steps.proofs.Imports.{front_itself, front_long, front_more, front_on, front_plain, history_grows, history_is_firm, in_once, is_asked}
+pub use Rattle.law_steps.proofs.Imports.{is_at, is_clients, is_kept_on, is_link_under_way, is_none, is_on, lesser, log_alone, log_below, log_steady, lookup}
+pub use Rattle.law_steps.proofs.Imports.{max, needs_full_copy, next_block, no_copies, none_of, one_front, out_has_stopped, progress_beside, progress_here}
+pub use Rattle.law_steps.proofs.Imports.{row_in_both, same_caught, same_id, same_place, settling, so_both, stage_most, stored_blocks, touches_cell, up_some}
+pub use Rattle.law_steps.proofs.Imports.{version_of, was_true, who_is_in_has_begun, with_mark_at, with_mark_on, with_ticket}
 unfoldable pub use Rattle.law_steps.proofs.Imports.{put, without}
 pub use Rattle.law_jobs.specs.Imports.{Begins_copy, By_holder, By_lead, By_other, By_second, Closes, Closes_alone, Did, DidHolder, DidLead, DidOther}
 pub use Rattle.law_jobs.specs.Imports.{DidSecond, Finds_it_full, Follows, Gives_up, Goes_on_copying, Goes_on_retired, Goes_on_trimming, IsHeldWith, IsOfCopy}
@@ -66,9 +68,10 @@ pub use Rattle.law_log.proofs.LogInHistories.{chosen_caught_was}
 pub use Rattle.law_state.proofs.BlankJoins.{counts_joins, joined_counts, joins_grow, joins_on}
 pub use Rattle.law_state.proofs.Caughts.{alone_by}
 pub use Rattle.law_state.proofs.CaughtsMadeBoth.{left_not_both, left_row, log_both_place, log_lost, places_later, stays_row}
-pub use Rattle.law_state.proofs.CellsByLinkRows.{IsHeldBy as IsHeld, IsInBoth, retired_second, first_by, link_led_by, second_by}
+pub use Rattle.law_state.proofs.CellsByLinkRows.{IsHeldBy as IsHeld, IsInBoth, first_by, link_led_by, retired_second, second_by}
 pub use Rattle.law_state.proofs.EntriesOnlyAdd.{start_plain}
 pub use Rattle.law_state.proofs.EntriesTouchLinks.{log_entry_stays, log_touched, places_grow, places_of_both, places_on}
+pub use Rattle.law_state.proofs.Fronts.{front_within}
 pub use Rattle.law_state.proofs.GrownStates.{alone_not_both, lost_not_both, one_before}
 pub use Rattle.law_state.proofs.Incarnations.{joined_in, joined_once, joined_since}
 pub use Rattle.law_state.proofs.Joins.{both_before}
@@ -78,7 +81,6 @@ pub use Rattle.law_state.proofs.ListLookups.{get_in, in_get}
 pub use Rattle.law_state.proofs.LoneHolders.{IsBothRow, both_not_alone, both_row, second_secondary}
 pub use Rattle.law_state.proofs.NewMapLinks.{in_map}
 pub use Rattle.law_state.proofs.Roles.{primary_is_one, secondary_is_one}
-pub use Rattle.law_state.proofs.SnapsQueueFences.{none_of}
 pub use Rattle.law_state.proofs.Steady.{linked, log_grown, tuple_on}
 pub use Rattle.law_state.specs.Joins.{HasJoinedSince}
 pub use Rattle.law_state.specs.LinkChanges.{By_caught, By_join, By_leave, IsCaughtBy, IsHeldStill, row_joined}
@@ -86,12 +88,10 @@ pub use Rattle.law_state.specs.LinkRows.{IsLater}
 pub use Rattle.law_state.specs.Steady.{IsLinked}
 pub use Rattle.law_steps.proofs.ClientLetters.{turned_asks}
 pub use Rattle.law_steps.proofs.CopiesRest.{among_least, cell_left, in_none, on_row, same_cell}
-pub use Rattle.law_steps.proofs.CopyFrames.{of_holder, of_other}
+pub use Rattle.law_steps.proofs.CopyFrames.{of_holder}
 pub use Rattle.law_steps.proofs.FillsByJobs.{Fills, Stood, Writes, did_come}
-pub use Rattle.law_state.proofs.Fronts.{below_itself, front_itself, front_long, front_more, front_on, front_within, one_front}
 pub use Rattle.law_steps.proofs.HeldBackForCaughts.{held_as_flag}
 pub use Rattle.law_steps.proofs.IdleServers.{logged_apart}
-pub use Rattle.law_state.proofs.TestFacts.{was_true}
 pub use Rattle.law_steps.proofs.InvertLead.{is_copying}
 pub use Rattle.law_steps.proofs.Letters.{said}
 pub use Rattle.law_steps.proofs.ListPlaces.{parted}
@@ -106,8 +106,7 @@ pub use Rattle.law_steps.proofs.Ties.{running_fronts, stays_alone, stays_both}
 pub use Rattle.law_steps.proofs.WakingGoesOn.{may_wake}
 pub use Rattle.law_steps.proofs.WhoLeads.{lead_links, led_by_link, live_stage, stage_live}
 pub use Rattle.law_steps.specs.DidSecond.{with_tickets}
-pub use Rattle.law_steps.specs.DidStep.{Blanks, By_ballot, By_entry, By_job, Ends, Fails, Goes, IsBallotFor, IsSeatedOrMute, Serves, Serving, Starts}
-pub use Rattle.law_steps.specs.DidStep.{Stays, Turns, Wakes}
+pub use Rattle.law_steps.specs.DidStep.{Blanks, By_ballot, By_entry, By_job, Ends, Fails, Goes, IsBallotFor, Serves, Serving, Starts, Stays, Turns, Wakes}
 pub use Rattle.law_steps.specs.DidStep.{Worked, served_so, shown_so, stopped_so, without_rev}
 pub use Rattle.law_steps.specs.Operations.{putting}
 pub use Rattle.law_steps.specs.ProposedCommands.{WasReturning}
@@ -122,5 +121,3 @@ pub use Rattle.spec_rules.specs.Crossing.{is_blank_join, touches_link}
 pub use Rattle.spec_rules.specs.Store.{empty_store, settled}
 pub use Rattle.spec_rules.specs.World.{counted, counted_by, kept, kept_by}
 pub use Rattle.spec_state.specs.State.{start as first_state}
-pub use Rattle.law_steps.specs.DidSweep.{cell_swept}
-pub use Rattle.law_steps.proofs.KindsInHistories.{own_steady}

@@ -2,8 +2,8 @@
 -- place a cell is kept as by its own entries.
 use Rattle.law_copies.proofs.Imports.{[], ◌<◌, ◌∙◌, ◌≡◌, ◌≢◌, ◌≤◌, ◌⊎◌, Body, Bool, Both, ByBoth, ByNone, ByOne, Cell, Command, IsLater, IsMarked, IsPrefix}
 use Rattle.law_copies.proofs.Imports.{IsToBeCopied, LinkRow, List, Lost, None, Only, Option, PairState, Some, Store, about, alone_not_both, ap, arith}
-use Rattle.law_copies.proofs.Imports.{blank_joins_in, by_bool, cell_link, chain_in, chosen_log, false, front_on, has_server, inl, inr, is_some, needs_full_copy}
-use Rattle.law_copies.proofs.Imports.{joins_grow, lost_not_both, none_some, one_before, other_of, primary_is_one, refl, said, same_or_apart, same_some}
+use Rattle.law_copies.proofs.Imports.{blank_joins_in, by_bool, cell_link, chain_in, chosen_log, false, front_on, has_server, inl, inr, is_some, joins_grow}
+use Rattle.law_copies.proofs.Imports.{lost_not_both, needs_full_copy, none_some, one_before, other_of, primary_is_one, refl, said, same_or_apart, same_some}
 use Rattle.law_copies.proofs.Imports.{secondary_is_one, server_state, some_or_none, stage_at, state_after, subst, sym, true, true_false, ℕ}
 use Rattle.law_copies.specs.CopyProgress.{AreCopying, IsCovered, IsPage, IsTold, Is_marked_here, Is_to_be_copied, NotCopied, links_of}
 use Rattle.law_copies.specs.GoodCopies.{AloneOk, AreBeside, AreTwins, BothOk, StaysLeft}

@@ -1,8 +1,8 @@
 -- What a job of a server that is In as itself keeps at the places of its own entries.
 use Rattle.law_copies.proofs.Imports.{[], ◌<◌, ◌∙◌, ◌≡◌, ◌≢◌, ◌≤◌, ◌⊎◌, Body, Bool, Both, Cell, Command, Handled, In, IsMarked, IsToBeCopied, LinkRow, List}
 use Rattle.law_copies.proofs.Imports.{None, Only, Option, PairState, Post, Some, Store, about, ap, blank_joins_in, chain_in, chosen_log, has_server, id_of}
-use Rattle.law_copies.proofs.Imports.{inl, inr, is_alone, is_flagged, is_in, is_some, needs_full_copy, other_between, other_of, primary_is_one, refl, same_numbers}
-use Rattle.law_copies.proofs.Imports.{same_or_apart, same_some, secondary_is_one, server_state, state_after, state_in, subst, sym, true, ℕ}
+use Rattle.law_copies.proofs.Imports.{inl, inr, is_alone, is_flagged, is_in, is_some, needs_full_copy, other_between, other_of, primary_is_one, refl}
+use Rattle.law_copies.proofs.Imports.{same_numbers, same_or_apart, same_some, secondary_is_one, server_state, state_after, state_in, subst, sym, true, ℕ}
 use Rattle.law_copies.specs.BothSteps.{LacksFill}
 use Rattle.law_copies.specs.CopyProgress.{AreAlike, AreCopying, IsCovered, IsLeft, IsPage, IsTold, Is_marked_here, Is_to_be_copied, NotCopied, links_of}
 use Rattle.law_copies.specs.GoodCopies.{AreBeside, AreTwins, StaysLeft, pair_at}

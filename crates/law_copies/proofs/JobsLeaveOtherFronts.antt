@@ -2,7 +2,7 @@
 use Rattle.law_copies.proofs.Imports.{◌<◌, ◌==◌, ◌∙◌, ◌≡◌, ◌≢◌, ◌≤◌, ◌⊎◌, Bool, Both, Busy, ByBoth, ByNone, ByOne, Cell, Command, IsLater, IsMarked, IsPrefix}
 use Rattle.law_copies.proofs.Imports.{IsSteady, IsToBeCopied, LinkRow, List, Lost, MarkKind, None, Only, Option, PairState, Some, Stale, Store, above, ap}
 use Rattle.law_copies.proofs.Imports.{arith, blank_joins_in, chain_in, chosen_log, false, front_itself, front_plain, has_server, id_of, inl, inr, is_flagged}
-use Rattle.law_copies.proofs.Imports.{is_marked, is_some, needs_full_copy, joins_grow, log_steady, none_some, number_itself, other_of, progress_on, refl}
+use Rattle.law_copies.proofs.Imports.{is_marked, is_some, joins_grow, log_steady, needs_full_copy, none_some, number_itself, other_of, progress_on, refl}
 use Rattle.law_copies.proofs.Imports.{same_or_apart, server_state, serves, some_or_none, state_after, subst, sym, true, true_false, ℕ}
 use Rattle.law_copies.specs.CopyProgress.{IsCovered, NotCopied, links_of}
 use Rattle.law_copies.specs.LoneSteps.{IsLeftBy, OtherKeeps}

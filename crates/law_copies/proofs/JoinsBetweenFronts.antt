@@ -3,8 +3,8 @@ use Rattle.law_copies.proofs.Imports.{[], if◌then◌else◌, ◌&&◌, ◌++�
 use Rattle.law_copies.proofs.Imports.{Cell, Command, Firm, HasJoinedSince, HasProperTuple, HasProperTuples, In, IsPrefix, Join, Leave, LinkRow, List, Lost}
 use Rattle.law_copies.proofs.Imports.{None, Only, PairState, Record, Setting, Some, State, Store, World, ap, append-nil, append_assoc, arith, blank_joins_in}
 use Rattle.law_copies.proofs.Imports.{blanked_state, by_bool, cell_link, chain_in, chosen_log, front_itself, front_more, front_on, front_plain, has_server}
-use Rattle.law_copies.proofs.Imports.{id_of, in_later, inl, inr, is_flagged, needs_full_copy, joined_counts, joins_blank, joins_grow, log_lost, log_steady}
-use Rattle.law_copies.proofs.Imports.{log_touched, number_itself, one_before, other_of, refl, row_blanked, row_joined, state_after, subst, sym, true, ℕ}
+use Rattle.law_copies.proofs.Imports.{id_of, in_later, inl, inr, is_flagged, joined_counts, joins_blank, joins_grow, log_lost, log_steady, log_touched}
+use Rattle.law_copies.proofs.Imports.{needs_full_copy, number_itself, one_before, other_of, refl, row_blanked, row_joined, state_after, subst, sym, true, ℕ}
 use Rattle.law_copies.specs.GoodCopies.{Good}
 use Rattle.law_copies.specs.Visits.{AliveIn, IsLinked, place_by, store_by, with_stores}
 use Rattle.law_copies.proofs.BlankJoinsMakePlaces.{joins_earlier}

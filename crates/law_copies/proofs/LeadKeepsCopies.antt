@@ -1,6 +1,6 @@
 -- What a step of the first server of a cell in Both keeps of its two copies.
-use Rattle.law_copies.proofs.Imports.{◌+◌, ◌∙◌, ◌≡◌, ◌≢◌, Body, Busy, By_lead, Cell, Chain, Closes, Closes_alone, DidLead, Gives_up, Goes_on_retired, JobResult}
-use Rattle.law_copies.proofs.Imports.{Marks, Marks_alone, None, Opens, Opens_alone, Opens_fill, Opens_fill_alone, Option, PairState, Pending, Puts}
+use Rattle.law_copies.proofs.Imports.{◌+◌, ◌∙◌, ◌≡◌, ◌≢◌, Body, Busy, By_lead, Cell, Chain, Closes, Closes_alone, DidLead, Gives_up, Goes_on_retired}
+use Rattle.law_copies.proofs.Imports.{JobResult, Marks, Marks_alone, None, Opens, Opens_alone, Opens_fill, Opens_fill_alone, Option, PairState, Pending, Puts}
 use Rattle.law_copies.proofs.Imports.{Puts_alone, Some, Stage, Store, Taken, Unmarks, Unmarks_alone, about, ap, at, both_not_alone, cell_cmp, cell_gone}
 use Rattle.law_copies.proofs.Imports.{cell_of, cell_same, chain_in, chain_put, did_count, ends, false, fill_operation, gives_back, inl, inr, is_alone_on}
 use Rattle.law_copies.proofs.Imports.{lead_cell, live, marks, nat_cmp, none_some, of_ending, operation, put, puts, putting, refl, same_cell_or_apart}

@@ -1,10 +1,10 @@
 -- A lead puts only on a block that is marked on its device, and its operations find the marks that their stages tell of.
 use Rattle.law_copies.proofs.Imports.{◌+◌, ◌<◌, ◌||◌, ◌∙◌, ◌≡◌, ◌≢◌, ◌⊎◌, Begins_copy, Body, Busy, By_holder, By_lead, By_other, By_second, Cell, Closes}
 use Rattle.law_copies.proofs.Imports.{Closes_alone, Closes_copy, CopyStep, Copy_as_is, Copy_synced, Copy_trimmed, Copying, Did, DidHolder, DidLead, Ending}
-use Rattle.law_copies.proofs.Imports.{Finds_it_full, Gives_up, Goes_on_copying, Goes_on_retired, Idle, IsIdle, IsMarked, JobContext, JobResult, MarkKind, Marks}
-use Rattle.law_copies.proofs.Imports.{Marks_alone, None, Opens, Opens_alone, Opens_fill, Opens_fill_alone, PairState, Pending, Puts, Puts_alone, Some, Stage}
-use Rattle.law_copies.proofs.Imports.{Stale, Store, Taken, TakenCopy, Turns_page, Unmarks, Unmarks_alone, among_least, ap, at, begins_copy, cell_at, cell_cmp}
-use Rattle.law_copies.proofs.Imports.{cell_gone, cell_same, chain_in, copied_chains, copying_on, did_ready, ends, false, fill_operation, first_copy}
+use Rattle.law_copies.proofs.Imports.{Finds_it_full, Gives_up, Goes_on_copying, Goes_on_retired, Idle, IsIdle, IsMarked, JobContext, JobResult, MarkKind}
+use Rattle.law_copies.proofs.Imports.{Marks, Marks_alone, None, Opens, Opens_alone, Opens_fill, Opens_fill_alone, PairState, Pending, Puts, Puts_alone, Some}
+use Rattle.law_copies.proofs.Imports.{Stage, Stale, Store, Taken, TakenCopy, Turns_page, Unmarks, Unmarks_alone, among_least, ap, at, begins_copy, cell_at}
+use Rattle.law_copies.proofs.Imports.{cell_cmp, cell_gone, cell_same, chain_in, copied_chains, copying_on, did_ready, ends, false, fill_operation, first_copy}
 use Rattle.law_copies.proofs.Imports.{gives_back, inl, inr, is_clients, is_some, is_under_way, leads_link, led_by_link, live, live_stage, mark_kept}
 use Rattle.law_copies.proofs.Imports.{mark_there, marked_blocks, marks, nat_cmp, none_some, not, not_true, of_ending, of_holder, operation, pending_on}
 use Rattle.law_copies.proofs.Imports.{progress_on, puts, refl, same_cell_or_apart, same_some, some_or_none, stage_at, stale_kept, subst, sym, taking, true}

@@ -2,9 +2,9 @@
 use Rattle.law_copies.proofs.Imports.{◌∙◌, ◌≡◌, ◌⊎◌, Asks_copy, Asks_slot, Begins, Body, Cell, Copying, Did, Effect, Ends_fill, Entry, Goes_on, Has_copy}
 use Rattle.law_copies.proofs.Imports.{Has_slot, In, IsCopiedFor, IsCopying, IsOfCopy, Is_begun, Is_copied, Is_further, Is_sync_full, Is_synced, JobContext}
 use Rattle.law_copies.proofs.Imports.{JobResult, LastCopy, May, Moves, Moves_on, PairState, Pending, Post, Says, Some, Syncs, Tells_page, Trims, about, ap}
-use Rattle.law_copies.proofs.Imports.{applied, by_bool, cell_apart, cell_holder, cell_of, retired_second, ended, false, follows, inl, inr, is_between, is_lead}
-use Rattle.law_copies.proofs.Imports.{is_second, job_keeps, last_copy, lead_links, leads_link, letters_of_job, live, logged_apart, none_some, pending_on}
-use Rattle.law_copies.proofs.Imports.{refl, same_cell_or_apart, same_some, second, subject_of, subst, sym, true, true_false, ℕ}
+use Rattle.law_copies.proofs.Imports.{applied, by_bool, cell_apart, cell_holder, cell_of, ended, false, follows, inl, inr, is_between, is_lead, is_second}
+use Rattle.law_copies.proofs.Imports.{job_keeps, last_copy, lead_links, leads_link, letters_of_job, live, logged_apart, none_some, pending_on, refl}
+use Rattle.law_copies.proofs.Imports.{retired_second, same_cell_or_apart, same_some, second, subject_of, subst, sym, true, true_false, ℕ}
 use Rattle.law_jobs.specs.Sayings.{Ends}
 use Rattle.law_copies.specs.LoneSteps.{IsFit}
 use Rattle.law_copies.proofs.ForeignCellsStay.{IsIdleAt, second_live}

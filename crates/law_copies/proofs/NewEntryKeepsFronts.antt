@@ -5,10 +5,10 @@ use Rattle.law_copies.proofs.Imports.{[], ◌==◌, ◌∙◌, ◌∷◌, ◌≡
 use Rattle.law_copies.proofs.Imports.{Command, IsCaughtBy, IsPrefix, IsRising, Join, Leave, LinkId, LinkRow, List, None, Only, PairState, Some, Store}
 use Rattle.law_copies.proofs.Imports.{WasStarted, after, alone_not_both, ap, arith, at-empty, blank_joins_in, by_bool, cell_cmp, cell_link, chain_in, false}
 use Rattle.law_copies.proofs.Imports.{front_itself, front_long, front_more, front_on, has_mark, has_server, id_of, inl, inr, is_between, is_flagged, is_in}
-use Rattle.law_copies.proofs.Imports.{is_marked, needs_full_copy, joins_blank, left_not_both, left_row, left_state, length, length-append, log_steady, log_touched}
-use Rattle.law_copies.proofs.Imports.{mark_on, may_join, nat_cmp, none_some, one_before, other_of, primary_is_one, refl, row_blanked, row_joined, row_left}
-use Rattle.law_copies.proofs.Imports.{same_some, secondary_is_one, server_state, serves, slice_get, stage_at, state_after, stays_row, subject_of, subst, sym}
-use Rattle.law_copies.proofs.Imports.{touches, true, true_false, with_store, ℕ}
+use Rattle.law_copies.proofs.Imports.{is_marked, joins_blank, left_not_both, left_row, left_state, length, length-append, log_steady, log_touched, mark_on}
+use Rattle.law_copies.proofs.Imports.{may_join, nat_cmp, needs_full_copy, none_some, one_before, other_of, primary_is_one, refl, row_blanked, row_joined}
+use Rattle.law_copies.proofs.Imports.{row_left, same_some, secondary_is_one, server_state, serves, slice_get, stage_at, state_after, stays_row, subject_of}
+use Rattle.law_copies.proofs.Imports.{subst, sym, touches, true, true_false, with_store, ℕ}
 use Rattle.law_copies.specs.CopyProgress.{AreCopying, IsCovered, IsPage, Is_equal, links_of}
 use Rattle.law_copies.specs.GoodCopies.{AloneOk, AreBeside, AreTwins, BothOk, Good, IsUnheard, SaidOk, StaysLeft, pair_at}
 use Rattle.law_copies.specs.Pair.{HaveMarks, Known}

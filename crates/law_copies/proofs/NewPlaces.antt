@@ -1,7 +1,7 @@
 -- Two copies at a new place of their link, and by other stores that have the same of the cell.
 use Rattle.law_copies.proofs.Imports.{[], ◌∙◌, ◌≡◌, ◌⊎◌, Cell, Command, LinkRow, List, None, Option, PairState, Pending, Setting, Some, Store, ap, arith, at}
-use Rattle.law_copies.proofs.Imports.{at-empty, cell_cmp, chain_in, has_server, inl, inr, needs_full_copy, none_some, other_between, other_of, refl, some_or_none}
-use Rattle.law_copies.proofs.Imports.{state_after, subst, sym, true, ℕ}
+use Rattle.law_copies.proofs.Imports.{at-empty, cell_cmp, chain_in, has_server, inl, inr, needs_full_copy, none_some, other_between, other_of, refl}
+use Rattle.law_copies.proofs.Imports.{some_or_none, state_after, subst, sym, true, ℕ}
 use Rattle.law_copies.specs.CopyProgress.{IsCovered, Is_equal, Is_marked_here, Is_marked_there, Is_to_be_copied}
 use Rattle.law_copies.specs.BothSteps.{LacksFill}
 use Rattle.law_copies.specs.GoodCopies.{AloneOk, AreTwins}

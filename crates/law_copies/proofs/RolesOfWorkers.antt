@@ -1,13 +1,13 @@
 -- What a server is to a cell, which can't be what else it is not; and as what it works on one.
 use Rattle.law_copies.proofs.Imports.{◌&&◌, ◌<◌, ◌==◌, ◌∙◌, ◌≡◌, ◌≤◌, Begins_copy, Block, Body, Both, Busy, By_holder, By_lead, By_other, By_second, Cell}
 use Rattle.law_copies.proofs.Imports.{Closes, Closes_alone, Copy_as_is, Copy_synced, Copy_trimmed, Copying, Did, DidHolder, DidLead, DidOther, DidSecond}
-use Rattle.law_copies.proofs.Imports.{Entry, Finds_it_full, Follows, Gives_up, Goes_on_copying, Goes_on_retired, Goes_on_trimming, Idle, IsBothRow, IsHeldWith}
-use Rattle.law_copies.proofs.Imports.{IsIdle, IsOfCopy, IsSteady, Is_copied_to, JobContext, JobResult, LastCopy, LinkId, LinkRow, Marks, Marks_alone, None}
-use Rattle.law_copies.proofs.Imports.{Only, Opens, Opens_alone, Opens_fill, Opens_fill_alone, Option, PairState, Pending, Puts, Puts_alone, Puts_entry}
-use Rattle.law_copies.proofs.Imports.{Sets_apart, Some, Stale, State, Taken, TakenCopy, Turns_page, Unmarks, Unmarks_alone, among_least, ap, both_row}
-use Rattle.law_copies.proofs.Imports.{both_true, by_test, cell_at, cell_holder, cell_link, cell_of, copying_on, filter, found_at, holder_cell, holder_of}
-use Rattle.law_copies.proofs.Imports.{id_of, in_both, inl, inr, is_alone, is_lead, is_link, is_second, is_the_one, is_under_way, is_up, lead_cell, lead_links}
-use Rattle.law_copies.proofs.Imports.{leads_link, link_led_by, link_named, live, live_stage, marked_blocks, next_copy, none_some, not, on_row}
+use Rattle.law_copies.proofs.Imports.{Entry, Finds_it_full, Follows, Gives_up, Goes_on_copying, Goes_on_retired, Goes_on_trimming, Idle, IsBothRow}
+use Rattle.law_copies.proofs.Imports.{IsHeldWith, IsIdle, IsOfCopy, IsSteady, Is_copied_to, JobContext, JobResult, LastCopy, LinkId, LinkRow, Marks}
+use Rattle.law_copies.proofs.Imports.{Marks_alone, None, Only, Opens, Opens_alone, Opens_fill, Opens_fill_alone, Option, PairState, Pending, Puts, Puts_alone}
+use Rattle.law_copies.proofs.Imports.{Puts_entry, Sets_apart, Some, Stale, State, Taken, TakenCopy, Turns_page, Unmarks, Unmarks_alone, among_least, ap}
+use Rattle.law_copies.proofs.Imports.{both_row, both_true, by_test, cell_at, cell_holder, cell_link, cell_of, copying_on, filter, found_at, holder_cell}
+use Rattle.law_copies.proofs.Imports.{holder_of, id_of, in_both, inl, inr, is_alone, is_lead, is_link, is_second, is_the_one, is_under_way, is_up, lead_cell}
+use Rattle.law_copies.proofs.Imports.{lead_links, leads_link, link_led_by, link_named, live, live_stage, marked_blocks, next_copy, none_some, not, on_row}
 use Rattle.law_copies.proofs.Imports.{option_and_then, other_cell, other_in, other_of, page_cell, pending_on, refl, row_lead, row_named, same_numbers}
 use Rattle.law_copies.proofs.Imports.{same_or_apart, same_some, second, second_by, second_cell, stage_at, stage_live, subst, sym, taking, true, true_false}
 use Rattle.law_copies.proofs.Imports.{worked, ℕ}

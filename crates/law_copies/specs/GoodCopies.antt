@@ -1,7 +1,7 @@
 -- What is kept of the two copies of each cell: at each place of its link, and at the stores as they are now.
 use Rattle.law_copies.specs.Imports.{Body, Both, Cell, Command, In, IsMarked, IsPrefix, IsRising, IsToBeCopied, LastCopy, Letter, LinkRow, Only, PairState}
 use Rattle.law_copies.specs.Imports.{Pending, Record, Setting, State, Store, WasStarted, World, about, at, blank_joins_in, cell_cmp, cell_link, chain_in}
-use Rattle.law_copies.specs.Imports.{id_of, is_between, is_clients, is_flagged, is_in, needs_full_copy, last_copy, live, no_progress, other_of, progress_on}
+use Rattle.law_copies.specs.Imports.{id_of, is_between, is_clients, is_flagged, is_in, last_copy, live, needs_full_copy, no_progress, other_of, progress_on}
 use Rattle.law_copies.specs.Imports.{server_state, stage_at, state_after, subject_of}
 use Rattle.std.specs.Prelude.{[], ◌+◌, ◌<◌, ◌≡◌, ◌≤◌, ◌⊎◌, Bool, List, None, Option, Some, false, is_some, length, true, ℕ}
 use Rattle.std.specs.Ordering.{nat_cmp}

@@ -9,24 +9,25 @@ pub use Rattle.law_state.proofs.Imports.{length-append, link_of, links_of, nat_l
 pub use Rattle.law_state.proofs.Imports.{row_lead, same_or_apart, same_some, slice_get, some_or_none, subst, suc, sym, touches, true, true_false, unwrap_or}
 pub use Rattle.law_state.proofs.Imports.{zero, ℕ}
 pub use Rattle.law_log.proofs.Imports.{if◌then◌else◌, ◌||◌, Acted, AreSteps, Body, Ending, Firm, HasProperTuples, IsSound, JobContext, JobResult, Key, Letter}
-pub use Rattle.law_log.proofs.Imports.{Log, Pending, Post, Script, Step, Stored, all_put, blanked, cell_of, chain_in, client_sender, down_posts, ended}
+pub use Rattle.law_log.proofs.Imports.{Log, Pending, Post, Script, Step, Stored, Table, all_put, blanked, cell_of, chain_in, client_sender, down_posts, ended}
 pub use Rattle.law_log.proofs.Imports.{has_held_write, is_eq, is_logged, log_plain, moved_as, nat_cmp, nat_cmp_total, sender, server_state, setting_of}
 pub use Rattle.law_log.proofs.Imports.{stamped, start, subject_of, tied_itself}
-pub use Rattle.law_steps.specs.Imports.{Copied, Paired, Sender, Subject, Table, cell_cmp, crossed, letters_of, stage_at, without_entry}
-pub use Rattle.law_steps.proofs.Imports.{Chain, Filling, Logged, Pairs, Store, at-empty, epoch_at, front_plain, history_grows, history_is_firm, holder_is_one}
-pub use Rattle.law_steps.proofs.Imports.{is_asked, is_clients, log_below, log_rev, log_steady, lookup, not, said_to_all, same_place, settling, stage_most}
+pub use Rattle.law_steps.specs.Imports.{Copied, Paired, Sender, Subject, cell_cmp, crossed, letters_of, stage_at, without_entry}
+pub use Rattle.law_steps.proofs.Imports.{Chain, Filling, Logged, Pairs, Store, at-empty, below_itself, front_itself, front_long, front_more, front_on}
+pub use Rattle.law_steps.proofs.Imports.{front_plain, history_grows, history_is_firm, holder_is_one, is_asked, is_clients, log_below, log_rev, log_steady}
+pub use Rattle.law_steps.proofs.Imports.{lookup, not, one_front, said_to_all, same_place, settling, stage_most}
 unfoldable pub use Rattle.law_steps.proofs.Imports.{put, without}
-pub use Rattle.law_jobs.specs.Imports.{IsNextFill, IsNextKey, filled_to}
-pub use Rattle.law_jobs.proofs.Imports.{Did, Handled, Happens, Rests, always_firm, at_apart, chains_at, chains_with, last_happens, own_place, rests_after}
+pub use Rattle.law_jobs.specs.Imports.{Did, IsNextFill, IsNextKey, filled_to}
+pub use Rattle.law_jobs.proofs.Imports.{Handled, Happens, Rests, always_firm, at_apart, chains_at, chains_with, last_happens, own_place, rests_after}
 pub use Rattle.law_jobs.proofs.Imports.{same_cell_or_apart, start_rests}
 pub use Rattle.law_copies.specs.Imports.{blank_joins_in, kept_store}
 pub use Rattle.law_copies.proofs.Imports.{Asks_copy, At, BeforeBlank, Blanks, By_ballot, By_caught, By_entry, By_job, By_join, By_leave, Ends, Ends_fill}
 pub use Rattle.law_copies.proofs.Imports.{Fails, Fills, Goes, Moves, Moves_on, Read_asked, Says, Serves, Serving, Stays, Stood, Syncs, Turns, Wakes, Worked}
-pub use Rattle.law_copies.proofs.Imports.{Write_asked, Writes, alone_not_both, before_part, below_itself, by_run, chain_apart, chain_put, did_come}
-pub use Rattle.law_copies.proofs.Imports.{drop_apart, front_itself, front_long, front_more, front_on, front_within, gone_chain, kept, letters_of_job}
-pub use Rattle.law_copies.proofs.Imports.{link_led_by, log_grown, log_touched, one_front, places_grow, places_of_both, places_on, primary_is_one, run_of}
-pub use Rattle.law_copies.proofs.Imports.{said, tuple_on, turned_asks, without_rev}
-pub use Rattle.law_requests.proofs.Imports.{Repeats, WasDraining, era_low, log_unheld, own_plain, proposed_pairs, report_was_made, runs_at, runs_now}
+pub use Rattle.law_copies.proofs.Imports.{Write_asked, Writes, alone_not_both, before_part, by_run, chain_apart, chain_put, did_come, drop_apart}
+pub use Rattle.law_copies.proofs.Imports.{front_within, gone_chain, kept, letters_of_job, link_led_by, log_grown, log_touched, places_grow, places_of_both}
+pub use Rattle.law_copies.proofs.Imports.{places_on, primary_is_one, run_of, said, tuple_on, turned_asks, without_rev}
+pub use Rattle.law_requests.proofs.Imports.{Repeats, WasDraining, epoch_at, era_low, log_unheld, own_plain, proposed_pairs, report_was_made, runs_at}
+pub use Rattle.law_requests.proofs.Imports.{runs_now}
 pub use Rattle.law_copies.proofs.EmptyJoins.{stands_in}
 pub use Rattle.law_copies.proofs.PlacesByFronts.{at_most_or_above, place_of_later, place_touched}
 pub use Rattle.law_copies.proofs.StoreJobs.{ballot_store}
@@ -50,4 +51,5 @@ pub use Rattle.law_state.specs.Epochs.{era_at}
 pub use Rattle.law_state.specs.Homes.{era_by}
 pub use Rattle.law_state.specs.LinkChanges.{IsTouchedBy}
 pub use Rattle.law_steps.proofs.MovesAreOfComingCells.{next_comes, stage_facts}
+pub use Rattle.law_steps.proofs.Records.{split_fronts}
 pub use Rattle.petal_table.proofs.Rows.{gone_apart, gone_same}

@@ -1,7 +1,7 @@
 -- What is in time stays so while the era of its cell does not rise; and a cell that has died was leaving before.
 use Rattle.law_epochs.proofs.Imports.{if◌then◌else◌, ◌+◌, ◌∙◌, ◌≡◌, ◌≤◌, Cell, Command, HasProperTuples, IsPrefix, LinkRow, List, Moved, Pending, Some, State}
 use Rattle.law_epochs.proofs.Imports.{ap, arith, at_most_or_above, cell_link, epoch_at, era_by, era_low, front_more, front_on, front_plain, inl, inr, length}
-use Rattle.law_epochs.proofs.Imports.{link_at, link_of, links_of, log_below, log_retired, log_grown, log_plain, nat_le, nat_tests, none_some, option_and_then}
+use Rattle.law_epochs.proofs.Imports.{link_at, link_of, links_of, log_below, log_grown, log_plain, log_retired, nat_le, nat_tests, none_some, option_and_then}
 use Rattle.law_epochs.proofs.Imports.{option_map_or, proper, region_of, some_or_none, stage_at, state_after, sym, true, tuple_of, tuple_on, ℕ}
 use Rattle.law_state.specs.Homes.{era_at}
 use Rattle.law_epochs.specs.InTime.{IsTimely}

@@ -4,10 +4,9 @@ use Rattle.law_epochs.proofs.Imports.{[], ◌++◌, ◌∙◌, ◌∷◌, ◌≡
 use Rattle.law_epochs.proofs.Imports.{LinkRow, List, Pairs, Pending, Record, Setting, Some, WasDraining, WasThere, World, ap, append-nil, arith, at, at_by}
 use Rattle.law_epochs.proofs.Imports.{at_most_or_above, before_part, cell_cmp, chosen_log, either_front, front_long, front_on, front_within, history_grows}
 use Rattle.law_epochs.proofs.Imports.{in_between, inl, inr, is_at, is_at_so, is_clients, is_in, length, log_below, place_by, place_of_later, places_from}
-use Rattle.law_epochs.proofs.Imports.{places_grow, same_place, seat_stays, stage_at, stage_most, state_after, subst, sym, true, ℕ}
+use Rattle.law_epochs.proofs.Imports.{places_grow, same_place, seat_stays, split_fronts, stage_at, stage_most, state_after, subst, sym, true, ℕ}
 use Rattle.spec_state.specs.State.{start}
 use Rattle.law_epochs.specs.InTime.{IsTimely}
-use Rattle.law_steps.proofs.Records.{split_fronts}
 use Rattle.law_epochs.proofs.PendingIsInTime.{IsOpened, IsReported, chosen_plain, firm, opened_by, opened_later, ran, seated_now, timely_or_reported}
 use Rattle.law_epochs.proofs.PendingIsInTime.{was_opened}
 use Rattle.law_epochs.proofs.ReportedHaveNoPending.{grows, not_held}

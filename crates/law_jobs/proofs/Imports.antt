@@ -4,12 +4,13 @@ unfoldable pub use Rattle.law_state.specs.Imports.{In, at}
 pub use Rattle.law_state.proofs.Imports.{[], ◌++◌, ◌∙◌, ◌∷◌, ◌≡◌, ◌≢◌, ◌≤◌, ◌⊎◌, Bool, List, None, Option, Some, ap, append-nil, append_assoc, arith, by_bool}
 pub use Rattle.law_state.proofs.Imports.{by_test, false, in-append, in_former, in_later, inl, inr, none_some, refl, same_or_apart, same_some, subst, sym}
 pub use Rattle.law_state.proofs.Imports.{true, true_false, unwrap_or, ℕ}
-pub use Rattle.law_log.proofs.Imports.{Action, Actor, Body, Copying, Ending, FollowProgress, Firm, JobContext, JobResult, Key, LastCopy, Letter, OpKind, Pending, Post}
-pub use Rattle.law_log.proofs.Imports.{Step, Stored, above, begins_copy, cell_at, cell_holder, cell_of, chain_in, closes, ends, fill_operation, gives_back}
-pub use Rattle.law_log.proofs.Imports.{gives_up, id_of, is_second, is_some, key_at, last_copy, last_on, link_named, nat_cmp, pending_on, post_to, progress_on}
-pub use Rattle.law_log.proofs.Imports.{stepped, tells, with_copied, with_opened, with_page, with_progress, without_copying, without_pending}
+pub use Rattle.law_log.proofs.Imports.{Action, Actor, Body, Copying, Ending, Firm, FollowProgress, JobContext, JobResult, Key, LastCopy, Letter, OpKind}
+pub use Rattle.law_log.proofs.Imports.{Pending, Post, Step, Stored, Table, above, begins_copy, cell_at, cell_holder, cell_of, chain_in, closes, ends}
+pub use Rattle.law_log.proofs.Imports.{fill_operation, gives_back, gives_up, id_of, is_second, is_some, key_at, last_copy, last_on, link_named, nat_cmp}
+pub use Rattle.law_log.proofs.Imports.{pending_on, post_to, progress_on, stepped, tells, with_copied, with_opened, with_page, with_progress, without_copying}
+pub use Rattle.law_log.proofs.Imports.{without_pending}
 unfoldable pub use Rattle.law_log.proofs.Imports.{step}
-pub use Rattle.law_steps.specs.Imports.{Busy, Finished, IsBelow, MarkKind, Stage, Stale, Table, acts, cell_cmp, live, marks, next_stage, operation, puts}
+pub use Rattle.law_steps.specs.Imports.{Busy, Finished, IsBelow, MarkKind, Stage, Stale, acts, cell_cmp, live, marks, next_stage, operation, puts}
 pub use Rattle.law_steps.specs.Imports.{with_paired, with_pending, with_reserved, without_entry, without_mark_on}
 pub use Rattle.law_steps.proofs.Imports.{Chain, Mark, Store, cell_apart, cell_gone, cell_gone_apart, cell_same, history_grows, history_is_firm, version_of}
 pub use Rattle.law_steps.proofs.Imports.{with_mark_at, with_mark_on}

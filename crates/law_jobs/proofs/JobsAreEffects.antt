@@ -1,16 +1,16 @@
 -- Each job of a server is a list of effects.
 use Rattle.law_jobs.proofs.Imports.{◌+◌, ◌-◌, ◌≡◌, Action, As_it_is, As_told, Begins_copy, Body, Bool, By_filler, By_holder, By_lead, By_other, By_read}
 use Rattle.law_jobs.proofs.Imports.{By_second, By_sweep, Cell, Closes, Closes_alone, Closes_copy, CopyStep, Copy_as_is, Copy_synced, Copy_trimmed, Copying}
-use Rattle.law_jobs.proofs.Imports.{Did, DidFiller, DidHolder, DidLead, DidOther, DidSecond, DidSweep, Drops_entry, Ending, FollowProgress, Finds_it_full, Follows}
-use Rattle.law_jobs.proofs.Imports.{Gives_up, Goes_on_copying, Goes_on_retired, Goes_on_trimming, Ignores, Is_copied_to, Is_filled, Is_full, Is_out_of_slots}
-use Rattle.law_jobs.proofs.Imports.{Is_trimmed, JobContext, JobResult, Key, LastCopy, LinkId, LinkRow, MarkKind, Marks, Marks_alone, None, OpKind, Opens}
-use Rattle.law_jobs.proofs.Imports.{Opens_alone, Opens_fill, Opens_fill_alone, Option, PairState, Pending, Promises, Puts, Puts_alone, Puts_entry, Refuses}
-use Rattle.law_jobs.proofs.Imports.{Sets_apart, Some, Stage, Stored, Sweeps, Taken, TakenCopy, Tidies, TrimStep, Turns_page, Unmarks, Unmarks_alone}
-use Rattle.law_jobs.proofs.Imports.{Unmarks_copied, above, acts, ap, arith, begins_copy, by_test, cell_at, cell_gone, cell_link, cell_of, cell_same, chain_in}
-use Rattle.law_jobs.proofs.Imports.{ends, false, fill_operation, first_last, gives_back, gives_up, id_of, inl, inr, is_some, key_at, last_on, link_named}
-use Rattle.law_jobs.proofs.Imports.{live, marks, next_stage, of_read, operation, pending_on, progress, progress_on, puts, refl, row_named, subst, sym, taking}
-use Rattle.law_jobs.proofs.Imports.{tells, told, true, true_false, version_of, with_copied, with_flag, with_mark_at, with_opened, with_page, with_paired}
-use Rattle.law_jobs.proofs.Imports.{with_pending, with_progress, with_reserved, without_copying, without_pending, ℕ}
+use Rattle.law_jobs.proofs.Imports.{Did, DidFiller, DidHolder, DidLead, DidOther, DidSecond, DidSweep, Drops_entry, Ending, Finds_it_full, FollowProgress}
+use Rattle.law_jobs.proofs.Imports.{Follows, Gives_up, Goes_on_copying, Goes_on_retired, Goes_on_trimming, Ignores, Is_copied_to, Is_filled, Is_full}
+use Rattle.law_jobs.proofs.Imports.{Is_out_of_slots, Is_trimmed, JobContext, JobResult, Key, LastCopy, LinkId, LinkRow, MarkKind, Marks, Marks_alone, None}
+use Rattle.law_jobs.proofs.Imports.{OpKind, Opens, Opens_alone, Opens_fill, Opens_fill_alone, Option, PairState, Pending, Promises, Puts, Puts_alone}
+use Rattle.law_jobs.proofs.Imports.{Puts_entry, Refuses, Sets_apart, Some, Stage, Stored, Sweeps, Taken, TakenCopy, Tidies, TrimStep, Turns_page, Unmarks}
+use Rattle.law_jobs.proofs.Imports.{Unmarks_alone, Unmarks_copied, above, acts, ap, arith, begins_copy, by_test, cell_at, cell_gone, cell_link, cell_of}
+use Rattle.law_jobs.proofs.Imports.{cell_same, chain_in, ends, false, fill_operation, first_last, gives_back, gives_up, id_of, inl, inr, is_some, key_at}
+use Rattle.law_jobs.proofs.Imports.{last_on, link_named, live, marks, next_stage, of_read, operation, pending_on, progress, progress_on, puts, refl}
+use Rattle.law_jobs.proofs.Imports.{row_named, subst, sym, taking, tells, told, true, true_false, version_of, with_copied, with_flag, with_mark_at}
+use Rattle.law_jobs.proofs.Imports.{with_opened, with_page, with_paired, with_pending, with_progress, with_reserved, without_copying, without_pending, ℕ}
 use Rattle.law_jobs.proofs.ChainsApart.{entry_put}
 use Rattle.law_jobs.specs.Effects.{Effect, applied, May, Becomes, As_it_was, Then, Alone_has, Both_have, By_operation, For_a_fill, For_a_write, Had_no_slot}
 use Rattle.law_jobs.specs.Effects.{HasEnded, Is_retired, Is_declined, IsFilledAs, IsOpening, IsPutFor, IsSetFor, Is_begun, Is_further, Is_opened, Goes_on}

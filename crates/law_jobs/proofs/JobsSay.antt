@@ -2,13 +2,13 @@
 use Rattle.law_jobs.proofs.Imports.{[], ◌+◌, ◌∷◌, ◌≡◌, A_copied_entry, A_copy, A_page, A_slot, A_trim, Action, An_entry_to_move, Answers_page, Asks, Asks_for}
 use Rattle.law_jobs.proofs.Imports.{Asks_page, Asks_to_trim, Begins_copy, Body, By_filler, By_holder, By_lead, By_other, By_read, By_second, By_sweep, Cell}
 use Rattle.law_jobs.proofs.Imports.{Closes, Closes_alone, CopyStep, Copy_as_is, Copying, Declines, Did, DidHolder, DidLead, DidOther, DidRead, DidSecond}
-use Rattle.law_jobs.proofs.Imports.{Drops_entry, Ending, FollowProgress, Finished, Follows, Gives_up, Goes_on_copying, Goes_on_retired, Goes_on_trimming, Has_entry}
-use Rattle.law_jobs.proofs.Imports.{Has_fill, Has_no_room, Has_no_slot, Ignores, In, Is_copied_to, Is_filled, Is_full, Is_out_of_slots, Is_trimmed}
+use Rattle.law_jobs.proofs.Imports.{Drops_entry, Ending, Finished, FollowProgress, Follows, Gives_up, Goes_on_copying, Goes_on_retired, Goes_on_trimming}
+use Rattle.law_jobs.proofs.Imports.{Has_entry, Has_fill, Has_no_room, Has_no_slot, Ignores, In, Is_copied_to, Is_filled, Is_full, Is_out_of_slots, Is_trimmed}
 use Rattle.law_jobs.proofs.Imports.{JobContext, JobResult, LastCopy, List, None, Not_here, Of_the_log, OpKind, Opens, Opens_fill, Option, OtherReply}
 use Rattle.law_jobs.proofs.Imports.{PairState, Pending, Post, Promises, Puts_entry, Refuses, Repeats, Replies, Sends, Sets_apart, Shows, Some, Taken}
-use Rattle.law_jobs.proofs.Imports.{TrimStep, acts, ap, arith, cell_gone, cell_holder, cell_of, cell_same, retired_second, ends, false, fill_operation}
-use Rattle.law_jobs.proofs.Imports.{first_last, gives_back, inl, inr, is_second, last_copy, last_on, live, nat_cmp, next_stage, none_some, of_sweep}
-use Rattle.law_jobs.proofs.Imports.{operation, pending_on, post_to, put, refl, subst, sym, taking, tells, true, without_pending, ℕ}
+use Rattle.law_jobs.proofs.Imports.{TrimStep, acts, ap, arith, cell_gone, cell_holder, cell_of, cell_same, ends, false, fill_operation, first_last}
+use Rattle.law_jobs.proofs.Imports.{gives_back, inl, inr, is_second, last_copy, last_on, live, nat_cmp, next_stage, none_some, of_sweep, operation}
+use Rattle.law_jobs.proofs.Imports.{pending_on, post_to, put, refl, retired_second, subst, sym, taking, tells, true, without_pending, ℕ}
 use Rattle.law_jobs.specs.Effects.{Alone_has, Both_have, By_operation, Had_no_slot, HasEnded, Is_retired, Is_declined}
 use Rattle.law_jobs.specs.Sayings.{IsCopying, Says, to_server}
 use Rattle.petal_msg.specs.declared.operation.Action.TheVariants as action

@@ -2,17 +2,16 @@
 use Rattle.law_log.proofs.Imports.{[], if◌then◌else◌, ◌&&◌, ◌++◌, ◌+◌, ◌-◌, ◌<◌, ◌==◌, ◌∙◌, ◌∷◌, ◌≡◌, ◌≤◌, ◌⊎◌, Actor, Among, Answer, Asked, Body, Bool, Cell}
 use Rattle.law_log.proofs.Imports.{Client, Command, DiskView, Learning, Letter, Line, List, None, Option, Reaction, Request, Sight, Some, State, Turn}
 use Rattle.law_log.proofs.Imports.{Witness, about, after, answered_where, answers, ap, arith, asking, asks_and_sends, by_test, called, cell_asked, command_of}
-use Rattle.law_log.proofs.Imports.{epoch_for, false, first_round, goes_out, goes_out_where, goes_the_old_way, heard, hears, hears_any, hears_of, in-append}
-use Rattle.law_log.proofs.Imports.{in_turn, inl, inr, is_read, is_settled, is_witness, is_write, judged, judged_by, latest, lead, length, lines_of, map}
-use Rattle.law_log.proofs.Imports.{nat_le, nat_tests, next_entries, none_some, not, only, or_command, post_in_turn, posts_for, read_posts, read_posts_at}
-use Rattle.law_log.proofs.Imports.{readers, refl, refusal, replies, rests, rounds, same_some, sees, sees_for, sees_from, sends_or_proposes, servers_of}
-use Rattle.law_log.proofs.Imports.{settles, slice_get, stays_open, subst, suc, sym, takes_all, takes_entries, takes_entry, then_goes_out, ticked, to_propose}
-use Rattle.law_log.proofs.Imports.{true, true≢false, verdict_for, way_now, with_sight, witness_where, witnessed, write_posts, ℕ, ⊤}
+use Rattle.law_log.proofs.Imports.{epoch_for, false, first_round, get_drop, get_last, goes_out, goes_out_where, goes_the_old_way, heard, hears, hears_any}
+use Rattle.law_log.proofs.Imports.{hears_of, in-append, in_turn, inl, inr, is_read, is_settled, is_witness, is_write, judged, judged_by, latest, lead, length}
+use Rattle.law_log.proofs.Imports.{lines_of, map, nat_le, nat_tests, next_entries, none_some, not, only, or_command, post_in_turn, posts_for, read_posts}
+use Rattle.law_log.proofs.Imports.{read_posts_at, readers, refl, refusal, replies, rests, rounds, same_some, sees, sees_for, sees_from, sends_or_proposes}
+use Rattle.law_log.proofs.Imports.{servers_of, settles, slice_get, stays_open, subst, suc, sym, takes_all, takes_entries, takes_entry, then_goes_out, ticked}
+use Rattle.law_log.proofs.Imports.{to_propose, true, true≢false, verdict_for, way_now, with_sight, witness_where, witnessed, write_posts, ℕ, ⊤}
 use Rattle.spec_rules.specs.Posts.{Post}
 use Rattle.law_log.specs.AgreedLog.{IsOpen}
 use Rattle.law_log.proofs.PairJobsLeaveLog.{IsDated, posted_dated}
 use Rattle.law_log.proofs.ScheduleTurns.{no_posts}
-use Rattle.law_state.proofs.ListLookups.{get_last, get_drop}
 use Rattle.petal_msg.specs.declared.body.Body.TheVariants as body
 use Rattle.petal_msg.specs.declared.letter.Actor.TheVariants as actor
 use Rattle.script_lines.specs.declared.answer.Answer.TheVariants as answer

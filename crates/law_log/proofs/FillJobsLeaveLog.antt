@@ -1,6 +1,6 @@
 -- Jobs of fills and sweeps: they say nothing of the log, put no letter into the queue, and forget no Caught for which a ballot was started.
-use Rattle.law_log.proofs.Imports.{[], ◌∙◌, ◌∷◌, ◌≡◌, Among, Bool, Cell, Retired, Job, JobContext, Key, Letter, LinkId, LinkRow, List, Moving, None, Option}
-use Rattle.law_log.proofs.Imports.{PairState, Post, Some, State, Stored, ap, at, at-put, by_test, cell_of, chain_in, cond, eq_by_cmp, false, fill_of}
+use Rattle.law_log.proofs.Imports.{[], ◌∙◌, ◌∷◌, ◌≡◌, Among, Bool, Cell, Job, JobContext, Key, Letter, LinkId, LinkRow, List, Moving, None, Option, PairState}
+use Rattle.law_log.proofs.Imports.{Post, Retired, Some, State, Stored, ap, at, at-put, by_test, cell_of, chain_in, cond, eq_by_cmp, false, fill_of}
 use Rattle.law_log.proofs.Imports.{fill_operation, fill_posts, fills_row, flat_map, free_of, goes_after, has_epoch, has_proposed, hears_fill, hears_fill_full}
 use Rattle.law_log.proofs.Imports.{hears_filled, id_of, in-append, inl, inr, is_eq, is_lead, is_next, is_some, is_under_way, key_at, lead, link_before}
 use Rattle.law_log.proofs.Imports.{link_cmp, nat_cmp, nat_lt, next_retired, on_fill, on_fill_full, on_filled, opens_fill, refl, sends_key, sends_moving}

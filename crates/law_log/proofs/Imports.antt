@@ -1,11 +1,11 @@
 -- The names that this crate takes from others, in one place.
 pub use Rattle.law_agreement.proofs.Imports.{[], if◌then◌else◌, ◌&&◌, ◌++◌, ◌+◌, ◌<◌, ◌==◌, ◌||◌, ◌∙◌, ◌∷◌, ◌≡◌, ◌≢◌, ◌≤◌, ◌⊎◌, Acceptor, Ballot, Bool, Boots}
-pub use Rattle.law_agreement.proofs.Imports.{Collecting, Command, Event, Goes, Handed, Idle, Inc, IsChosen, IsChosenBy, IsWanted, List, None, Option, Pax}
-pub use Rattle.law_agreement.proofs.Imports.{Phase, Sent, Some, Starts, StateRecord, Stops, StopsAfter, Vote, Voting, World, accept, ap, arith, begin, cast}
-pub use Rattle.law_agreement.proofs.Imports.{chosen_at, collected, collecting, cond, count_below, counted, counts, false, flat_map, handed, happens}
-pub use Rattle.law_agreement.proofs.Imports.{has_majority, hear, higher, in_cons, in_here, in_there, inl, inr, is_for, is_open, is_unpromised, keep, learn}
-pub use Rattle.law_agreement.proofs.Imports.{length, map, nat_tests, promise, put_at_cases, put_cases, raise, range_with_len, rank, refl, run, send, sent}
-pub use Rattle.law_agreement.proofs.Imports.{set, slice_get, started, subst, suc, sym, true, turn, unwrap_or, vote, zero, ℕ, ⊤}
+pub use Rattle.law_agreement.proofs.Imports.{Collecting, Command, Event, Goes, Handed, Idle, IsChosen, IsChosenBy, IsWanted, List, None, Option, Pax, Phase}
+pub use Rattle.law_agreement.proofs.Imports.{Sent, Some, Starts, StateRecord, Stops, StopsAfter, Vote, Voting, World, accept, ap, arith, begin, cast}
+pub use Rattle.law_agreement.proofs.Imports.{chosen_at, collected, collecting, cond, count_below, counted, counts, false, flat_map, handed, has_majority}
+pub use Rattle.law_agreement.proofs.Imports.{hear, higher, in_cons, in_here, in_there, inl, inr, is_for, is_open, is_unpromised, keep, learn, length, map}
+pub use Rattle.law_agreement.proofs.Imports.{nat_tests, promise, put_at_cases, put_cases, raise, range_with_len, rank, refl, run, send, sent, set, slice_get}
+pub use Rattle.law_agreement.proofs.Imports.{started, subst, suc, sym, true, turn, unwrap_or, vote, zero, ℕ, ⊤}
 unfoldable pub use Rattle.law_agreement.proofs.Imports.{In, nobody, number, put}
 pub use Rattle.law_state.specs.Imports.{Both, Caught, Cell, DiskView, Drained, Fence, IsPrefix, Join, Leave, LinkId, LinkRow, LinkState, Lost, MakeDisk}
 pub use Rattle.law_state.specs.Imports.{Moved, Only, PairState, Progress, Record, Server, Setting, Snap, StartMove, State, Witness, after, awaits, cell_asked}
@@ -15,7 +15,7 @@ unfoldable pub use Rattle.law_state.specs.Imports.{at}
 pub use Rattle.law_state.proofs.Imports.{append_assoc, both_true, by_bool, by_test, filter, fold, in-append, in_later, is_alone, latest, lead, length-append}
 pub use Rattle.law_state.proofs.Imports.{may_catch, nat_le, nat_lt, none_some, not, not_true, number_itself, option_map_or, readable, same_or_apart}
 pub use Rattle.law_state.proofs.Imports.{same_some, touches, true_false}
-pub use Rattle.std.proofs.Common.{◌-◌, drop, true≢false}
+pub use Rattle.std.proofs.Common.{◌-◌, true≢false}
 pub use Rattle.std.proofs.lemmas.Cmp.{on_total, then_total}
 pub use Rattle.std.specs.Cmp.{Equal-is, IsTotalOrder, nat_cmp_total, ranked, tied_itself, tied_then}
 pub use Rattle.std.specs.Ordering.{eq_by_cmp, is_eq, nat_cmp}
@@ -23,6 +23,7 @@ pub use Rattle.std.specs.Prelude.{◌↔◌, is_some}
 pub use Rattle.std.specs.declared.cmp.Ordering.TheVariants.{Equal}
 pub use Rattle.busy_marks.specs.Marks.{above}
 pub use Rattle.law_agreement.proofs.ChosenLogGrows.{front_of_log, log_ends, log_has, log_tells}
+pub use Rattle.law_agreement.proofs.ChosenWasWanted.{run-append}
 pub use Rattle.law_agreement.proofs.MajoritiesChoose.{chosen_is_told, told_is_chosen}
 pub use Rattle.law_agreement.proofs.MovesKeepFacts.{not_in_nobody}
 pub use Rattle.law_agreement.proofs.SchedulesKeepFacts.{begin_holds, one_chosen, run_holds}
@@ -31,6 +32,8 @@ pub use Rattle.law_state.proofs.Ages.{may_by}
 pub use Rattle.law_state.proofs.Disks.{log_in, who_is_out}
 pub use Rattle.law_state.proofs.EntriesOnlyAdd.{log_plain}
 pub use Rattle.law_state.proofs.Incarnations.{who_is_in}
+pub use Rattle.law_state.proofs.ListLookups.{get_drop, get_last, get_within}
+pub use Rattle.law_state.proofs.TestFacts.{less_by, less_test}
 pub use Rattle.law_state.specs.Firm.{Firm}
 pub use Rattle.law_state.specs.Plain.{HasProperTuple, HasProperTuples}
 pub use Rattle.law_state.specs.StartedBallots.{HasFlag, is_caught, is_flagged}
@@ -45,7 +48,6 @@ pub use Rattle.petal_msg.specs.declared.copying.Copying.{Copying}
 pub use Rattle.petal_msg.specs.declared.copying.LastCopy.{LastCopy}
 pub use Rattle.petal_msg.specs.declared.copying.NextCopy.{NextCopy}
 pub use Rattle.petal_msg.specs.declared.copying.NextCopy.TheVariants.{Ask, Block, Wait}
-pub use Rattle.petal_msg.specs.declared.retired.Retired.{Retired}
 pub use Rattle.petal_msg.specs.declared.letter.Actor.{Actor}
 pub use Rattle.petal_msg.specs.declared.letter.Letter.{Letter}
 pub use Rattle.petal_msg.specs.declared.operation.Action.{Action}
@@ -55,11 +57,14 @@ pub use Rattle.petal_msg.specs.declared.operation.LastOp.{LastOp}
 pub use Rattle.petal_msg.specs.declared.operation.OpKind.{OpKind}
 pub use Rattle.petal_msg.specs.declared.operation.Pending.{Pending}
 pub use Rattle.petal_msg.specs.declared.operation.Reply.{Reply}
+pub use Rattle.petal_msg.specs.declared.retired.Retired.{Retired}
 pub use Rattle.petal_table.proofs.Rows.{at-put}
+pub use Rattle.petal_table.specs.Table.{Table}
 pub use Rattle.script_lines.specs.declared.answer.Answer.{Answer}
 pub use Rattle.script_lines.specs.declared.request.Line.{Line}
 pub use Rattle.script_lines.specs.declared.request.Request.{Request}
 pub use Rattle.script_lines.specs.declared.script.Script.{Script}
+pub use Rattle.spec_history.proofs.Onwards.{steps_begin}
 pub use Rattle.spec_history.specs.Claims.{Agrees, Grows}
 pub use Rattle.spec_history.specs.Sound.{IsSound}
 pub use Rattle.spec_history.specs.Steps.{AreSteps, AreStepsFrom, stepped, world_after}
@@ -70,7 +75,7 @@ pub use Rattle.spec_paxos.specs.Acceptor.{accept_reply, prepare_reply}
 pub use Rattle.spec_paxos.specs.Kept.{acceptor_of, committed, inc_of, known_at, inc_of as told_inc}
 pub use Rattle.spec_paxos.specs.declared.phase.Heard.{Heard}
 pub use Rattle.spec_paxos.specs.declared.phase.Heard.TheVariants.{Chosen as Decided, Nothing, Refused, Send}
-pub use Rattle.spec_paxos.specs.declared.record.StateRecord.TheVariants.{Accepted, Chosen, Promise}
+pub use Rattle.spec_paxos.specs.declared.record.StateRecord.TheVariants.{Accepted, Chosen, Inc, Promise}
 pub use Rattle.spec_rules.proofs.ListLemmas.{put_apart, put_same}
 pub use Rattle.spec_rules.proofs.Tests.{all_put, all_put_apart, only}
 pub use Rattle.spec_rules.specs.Agreement.{HasSchedule, IsAbout, IsAskedFor, IsProposer, IsTold}
@@ -108,12 +113,12 @@ unfoldable pub use Rattle.spec_rules.specs.Jobs.{does, handles, hears_log, log_d
 unfoldable pub use Rattle.spec_rules.specs.Lists.{In as Among, put_at}
 pub use Rattle.spec_rules.specs.Log.{Log, LogDone, Voter, commits, keeps, known, next_place, rev_of, state_in, with_phase}
 pub use Rattle.spec_rules.specs.Posts.{Sender, letters_of}
-pub use Rattle.spec_rules.specs.Progress.{copying_on, has_proposed, last_copy, no_progress, progress_on, with_copying, with_full, with_last_copy}
-pub use Rattle.spec_rules.specs.Progress.{with_progress, without_copying}
+pub use Rattle.spec_rules.specs.Progress.{copying_on, has_proposed, last_copy, no_progress, progress_on, with_full, with_last_copy, with_progress}
+pub use Rattle.spec_rules.specs.Progress.{without_copying}
 pub use Rattle.spec_rules.specs.Reads.{reply_to, said}
 unfoldable pub use Rattle.spec_rules.specs.Reads.{on_read}
 pub use Rattle.spec_rules.specs.Returns.{caught_as, caught_links, caught_of, holds_link, is_nothing, own_join, proposed, returning}
-pub use Rattle.spec_rules.specs.Server.{Copies, JobContext, JobResult, Life, Post, post_to, says, says_to, sender, silent, stopped}
+pub use Rattle.spec_rules.specs.Server.{JobContext, JobResult, Life, Post, post_to, says, says_to, sender, silent, stopped}
 pub use Rattle.spec_rules.specs.State.{id_of, is_second, link_named, other_in, is_in as seated}
 pub use Rattle.spec_rules.specs.Store.{Stored, chain_in, free_of}
 pub use Rattle.spec_rules.specs.Sweeping.{sweep_jobs, sweeps_with}

@@ -2,7 +2,7 @@
 use Rattle.law_log.proofs.Imports.{[], ◌++◌, ◌<◌, ◌∙◌, ◌∷◌, ◌≡◌, ◌≤◌, ◌⊎◌, Agrees, AreSteps, AreStepsFrom, Bool, Caught, Command, Drained, Firm, Grows}
 use Rattle.law_log.proofs.Imports.{HasSchedule, IsPrefix, IsSound, Join, Leave, Letter, List, Moved, Record, Script, Server, Setting, ap, append_assoc, begin}
 use Rattle.law_log.proofs.Imports.{chosen_log, chosen_state, false, inc_of, is_in, may_join, refl, run, setting_of, slice_get, start, state_after, stepped}
-use Rattle.law_log.proofs.Imports.{subst, sym, true, world_after, ℕ, ⊤}
+use Rattle.law_log.proofs.Imports.{steps_begin, subst, sym, true, world_after, ℕ, ⊤}
 use Rattle.spec_rules.specs.Lists.{In}
 use Rattle.spec_rules.specs.World.{World}
 use Rattle.law_log.specs.AgreedLog.{Catches, Drains, IsBacked, IsCalledAnywhere, IsSaidBy, Logged, Minded, Moves, Waits}
@@ -13,7 +13,6 @@ use Rattle.law_log.proofs.ChosenInSchedules.{report_was, in_begun, leave_chosen,
 use Rattle.law_log.proofs.OneCommandEachPlace.{IsFair, leave_stopped}
 use Rattle.law_log.proofs.StepsKeepLog.{history_goes, start_logged}
 use Rattle.law_log.proofs.ServersKeepWorlds.{Remembers}
-use Rattle.spec_history.proofs.Onwards.{steps_begin}
 use Rattle.petal_msg.specs.declared.body.Body.TheVariants as body
 
 sound_fair : (script : Script) → IsSound script → IsFair (setting_of script)

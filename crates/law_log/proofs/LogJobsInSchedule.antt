@@ -1,10 +1,10 @@
 -- Each job of the log, as the schedule has it.
 use Rattle.law_log.proofs.Imports.{[], if◌then◌else◌, ◌++◌, ◌+◌, ◌<◌, ◌||◌, ◌∙◌, ◌∷◌, ◌≡◌, ◌⊎◌, Actor, Among, Body, Bool, Command, Heard, Idle, In}
 use Rattle.law_log.proofs.Imports.{IsProposer, IsTold, Job, Leave, Letter, List, Log, LogDone, None, Nothing, Option, Pax, Phase, Post, Some, Voter, World}
-use Rattle.law_log.proofs.Imports.{acceptor_of, ap, applies, applies_known, applies_then, arith, before_known, by_test, false, first_wanted, fold}
+use Rattle.law_log.proofs.Imports.{acceptor_of, ap, applies, applies_known, applies_then, arith, before_known, by_test, false, first_wanted, fold, get_last}
 use Rattle.law_log.proofs.Imports.{has_command, hear, hears_log, hears_of_ballot, in-append, inc_accepted, inc_chosen, inc_promise, inl, inr, is_due, is_open}
-use Rattle.law_log.proofs.Imports.{is_some, keeps, known, known_at, known_run, learns, learns_first, leave_before, length, length-append, log_does, nat_lt}
-use Rattle.law_log.proofs.Imports.{next_place, none_some, not, on_ask, on_down, on_news, on_pax, on_propose, only, own_leave, proposes, refl, rev_of}
+use Rattle.law_log.proofs.Imports.{is_some, keeps, known, known_at, known_run, learns, learns_first, leave_before, length, length-append, less_by, log_does}
+use Rattle.law_log.proofs.Imports.{nat_lt, next_place, none_some, not, on_ask, on_down, on_news, on_pax, on_propose, only, own_leave, proposes, refl, rev_of}
 use Rattle.law_log.proofs.Imports.{same_command, sent, slice_get, starts, starts_for, state_in, subst, suc, sym, told_inc, true, unknown_from, wanted}
 use Rattle.law_log.proofs.Imports.{with_entry, with_leave, zero, ℕ}
 use Rattle.spec_paxos.specs.Proposer.{Step}
@@ -15,8 +15,6 @@ use Rattle.law_log.proofs.ListPlaces.{kept_among}
 use Rattle.law_log.proofs.ProposersInSchedule.{pax_turn, start_turn}
 use Rattle.law_log.proofs.AcceptorsInSchedule.{learn_turn}
 use Rattle.law_log.proofs.ScheduleTurns.{HasTurn, still, no_posts, proposer_there, no_letter}
-use Rattle.law_state.proofs.TestFacts.{less_by}
-use Rattle.law_state.proofs.ListLookups.{get_last}
 use Rattle.petal_command.specs.declared.pax.Pax.TheVariants as pax
 use Rattle.petal_msg.specs.declared.body.Body.TheVariants as body
 use Rattle.petal_msg.specs.declared.letter.Actor.TheVariants as actor

@@ -1,10 +1,10 @@
 -- What a server wants by its own part may be wanted: a Join, a Caught, a report and a Moved are each after the entries that it has applied, and it has it in
 -- mind.
 use Rattle.law_log.proofs.Imports.{◌++◌, ◌+◌, ◌<◌, ◌==◌, ◌∙◌, ◌≡◌, ◌≤◌, ◌⊎◌, Among, Command, HasFlag, IsSettledState, Job, Join, LinkId, List, Log, Option}
-use Rattle.law_log.proofs.Imports.{Server, Setting, Some, State, Voter, ap, arith, begin, by_test, caught_links, draining, false, first_wanted, id_of}
-use Rattle.law_log.proofs.Imports.{in-append, inl, inr, is_flagged, length, log_plain, may_by, may_join, moving, next_place, number_itself, option_map_or}
-use Rattle.law_log.proofs.Imports.{own_join, own_wants, proposed, put_at, put_same, refl, returning, rev_of, run, seated, slice_get, starts, subst, sym, true}
-use Rattle.law_log.proofs.Imports.{voter_of, wanted_by, ℕ}
+use Rattle.law_log.proofs.Imports.{Server, Setting, Some, State, Voter, ap, arith, begin, by_test, caught_links, draining, false, first_wanted, get_within}
+use Rattle.law_log.proofs.Imports.{id_of, in-append, inl, inr, is_flagged, length, log_plain, may_by, may_join, moving, next_place, number_itself}
+use Rattle.law_log.proofs.Imports.{option_map_or, own_join, own_wants, proposed, put_at, put_same, refl, returning, rev_of, run, seated, slice_get, starts}
+use Rattle.law_log.proofs.Imports.{subst, sym, true, voter_of, wanted_by, ℕ}
 use Rattle.spec_rules.specs.World.{World}
 use Rattle.law_log.specs.AgreedLog.{Catches, IsReached, IsToldBefore, Logged, Minded, Returns, WasMinded}
 use Rattle.law_log.proofs.OneCommandEachPlace.{applied_plain}
@@ -13,7 +13,6 @@ use Rattle.law_log.proofs.ReportsWanted.{IsReport, report_among}
 use Rattle.law_log.proofs.LogJobsInSchedule.{start_wants}
 use Rattle.law_log.proofs.MovedsWanted.{IsMove, move_among}
 use Rattle.law_log.proofs.ServersKeepWorlds.{ServerStep, before_of, Remembers}
-use Rattle.law_state.proofs.ListLookups.{get_within}
 use Rattle.global_tables.specs.declared.fence.Member.TheVariants as member
 
 -- the next place is reached: what is applied before it was told

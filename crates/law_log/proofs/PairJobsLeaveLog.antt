@@ -1,16 +1,15 @@
 -- Operations of the pairs say nothing of the log, put no letter into the queue, and leave all copies as they are; neither does what a tick sends
 -- for them say anything of the log.
-use Rattle.law_log.proofs.Imports.{[], ◌&&◌, ◌==◌, ◌∷◌, ◌≡◌, Action, Actor, Again, Among, Body, Bool, Cell, Command, Ending, FollowProgress, JobContext, JobResult, Key}
-use Rattle.law_log.proofs.Imports.{LastOp, Letter, LinkId, List, Newer, None, Older, OpKind, Option, PairState, Pax, Pending, Post, Progress, Reply, Some}
-use Rattle.law_log.proofs.Imports.{Standing, Wanted, World, about, at, awaited, by_test, cell_of, ended, ends, false, finishes, flat_map, follows_once}
-use Rattle.law_log.proofs.Imports.{gives_back, gives_up, goes_on, goes_on_with, hears_pair_full, hears_replicate, hears_replicated, hears_reserve}
-use Rattle.law_log.proofs.Imports.{hears_reserved, in-append, inl, inr, is_kept_back, is_lead, is_logged, is_pending_for, is_replicating, is_reserving}
-use Rattle.law_log.proofs.Imports.{is_second, is_under_way, last_on, link_cmp, moved_as, nat_lt, not, on_pair_full, on_read, on_replicate, on_replicated}
-use Rattle.law_log.proofs.Imports.{on_reserve, on_reserved, on_write, only, opened, opens, option_map_or, pending_on, post_to, readable, refl, reply_to}
-use Rattle.law_log.proofs.Imports.{reserves, said, says, says_to, sent_again, silent, subject_of, takes, takes_newer, tells, true, true≢false}
+use Rattle.law_log.proofs.Imports.{[], ◌&&◌, ◌==◌, ◌∷◌, ◌≡◌, Action, Actor, Again, Among, Body, Bool, Cell, Command, Ending, FollowProgress, JobContext}
+use Rattle.law_log.proofs.Imports.{JobResult, Key, LastOp, Letter, LinkId, List, Newer, None, Older, OpKind, Option, PairState, Pax, Pending, Post, Progress}
+use Rattle.law_log.proofs.Imports.{Reply, Some, Standing, Table, Wanted, World, about, at, awaited, by_test, cell_of, ended, ends, false, finishes, flat_map}
+use Rattle.law_log.proofs.Imports.{follows_once, gives_back, gives_up, goes_on, goes_on_with, hears_pair_full, hears_replicate, hears_replicated}
+use Rattle.law_log.proofs.Imports.{hears_reserve, hears_reserved, in-append, inl, inr, is_kept_back, is_lead, is_logged, is_pending_for, is_replicating}
+use Rattle.law_log.proofs.Imports.{is_reserving, is_second, is_under_way, last_on, link_cmp, moved_as, nat_lt, not, on_pair_full, on_read, on_replicate}
+use Rattle.law_log.proofs.Imports.{on_replicated, on_reserve, on_reserved, on_write, only, opened, opens, option_map_or, pending_on, post_to, readable, refl}
+use Rattle.law_log.proofs.Imports.{reply_to, reserves, said, says, says_to, sent_again, silent, subject_of, takes, takes_newer, tells, true, true≢false}
 use Rattle.law_log.proofs.Imports.{without_pending, ℕ}
 use Rattle.spec_rules.specs.Writes.{acts}
-use Rattle.petal_table.specs.Table.{Table}
 use Rattle.law_log.specs.AgreedLog.{IsBacked}
 use Rattle.law_log.proofs.ScheduleTurns.{no_posts, no_letter}
 use Rattle.petal_msg.specs.declared.body.Body.TheVariants as body

@@ -3,8 +3,8 @@ use Rattle.law_log.proofs.Imports.{[], if◌then◌else◌, ◌&&◌, ◌+◌, �
 use Rattle.law_log.proofs.Imports.{Goes, Heard, Idle, In, IsAbout, IsAskedFor, IsProposer, IsTold, IsWanted, List, Log, None, Nothing, Option, Pax, Phase}
 use Rattle.law_log.proofs.Imports.{Post, Promise, Refused, Send, Some, Starts, Voter, Voting, World, acceptor_of, ap, arith, by_test, collected, collecting}
 use Rattle.law_log.proofs.Imports.{comes_out, committed, count_below, counted, counts, false, first_wanted, gives_way, greatest_place, has_majority, hear}
-use Rattle.law_log.proofs.Imports.{hears_of_ballot, higher, in_here, in_there, inl, inr, is_for, is_open, is_unpromised, keep, learns, map, nat_le, nat_lt}
-use Rattle.law_log.proofs.Imports.{nat_tests, next_place, next_round, nobody, none_some, not, not_in_nobody, number, post_of, promise, proposes}
+use Rattle.law_log.proofs.Imports.{hears_of_ballot, higher, in_here, in_there, inl, inr, is_for, is_open, is_unpromised, keep, learns, less_test, map, nat_le}
+use Rattle.law_log.proofs.Imports.{nat_lt, nat_tests, next_place, next_round, nobody, none_some, not, not_in_nobody, number, post_of, promise, proposes}
 use Rattle.law_log.proofs.Imports.{range_with_len, rank, refl, rev_of, round_of, same_some, send, sent, set, started, starts, starts_ballot, starts_for}
 use Rattle.law_log.proofs.Imports.{subst, suc, sym, true, true_false, turn, with_phase, zero, ℕ, ⊤}
 use Rattle.spec_paxos.specs.Proposer.{Step, is_in}
@@ -14,7 +14,6 @@ use Rattle.law_log.proofs.ListPlaces.{put_here}
 use Rattle.law_log.proofs.AcceptorsInSchedule.{seen_promise, prepare_turn, accept_turn, learn_turn}
 use Rattle.law_log.proofs.ScheduleTurns.{Turns, HasTurn, apart_itself, apart_both, apart_keep, apart_send, apart_turn, by_letter, turned}
 use Rattle.law_log.proofs.ScheduleTurns.{still as nothing_happens, no_posts, low_keep, low_send, low_turn, seen_same, about_itself}
-use Rattle.law_state.proofs.TestFacts.{less_test}
 use Rattle.petal_command.specs.declared.pax.Pax.TheVariants as pax
 use Rattle.petal_msg.specs.declared.body.Body.TheVariants as body
 use Rattle.spec_paxos.specs.Schedule as schedule

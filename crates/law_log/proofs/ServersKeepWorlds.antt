@@ -3,7 +3,7 @@ use Rattle.law_log.proofs.Imports.{[], ◌++◌, ◌+◌, ◌<◌, ◌∙◌, �
 use Rattle.law_log.proofs.Imports.{IsWanted, Job, JobContext, Join, Leave, Letter, Life, LinkId, LinkRow, List, LogDone, Moved, None, PairState, Pax, Sender}
 use Rattle.law_log.proofs.Imports.{Sent, Server, Setting, Some, State, Step, acts, all_put_apart, ap, arith, begin, devices, false, fill_of, has_held_write}
 use Rattle.law_log.proofs.Imports.{here_of, in-append, in_later, inc_of, inl, inr, is_flagged, is_in, length, letters_of, link_at, put_at, refl}
-use Rattle.law_log.proofs.Imports.{region_to_move, run, sent, server_state, stamped, state_after, subst, sym, true, ℕ}
+use Rattle.law_log.proofs.Imports.{region_to_move, run, run-append, sent, server_state, stamped, state_after, subst, sym, true, ℕ}
 use Rattle.law_log.proofs.OneCommandEachPlace.{IsFair}
 use Rattle.spec_rules.specs.Posts.{Post}
 use Rattle.spec_rules.specs.World.{World}
@@ -11,7 +11,6 @@ use Rattle.law_log.specs.AgreedLog.{Catches, IsCalledAnywhere, IsSeenAt, IsBusyA
 use Rattle.law_log.specs.AgreedLog.{Returns, Waits}
 use Rattle.law_log.specs.ProposedCommands.{HasStopped, IsCalledFor, IsOfLives, IsScripted}
 use Rattle.law_log.proofs.ScheduleTurns.{Turns, HasTurn, seen_apart, busy_same, told_more, reached_more, backed_more, wanted_on}
-use Rattle.law_agreement.proofs.ChosenWasWanted.{run-append}
 use Rattle.petal_msg.specs.declared.letter.Actor.TheVariants as actor
 use Rattle.spec_paxos.specs.Schedule as schedule
 use Rattle.spec_rules.specs.declared.job.Job.TheVariants as job

@@ -1,9 +1,9 @@
 -- Each legal step keeps what is kept, from the start on.
 use Rattle.law_log.proofs.Imports.{[], ◌++◌, ◌+◌, ◌<◌, ◌∷◌, ◌≡◌, ◌≤◌, Accepted, Actor, Among, AreStepsFrom, Asked, Ballot, Body, Call, Client, Command}
 use Rattle.law_log.proofs.Imports.{Deliver, In, Inc, IsTold, Letter, Line, List, MayActor, MayClient, Pax, Reaction, Record, Setting, Some, Step, Tick}
-use Rattle.law_log.proofs.Imports.{all_put_apart, ap, arith, begin, calls, client_sender, client_state, client_step, in-append, in_later, inl, inr, next_line}
-use Rattle.law_log.proofs.Imports.{none_some, put_same, reacts, refl, run, server_state, server_step, slice_get, stamped, start, step, stepped, subst, sym}
-use Rattle.law_log.proofs.Imports.{world_after, ℕ}
+use Rattle.law_log.proofs.Imports.{all_put_apart, ap, arith, begin, calls, client_sender, client_state, client_step, in-append, in_later, inl, inr, less_by}
+use Rattle.law_log.proofs.Imports.{less_test, next_line, none_some, put_same, reacts, refl, run, server_state, server_step, slice_get, stamped, start, step}
+use Rattle.law_log.proofs.Imports.{stepped, subst, sym, world_after, ℕ}
 use Rattle.spec_rules.specs.Server.{letters_of}
 use Rattle.spec_rules.specs.World.{World}
 use Rattle.law_log.specs.AgreedLog.{IsBacked, IsCalledAnywhere, IsSaidBy, IsOpen, Logged, Minded}
@@ -13,7 +13,6 @@ use Rattle.law_log.proofs.OneCommandEachPlace.{IsFair, scripted_anywhere}
 use Rattle.law_log.proofs.ServerStepsKeepLog.{server_steps}
 use Rattle.law_log.proofs.ScheduleTurns.{backed_more}
 use Rattle.law_log.proofs.ServersKeepWorlds.{AllRemember, Goes, Remembers, called_more, may_more, posted_by, same_life, started_same}
-use Rattle.law_state.proofs.TestFacts.{less_test, less_by}
 use Rattle.petal_msg.specs.declared.body.Body.TheVariants as body
 use Rattle.petal_msg.specs.declared.letter.Actor.TheVariants as actor
 use Rattle.spec_paxos.specs.Schedule as schedule

@@ -1,26 +1,12 @@
 -- A line that was called is open until it is answered.
-use Rattle.std.proofs.Common.{◌≡◌, ◌<◌, ℕ, Bool, true, List, [], ◌∷◌, Option, Some, None, ◌⊎◌, inl, inr, refl, sym, ap, ◌∙◌, subst, arith}
-use Rattle.std.proofs.lemmas.Bool.{cases_lt}
-use Rattle.std.specs.Prelude.{slice_get}
-use Rattle.petal_msg.specs.declared.body.Body.{Body}
-use Rattle.petal_msg.specs.declared.letter.Actor.{Actor}
-use Rattle.petal_msg.specs.declared.letter.Actor.TheVariants as actor
-use Rattle.script_lines.specs.declared.answer.Answer.{Answer}
-use Rattle.script_lines.specs.declared.request.Line.{Line}
-use Rattle.spec_rules.specs.Clients.{Asked, Client, Reaction}
-use Rattle.spec_rules.specs.Lists.{In, put_at}
-use Rattle.spec_rules.specs.World.{IsAnswered, MayActor, MayClient, Setting, World, client_state, client_step, lines_of, next_line, start, step}
-use Rattle.spec_rules.specs.World.{with_answer}
-use Rattle.spec_rules.specs.declared.step.Step.{Step}
-use Rattle.spec_rules.specs.declared.step.Step.TheVariants.{Call}
-use Rattle.spec_rules.proofs.ListLemmas.{put_apart, put_same}
-use Rattle.spec_rules.proofs.Tests.{none_some, same_or_apart, same_some, true_false}
-use Rattle.spec_history.specs.Steps.{AreStepsFrom, stepped, world_after}
-use Rattle.spec_history.specs.declared.record.Record.{Record}
-use Rattle.law_steps.specs.DidClient.{StaysOpen, Turned}
-use Rattle.law_steps.specs.DidClient as happens
-use Rattle.law_steps.proofs.ClientStepKinds.{client_turns, is_call}
+use Rattle.law_merge.proofs.Imports.{[], ◌<◌, ◌∙◌, ◌∷◌, ◌≡◌, ◌⊎◌, Actor, Answer, AreStepsFrom, Asked, Body, Bool, Call, Client, In, IsAnswered, Line, List}
+use Rattle.law_merge.proofs.Imports.{MayActor, MayClient, None, Option, Reaction, Record, Setting, Some, StaysOpen, Step, Turned, World, ap, arith, cases_lt}
+use Rattle.law_merge.proofs.Imports.{client_state, client_step, client_turns, inl, inr, is_call, lines_of, next_line, none_some, put_apart, put_at, put_same}
+use Rattle.law_merge.proofs.Imports.{refl, same_or_apart, same_some, slice_get, start, step, stepped, subst, sym, true, true_false, with_answer, world_after}
+use Rattle.law_merge.proofs.Imports.{ℕ}
 use Rattle.law_merge.specs.Called.{HasOpen, IsOpenOrAnswered}
+use Rattle.petal_msg.specs.declared.letter.Actor.TheVariants as actor
+use Rattle.law_steps.specs.DidClient as happens
 
 -- ### Answers
 

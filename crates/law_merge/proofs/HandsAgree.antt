@@ -1,23 +1,14 @@
 -- Where a server is at its own hand by its own records, it is so at the operator's.
-use Rattle.std.proofs.Common.{◌≡◌, ◌≢◌, ◌==◌, ℕ, Bool, true, false, List, [], ◌∷◌, Option, Some, None, inl, inr, refl, sym, ap, ◌∙◌, subst}
-use Rattle.std.specs.Prelude.{drop, if◌then◌else◌}
-use Rattle.petal_msg.specs.declared.letter.Actor.{Actor}
-use Rattle.petal_msg.specs.declared.letter.Actor.TheVariants as actor
-use Rattle.script_lines.specs.declared.request.Line.{Line}
-use Rattle.spec_rules.specs.Lists.{put_at}
-use Rattle.spec_rules.specs.World.{Control, Deed, Setting, World, controls, step}
-use Rattle.spec_rules.specs.declared.step.Step.{Step}
-use Rattle.spec_rules.specs.declared.step.Step.TheVariants.{Stop, Blank, Boot, Arm, Glance}
-use Rattle.spec_rules.proofs.ListLemmas.{put_apart, put_same}
-use Rattle.spec_rules.proofs.Tests.{none_some, same_or_apart, same_some, true_false}
-use Rattle.spec_history.specs.Controls.{Errand, errand_after, no_errand, with_given}
-use Rattle.spec_history.specs.Steps.{stepped, world_after}
-use Rattle.spec_history.specs.declared.record.Record.{Record}
+use Rattle.law_merge.proofs.Imports.{[], if◌then◌else◌, ◌==◌, ◌∙◌, ◌∷◌, ◌≡◌, ◌≢◌, Actor, Arm, Blank, Bool, Boot, Control, Deed, Errand, Glance, Line, List}
+use Rattle.law_merge.proofs.Imports.{None, Option, Record, Setting, Some, Step, Stop, World, ap, controls, drop, errand_after, false, inl, inr, no_errand}
+use Rattle.law_merge.proofs.Imports.{none_some, put_apart, put_at, put_same, refl, same_or_apart, same_some, step, stepped, subst, sym, true, true_false}
+use Rattle.law_merge.proofs.Imports.{with_given, world_after, ℕ}
 use Rattle.law_merge.specs.Hands.{hand_along, hand_by}
 use Rattle.law_merge.specs.OwnLines.{Duty, GlancesInTurn, IsInErrand, TakeTurns, TakesTurn, duties_after, duty_after, duty_of, glanced_duty}
 use Rattle.law_merge.proofs.OwnHands.{along_first, at_hand, hands}
 use Rattle.law_merge.proofs.OwnTurnsObey.{AreTied, elsewhere, one_tied, tied_first}
 use Rattle.law_merge.proofs.WhoseRecords.{server_none}
+use Rattle.petal_msg.specs.declared.letter.Actor.TheVariants as actor
 
 -- no server has a step in hand before its line has begun
 abbrev pub BeginFirst : (ℕ → Duty) → (ℕ → Option Deed) → Type 0

@@ -1,3 +1,4 @@
+pub mod Imports
 pub mod CalledLines
 pub mod HandsAgree
 pub mod OwnHands

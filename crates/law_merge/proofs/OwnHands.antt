@@ -1,19 +1,11 @@
 -- Where a server is at the operator's hand, it is so by its own records.
-use Rattle.std.proofs.Common.{◌≡◌, ℕ, ◌==◌, Bool, true, false, List, [], ◌∷◌, Option, Some, None, inl, inr, refl, sym, ap, ◌∙◌, subst}
-use Rattle.std.specs.Prelude.{if◌then◌else◌}
-use Rattle.petal_msg.specs.declared.letter.Actor.{Actor}
-use Rattle.petal_msg.specs.declared.letter.Actor.TheVariants as actor
-use Rattle.spec_rules.specs.Lists.{put_at}
-use Rattle.spec_rules.specs.World.{Control, Deed, Setting, World, controls, step}
-use Rattle.spec_rules.specs.declared.step.Step.{Step}
-use Rattle.spec_rules.specs.declared.step.Step.TheVariants.{Stop, Blank, Boot, Glance}
-use Rattle.spec_rules.proofs.ListLemmas.{put_apart, put_same}
-use Rattle.spec_rules.proofs.Tests.{none_some, same_or_apart, same_some}
-use Rattle.spec_history.specs.Steps.{stepped, world_after}
-use Rattle.spec_history.specs.declared.record.Record.{Record}
+use Rattle.law_merge.proofs.Imports.{[], if◌then◌else◌, ◌==◌, ◌∙◌, ◌∷◌, ◌≡◌, Actor, Blank, Bool, Boot, Control, Deed, Glance, List, None, Option, Record}
+use Rattle.law_merge.proofs.Imports.{Setting, Some, Step, Stop, World, ap, controls, false, inl, inr, none_some, put_apart, put_at, put_same, refl}
+use Rattle.law_merge.proofs.Imports.{same_or_apart, same_some, step, stepped, subst, sym, true, world_after, ℕ}
 use Rattle.law_merge.specs.Alone.{of_server}
 use Rattle.law_merge.specs.Hands.{hand_along, hand_by}
 use Rattle.law_merge.proofs.WhoseRecords.{server_first, server_none, server_passed}
+use Rattle.petal_msg.specs.declared.letter.Actor.TheVariants as actor
 
 abbrev pub at_hand : ℕ → Deed → Option (ℕ × Deed)
 at_hand n deed = Some (n, deed)

@@ -1,14 +1,8 @@
 -- What a server's own records make of its devices' plans, all records make of them.
-use Rattle.std.proofs.Common.{◌≡◌, ℕ, false, List, [], ◌∷◌, refl, sym, subst}
-use Rattle.petal_msg.specs.declared.letter.Actor.{Actor}
-use Rattle.petal_msg.specs.declared.letter.Actor.TheVariants as actor
-use Rattle.spec_rules.specs.Plans.{Armed}
-use Rattle.spec_rules.specs.declared.step.Step.{Step}
-use Rattle.spec_rules.proofs.Tests.{by_bool}
-use Rattle.spec_history.specs.Failures.{ComeTo, UsesAt, UsesWhere}
-use Rattle.spec_history.specs.declared.record.Record.{Record}
+use Rattle.law_merge.proofs.Imports.{[], ◌∷◌, ◌≡◌, Actor, Armed, ComeTo, List, Record, Step, UsesAt, UsesWhere, by_bool, false, refl, subst, sym, ℕ}
 use Rattle.law_merge.specs.Alone.{is_by_server, of_server}
 use Rattle.law_merge.proofs.WhoseRecords.{server_other, server_taken}
+use Rattle.petal_msg.specs.declared.letter.Actor.TheVariants as actor
 
 unused : (n : ℕ) (who : Actor) (what : Step) (armed : Armed) → is_by_server n who ≡ false → UsesAt n who what armed armed
 unused n (actor.Server m) what armed other = subst (λ b. UsesWhere b what armed armed) (sym other) refl

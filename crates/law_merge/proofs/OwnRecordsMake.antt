@@ -1,15 +1,9 @@
 -- What an actor is in the world is what its own records make of it.
-use Rattle.std.proofs.Common.{◌≡◌, ℕ, List, [], ◌∷◌, inl, inr, refl, sym, ap, ◌∙◌, subst}
-use Rattle.petal_msg.specs.declared.letter.Actor.{Actor}
-use Rattle.petal_msg.specs.declared.letter.Actor.TheVariants as actor
-use Rattle.spec_rules.specs.Lists.{put_at}
-use Rattle.spec_rules.specs.World.{Setting, World, step}
-use Rattle.spec_rules.proofs.ListLemmas.{put_apart, put_same}
-use Rattle.spec_rules.proofs.Tests.{same_or_apart}
-use Rattle.spec_history.specs.Steps.{stepped, world_after}
-use Rattle.spec_history.specs.declared.record.Record.{Record}
+use Rattle.law_merge.proofs.Imports.{[], ◌∙◌, ◌∷◌, ◌≡◌, Actor, List, Record, Setting, World, ap, inl, inr, put_apart, put_at, put_same, refl, same_or_apart}
+use Rattle.law_merge.proofs.Imports.{step, stepped, subst, sym, world_after, ℕ}
 use Rattle.law_merge.specs.Alone.{acted_by, client_along, of_client, of_server, reacted_by, server_along}
 use Rattle.law_merge.proofs.WhoseRecords.{client_first, client_none, client_passed, server_first, server_none, server_passed}
+use Rattle.petal_msg.specs.declared.letter.Actor.TheVariants as actor
 
 module _ (setting : Setting) where
   one_server : (who : Actor) (w : World) (own : Record) (later : List Record) → own.actor ≡ who → (n : ℕ)

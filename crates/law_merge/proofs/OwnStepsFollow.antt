@@ -1,20 +1,12 @@
 -- By induction on the list: each record follows on the world, whose part for each actor is what that actor's own records leave.
-use Rattle.std.proofs.Common.{◌≡◌, ℕ, ◌≤◌, List, [], ◌∷◌, inl, inr, refl, sym, ap, ◌∙◌, subst}
-use Rattle.petal_msg.specs.declared.letter.Actor.{Actor}
-use Rattle.petal_msg.specs.declared.letter.Actor.TheVariants as actor
-use Rattle.spec_rules.specs.Lists.{put_at}
-use Rattle.spec_rules.specs.World.{MayClient, MayServer, MayStep, Setting, World, next_stamp, step}
-use Rattle.spec_rules.specs.declared.step.Step.{Step}
-use Rattle.spec_rules.specs.declared.step.Step.TheVariants.{Call, Deliver, Tick, Work, StopIn, Stop, Blank, Boot, Arm, Glance}
-use Rattle.spec_rules.proofs.ListLemmas.{put_apart, put_same}
-use Rattle.spec_rules.proofs.Tests.{same_or_apart}
-use Rattle.spec_history.specs.Controls.{Errand, ObeyFrom, errand_after}
-use Rattle.spec_history.specs.Steps.{AreStepsFrom, CallsInPhase, Follows, stepped}
-use Rattle.spec_history.specs.declared.record.Record.{Record}
+use Rattle.law_merge.proofs.Imports.{[], ◌∙◌, ◌∷◌, ◌≡◌, ◌≤◌, Actor, AreStepsFrom, Arm, Blank, Boot, Call, CallsInPhase, Deliver, Errand, Follows, Glance}
+use Rattle.law_merge.proofs.Imports.{List, MayClient, MayServer, MayStep, ObeyFrom, Record, Setting, Step, Stop, StopIn, Tick, Work, World, ap, errand_after}
+use Rattle.law_merge.proofs.Imports.{inl, inr, next_stamp, put_apart, put_at, put_same, refl, same_or_apart, step, stepped, subst, sym, ℕ}
 use Rattle.law_merge.specs.Alone.{ClientMayAlone, IsAlone, IsAloneClient, IsFor, IsInPhase, IsNextOf, IsNextOfClient, MayAlone, acted_by, of_client}
 use Rattle.law_merge.specs.Alone.{of_server, reacted_by}
 use Rattle.law_merge.specs.Joined.{AreJoined, IsAfterPhases, IsAmongOthers, IsInTurn, IsJoined, WasSent}
 use Rattle.law_merge.proofs.WhoseRecords.{client_first, client_none, client_passed, server_first, server_none, server_passed}
+use Rattle.petal_msg.specs.declared.letter.Actor.TheVariants as actor
 
 module _ (setting : Setting) where
   -- ### A step is allowed

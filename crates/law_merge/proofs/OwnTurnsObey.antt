@@ -1,23 +1,13 @@
 -- By induction on the list: the operator's last line on its way is the first one of the server that it names, and no line has begun elsewhere.
-use Rattle.std.proofs.Common.{◌≡◌, ◌≢◌, ◌==◌, ℕ, Bool, true, false, List, [], ◌∷◌, Some, inl, inr, refl, sym, ap, ◌∙◌, subst}
-use Rattle.std.specs.Prelude.{drop, if◌then◌else◌}
-use Rattle.petal_msg.specs.declared.letter.Actor.{Actor}
-use Rattle.petal_msg.specs.declared.letter.Actor.TheVariants as actor
-use Rattle.script_lines.specs.declared.request.Line.{Line}
-use Rattle.spec_rules.specs.Jobs.{operator}
-use Rattle.spec_rules.specs.Lists.{put_at}
-use Rattle.spec_rules.specs.World.{Setting, World, next_line, step}
-use Rattle.spec_rules.specs.declared.step.Step.{Step}
-use Rattle.spec_rules.specs.declared.step.Step.TheVariants.{Call, Stop, Blank, Boot, Arm, Glance}
-use Rattle.spec_rules.proofs.ListLemmas.{put_apart, put_same}
-use Rattle.spec_rules.proofs.Tests.{none_some, same_or_apart, same_some}
-use Rattle.spec_history.specs.Controls.{Errand, IsLeftAlone, Obeys, ObeyFrom, ObeysAs, ObeysGlance, errand_after, errand_of, no_errand, served, with_given}
-use Rattle.spec_history.specs.Steps.{stepped}
-use Rattle.spec_history.specs.declared.record.Record.{Record}
+use Rattle.law_merge.proofs.Imports.{[], if◌then◌else◌, ◌==◌, ◌∙◌, ◌∷◌, ◌≡◌, ◌≢◌, Actor, Arm, Blank, Bool, Boot, Call, Errand, Glance, IsLeftAlone, Line}
+use Rattle.law_merge.proofs.Imports.{List, ObeyFrom, Obeys, ObeysAs, ObeysGlance, Record, Setting, Some, Step, Stop, World, ap, drop, errand_after, errand_of}
+use Rattle.law_merge.proofs.Imports.{false, inl, inr, next_line, no_errand, none_some, operator, put_apart, put_at, put_same, refl, same_or_apart, same_some}
+use Rattle.law_merge.proofs.Imports.{served, step, stepped, subst, sym, true, with_given, ℕ}
 use Rattle.law_merge.specs.Alone.{acted_by, of_server}
 use Rattle.law_merge.specs.OwnLines.{BeginsNext, Duty, GlancesInTurn, IsCalledInTurn, IsInErrand, KeepsToLines, TakeTurns, TakesTurn, duties_after}
 use Rattle.law_merge.specs.OwnLines.{duty_after, duty_of, first_errand, glanced_duty}
 use Rattle.law_merge.proofs.WhoseRecords.{server_first, server_none, server_passed}
+use Rattle.petal_msg.specs.declared.letter.Actor.TheVariants as actor
 
 -- the errand is that of the server which it names, and no line has begun at another one
 pub record IsTied (errand : Errand) (duties : ℕ → Duty) (n : ℕ) : Type 0 where

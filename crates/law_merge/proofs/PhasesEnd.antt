@@ -1,16 +1,7 @@
 -- At the end of a phase each line of it, and of those before, was answered.
-use Rattle.std.proofs.Common.{◌≡◌, ◌<◌, ◌==◌, ℕ, List, [], ◌∷◌, ◌++◌, Some, inl, inr, refl, sym, subst}
-use Rattle.std.specs.Prelude.{slice_get}
-use Rattle.script_lines.specs.declared.request.Line.{Line}
-use Rattle.script_lines.specs.declared.script.Script.{Script}
-use Rattle.spec_rules.specs.Lists.{In}
-use Rattle.spec_rules.specs.World.{IsAnswered, Setting, World, lines_of, setting_of, start}
-use Rattle.spec_rules.proofs.Tests.{none_some, number_itself}
-use Rattle.spec_history.specs.Steps.{AreSteps, stepped, world_after}
-use Rattle.spec_history.specs.declared.record.Record.{Record}
-use Rattle.spec_history.proofs.Onwards.{steps_begin}
-use Rattle.law_state.proofs.ListLookups.{get_in}
-use Rattle.law_copies.proofs.ChainsRise.{in_kept}
+use Rattle.law_merge.proofs.Imports.{[], ◌++◌, ◌<◌, ◌==◌, ◌∷◌, ◌≡◌, AreSteps, In, IsAnswered, Line, List, Record, Script, Setting, Some, World, get_in}
+use Rattle.law_merge.proofs.Imports.{in_kept, inl, inr, lines_of, none_some, number_itself, refl, setting_of, slice_get, start, stepped, steps_begin, subst}
+use Rattle.law_merge.proofs.Imports.{sym, world_after, ℕ}
 use Rattle.law_merge.specs.Phases.{HasDone, HaveDone}
 use Rattle.law_merge.proofs.CalledLines.{answered_along, place_kept}
 use Rattle.law_merge.proofs.OwnRecordsMake.{client_made}

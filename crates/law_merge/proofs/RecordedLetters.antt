@@ -1,14 +1,7 @@
 -- What a record of a list of steps has sent was sent.
-use Rattle.std.proofs.Common.{ℕ, List, [], ◌∷◌, inl, inr, subst}
-use Rattle.petal_msg.specs.declared.letter.Actor.{Actor}
+use Rattle.law_merge.proofs.Imports.{[], ◌∷◌, Actor, AreStepsFrom, In, Letter, List, Record, Setting, Step, World, in_former, in_later, inl, inr, step}
+use Rattle.law_merge.proofs.Imports.{stepped, subst, world_after, ℕ}
 use Rattle.petal_msg.specs.declared.letter.Actor.TheVariants as actor
-use Rattle.petal_msg.specs.declared.letter.Letter.{Letter}
-use Rattle.spec_rules.specs.Lists.{In}
-use Rattle.spec_rules.specs.World.{Setting, World, step}
-use Rattle.spec_rules.specs.declared.step.Step.{Step}
-use Rattle.spec_rules.proofs.ListLemmas.{in_former, in_later}
-use Rattle.spec_history.specs.Steps.{AreStepsFrom, stepped, world_after}
-use Rattle.spec_history.specs.declared.record.Record.{Record}
 
 module _ (setting : Setting) where
   stays : (who : Actor) (what : Step) (w : World) (stamp : ℕ) (letter : Letter) → In letter w.sent → In letter (step who what setting w stamp).world.sent

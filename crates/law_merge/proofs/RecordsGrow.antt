@@ -1,9 +1,5 @@
 -- One record more, and fronts.
-use Rattle.std.proofs.Common.{List, [], ◌∷◌, ◌++◌}
-use Rattle.spec_rules.specs.World.{Setting, World}
-use Rattle.spec_history.specs.Controls.{Errand, errand_after, errand_along}
-use Rattle.spec_history.specs.Steps.{stepped, world_after}
-use Rattle.spec_history.specs.declared.record.Record.{Record}
+use Rattle.law_merge.proofs.Imports.{[], ◌++◌, ◌∷◌, Errand, List, Record, Setting, World, errand_after, errand_along, stepped, world_after}
 use Rattle.law_merge.specs.Joined.{AreJoined, IsJoined}
 
 module _ (setting : Setting) where

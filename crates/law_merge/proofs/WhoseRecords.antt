@@ -1,10 +1,8 @@
 -- Whose record it is: the records of one server, and of one client.
-use Rattle.std.proofs.Common.{◌≡◌, ◌≢◌, ℕ, ◌==◌, Bool, true, false, List, ◌∷◌, refl, sym, ap, ◌∙◌}
-use Rattle.std.specs.Prelude.{if◌then◌else◌}
-use Rattle.petal_msg.specs.declared.letter.Actor.TheVariants as actor
-use Rattle.spec_rules.proofs.Tests.{by_bool, number_itself, same_numbers}
-use Rattle.spec_history.specs.declared.record.Record.{Record}
+use Rattle.law_merge.proofs.Imports.{if◌then◌else◌, ◌==◌, ◌∙◌, ◌∷◌, ◌≡◌, ◌≢◌, Bool, List, Record, ap, by_bool, false, number_itself, refl, same_numbers, sym}
+use Rattle.law_merge.proofs.Imports.{true, ℕ}
 use Rattle.law_merge.specs.Alone.{is_by_client, is_by_server, of_client, of_server}
+use Rattle.petal_msg.specs.declared.letter.Actor.TheVariants as actor
 
 is_apart : (m n : ℕ) → m ≢ n → (n == m) ≡ false
 is_apart m n ne = by_bool (n == m) (λ e. absurd (ne (sym (same_numbers n m e)))) (λ f. f)

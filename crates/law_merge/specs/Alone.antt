@@ -1,20 +1,9 @@
 -- The steps of one actor by themselves: what each of them owes its actor alone.
+use Rattle.law_merge.specs.Imports.{Acted, Actor, Arm, Blank, Boot, Call, Client, Deliver, Glance, InPhase, Letter, Line, Reaction, Record, Server, Setting}
+use Rattle.law_merge.specs.Imports.{Step, Stop, StopIn, Tick, Work, client_sender, client_step, greatest_u32, greatest_u64, is_spent_server, letters_of}
+use Rattle.law_merge.specs.Imports.{next_line, received, round_of, server_step, stamped, state_after, state_in, turn_of}
 use Rattle.std.specs.Prelude.{◌≡◌, ◌≢◌, ℕ, ◌+◌, ◌≤◌, ◌<◌, ◌==◌, ◌||◌, max, Bool, true, false, List, [], ◌∷◌, filter, Some, None}
-use Rattle.petal_msg.specs.declared.letter.Actor.{Actor}
 use Rattle.petal_msg.specs.declared.letter.Actor.TheVariants as actor
-use Rattle.petal_msg.specs.declared.letter.Letter.{Letter}
-use Rattle.script_lines.specs.declared.request.Line.{Line}
-use Rattle.spec_state.specs.Command.{state_after}
-use Rattle.spec_rules.specs.Clients.{Client, Reaction, client_sender}
-use Rattle.spec_rules.specs.Jobs.{Acted}
-use Rattle.spec_rules.specs.Log.{state_in}
-use Rattle.spec_rules.specs.Server.{Server, letters_of}
-use Rattle.spec_rules.specs.World.{Setting, client_step, greatest_u32, greatest_u64, is_spent_server, next_line, received, round_of, server_step}
-use Rattle.spec_rules.specs.World.{stamped, turn_of}
-use Rattle.spec_rules.specs.declared.step.Step.{Step}
-use Rattle.spec_rules.specs.declared.step.Step.TheVariants.{Call, Deliver, Tick, Work, StopIn, Stop, Blank, Boot, Arm, Glance}
-use Rattle.spec_history.specs.Steps.{InPhase}
-use Rattle.spec_history.specs.declared.record.Record.{Record}
 
 -- ### Whose step it is
 

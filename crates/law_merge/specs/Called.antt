@@ -1,7 +1,6 @@
 -- What becomes of a line that was called.
+use Rattle.law_merge.specs.Imports.{Asked, Client, IsAnswered, World}
 use Rattle.std.specs.Prelude.{◌≡◌, ℕ, Some, ◌⊎◌}
-use Rattle.spec_rules.specs.Clients.{Asked, Client}
-use Rattle.spec_rules.specs.World.{World, IsAnswered}
 
 -- the client has the line of this number open
 pub record HasOpen (client : Client) (number : ℕ) : Type 0 where

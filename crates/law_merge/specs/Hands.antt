@@ -1,9 +1,6 @@
 -- What a line has done so far at a server, by that server's own records.
+use Rattle.law_merge.specs.Imports.{Blank, Blanked, Boot, Booted, Deed, Glance, Record, Step, Stop, Stopped}
 use Rattle.std.specs.Prelude.{◌==◌, List, [], ◌∷◌, Option, Some, None, if◌then◌else◌}
-use Rattle.spec_rules.specs.World.{Deed, Stopped, Blanked, Booted}
-use Rattle.spec_rules.specs.declared.step.Step.{Step}
-use Rattle.spec_rules.specs.declared.step.Step.TheVariants.{Stop, Blank, Boot, Glance}
-use Rattle.spec_history.specs.declared.record.Record.{Record}
 
 -- the last step that the line gave it, until the line's glance
 abbrev pub hand_by : Step → Option Deed → Option Deed

@@ -1,21 +1,11 @@
 -- What a step owes the others: that its letter was sent, that a call comes after the phases before, and that a step that a line of the
 -- operator gives comes while that line is open, in its order.
+use Rattle.law_merge.specs.Imports.{Actor, Arm, Armed, Asked, Blank, Blanks, Boot, Boots, Call, ComeTo, Deliver, Errand, Glance, In, IsAnswered, IsFree}
+use Rattle.law_merge.specs.Imports.{IsOpenLine, Line, MayGlance, Obeys, Record, Script, Setting, Step, Stop, StopIn, Stops, Tick, Work, World, errand_after}
+use Rattle.law_merge.specs.Imports.{next_line, no_errand, setting_of, start, stepped, unarmed}
 use Rattle.std.specs.Prelude.{◌≡◌, ℕ, ◌<◌, List, [], ◌∷◌, Some}
-use Rattle.petal_msg.specs.declared.letter.Actor.{Actor}
-use Rattle.petal_msg.specs.declared.letter.Actor.TheVariants as actor
-use Rattle.script_lines.specs.declared.request.Line.{Line}
-use Rattle.script_lines.specs.declared.script.Script.{Script}
-use Rattle.spec_rules.specs.Clients.{Asked}
-use Rattle.spec_rules.specs.Lists.{In}
-use Rattle.spec_rules.specs.Plans.{Armed, unarmed}
-use Rattle.spec_rules.specs.World.{Setting, World, Blanks, Boots, IsAnswered, IsFree, IsOpenLine, MayGlance, Stops, next_line, setting_of, start}
-use Rattle.spec_rules.specs.declared.step.Step.{Step}
-use Rattle.spec_rules.specs.declared.step.Step.TheVariants.{Call, Deliver, Tick, Work, StopIn, Stop, Blank, Boot, Arm, Glance}
-use Rattle.spec_history.specs.Controls.{Errand, Obeys, errand_after, no_errand}
-use Rattle.spec_history.specs.Failures.{ComeTo}
-use Rattle.spec_history.specs.Steps.{stepped}
-use Rattle.spec_history.specs.declared.record.Record.{Record}
 use Rattle.law_merge.specs.Alone.{IsAlone, IsAloneClient, of_client, of_server}
+use Rattle.petal_msg.specs.declared.letter.Actor.TheVariants as actor
 
 abbrev pub WasSent : World → Step → Type 0
 WasSent w (Deliver letter) = In letter w.sent

@@ -1,3 +1,4 @@
+pub mod Imports
 pub mod Alone
 pub mod Called
 pub mod Hands

@@ -1,21 +1,9 @@
 -- A server's own steps by the operator's lines that name it, and what joins them to the lines that the operator calls.
+use Rattle.law_merge.specs.Imports.{Actor, Arm, Blank, Boot, Call, Errand, Glance, Line, ObeysAs, Record, Script, Server, Setting, Step, Stop, World}
+use Rattle.law_merge.specs.Imports.{errand_after, errand_of, is_the, names, next_line, no_errand, operator, put_at, served, setting_of, start, stepped}
 use Rattle.std.specs.Prelude.{◌≡◌, ◌==◌, ◌&&◌, ℕ, Bool, true, false, List, [], ◌∷◌, drop, filter, Some}
-use Rattle.petal_msg.specs.declared.letter.Actor.{Actor}
-use Rattle.petal_msg.specs.declared.letter.Actor.TheVariants as actor
-use Rattle.script_lines.specs.Requests.{names}
-use Rattle.script_lines.specs.declared.request.Line.{Line}
-use Rattle.script_lines.specs.declared.script.Script.{Script}
-use Rattle.spec_rules.specs.Jobs.{operator}
-use Rattle.spec_rules.specs.Lists.{put_at}
-use Rattle.spec_rules.specs.Server.{Server}
-use Rattle.spec_rules.specs.State.{is_the}
-use Rattle.spec_rules.specs.World.{Setting, World, next_line, setting_of, start}
-use Rattle.spec_rules.specs.declared.step.Step.{Step}
-use Rattle.spec_rules.specs.declared.step.Step.TheVariants.{Call, Stop, Blank, Boot, Arm, Glance}
-use Rattle.spec_history.specs.Controls.{Errand, ObeysAs, errand_after, errand_of, no_errand, served}
-use Rattle.spec_history.specs.Steps.{stepped}
-use Rattle.spec_history.specs.declared.record.Record.{Record}
 use Rattle.law_merge.specs.Alone.{acted_by}
+use Rattle.petal_msg.specs.declared.letter.Actor.TheVariants as actor
 
 -- ### A server by itself
 

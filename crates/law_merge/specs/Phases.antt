@@ -1,10 +1,6 @@
 -- The end of a phase.
+use Rattle.law_merge.specs.Imports.{Client, Line, Record, Script, Setting, lines_of, setting_of, start}
 use Rattle.std.specs.Prelude.{◌≡◌, ◌<◌, ℕ, List, None, Some, slice_get}
-use Rattle.script_lines.specs.declared.request.Line.{Line}
-use Rattle.script_lines.specs.declared.script.Script.{Script}
-use Rattle.spec_rules.specs.Clients.{Client}
-use Rattle.spec_rules.specs.World.{Setting, lines_of, setting_of, start}
-use Rattle.spec_history.specs.declared.record.Record.{Record}
 use Rattle.law_merge.specs.Alone.{client_along, of_client}
 
 -- the client has nothing open, and has called each of its lines of the phases before this one

@@ -4,50 +4,51 @@ pub use Rattle.law_state.specs.Imports.{PairState, Progress, Record, Server, Set
 pub use Rattle.law_state.specs.Imports.{is_in, leads_link, link_at, link_cmp, move_region, other_of, owner, region_of, row_blanked, serves, source}
 pub use Rattle.law_state.specs.Imports.{state_after, target, tuple_of}
 unfoldable pub use Rattle.law_state.specs.Imports.{In, at}
-pub use Rattle.law_state.proofs.Imports.{Bool, List, None, Option, Some, [], ap, append-nil, append_assoc, arith, authority, blanked_state, both_true}
-pub use Rattle.law_state.proofs.Imports.{by_bool, by_test, cond, false, filter, first, fold, if◌then◌else◌, in-append, in_both, in_former, in_later, inl, inr}
-pub use Rattle.law_state.proofs.Imports.{is_alone, is_alone_on, is_link, is_some, is_the_one, length, length-append, link_of, links_of, map, nat_lt}
-pub use Rattle.law_state.proofs.Imports.{nat_tests, none_some, not, number_itself, option_and_then, option_map, option_map_or, range_with_len, refl}
-pub use Rattle.law_state.proofs.Imports.{row_authority, row_lead, same_numbers, same_or_apart, same_some, second, some_or_none, subst, sym, touches, true}
-pub use Rattle.law_state.proofs.Imports.{true_false, unwrap_or, ℕ, ◌&&◌, ◌++◌, ◌+◌, ◌<◌, ◌==◌, ◌∙◌, ◌∷◌, ◌≡◌, ◌≢◌, ◌≤◌, ◌⊎◌}
-pub use Rattle.law_log.proofs.Imports.{Acted, AreSteps, Body, Copies, Copying, Ending, Entry, Equal, Firm, HasProperTuples, IsSound, JobContext, JobResult}
-pub use Rattle.law_log.proofs.Imports.{Key, LastCopy, Letter, Log, Moving, Pending, Post, Retired, Script, Step, Stored, about, all_put, awake, blanked}
+pub use Rattle.law_state.proofs.Imports.{[], if◌then◌else◌, ◌&&◌, ◌++◌, ◌+◌, ◌<◌, ◌==◌, ◌∙◌, ◌∷◌, ◌≡◌, ◌≢◌, ◌≤◌, ◌⊎◌, Bool, List, None, Option, Some, ap}
+pub use Rattle.law_state.proofs.Imports.{append-nil, append_assoc, arith, authority, blanked_state, both_true, by_bool, by_test, cond, false, filter, first}
+pub use Rattle.law_state.proofs.Imports.{fold, in-append, in_both, in_former, in_later, inl, inr, is_alone, is_alone_on, is_link, is_some, is_the_one, length}
+pub use Rattle.law_state.proofs.Imports.{length-append, link_of, links_of, map, nat_lt, nat_tests, none_some, not, number_itself, option_and_then, option_map}
+pub use Rattle.law_state.proofs.Imports.{option_map_or, range_with_len, refl, row_authority, row_lead, same_numbers, same_or_apart, same_some, second}
+pub use Rattle.law_state.proofs.Imports.{some_or_none, subst, sym, touches, true, true_false, unwrap_or, ℕ}
+pub use Rattle.law_log.proofs.Imports.{◌||◌, Acted, AreSteps, Body, Copying, Ending, Entry, Equal, Firm, HasProperTuples, IsSound, JobContext, JobResult, Key}
+pub use Rattle.law_log.proofs.Imports.{LastCopy, Letter, Log, Moving, Pending, Post, Retired, Script, Step, Stored, Table, about, all_put, awake, blanked}
 pub use Rattle.law_log.proofs.Imports.{cell_holder, cell_of, chain_in, client_sender, copying_on, devices, down_posts, ended, eq_by_cmp, fill_of, flat_map}
 pub use Rattle.law_log.proofs.Imports.{gives_back, has_proposed, holds_link, id_of, is_eq, is_flagged, is_logged, is_second, key_at, last_copy, last_on}
 pub use Rattle.law_log.proofs.Imports.{link_named, log_plain, nat_cmp, pending_on, proposed, put_apart, put_same, raised, ranked, region_to_move, sender}
-pub use Rattle.law_log.proofs.Imports.{server_state, setting_of, stamped, start, subject_of, touches_cell, who_is_in, with_last_copy, without_pending, ◌||◌}
+pub use Rattle.law_log.proofs.Imports.{server_state, setting_of, stamped, start, subject_of, touches_cell, who_is_in, with_last_copy, without_pending}
 unfoldable pub use Rattle.law_log.proofs.Imports.{put_at}
-pub use Rattle.law_steps.specs.Imports.{IsBelow, Paired, Sender, Stage, StaysSo, Subject, Table, cell_cmp, coming, crossed, epochs_beyond, letters_of, live}
+pub use Rattle.law_steps.specs.Imports.{IsBelow, Paired, Sender, Stage, StaysSo, Subject, cell_cmp, coming, crossed, epochs_beyond, letters_of, live}
 pub use Rattle.law_steps.specs.Imports.{stage_at, without_entry, without_retired}
 unfoldable pub use Rattle.law_steps.specs.Imports.{next_fill}
-pub use Rattle.law_steps.proofs.Imports.{ByBoth, ByNone, ByOne, Chain, Filling, Full, Greater, HasStage, IsCaughtIn, IsCaughtStill, IsHeldBy, IsSteady, Less}
-pub use Rattle.law_steps.proofs.Imports.{Logged, Ordering, Pairs, Store, Written, alone_not_both, alone_row, at-empty, at-where, by_settled, cell_apart}
-pub use Rattle.law_steps.proofs.Imports.{cell_cmp_same, cell_same, comes_before, comes_next, dies, earlier, ends_cell, epoch_at, fill_left, first_key}
-pub use Rattle.law_steps.proofs.Imports.{found_at, front_plain, history_grows, history_is_firm, holder_is_one, is_clients, is_on, is_the, keys_in, keys_of}
-pub use Rattle.law_steps.proofs.Imports.{log_alone, log_below, log_rev, log_roles, log_steady, lookup, max, new_stage, no_copies, not_noted, noted, old_stage}
+pub use Rattle.law_steps.proofs.Imports.{ByBoth, ByNone, ByOne, Chain, Copies, Filling, Full, Greater, HasStage, IsCaughtIn, IsCaughtStill, IsHeldBy}
+pub use Rattle.law_steps.proofs.Imports.{IsSteady, Less, Logged, Ordering, Pairs, Store, Written, alone_not_both, alone_row, at-empty, at-where, below_itself}
+pub use Rattle.law_steps.proofs.Imports.{by_settled, cell_apart, cell_cmp_same, cell_same, comes_before, comes_next, dies, earlier, ends_cell, fill_left}
+pub use Rattle.law_steps.proofs.Imports.{first_key, found_at, front_itself, front_long, front_more, front_on, front_plain, front_same, history_grows}
+pub use Rattle.law_steps.proofs.Imports.{history_is_firm, holder_is_one, is_clients, is_on, is_the, keys_in, keys_of, log_alone, log_below, log_rev}
+pub use Rattle.law_steps.proofs.Imports.{log_roles, log_steady, lookup, max, new_stage, no_copies, not_noted, noted, old_stage, one_front, or_true}
 pub use Rattle.law_steps.proofs.Imports.{region_leaving, said_to_all, same_id, settling, so_both, stage_by, stage_most, up_some, version_of}
 unfoldable pub use Rattle.law_steps.proofs.Imports.{put}
-pub use Rattle.law_jobs.specs.Imports.{IsFilled, IsNextFill, IsNextKey, Taken, TakenCopy, answering, copying, first_last, progress}
-pub use Rattle.law_jobs.proofs.Imports.{Begins_copy, By_filler, By_holder, By_lead, By_other, By_read, By_second, By_sweep, Closes, Closes_alone, Closes_copy}
-pub use Rattle.law_jobs.proofs.Imports.{CopyStep, Copy_as_is, Copy_synced, Copy_trimmed, Did, DidHolder, DidLead, DidOther, DidSecond, Drops_entry, Follows}
-pub use Rattle.law_jobs.proofs.Imports.{Gives_up, Goes_on_copying, Goes_on_retired, Goes_on_trimming, Handled, Happens, Ignores, IsSame, Is_copied_to}
-pub use Rattle.law_jobs.proofs.Imports.{Is_trimmed, Marks_alone, Promises, Puts, Puts_alone, Puts_entry, Refuses, Rests, Sweeps, TrimStep, Turns_page}
-pub use Rattle.law_jobs.proofs.Imports.{Unmarks_alone, always_firm, at_apart, at_same, chains_with, last_happens, of_read, own_place, rests_after, row_named}
-pub use Rattle.law_jobs.proofs.Imports.{same_cell_or_apart, same_itself, same_on, start_rests, stood, taking}
+pub use Rattle.law_jobs.specs.Imports.{Begins_copy, By_holder, By_lead, By_other, By_second, Closes, Closes_alone, Did, DidHolder, DidLead, DidOther}
+pub use Rattle.law_jobs.specs.Imports.{DidSecond, Follows, Gives_up, Goes_on_copying, Goes_on_retired, Goes_on_trimming, IsFilled, IsNextFill, IsNextKey}
+pub use Rattle.law_jobs.specs.Imports.{Is_copied_to, Marks_alone, Puts, Puts_alone, Puts_entry, Taken, TakenCopy, Turns_page, Unmarks_alone, answering}
+pub use Rattle.law_jobs.specs.Imports.{copying, first_last, progress}
+pub use Rattle.law_jobs.proofs.Imports.{By_filler, By_read, By_sweep, Closes_copy, CopyStep, Copy_as_is, Copy_synced, Copy_trimmed, Drops_entry, Handled}
+pub use Rattle.law_jobs.proofs.Imports.{Happens, Ignores, IsSame, Is_trimmed, Promises, Refuses, Rests, Sweeps, TrimStep, always_firm, at_apart, at_same}
+pub use Rattle.law_jobs.proofs.Imports.{chains_with, last_happens, of_read, own_place, rests_after, row_named, same_cell_or_apart, same_itself, same_on}
+pub use Rattle.law_jobs.proofs.Imports.{start_rests, stood, taking}
 pub use Rattle.law_copies.specs.Imports.{WasStarted, blank_joins_in, is_between, kept_store, one_put_ahead}
-pub use Rattle.law_copies.proofs.Imports.{At, BeforeBlank, Blanks, By_ballot, By_caught, By_entry, By_job, By_join, By_leave, Effect, Ends, Fails, Fills}
-pub use Rattle.law_copies.proofs.Imports.{Goes, HasJoinedSince, IsCaughtBy, IsInBoth, IsSeatedOrMute, May, Serves, Serving, Starts, Stays, Stood, Turns}
-pub use Rattle.law_copies.proofs.Imports.{Wakes, Worked, Writes, applied, before_part, below_itself, by_run, cell_swept, chain_apart, chain_put}
-pub use Rattle.law_copies.proofs.Imports.{chosen_caught_was, copied_chains, counted, counted_by, did_come, drop_apart, drop_none, either_true, first_by}
-pub use Rattle.law_copies.proofs.Imports.{first_state, front_itself, front_long, front_more, front_on, front_within, happened_in, in_none, job_keeps}
+pub use Rattle.law_copies.proofs.Imports.{At, BeforeBlank, Blanks, By_ballot, By_caught, By_entry, By_job, By_join, By_leave, Drops, Effect, Ends, Fails}
+pub use Rattle.law_copies.proofs.Imports.{Fills, Goes, HasJoinedSince, IsCaughtBy, IsInBoth, May, Serves, Serving, Sets, Stays, Stood, Turns, Wakes, Worked}
+pub use Rattle.law_copies.proofs.Imports.{Writes, applied, before_part, by_run, chain_apart, chain_put, chosen_caught_was, copied_chains, counted, counted_by}
+pub use Rattle.law_copies.proofs.Imports.{did_come, drop_apart, drop_none, either_true, first_by, first_state, front_within, happened_in, in_none, job_keeps}
 pub use Rattle.law_copies.proofs.Imports.{joined_counts, joined_since, kept, kept_by, letters_of_job, link_led_by, live_stage, log_both_place, log_grown}
-pub use Rattle.law_copies.proofs.Imports.{log_lost, log_touched, longer, lost_not_both, none_before_none, of_ending, of_filler, on_row, one_before, one_front}
+pub use Rattle.law_copies.proofs.Imports.{log_lost, log_touched, longer, lost_not_both, none_before_none, of_ending, of_filler, on_row, one_before}
 pub use Rattle.law_copies.proofs.Imports.{page_chains, past_link, places_grow, primary_is_one, row_joined, run_of, running_fronts, said, second_by}
 pub use Rattle.law_copies.proofs.Imports.{secondary_is_one, setting_in, since, split_last, stage_live, start_plain, stays_alone, stays_both, told_own}
 pub use Rattle.law_copies.proofs.Imports.{tuple_on, turned_asks, without_rev}
-pub use Rattle.law_epochs.proofs.Imports.{AliveIn, IsAt, IsLinked, IsTouchedBy, WasThere, at_by, at_most_or_above, ballot_store, is_at, is_at_so, log_retired}
-pub use Rattle.law_epochs.proofs.Imports.{next_comes, own_plain, place_by, place_of_later, place_touched, proper, proposed_pairs, runs_at, stage_facts}
-pub use Rattle.law_epochs.proofs.Imports.{stands_in}
+pub use Rattle.law_epochs.proofs.Imports.{AliveIn, IsAt, IsLinked, IsTouchedBy, WasThere, at_by, at_most_or_above, ballot_store, epoch_at, is_at, is_at_so}
+pub use Rattle.law_epochs.proofs.Imports.{log_retired, next_comes, own_plain, place_by, place_of_later, place_touched, proper, proposed_pairs, runs_at}
+pub use Rattle.law_epochs.proofs.Imports.{split_fronts, stage_facts, stands_in}
 pub use Rattle.law_moves.specs.Imports.{HasNewer, IsFilledFrom, IsServing}
 pub use Rattle.law_copies.proofs.ChainsRise.{in_kept, in_left, in_mapped}
 pub use Rattle.law_copies.proofs.CopiesInHistories.{good_after, start_good, step_goes}
@@ -60,7 +61,7 @@ pub use Rattle.law_copies.proofs.StoreHistories.{in_counts, in_own, kept_after, 
 pub use Rattle.law_copies.proofs.StoresAlongRecords.{before_last, stays_filled}
 pub use Rattle.law_copies.specs.CopyProgress.{AreCopying, HasSent, IsCaught, IsLeft, IsTold}
 pub use Rattle.law_copies.specs.GoodCopies.{AreTwins, Good, pair_at}
-pub use Rattle.law_copies.specs.Pair.{AreCopies, Known as Tells, PairOk, Working, far, pair_of}
+pub use Rattle.law_copies.specs.Pair.{AreCopies, PairOk, Known as Tells, Working, far, pair_of}
 pub use Rattle.law_copies.specs.Visits.{HasReached, IsHere, IsLast, half, store_by}
 pub use Rattle.law_copies.specs.WaitingStores.{IsOwn}
 pub use Rattle.law_epochs.proofs.EntriesAfterJobs.{did_kept}
@@ -68,7 +69,6 @@ pub use Rattle.law_epochs.proofs.EntriesNeverEarly.{IsKnownBy, all_early, before
 pub use Rattle.law_epochs.proofs.EntryPredicates.{AreWithin, IsWithin, OfKey, asked_none, is_of_entries, logged_none, none_within, of_key_on, of_no_key}
 pub use Rattle.law_epochs.proofs.EpochScenes.{OneMore, Run, cut, end_of, ends_of}
 pub use Rattle.law_epochs.proofs.EpochsInHistories.{place_timely, running_timely, second_timely}
-pub use Rattle.law_steps.proofs.Records.{split_fronts}
 pub use Rattle.law_epochs.proofs.KeysToldByJobs.{IsMoverOwn, did_said, mover_store}
 pub use Rattle.law_epochs.proofs.PendingIsInTime.{opened_by, was_opened}
 pub use Rattle.law_epochs.proofs.ReportedHaveNoPending.{resting}
@@ -77,8 +77,7 @@ pub use Rattle.law_jobs.proofs.CountsGrow.{did_follow}
 pub use Rattle.law_jobs.proofs.FilledAsTold.{As_before, Told_of, did_remember}
 pub use Rattle.law_jobs.proofs.OperationsCome.{restaged}
 pub use Rattle.law_jobs.proofs.Runs.{after}
-pub use Rattle.law_jobs.specs.Effects.{Alone_has, Both_have, Drops, For_a_fill, For_a_write, Goes_on, HasEnded, Has_put, IsSetFor, Is_opened, Is_retired}
-pub use Rattle.law_jobs.specs.Effects.{Sets}
+pub use Rattle.law_jobs.specs.Effects.{Alone_has, Both_have, For_a_fill, For_a_write, Goes_on, HasEnded, Has_put, IsSetFor, Is_opened, Is_retired}
 pub use Rattle.law_jobs.specs.Sayings.{to_server}
 pub use Rattle.law_log.proofs.FillJobsLeaveLog.{filled_beside, filled_here}
 pub use Rattle.law_log.proofs.LogInHistories.{first_incs, join_was_wanted, moved_was_wanted}
@@ -87,7 +86,6 @@ pub use Rattle.law_state.proofs.CellsByLinkRows.{alone_authority, both_authority
 pub use Rattle.law_state.proofs.EntriesTouchLinks.{map_of}
 pub use Rattle.law_state.proofs.Homes.{row_or_none}
 pub use Rattle.law_state.proofs.LinksAreNoted.{log_noted}
-pub use Rattle.law_state.proofs.NewMapLinks.{or_true}
 pub use Rattle.law_state.proofs.Owners.{no_home, stage_in, stage_is}
 pub use Rattle.law_state.proofs.Steady.{below}
 pub use Rattle.law_state.proofs.TwinsAreOfOneDisk.{IsMoved, cells_same, goal_same, gone_twin, log_comes, log_goes, source_same, start_same, twins_later}
@@ -95,9 +93,10 @@ pub use Rattle.law_state.specs.LaterStates.{KeepsRoles}
 pub use Rattle.law_state.specs.NotedLinks.{HasMovedIn}
 pub use Rattle.law_steps.proofs.EntriesReachComingCells.{comes_after, start_comes}
 pub use Rattle.law_steps.proofs.FillsByJobs.{IsOpenedFill, Is_next, Is_other, did_fills, is_fill}
-pub use Rattle.law_steps.proofs.Fronts.{front_same}
 pub use Rattle.law_steps.proofs.MovesAreOfComingCells.{leaves_with, next_on, region_left}
 pub use Rattle.law_steps.specs.ComingCells.{WasComing}
+pub use Rattle.law_steps.specs.DidStep.{IsSeatedOrMute}
+pub use Rattle.law_steps.specs.DidSweep.{cell_swept}
 pub use Rattle.law_steps.specs.Operations.{A_fill, A_write, IsOpenedFor, IsStaged}
 pub use Rattle.law_steps.specs.Ties.{HasOwnCaught}
 pub use Rattle.spec_history.specs.Claims.{Matters, Moves}

@@ -1,14 +1,14 @@
 -- A job changes at most one chain: that of an operation that is pending here, of one whose lead asked to follow, or of a cell whose
 -- link the other server holds alone, and copies to this one.
 use Rattle.law_moves.proofs.Imports.{[], ◌+◌, ◌<◌, ◌∙◌, ◌∷◌, ◌≡◌, ◌≢◌, ◌⊎◌, Begins_copy, Body, By_filler, By_holder, By_lead, By_other, By_read, By_second}
-use Rattle.law_moves.proofs.Imports.{By_sweep, Cell, Chain, Closes, Closes_alone, Closes_copy, CopyStep, Copy_as_is, Copy_synced, Copy_trimmed, Copying, Retired}
-use Rattle.law_moves.proofs.Imports.{Did, DidHolder, DidLead, DidOther, DidSecond, Drops_entry, Entry, Follows, Full, Gives_up, Goes_on_copying, Goes_on_retired}
+use Rattle.law_moves.proofs.Imports.{By_sweep, Cell, Chain, Closes, Closes_alone, Closes_copy, CopyStep, Copy_as_is, Copy_synced, Copy_trimmed, Copying, Did}
+use Rattle.law_moves.proofs.Imports.{DidHolder, DidLead, DidOther, DidSecond, Drops_entry, Entry, Follows, Full, Gives_up, Goes_on_copying, Goes_on_retired}
 use Rattle.law_moves.proofs.Imports.{Goes_on_trimming, Ignores, IsSeatedOrMute, Is_copied_to, Is_trimmed, JobContext, JobResult, Key, LastCopy, List}
-use Rattle.law_moves.proofs.Imports.{Marks_alone, PairState, Pending, Promises, Puts, Puts_alone, Puts_entry, Refuses, Some, Stage, Store, Stored, Sweeps}
-use Rattle.law_moves.proofs.Imports.{Table, Taken, TakenCopy, TrimStep, Turns_page, Unmarks_alone, Written, ap, cell_holder, cell_of, cell_swept, chain_apart}
-use Rattle.law_moves.proofs.Imports.{chain_in, chains_with, copied_chains, drop_apart, drop_none, epochs_beyond, false, first_last, gives_back, inl, inr}
-use Rattle.law_moves.proofs.Imports.{is_in, is_second, key_at, last_copy, last_on, live, of_ending, of_filler, of_read, page_chains, pending_on, refl, sym}
-use Rattle.law_moves.proofs.Imports.{taking, told_own, true, version_of, with_last_copy, without_retired, without_entry, without_pending, ℕ}
+use Rattle.law_moves.proofs.Imports.{Marks_alone, PairState, Pending, Promises, Puts, Puts_alone, Puts_entry, Refuses, Retired, Some, Stage, Store, Stored}
+use Rattle.law_moves.proofs.Imports.{Sweeps, Table, Taken, TakenCopy, TrimStep, Turns_page, Unmarks_alone, Written, ap, cell_holder, cell_of, cell_swept}
+use Rattle.law_moves.proofs.Imports.{chain_apart, chain_in, chains_with, copied_chains, drop_apart, drop_none, epochs_beyond, false, first_last, gives_back}
+use Rattle.law_moves.proofs.Imports.{inl, inr, is_in, is_second, key_at, last_copy, last_on, live, of_ending, of_filler, of_read, page_chains, pending_on}
+use Rattle.law_moves.proofs.Imports.{refl, sym, taking, told_own, true, version_of, with_last_copy, without_entry, without_pending, without_retired, ℕ}
 use Rattle.petal_msg.specs.declared.body.Body.TheVariants as body
 use Rattle.petal_msg.specs.declared.retired.Retired.TheVariants as retired
 use Rattle.petal_msg.specs.declared.operation.FollowProgress.TheVariants as follow_progress

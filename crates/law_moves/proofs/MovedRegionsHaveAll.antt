@@ -3,7 +3,7 @@
 use Rattle.law_moves.proofs.Imports.{[], ◌++◌, ◌==◌, ◌∙◌, ◌∷◌, ◌≡◌, ◌≤◌, Cell, Chain, Command, HasMovedIn, HasProperTuples, HasStage, IsMoved, IsPrefix}
 use Rattle.law_moves.proofs.Imports.{LinkRow, List, MapRow, Moved, Run, Setting, Some, World, ap, arith, below, both_true, cell_link, chosen_log, end_of}
 use Rattle.law_moves.proofs.Imports.{found_at, front_more, front_on, front_plain, fronts_meet, goal_same, gone_twin, history_is_firm, inl, inr, is_link}
-use Rattle.law_moves.proofs.Imports.{key_at, length, link_at, link_of, links_of, log_comes, log_retired, log_goes, log_grown, log_plain, log_steady, no_home}
+use Rattle.law_moves.proofs.Imports.{key_at, length, link_at, link_of, links_of, log_comes, log_goes, log_grown, log_plain, log_retired, log_steady, no_home}
 use Rattle.law_moves.proofs.Imports.{none_some, option_and_then, option_map, option_map_or, proper, refl, region_of, row_or_none, same_numbers, some_or_none}
 use Rattle.law_moves.proofs.Imports.{source, stage_at, stage_facts, stage_in, stage_is, subst, sym, tuple_of, tuple_on, ℕ}
 use Rattle.law_moves.specs.Fills.{AllFilled, AreFilled, Has, HaveComeOver, IsOnWay, WasFilled}

@@ -2,7 +2,7 @@
 -- with the operations that it had.
 use Rattle.law_moves.proofs.Imports.{[], if◌then◌else◌, ◌++◌, ◌∙◌, ◌∷◌, ◌≡◌, AreSteps, At, Cell, Good, IsSound, List, OneMore, PairState, Pairs, Record}
 use Rattle.law_moves.proofs.Imports.{Script, Some, WasThere, ap, arith, at_by, by_bool, by_run, chosen_log, counted, ends_of, first_state, inl, inr, is_at}
-use Rattle.law_moves.proofs.Imports.{is_some, none_before_none, none_some, split_fronts, past_link, run_of, setting_of, some_or_none, split_last, start}
+use Rattle.law_moves.proofs.Imports.{is_some, none_before_none, none_some, past_link, run_of, setting_of, some_or_none, split_fronts, split_last, start}
 use Rattle.law_moves.proofs.Imports.{start_good, start_plain, step_goes, subst, sym, true, true_false, ℕ}
 
 abbrev GoodAt : Script → List Record → Type 0

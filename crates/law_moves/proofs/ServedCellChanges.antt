@@ -12,8 +12,8 @@ use Rattle.law_moves.proofs.Imports.{running_timely, same_cell_or_apart, same_nu
 use Rattle.law_moves.proofs.Imports.{state_after, subst, sym, taking, true, true_false, unseen_beyond, ℕ}
 use Rattle.law_copies.specs.CopyProgress.{links_of}
 use Rattle.law_copies.proofs.ServedAtLaterFronts.{holder_is_one}
-use Rattle.law_moves.proofs.JobsChangeOneChain.{A_copy, An_asked, An_own, CopiesSo, Is_dropped, Is_dropped_first, Is_put, NeverRetired, Nothing_new, Of_the_retired}
-use Rattle.law_moves.proofs.JobsChangeOneChain.{StoresSo, copied_apart, did_stores}
+use Rattle.law_moves.proofs.JobsChangeOneChain.{A_copy, An_asked, An_own, CopiesSo, Is_dropped, Is_dropped_first, Is_put, NeverRetired, Nothing_new}
+use Rattle.law_moves.proofs.JobsChangeOneChain.{Of_the_retired, StoresSo, copied_apart, did_stores}
 use Rattle.law_moves.proofs.MoveWorlds.{firm, good, own_counts, rests, steady_at, up}
 use Rattle.petal_msg.specs.declared.body.Body.TheVariants as body
 use Rattle.petal_msg.specs.declared.operation.FollowProgress.TheVariants as follow_progress

@@ -9,30 +9,31 @@ pub use Rattle.law_state.proofs.Imports.{in_later, inl, inr, is_alone_on, is_the
 pub use Rattle.law_state.proofs.Imports.{none_some, number_itself, option_and_then, option_map, option_map_or, primary, range_with_len, refl, row_lead}
 pub use Rattle.law_state.proofs.Imports.{same_numbers, same_or_apart, same_some, secondary, slice_get, some_or_none, subst, sym, true, true_false, unwrap_or}
 pub use Rattle.law_state.proofs.Imports.{ℕ}
-pub use Rattle.law_log.proofs.Imports.{◌-◌, ◌||◌, Acted, Actor, Answer, AreSteps, Asked, Blank, Body, Client, Copies, Ending, Equal, Firm, HasProperTuples}
-pub use Rattle.law_log.proofs.Imports.{IsSound, JobContext, JobResult, Letter, Line, Log, Pending, Post, Reaction, Request, Script, Sight, Step, Wanted, acts}
+pub use Rattle.law_log.proofs.Imports.{◌-◌, ◌||◌, Acted, Actor, Answer, AreSteps, Asked, Blank, Body, Client, Ending, Equal, Firm, HasProperTuples, IsSound}
+pub use Rattle.law_log.proofs.Imports.{JobContext, JobResult, Letter, Line, Log, Pending, Post, Reaction, Request, Script, Sight, Step, Table, Wanted, acts}
 pub use Rattle.law_log.proofs.Imports.{all_put, all_put_apart, awake, blanked, client_sender, command_of, down_posts, ended, has_held_write, has_proposed}
 pub use Rattle.law_log.proofs.Imports.{here_of, id_of, is_eq, is_flagged, is_logged, is_read, is_some, is_write, lines_of, log_plain, nat_cmp, no_progress}
 pub use Rattle.law_log.proofs.Imports.{progress_on, put_apart, put_same, raised, reacts, rev_of, sender, server_state, setting_of, stamped, state_in, stays}
 pub use Rattle.law_log.proofs.Imports.{subject_of, wakes, who_is_in, world_after}
 unfoldable pub use Rattle.law_log.proofs.Imports.{put_at, refusal}
-pub use Rattle.law_steps.specs.Imports.{Finished, IsBelow, Pattern, Refused, Sender, StaysSo, Subject, Table, cell_cmp, coming, crossed, letters_of, live}
+pub use Rattle.law_steps.specs.Imports.{Finished, IsBelow, Pattern, Refused, Sender, StaysSo, Subject, cell_cmp, coming, crossed, letters_of, live}
 pub use Rattle.law_steps.specs.Imports.{pattern_block, settled_by, stage_at}
-pub use Rattle.law_steps.proofs.Imports.{ByBoth, ByNone, ByOne, Greater, HasDied, HasLater, HasStage, IsSteady, Less, Logged, Ordering, Pairs, alone_row}
-pub use Rattle.law_steps.proofs.Imports.{at-empty, between, cell_cmp_same, epoch_at, era_at, front_plain, has_stage, history_is_firm, in_once, in_up, is_at}
-pub use Rattle.law_steps.proofs.Imports.{is_clients, log_alone, log_below, log_rev, log_roles, log_steady, lookup, not, report_among, said_to_all}
-pub use Rattle.law_steps.proofs.Imports.{same_caught, same_place, settling, so_alone, so_both, up_some}
+pub use Rattle.law_steps.proofs.Imports.{ByBoth, ByNone, ByOne, Copies, Greater, HasDied, HasLater, HasStage, IsSteady, Less, Logged, Ordering, Pairs}
+pub use Rattle.law_steps.proofs.Imports.{alone_row, at-empty, below_itself, between, cell_cmp_same, front_itself, front_long, front_more, front_on}
+pub use Rattle.law_steps.proofs.Imports.{front_plain, front_same, has_stage, history_is_firm, in_once, in_up, is_at, is_clients, log_alone, log_below}
+pub use Rattle.law_steps.proofs.Imports.{log_rev, log_roles, log_steady, lookup, not, one_front, report_among, said_to_all, same_caught, same_place, settling}
+pub use Rattle.law_steps.proofs.Imports.{so_alone, so_both, up_some}
 unfoldable pub use Rattle.law_steps.proofs.Imports.{put}
-pub use Rattle.law_jobs.specs.Imports.{IsNew}
-pub use Rattle.law_jobs.proofs.Imports.{By_filler, By_holder, By_lead, By_other, By_read, By_second, By_sweep, Did, Handled, Happens, Ignores, Ready, Refuses}
-pub use Rattle.law_jobs.proofs.Imports.{Rests, Was, at_apart, at_same, of_read, of_sweep, own_place, was_same}
+pub use Rattle.law_jobs.specs.Imports.{By_holder, By_lead, By_other, By_second, Did, IsNew}
+pub use Rattle.law_jobs.proofs.Imports.{By_filler, By_read, By_sweep, Handled, Happens, Ignores, Ready, Refuses, Rests, Was, at_apart, at_same, of_read}
+pub use Rattle.law_jobs.proofs.Imports.{of_sweep, own_place, was_same}
 pub use Rattle.law_requests.specs.Imports.{done_to, line_by}
 pub use Rattle.std.proofs.lemmas.Bool.{cases_lt}
 pub use Rattle.law_jobs.proofs.JobsSay.{letters_of_job}
 pub use Rattle.law_jobs.proofs.OperationsCome.{HasCome, HasFinished, Is_done, Is_new, None_new, Stood, did_come, did_finish}
 pub use Rattle.law_jobs.proofs.Runs.{At, OneMore, after, by_run, firm_in, grown_in, happened_in, longer, more_of, ready_in, rests_in, run_of, setting_in}
-pub use Rattle.law_jobs.specs.Effects.{Alone_has, Both_have, By_operation, For_a_fill, For_a_write, Had_no_slot, HasEnded, IsFinishedFor, Is_retired}
-pub use Rattle.law_jobs.specs.Effects.{Is_declined}
+pub use Rattle.law_jobs.specs.Effects.{Alone_has, Both_have, By_operation, For_a_fill, For_a_write, Had_no_slot, HasEnded, IsFinishedFor, Is_declined}
+pub use Rattle.law_jobs.specs.Effects.{Is_retired}
 pub use Rattle.law_jobs.specs.Sayings.{Ends_fill, Moves, Moves_on, Repeats, Shows_nothing}
 pub use Rattle.law_log.proofs.CaughtsWanted.{kept_proposed}
 pub use Rattle.law_log.proofs.LogInHistories.{chosen_caught_was, join_was_wanted, report_was_made}
@@ -42,6 +43,7 @@ pub use Rattle.law_state.proofs.CellsByLinkRows.{alone_leads as alone_leads_link
 pub use Rattle.law_state.proofs.EntriesTouchLinks.{places_grow}
 pub use Rattle.law_state.proofs.Eras.{era_low}
 pub use Rattle.law_state.proofs.ErasRiseAfterReports.{log_unheld}
+pub use Rattle.law_state.proofs.Fronts.{front_within}
 pub use Rattle.law_state.proofs.GrownStates.{alone_not_both, alone_not_both as alone_row_not_both, lost_not_alone, lost_not_both}
 pub use Rattle.law_state.proofs.Leaves.{both_up, either_true}
 pub use Rattle.law_state.proofs.LoneHolders.{alone_left, both_not_alone, both_row, lead_alone}
@@ -49,11 +51,11 @@ pub use Rattle.law_state.proofs.NamedCells.{asked_only, found_epoch, made_for, t
 pub use Rattle.law_state.proofs.Owners.{disk_on}
 pub use Rattle.law_state.proofs.Roles.{primary_is_one, secondary_is_one}
 pub use Rattle.law_state.proofs.Steady.{log_grown}
+pub use Rattle.law_state.specs.Homes.{epoch_at, era_at}
 pub use Rattle.law_state.specs.LaterStates.{HasComeSecond}
 pub use Rattle.law_state.specs.LinkChanges.{IsCaughtBy}
 pub use Rattle.law_state.specs.LinkRows.{IsServed}
 pub use Rattle.law_steps.proofs.CopyFrames.{of_holder, of_other}
-pub use Rattle.law_state.proofs.Fronts.{below_itself, front_itself, front_long, front_more, front_on, front_same, front_within, one_front}
 pub use Rattle.law_steps.proofs.HeldBackForCaughts.{held_as_flag}
 pub use Rattle.law_steps.proofs.KindsInHistories.{chosen_below, chosen_steady, own_below, own_plain, own_steady, proposed_pairs, runs_at, runs_now}
 pub use Rattle.law_steps.proofs.Letters.{said}

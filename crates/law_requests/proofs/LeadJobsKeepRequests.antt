@@ -1,7 +1,7 @@
 -- Each kind of job keeps what is known of requests: by what it is done with, what it leaves pending, and what it says.
 use Rattle.law_requests.proofs.Imports.{◌+◌, ◌∙◌, ◌≡◌, ◌≤◌, ◌⊎◌, Actor, Alone_has, Body, Both_have, By_operation, Cell, Command, Did, Ending, Ends_fill}
 use Rattle.law_requests.proofs.Imports.{Finished, For_a_fill, For_a_write, Had_no_slot, Handled, HasCome, HasEnded, HasFinished, HasProperTuples, In}
-use Rattle.law_requests.proofs.Imports.{IsFinishedFor, IsNew, IsPrefix, IsSeatedOrMute, Is_retired, Is_declined, Is_done, Is_new, JobContext, JobResult, List}
+use Rattle.law_requests.proofs.Imports.{IsFinishedFor, IsNew, IsPrefix, IsSeatedOrMute, Is_declined, Is_done, Is_new, Is_retired, JobContext, JobResult, List}
 use Rattle.law_requests.proofs.Imports.{Moves, Moves_on, None, None_new, PairState, Pending, Post, Refused, Repeats, Setting, Shows_nothing, Some, Stood}
 use Rattle.law_requests.proofs.Imports.{Table, Wanted, Was, World, ap, arith, at, at_apart, at_same, cell_cmp, coming, did_come, did_finish, done_to, ended}
 use Rattle.law_requests.proofs.Imports.{false, front_itself, front_same, held, inl, inr, is_clients, is_in, is_lead, is_logged, is_not_here, is_refused}

@@ -5,8 +5,8 @@ use Rattle.law_run.proofs.Imports.{IsOpen, IsReason, IsSeenAs, IsUnderWay, Is_se
 use Rattle.law_run.proofs.Imports.{Option, Reaction, Reads, Request, Shown, Sight, Some, Starts_it, State, StaysOpen, Stops_at, Stops_it, World, Write}
 use Rattle.law_run.proofs.Imports.{WriteEnd, after, answer_of, answers, ap, arith, begun, by_bool, cell_asked, change_by, command_of, end_by, end_of, ended}
 use Rattle.law_run.proofs.Imports.{false, find, flat_map, freezes, inl, inr, is_read, is_some, is_write, length, makes, next_line, none_some, open_of}
-use Rattle.law_run.proofs.Imports.{open_write, put_same, reacts, refl, refusal, replay, same_some, subst, sym, takes, told_with, true}
-use Rattle.law_run.proofs.Imports.{write_asked, write_by, write_refusal, ℕ}
+use Rattle.law_run.proofs.Imports.{open_write, put_same, reacts, refl, refusal, replay, same_some, subst, sym, takes, told_with, true, write_asked, write_by}
+use Rattle.law_run.proofs.Imports.{write_refusal, ℕ}
 use Rattle.spec_rules.specs.State.{lead}
 use Rattle.law_steps.specs.DidClient.{Ends}
 use Rattle.law_run.specs.WritesGoOn.{held_in, is_held, Seat}

@@ -4,9 +4,9 @@ use Rattle.law_run.proofs.Imports.{[], ◌==◌, ◌||◌, ◌∙◌, ◌∷◌,
 use Rattle.law_run.proofs.Imports.{HasSent, IsCaught, IsLastCopy, IsLater, IsLeft, IsLeftBy, IsLinked, IsOther, IsPrefix, IsTold, IsTrimming, Is_dropped}
 use Rattle.law_run.proofs.Imports.{Is_dropped_first, Is_put, LastCopy, LinkRow, List, Lost, Only, Option, PairState, PutsCopy, Some, State, Table, about}
 use Rattle.law_run.proofs.Imports.{alive_on, alone_authority, alone_by, alone_or_flagged, ap, arith, authority, been_below, by_bool, chosen_log, chosen_state}
-use Rattle.law_run.proofs.Imports.{retired_authority, epochs_beyond, front_itself, fronts_meet, has_server, held_by, holder_is_one, id_of, inl, inr, is_flagged}
-use Rattle.law_run.proofs.Imports.{kept, linked_alive, links_of, live, lost_authority, none_some, of_last, one_row, other_apart, other_of, other_than}
-use Rattle.law_run.proofs.Imports.{own_place, own_steady, owns_of, past_last, past_of, place_by, places_up, refl, rows_later, same_numbers, same_some}
+use Rattle.law_run.proofs.Imports.{epochs_beyond, front_itself, fronts_meet, has_server, held_by, holder_is_one, id_of, inl, inr, is_flagged, kept}
+use Rattle.law_run.proofs.Imports.{linked_alive, links_of, live, lost_authority, none_some, of_last, one_row, other_apart, other_of, other_than, own_place}
+use Rattle.law_run.proofs.Imports.{own_steady, owns_of, past_last, past_of, place_by, places_up, refl, retired_authority, rows_later, same_numbers, same_some}
 use Rattle.law_run.proofs.Imports.{server_state, subst, sym, true, unseen_beyond, ℕ}
 use Rattle.law_run.proofs.OwnPlacesAreLatest.{IsSharing, visit_here, alive_here}
 use Rattle.law_run.proofs.RunScenes.{Grounded}

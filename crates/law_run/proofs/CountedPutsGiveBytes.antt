@@ -2,8 +2,8 @@
 use Rattle.law_run.proofs.Imports.{◌∙◌, ◌≡◌, A_copy, AliveIn, An_asked, An_own, Cell, Drops, IsLinked, IsOpen, IsOwn, IsSecondary, None, Nothing_new}
 use Rattle.law_run.proofs.Imports.{Of_the_retired, Pending, Plain, PutsAsked, PutsCopy, Some, Stored, StoresSo, alone_authority, ap, arith, asked_for, at}
 use Rattle.law_run.proofs.Imports.{authority, both_authority, by_bool, cell_cmp, cell_of, chain_apart, chain_in, chains_with, chosen_log, copied_apart}
-use Rattle.law_run.proofs.Imports.{counted, retired_not, epoch_at, false, front_on, inl, inr, is_clients, log_roles, named_cell, nat_cmp, none_some, one_row}
-use Rattle.law_run.proofs.Imports.{open_beside, open_running, pending_here, place_by, replay, runs_now, same_or_apart, same_some, some_or_none, stage_at}
+use Rattle.law_run.proofs.Imports.{counted, epoch_at, false, front_on, inl, inr, is_clients, log_roles, named_cell, nat_cmp, none_some, one_row, open_beside}
+use Rattle.law_run.proofs.Imports.{open_running, pending_here, place_by, replay, retired_not, runs_now, same_or_apart, same_some, some_or_none, stage_at}
 use Rattle.law_run.proofs.Imports.{stage_facts, subst, sym, true, true_false, ℕ}
 use Rattle.law_run.specs.WritesGoOn.{is_held, Onward}
 use Rattle.law_run.proofs.CopiesThatDontCount.{copied_uncounted}

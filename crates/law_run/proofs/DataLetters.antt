@@ -1,12 +1,12 @@
 -- What a server's step sends: which letters have data, and that one ends a write as written only where that has had its bytes.
 use Rattle.law_run.proofs.Imports.{[], ◌==◌, ◌∙◌, ◌∷◌, ◌≡◌, An_entry_to_move, Answered, Asks, Asks_for, Body, Bool, By_filler, By_holder, By_lead, By_other}
 use Rattle.law_run.proofs.Imports.{By_read, By_second, By_sweep, Closes, Closes_alone, Did, DidLead, DidSecond, Ending, Ends_fill, Finished, Gives_up}
-use Rattle.law_run.proofs.Imports.{Glanced, Goes_on_retired, Has_fill, Has_no_room, Ignores, In, IsOpen, IsRefusal, Is_full, JobContext, JobResult, Letter, List}
-use Rattle.law_run.proofs.Imports.{Moves, Moves_on, NeverRetired, Of_the_log, OpKind, Opens, Opens_fill, PairState, Pending, Plain, Post, Refused, Refuses}
-use Rattle.law_run.proofs.Imports.{Repeats, Says, Sender, Subject, about, ap, down_posts, ended, ends, false, filter, gives_back, inl, inr, is_logged}
-use Rattle.law_run.proofs.Imports.{is_refused, letters_of, letters_of_job, map, not, of_filler, of_holder, of_other, of_second, of_sweep, old_lead, one_post}
-use Rattle.law_run.proofs.Imports.{own_place, owns_of, post_of, posted, range_with_len, refl, said, same_some, stamped, subject_of, subst, sym, to_client}
-use Rattle.law_run.proofs.Imports.{true, true_false, without_pending, ℕ}
+use Rattle.law_run.proofs.Imports.{Glanced, Goes_on_retired, Has_fill, Has_no_room, Ignores, In, IsOpen, IsRefusal, Is_full, JobContext, JobResult, Letter}
+use Rattle.law_run.proofs.Imports.{List, Moves, Moves_on, NeverRetired, Of_the_log, OpKind, Opens, Opens_fill, PairState, Pending, Plain, Post, Refused}
+use Rattle.law_run.proofs.Imports.{Refuses, Repeats, Says, Sender, Subject, about, ap, down_posts, ended, ends, false, filter, gives_back, inl, inr}
+use Rattle.law_run.proofs.Imports.{is_logged, is_refused, letters_of, letters_of_job, map, not, of_filler, of_holder, of_other, of_second, of_sweep, old_lead}
+use Rattle.law_run.proofs.Imports.{one_post, own_place, owns_of, post_of, posted, range_with_len, refl, said, same_some, stamped, subject_of, subst, sym}
+use Rattle.law_run.proofs.Imports.{to_client, true, true_false, without_pending, ℕ}
 use Rattle.law_run.specs.WritesGoOn.{is_held, Onward}
 use Rattle.law_run.proofs.ReadsLookWhereSent.{is_looked, one_client}
 use Rattle.law_run.proofs.Machine.{held_onward}

@@ -1,12 +1,12 @@
 -- What follows from the ground on which the run stands: of operations that are remembered, of the epochs of those that are put, and of
 -- entries.
 use Rattle.law_run.proofs.Imports.{[], ◌+◌, ◌∙◌, ◌∷◌, ◌≡◌, ◌≤◌, ◌⊎◌, AliveIn, AreEarly, AskingBy, Body, Cell, Chain, Drops, Handled, IsFrozen, IsLinked}
-use Rattle.law_run.proofs.Imports.{IsPutting, IsSteady, IsTimely, IsWrite, JobContext, Key, LinkRow, List, Lives, NeverRetired, None, Option, PairState, Pending}
-use Rattle.law_run.proofs.Imports.{PendingFor, PutsAsked, Setting, Some, State, Store, WasThere, World, ap, arith, asked_for, at, at-empty, at_row, cases_lt}
-use Rattle.law_run.proofs.Imports.{cell_cmp, cell_of, chain_in, chosen_log, chosen_state, epoch_at, false, front_itself, front_long, front_on, half, inl, inr}
-use Rattle.law_run.proofs.Imports.{is_clients, is_in, kept, length, live, nat_cmp, nat_cmp_total, none_some, own_below, own_place, own_plain, owns_of}
-use Rattle.law_run.proofs.Imports.{place_by, progress, refl, runs_now, same_cell_or_apart, seen, server_state, stage_at, stage_facts, subst, sym, taking}
-use Rattle.law_run.proofs.Imports.{true, true_false, write_stays, ℕ}
+use Rattle.law_run.proofs.Imports.{IsPutting, IsSteady, IsTimely, IsWrite, JobContext, Key, LinkRow, List, Lives, NeverRetired, None, Option, PairState}
+use Rattle.law_run.proofs.Imports.{Pending, PendingFor, PutsAsked, Setting, Some, State, Store, WasThere, World, ap, arith, asked_for, at, at-empty, at_row}
+use Rattle.law_run.proofs.Imports.{cases_lt, cell_cmp, cell_of, chain_in, chosen_log, chosen_state, epoch_at, false, front_itself, front_long, front_on, half}
+use Rattle.law_run.proofs.Imports.{inl, inr, is_clients, is_in, kept, length, live, nat_cmp, nat_cmp_total, none_some, own_below, own_place, own_plain}
+use Rattle.law_run.proofs.Imports.{owns_of, place_by, progress, refl, runs_now, same_cell_or_apart, seen, server_state, stage_at, stage_facts, subst, sym}
+use Rattle.law_run.proofs.Imports.{taking, true, true_false, write_stays, ℕ}
 use Rattle.law_run.specs.MachineTies.{Ground, IsRemembered, Is_pending, Was_pending}
 use Rattle.law_run.proofs.StoresThatCount.{of_kept}
 use Rattle.law_run.proofs.EntryAtEpoch.{AreUpTo}

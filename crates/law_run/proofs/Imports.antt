@@ -19,54 +19,55 @@ pub use Rattle.law_state.proofs.Imports.{option_map, option_map_or, range_with_l
 pub use Rattle.law_state.proofs.Imports.{second, slice_get, slice_get_within, some_or_none, source_in, touches, true_false, unwrap_or, view_of}
 pub use Rattle.law_log.proofs.Imports.{Acted, Actor, After, Answer, AreSteps, AreStepsFrom, Asked, Before, Blank, Body, Boot, Call, Client, Deliver, Ending}
 pub use Rattle.law_log.proofs.Imports.{Equal, Firm, HasProperTuples, IsSettledState, IsSound, Job, JobContext, JobResult, Key, LastCopy, Letter, Log, LogDone}
-pub use Rattle.law_log.proofs.Imports.{MayActor, OpKind, Pending, Post, Reaction, Sight, Step, StopIn, Stored, Work, WorkEnd, about, acts, all_put}
+pub use Rattle.law_log.proofs.Imports.{MayActor, OpKind, Pending, Post, Reaction, Sight, Step, StopIn, Stored, Table, Work, WorkEnd, about, acts, all_put}
 pub use Rattle.law_log.proofs.Imports.{all_put_apart, answers, awake, blanked, boots, cell_of, chain_in, client_sender, client_state, client_step, command_of}
-pub use Rattle.law_log.proofs.Imports.{copying_on, crossing, down_posts, ended, ends, entered, epoch_for, fill_operation, first_wanted, gives_back}
-pub use Rattle.law_log.proofs.Imports.{has_proposed, hears, hears_any, hears_of, here_of, id_of, is_eq, is_flagged, is_log_job, is_logged, is_overfull}
-pub use Rattle.law_log.proofs.Imports.{is_read, is_second, is_under_way, is_write, job_done, known, log_plain, nat_cmp, nat_cmp_total, next_line, next_place}
-pub use Rattle.law_log.proofs.Imports.{post_of, put_apart, put_same, raised, ranked, reacts, rev_of, sender, server_state, server_step, setting_of, stamped}
-pub use Rattle.law_log.proofs.Imports.{start, state_in, stays, stepped, stopped, stops, subject_of, voter_of, wakes, wanted_by, without_pending, worked}
-pub use Rattle.law_log.proofs.Imports.{works, world_after}
+pub use Rattle.law_log.proofs.Imports.{copying_on, crossing, down_posts, ended, ends, entered, epoch_for, fill_operation, first_wanted, get_within}
+pub use Rattle.law_log.proofs.Imports.{gives_back, has_proposed, hears, hears_any, hears_of, here_of, id_of, is_eq, is_flagged, is_log_job, is_logged}
+pub use Rattle.law_log.proofs.Imports.{is_overfull, is_read, is_second, is_under_way, is_write, job_done, known, log_plain, nat_cmp, nat_cmp_total, next_line}
+pub use Rattle.law_log.proofs.Imports.{next_place, post_of, put_apart, put_same, raised, ranked, reacts, rev_of, sender, server_state, server_step}
+pub use Rattle.law_log.proofs.Imports.{setting_of, stamped, start, state_in, stays, stepped, stopped, stops, subject_of, voter_of, wakes, wanted_by}
+pub use Rattle.law_log.proofs.Imports.{without_pending, worked, works, world_after}
 unfoldable pub use Rattle.law_log.proofs.Imports.{applies, does, heard, log_does, refusal, starts, step}
-pub use Rattle.law_steps.specs.Imports.{Busy, Finished, Glanced, IsBelow, Refused, Sender, Stage, Stale, StaysSo, Subject, Table, before_blanks, bytes_of}
-pub use Rattle.law_steps.specs.Imports.{cell_cmp, coming, crossed, entry_at, epochs_beyond, letters_of, live, old_lead, operation, pattern_block, puts}
-pub use Rattle.law_steps.specs.Imports.{stage_at, with_paired, with_reserved}
+pub use Rattle.law_steps.specs.Imports.{Busy, Finished, Glanced, IsBelow, Refused, Sender, Stage, Stale, StaysSo, Subject, before_blanks, bytes_of, cell_cmp}
+pub use Rattle.law_steps.specs.Imports.{coming, crossed, entry_at, epochs_beyond, letters_of, live, old_lead, operation, pattern_block, puts, stage_at}
+pub use Rattle.law_steps.specs.Imports.{with_paired, with_reserved}
 pub use Rattle.law_steps.proofs.Imports.{ByBoth, ByNone, ByOne, Chain, Follows, Greater, HasDied, HasLater, HasStage, IsCaughtStill, IsHeldBy, IsSteady, Less}
-pub use Rattle.law_steps.proofs.Imports.{Ordering, Pairs, Store, alone_not_both, at-empty, cell_apart, cell_cmp_same, cell_same, clock_of, epoch_at, found_at}
-pub use Rattle.law_steps.proofs.Imports.{front_plain, get_within, history_agrees, history_grows, history_is_firm, in_once, insert_entry, is_at, is_clients}
-pub use Rattle.law_steps.proofs.Imports.{log_alone, log_below, log_rev, log_roles, log_steady, lookup, match_ordering, max, new_stage, old_stage}
-pub use Rattle.law_steps.proofs.Imports.{out_has_stopped, same_place, settling, so_alone, so_both, stage_by, version_of, with_mark_at}
+pub use Rattle.law_steps.proofs.Imports.{Ordering, Pairs, Store, alone_not_both, at-empty, cell_apart, cell_cmp_same, cell_same, clock_of, found_at}
+pub use Rattle.law_steps.proofs.Imports.{front_itself, front_long, front_more, front_on, front_plain, history_agrees, history_grows, history_is_firm, in_once}
+pub use Rattle.law_steps.proofs.Imports.{insert_entry, is_at, is_clients, log_alone, log_below, log_rev, log_roles, log_steady, lookup, match_ordering, max}
+pub use Rattle.law_steps.proofs.Imports.{new_stage, old_stage, one_front, out_has_stopped, same_place, settling, so_alone, so_both, stage_by, version_of}
+pub use Rattle.law_steps.proofs.Imports.{with_mark_at}
 unfoldable pub use Rattle.law_steps.proofs.Imports.{put}
-pub use Rattle.law_jobs.specs.Imports.{IsReadable, IsRefusal, Taken, answering, progress}
-pub use Rattle.law_jobs.proofs.Imports.{An_entry_to_move, Asks, Asks_for, By_filler, By_holder, By_lead, By_other, By_read, By_second, By_sweep, Closes}
-pub use Rattle.law_jobs.proofs.Imports.{Closes_alone, Did, DidLead, DidOther, DidSecond, Gives_up, Goes_on_retired, Handled, Happens, Has_fill, Has_no_room}
-pub use Rattle.law_jobs.proofs.Imports.{Ignores, IsMoment, Is_full, Marks, Marks_alone, Not_here, Of_the_log, Opens, Opens_alone, Opens_fill}
-pub use Rattle.law_jobs.proofs.Imports.{Opens_fill_alone, Puts, Puts_alone, Ready, Refuses, Repeats, Rests, Shows, Sweeps, Unmarks, Unmarks_alone}
-pub use Rattle.law_jobs.proofs.Imports.{always_firm, at_apart, at_same, chains_with, retired_second, front_legal, of_read, of_sweep, own_place, rests_after}
-pub use Rattle.law_jobs.proofs.Imports.{same_cell_or_apart, start_rests, stood, taking, world_more}
+pub use Rattle.law_jobs.specs.Imports.{By_holder, By_lead, By_other, By_second, Closes, Closes_alone, Did, DidLead, DidOther, DidSecond, Gives_up}
+pub use Rattle.law_jobs.specs.Imports.{Goes_on_retired, IsReadable, IsRefusal, Marks, Marks_alone, Opens, Opens_alone, Opens_fill, Opens_fill_alone, Puts}
+pub use Rattle.law_jobs.specs.Imports.{Puts_alone, Taken, Unmarks, Unmarks_alone, answering, progress}
+pub use Rattle.law_jobs.proofs.Imports.{An_entry_to_move, Asks, Asks_for, By_filler, By_read, By_sweep, Handled, Happens, Has_fill, Has_no_room, Ignores}
+pub use Rattle.law_jobs.proofs.Imports.{IsMoment, Is_full, Not_here, Of_the_log, Ready, Refuses, Repeats, Rests, Shows, Sweeps, always_firm, at_apart}
+pub use Rattle.law_jobs.proofs.Imports.{at_same, chains_with, front_legal, of_read, of_sweep, own_place, rests_after, retired_second, same_cell_or_apart}
+pub use Rattle.law_jobs.proofs.Imports.{start_rests, stood, taking, world_more}
 pub use Rattle.law_copies.specs.Imports.{IsRising, blank_joins_in, kept_store, no_pairs, one_put_ahead}
 pub use Rattle.law_copies.proofs.Imports.{AllMayWake, At, BeforeBlank, Blanks, By_ballot, By_caught, By_entry, By_job, By_join, By_leave, Ends, Ends_fill}
-pub use Rattle.law_copies.proofs.Imports.{Fails, Goes, HasJoinedSince, IsLater, IsSeatedOrMute, Moves, Moves_on, OneMore, Run, Says, Serves, Serving, Stays}
-pub use Rattle.law_copies.proofs.Imports.{Turns, Wakes, Worked, alone_by, at_row, before_part, both_row, by_run, cases_lt, chain_apart, chain_put}
-pub use Rattle.law_copies.proofs.Imports.{chosen_caught_was, counted, counted_by, either_true, firm_in, front_itself, front_long, front_more, front_on}
-pub use Rattle.law_copies.proofs.Imports.{get_in, grown_in, held_as_flag, in_get, in_map, in_none, is_at_work, kept, kept_by, lead_links, letters_of_job}
-pub use Rattle.law_copies.proofs.Imports.{live_stage, log_grown, log_lost, log_touched, longer, may_wake, of_ending, of_filler, of_holder}
-pub use Rattle.law_copies.proofs.Imports.{of_second, one_before, one_front, other_between, places_grow, primary_is_one, put_rises, putting}
-pub use Rattle.law_copies.proofs.Imports.{row_joined, run_of, said, second_by, secondary_is_one, served_so, setting_in, shown_so, stopped_so, turned_asks}
-pub use Rattle.law_copies.proofs.Imports.{without_rev}
+pub use Rattle.law_copies.proofs.Imports.{Fails, Goes, HasJoinedSince, IsLater, Moves, Moves_on, OneMore, Run, Says, Serves, Serving, Stays, Turns, Wakes}
+pub use Rattle.law_copies.proofs.Imports.{Worked, alone_by, at_row, before_part, both_row, by_run, cases_lt, chain_apart, chain_put, chosen_caught_was}
+pub use Rattle.law_copies.proofs.Imports.{counted, counted_by, either_true, firm_in, get_in, grown_in, held_as_flag, in_get, in_map, in_none, is_at_work}
+pub use Rattle.law_copies.proofs.Imports.{kept, kept_by, lead_links, letters_of_job, live_stage, log_grown, log_lost, log_touched, longer, may_wake}
+pub use Rattle.law_copies.proofs.Imports.{of_ending, of_filler, of_holder, of_second, one_before, other_between, places_grow, primary_is_one, put_rises}
+pub use Rattle.law_copies.proofs.Imports.{putting, rests_in, row_joined, run_of, said, second_by, secondary_is_one, served_so, setting_in, shown_so}
+pub use Rattle.law_copies.proofs.Imports.{stepped_in, stopped_so, turned_asks, without_rev}
 pub use Rattle.law_requests.specs.Imports.{done_to, line_by}
 pub use Rattle.law_requests.proofs.Imports.{Alone_has, Answered, Begins, Blanks_it, Both_have, By_operation, By_verdict, By_witness, Fails_it, Goes_on}
-pub use Rattle.law_requests.proofs.Imports.{Had_no_slot, Has_no_space, Heard, IsCalled, IsFinishedFor, IsJudged, IsReason, IsSeenAs, Is_retired, Is_declined}
-pub use Rattle.law_requests.proofs.Imports.{Is_settled, Is_told, Judges, OnlySays, Reads, Shown, Starts_it, StaysOpen, Stops_at, Stops_it, Turned, both_leads}
-pub use Rattle.law_requests.proofs.Imports.{chosen_steady, did_finish, disk_on, is_refused, leaving, led_by, own_below, own_plain, rests_in, runs_now}
-pub use Rattle.law_requests.proofs.Imports.{write_refusal}
+pub use Rattle.law_requests.proofs.Imports.{Had_no_slot, Has_no_space, Heard, IsCalled, IsFinishedFor, IsJudged, IsReason, IsSeatedOrMute, IsSeenAs}
+pub use Rattle.law_requests.proofs.Imports.{Is_declined, Is_retired, Is_settled, Is_told, Judges, OnlySays, Reads, Shown, Starts_it, StaysOpen, Stops_at}
+pub use Rattle.law_requests.proofs.Imports.{Stops_it, Turned, both_leads, chosen_steady, did_finish, disk_on, epoch_at, is_refused, leaving, led_by, of_other}
+pub use Rattle.law_requests.proofs.Imports.{own_below, own_plain, own_steady, runs_now, write_refusal}
 pub use Rattle.law_moves.specs.Imports.{HasNewer, IsFilledFrom, IsServing}
 pub use Rattle.law_moves.proofs.Imports.{AliveIn, AreCopies, AreCopying, AreTwins, Good, HasSent, IsAt, IsCaught, IsLast, IsLeft, IsLinked, IsOther, IsOwn}
 pub use Rattle.law_moves.proofs.Imports.{IsStaged, IsTold, PairOk, WasThere, Working, alive_on, alone_authority, alone_or_flagged, at_by, ballot_store}
 pub use Rattle.law_moves.proofs.Imports.{begins_to_leave, both_authority, both_last, both_since, chain_that_counts, far, fronts_meet, frozen_by, good_after}
 pub use Rattle.law_moves.proofs.Imports.{half, half_store, held_by, in_counts, in_kept, in_left, in_mapped, in_own, joined_where, lead, linked_between}
 pub use Rattle.law_moves.proofs.Imports.{no_home, one_place, one_row, other_apart, other_than, pair_at, pair_of, place_by, place_of_later, place_touched}
-pub use Rattle.law_moves.proofs.Imports.{places_up, rows_later, source_same, stage_facts, stage_in, stage_is, start_good, step_goes, store_by, unseen_beyond}
+pub use Rattle.law_moves.proofs.Imports.{places_up, rows_later, source_same, split_fronts, stage_facts, stage_in, stage_is, start_good, step_goes, store_by}
+pub use Rattle.law_moves.proofs.Imports.{unseen_beyond}
 pub use Rattle.std.proofs.Math.Seq.{drop-append_seam}
 pub use Rattle.std.proofs.lemmas.Cmp.{nat_list_eq_equiv}
 pub use Rattle.std.proofs.lemmas.List.{length-append}
@@ -79,7 +80,7 @@ pub use Rattle.law_copies.proofs.LastCopies.{of_last, past_last, past_of}
 pub use Rattle.law_copies.proofs.LeftToCopy.{tied}
 pub use Rattle.law_copies.proofs.MarksPrecedePuts.{marks_first}
 pub use Rattle.law_copies.proofs.OtherIsNotHolder.{held_not_lead}
-pub use Rattle.law_copies.proofs.PlacesByFronts.{retired_not, linked_alive}
+pub use Rattle.law_copies.proofs.PlacesByFronts.{linked_alive, retired_not}
 pub use Rattle.law_copies.proofs.RolesOfWorkers.{other_alone}
 pub use Rattle.law_copies.proofs.ServedAtLaterFronts.{AllStarted, been_below, holder_is_one, holds_since, reached_here}
 pub use Rattle.law_copies.proofs.StoreHistories.{always_empty}
@@ -89,14 +90,14 @@ pub use Rattle.law_copies.specs.LoneSteps.{IsLeftBy}
 pub use Rattle.law_copies.specs.Pair.{IsAhead, IsPutting, Pair, number_of, owns_of}
 pub use Rattle.law_copies.specs.Visits.{Visits}
 pub use Rattle.law_jobs.proofs.OperationsCome.{finished_of}
-pub use Rattle.law_jobs.proofs.Runs.{at_moment, firm_then, follows_in, grown_then, stepped_in}
+pub use Rattle.law_jobs.proofs.Runs.{at_moment, firm_then, follows_in, grown_then}
 pub use Rattle.law_jobs.specs.Sayings.{to_client}
 pub use Rattle.law_moves.proofs.EpochHistories.{early_after, pending_timely, place_timely, second_timely}
 pub use Rattle.law_moves.proofs.FillsAtSeconds.{second_after}
-pub use Rattle.law_moves.proofs.JobsChangeOneChain.{A_copy, An_asked, An_own, CopiesSo, Drops, Is_dropped, Is_dropped_first, Is_put, NeverRetired, Nothing_new}
-pub use Rattle.law_moves.proofs.JobsChangeOneChain.{Of_the_retired, OtherStores, PutsAsked, PutsCopy, PutsOwn, StoresSo, copied_apart, did_stores, holder_chains}
-pub use Rattle.law_moves.proofs.JobsChangeOneChain.{lead_stores, other_changes, second_stores, swept}
-pub use Rattle.law_moves.proofs.KnownOfMoves.{comes_after, retired_frozen, filling_after, over_after, rule_after}
+pub use Rattle.law_moves.proofs.JobsChangeOneChain.{A_copy, An_asked, An_own, CopiesSo, Drops, Is_dropped, Is_dropped_first, Is_put, NeverRetired}
+pub use Rattle.law_moves.proofs.JobsChangeOneChain.{Nothing_new, Of_the_retired, OtherStores, PutsAsked, PutsCopy, PutsOwn, StoresSo, copied_apart}
+pub use Rattle.law_moves.proofs.JobsChangeOneChain.{did_stores, holder_chains, lead_stores, other_changes, second_stores, swept}
+pub use Rattle.law_moves.proofs.KnownOfMoves.{comes_after, filling_after, over_after, retired_frozen, rule_after}
 pub use Rattle.law_moves.proofs.MovesInHistories.{known_after, none_chosen}
 pub use Rattle.law_moves.proofs.NextFill.{in_flat}
 pub use Rattle.law_moves.proofs.NoPutsToLeavingCells.{op_there}
@@ -120,7 +121,7 @@ pub use Rattle.law_requests.specs.KnownRequests.{seen}
 pub use Rattle.law_script.proofs.TakenLines.{is_accepted}
 pub use Rattle.law_script.specs.Laws.{Does, asks, line_at, nets, skipped, waits}
 pub use Rattle.law_state.proofs.CaughtsMadeBoth.{log_held_or_both}
-pub use Rattle.law_state.proofs.CellsByLinkRows.{retired_authority, retired_reader, lost_authority, read_by}
+pub use Rattle.law_state.proofs.CellsByLinkRows.{lost_authority, read_by, retired_authority, retired_reader}
 pub use Rattle.law_state.proofs.Disks.{log_disks}
 pub use Rattle.law_state.proofs.ErasRiseAfterReports.{log_unread}
 pub use Rattle.law_state.proofs.LaterDisks.{AreFresh, HasRowLater, fresh_rows, known_row, later_place, later_rows, old_or_new, stays_row}
@@ -138,7 +139,6 @@ pub use Rattle.law_steps.proofs.ClientStepKinds.{client_turns, is_call}
 pub use Rattle.law_steps.proofs.KindsInHistories.{happens, ready_chosen, rests_next}
 pub use Rattle.law_steps.proofs.Letters.{one_post, posted}
 pub use Rattle.law_steps.proofs.LogJobs.{LogFrame, applied_entry, applied_none, letter_frame_of, start_frame_of}
-pub use Rattle.law_steps.proofs.Records.{split_fronts}
 pub use Rattle.law_steps.proofs.ServerStepKinds.{chosen_same, server_serves}
 pub use Rattle.law_steps.proofs.TicksAskAgain.{in_flat_map}
 pub use Rattle.law_steps.specs.DidClient.{answer_of}
@@ -170,5 +170,3 @@ pub use Rattle.spec_machine.specs.declared.state.PlainSnapshot.{PlainSnapshot}
 pub use Rattle.spec_rules.specs.Clients.{counts}
 pub use Rattle.spec_rules.specs.Store.{or_else}
 pub use Rattle.spec_state.specs.CellState.{named_cell, named_map, old_map, read_cell, read_map}
-pub use Rattle.law_steps.proofs.CopyFrames.{of_other}
-pub use Rattle.law_steps.proofs.KindsInHistories.{own_steady}

@@ -1,14 +1,14 @@
 -- What a job of a cell's first server, or of its only one, leaves pending and finished: the write of what is put where it counts, or is closed,
 -- has had its bytes.
 use Rattle.law_run.proofs.Imports.{◌+◌, ◌∙◌, ◌≡◌, ◌≢◌, ◌≤◌, A_copy, Alone_has, An_asked, An_own, AreCopies, Bool, Both_have, Busy, By_operation, Cell, Chain}
-use Rattle.law_run.proofs.Imports.{Closes, Closes_alone, DidLead, Finished, Gives_up, Goes_on_retired, Had_no_slot, IsFinishedFor, IsLinked, IsOpen, Is_retired}
-use Rattle.law_run.proofs.Imports.{Is_declined, JobResult, Key, LinkRow, Marks, Marks_alone, NeverRetired, None, Nothing_new, Of_the_retired, Opens, Opens_alone}
-use Rattle.law_run.proofs.Imports.{Opens_fill, Opens_fill_alone, Option, PairOk, PairState, Pending, Plain, Puts, Puts_alone, Some, Stage, Stale, Store}
-use Rattle.law_run.proofs.Imports.{Stored, StoresSo, Table, Taken, Unmarks, Unmarks_alone, Working, alone_not_both, answering, ap, at, authority, cell_apart}
-use Rattle.law_run.proofs.Imports.{cell_cmp, cell_of, cell_same, chain_apart, chain_in, chain_put, chains_with, chosen_state, false, far, fill_operation}
-use Rattle.law_run.proofs.Imports.{gives_back, half, in_both, inl, inr, is_alone_on, is_clients, kept, lead_stores, nat_cmp, of_ending, operation, pair_of}
-use Rattle.law_run.proofs.Imports.{put, puts, putting, refl, same_cell_or_apart, same_some, secondary_is_one, so_both, stood, subst, sym, taking, true}
-use Rattle.law_run.proofs.Imports.{true_false, version_of, with_mark_at, with_paired, with_reserved, without_pending, ℕ}
+use Rattle.law_run.proofs.Imports.{Closes, Closes_alone, DidLead, Finished, Gives_up, Goes_on_retired, Had_no_slot, IsFinishedFor, IsLinked, IsOpen}
+use Rattle.law_run.proofs.Imports.{Is_declined, Is_retired, JobResult, Key, LinkRow, Marks, Marks_alone, NeverRetired, None, Nothing_new, Of_the_retired}
+use Rattle.law_run.proofs.Imports.{Opens, Opens_alone, Opens_fill, Opens_fill_alone, Option, PairOk, PairState, Pending, Plain, Puts, Puts_alone, Some, Stage}
+use Rattle.law_run.proofs.Imports.{Stale, Store, Stored, StoresSo, Table, Taken, Unmarks, Unmarks_alone, Working, alone_not_both, answering, ap, at}
+use Rattle.law_run.proofs.Imports.{authority, cell_apart, cell_cmp, cell_of, cell_same, chain_apart, chain_in, chain_put, chains_with, chosen_state, false}
+use Rattle.law_run.proofs.Imports.{far, fill_operation, gives_back, half, in_both, inl, inr, is_alone_on, is_clients, kept, lead_stores, nat_cmp, of_ending}
+use Rattle.law_run.proofs.Imports.{operation, pair_of, put, puts, putting, refl, same_cell_or_apart, same_some, secondary_is_one, so_both, stood, subst, sym}
+use Rattle.law_run.proofs.Imports.{taking, true, true_false, version_of, with_mark_at, with_paired, with_reserved, without_pending, ℕ}
 use Rattle.law_run.specs.WritesGoOn.{is_held, Onward}
 use Rattle.law_run.specs.MachineTies.{HasCounted, Is_told, Is_followed, Is_counted}
 use Rattle.law_run.proofs.ServerFrames.{kept_finished, own_counted}

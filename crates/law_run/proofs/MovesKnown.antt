@@ -2,11 +2,11 @@
 use Rattle.law_run.proofs.Imports.{[], if◌then◌else◌, ◌++◌, ◌∙◌, ◌∷◌, ◌≡◌, ◌≤◌, ◌⊎◌, Actor, AreSteps, At, Bool, Cell, Chain, Drained, Firm, IsPrefix}
 use Rattle.law_run.proofs.Imports.{IsRising, IsSound, List, None, Option, Pairs, Pending, Record, Script, Setting, Some, State, Step, WasThere, World}
 use Rattle.law_run.proofs.Imports.{always_firm, ap, arith, asking_along, at, at_row, authority, begins_to_leave, by_run, cases_lt, cell_cmp, cell_of}
-use Rattle.law_run.proofs.Imports.{chain_in, chain_that_counts, chosen_log, chosen_state, comes_after, retired_frozen, false, filling_after, front_itself}
-use Rattle.law_run.proofs.Imports.{front_legal, front_long, good_after, held, history_is_firm, inl, inr, is_all_held, is_in, is_some, kept, known_after}
-use Rattle.law_run.proofs.Imports.{log_unread, nat_cmp, nat_cmp_total, none_some, one_front, option_map, over_after, refl, reports_known, rests_after, run_of}
-use Rattle.law_run.proofs.Imports.{runs_now, same_some, second_after, server_state, setting_in, setting_of, stage_at, start, start_rests, state_after, step}
-use Rattle.law_run.proofs.Imports.{stepped, subst, sym, true, true_false, world_more, ℕ}
+use Rattle.law_run.proofs.Imports.{chain_in, chain_that_counts, chosen_log, chosen_state, comes_after, false, filling_after, front_itself, front_legal}
+use Rattle.law_run.proofs.Imports.{front_long, good_after, held, history_is_firm, inl, inr, is_all_held, is_in, is_some, kept, known_after, log_unread}
+use Rattle.law_run.proofs.Imports.{nat_cmp, nat_cmp_total, none_some, one_front, option_map, over_after, refl, reports_known, rests_after, retired_frozen}
+use Rattle.law_run.proofs.Imports.{run_of, runs_now, same_some, second_after, server_state, setting_in, setting_of, stage_at, start, start_rests, state_after}
+use Rattle.law_run.proofs.Imports.{step, stepped, subst, sym, true, true_false, world_more, ℕ}
 use Rattle.law_jobs.proofs.Runs.{after}
 use Rattle.law_run.specs.MachineTies.{IsFrozenSo, KnowMoves}
 use Rattle.petal_msg.specs.declared.letter.Actor.TheVariants as actor

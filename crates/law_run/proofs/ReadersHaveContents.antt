@@ -2,9 +2,9 @@
 use Rattle.law_run.proofs.Imports.{◌==◌, ◌∙◌, ◌≡◌, ◌≤◌, AliveIn, AreDisks, Bool, Both, ByBoth, ByNone, ByOne, Cell, DiskRow, Firm, HasStage, In, IsLinked}
 use Rattle.law_run.proofs.Imports.{IsServing, Line, LinkRow, List, None, Option, PairOk, PairState, Some, Store, Stored, alone_authority, ap, arith, at}
 use Rattle.law_run.proofs.Imports.{authority, both_authority, both_leads, by_bool, bytes_of, cases_lt, cell_cmp, chain_in, chosen_steady, coming, counted}
-use Rattle.law_run.proofs.Imports.{retired_not, retired_reader, either_true, entry_at, entry_before, entry_by, entry_of, false, front_itself, half, has_map, held}
-use Rattle.law_run.proofs.Imports.{inl, inr, is_all_held, is_in, is_lead, is_some, is_the_so, leads_link, leaving, linked_between, live, log_roles}
-use Rattle.law_run.proofs.Imports.{named_cell, old_cell, one_row, own_below, own_plain, pair_of, place_by, places_up, readable, refl, runs_now, same_numbers}
+use Rattle.law_run.proofs.Imports.{either_true, entry_at, entry_before, entry_by, entry_of, false, front_itself, half, has_map, held, inl, inr, is_all_held}
+use Rattle.law_run.proofs.Imports.{is_in, is_lead, is_some, is_the_so, leads_link, leaving, linked_between, live, log_roles, named_cell, old_cell, one_row}
+use Rattle.law_run.proofs.Imports.{own_below, own_plain, pair_of, place_by, places_up, readable, refl, retired_not, retired_reader, runs_now, same_numbers}
 use Rattle.law_run.proofs.Imports.{same_some, serves, stage_at, stage_facts, subst, sym, true, true_false, ℕ}
 use Rattle.law_run.proofs.ContentsByCells.{entry_over, has_over, is_between}
 use Rattle.law_run.proofs.ContentsAsked.{reader_serves}

@@ -1,12 +1,12 @@
 -- Each kind of job shows what it has to, where the write of what it has put where it counts has had its bytes.
 use Rattle.law_run.proofs.Imports.{◌∙◌, ◌≡◌, ◌≢◌, ◌⊎◌, A_copy, AliveIn, An_asked, An_own, Both, By_filler, By_holder, By_lead, By_other, By_read, By_second}
 use Rattle.law_run.proofs.Imports.{By_sweep, Cell, Chain, Did, DidOther, DidSecond, Drops, Finished, Ignores, IsOpen, IsOwn, IsSeatedOrMute, IsSteady}
-use Rattle.law_run.proofs.Imports.{JobResult, LinkRow, NeverRetired, Nothing_new, Of_the_retired, Only, OtherStores, PairState, Pairs, Pending, Plain, PutsAsked}
-use Rattle.law_run.proofs.Imports.{PutsCopy, PutsOwn, Refuses, Some, Store, StoresSo, Sweeps, ap, at, cell_cmp, cell_of, chain_apart, chain_in, chosen_state}
-use Rattle.law_run.proofs.Imports.{copied_apart, did_finish, did_stores, finished_of, held_not_lead, holder_chains, inl, inr, is_clients, is_lead, is_second}
-use Rattle.law_run.proofs.Imports.{is_the_one, kept, lead_links, led_by, live, nat_cmp, of_filler, of_holder, of_other, of_read, of_second, one_lead}
-use Rattle.law_run.proofs.Imports.{other_changes, own_steady, owns_of, refl, same_cell_or_apart, same_some, second_by, second_stores, subst, swept, sym, true}
-use Rattle.law_run.proofs.Imports.{true_false, ℕ}
+use Rattle.law_run.proofs.Imports.{JobResult, LinkRow, NeverRetired, Nothing_new, Of_the_retired, Only, OtherStores, PairState, Pairs, Pending, Plain}
+use Rattle.law_run.proofs.Imports.{PutsAsked, PutsCopy, PutsOwn, Refuses, Some, Store, StoresSo, Sweeps, ap, at, cell_cmp, cell_of, chain_apart, chain_in}
+use Rattle.law_run.proofs.Imports.{chosen_state, copied_apart, did_finish, did_stores, finished_of, held_not_lead, holder_chains, inl, inr, is_clients}
+use Rattle.law_run.proofs.Imports.{is_lead, is_second, is_the_one, kept, lead_links, led_by, live, nat_cmp, of_filler, of_holder, of_other, of_read}
+use Rattle.law_run.proofs.Imports.{of_second, one_lead, other_changes, own_steady, owns_of, refl, same_cell_or_apart, same_some, second_by, second_stores}
+use Rattle.law_run.proofs.Imports.{subst, swept, sym, true, true_false, ℕ}
 use Rattle.law_steps.specs.DidSecond.{Follows}
 use Rattle.law_run.specs.WritesGoOn.{is_held, Onward}
 use Rattle.law_run.proofs.CopiesThatDontCount.{copied_unfollowed}

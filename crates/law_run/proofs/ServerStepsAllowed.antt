@@ -1,10 +1,11 @@
 -- What the machine is told of a server's step is allowed, and keeps it tied to the world.
 use Rattle.law_run.proofs.Imports.{[], ◌+◌, ◌||◌, ◌∙◌, ◌≡◌, ◌⊎◌, Acted, AreStepsFrom, Body, By_ballot, By_entry, By_job, By_read, Cell, Did, Ends, Fails}
-use Rattle.law_run.proofs.Imports.{Goes, Handled, In, IsSeatedOrMute, Job, JobContext, JobResult, Letter, Line, List, Log, NeverRetired, None, Not_here, Option}
-use Rattle.law_run.proofs.Imports.{PairState, Pairs, Pending, Plain, Post, Sender, Serving, Shows, Some, Stays, Store, Wakes, Worked, World, ap, at, awake}
-use Rattle.law_run.proofs.Imports.{ballot_store, cell_cmp, chain_in, chosen_log, chosen_same, copying_on, crossed, did_stores, down_posts, false, in_none}
-use Rattle.law_run.proofs.Imports.{inl, inr, is_some, is_under_way, letters_of, named_cell, own_place, owns_of, proposed_pairs, raised, refl, rev_of, said}
-use Rattle.law_run.proofs.Imports.{sender, served_so, server_state, servers_of, settling, stamped, stopped_so, subst, sym, true, true_false, without_rev, ℕ}
+use Rattle.law_run.proofs.Imports.{Goes, Handled, In, IsSeatedOrMute, Job, JobContext, JobResult, Letter, Line, List, Log, NeverRetired, None, Not_here}
+use Rattle.law_run.proofs.Imports.{Option, PairState, Pairs, Pending, Plain, Post, Sender, Serving, Shows, Some, Stays, Store, Wakes, Worked, World, ap, at}
+use Rattle.law_run.proofs.Imports.{awake, ballot_store, cell_cmp, chain_in, chosen_log, chosen_same, copying_on, crossed, did_stores, down_posts, false}
+use Rattle.law_run.proofs.Imports.{in_none, inl, inr, is_some, is_under_way, letters_of, named_cell, own_place, owns_of, proposed_pairs, raised, refl, rev_of}
+use Rattle.law_run.proofs.Imports.{said, sender, served_so, server_state, servers_of, settling, stamped, stopped_so, subst, sym, true, true_false}
+use Rattle.law_run.proofs.Imports.{without_rev, ℕ}
 use Rattle.law_run.proofs.GroundGives.{never_retired}
 use Rattle.law_run.proofs.NotHere.{not_here_told}
 use Rattle.law_run.proofs.ReadsShowContents.{AreUnchanged, data_of, show_told}

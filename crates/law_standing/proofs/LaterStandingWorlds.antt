@@ -1,12 +1,8 @@
 -- What a world's letters and proposers say stays true in every later world.
-use Rattle.std.proofs.Common.{ℕ, Bool, List, inl, inr, Option, Some, None, arith}
-use Rattle.petal_command.specs.declared.ballot.Ballot.{Ballot}
-use Rattle.petal_command.specs.declared.command.Command.{Command}
-use Rattle.spec_paxos.specs.standing.Letters.{Report, Letter, Prepare, Promise, Accept, Accepted, Refuse, Chosen}
-use Rattle.spec_paxos.specs.standing.Proposer.{Told, Ask, Phase, Idle, Started, Standing}
-use Rattle.spec_paxos.specs.standing.Schedule.{Setting, World, IsChosen}
-use Rattle.law_standing.proofs.StandingFacts.{HasPromised, HasPledged, IsGreatestBelow, AreCast, IsShut, IsPromise, IsBacked, Owns, HasHeard}
-use Rattle.law_standing.proofs.StandingFacts.{IsSafeInRange, HasAsked, Knows, IsLater}
+use Rattle.law_standing.proofs.Imports.{Accept, Accepted, Ask, Ballot, Bool, Chosen, Command, Idle, IsChosen, Letter, List, None, Option, Phase, Prepare}
+use Rattle.law_standing.proofs.Imports.{Promise, Refuse, Report, Setting, Some, Standing, Started, Told, World, arith, inl, inr, ℕ}
+use Rattle.law_standing.proofs.StandingFacts.{HasPromised, HasPledged, IsGreatestBelow, AreCast, IsShut, IsPromise, IsBacked, Owns, HasHeard, IsSafeInRange}
+use Rattle.law_standing.proofs.StandingFacts.{HasAsked, Knows, IsLater}
 
 pub later_promised : (w v : World) → IsLater w v → (s p : ℕ) (b : Ballot) → HasPromised w s p b → HasPromised v s p b
 later_promised w v l s p b h = let r = l.rises s p in omega arith

@@ -1,3 +1,4 @@
+pub mod Imports
 pub mod StandingFacts
 pub mod LaterStandingWorlds
 pub mod StandingMovesKeepFacts

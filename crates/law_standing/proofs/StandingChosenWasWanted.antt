@@ -1,14 +1,7 @@
 -- What is chosen stays chosen, and some server wanted it.
-use Rattle.std.proofs.Common.{ℕ, ◌≡◌, inl, inr, List, [], ◌∷◌, ◌++◌, Option, Some, None, refl, subst}
-use Rattle.std.specs.Prelude.{⊤}
-use Rattle.petal_command.specs.declared.ballot.Ballot.{Ballot}
-use Rattle.petal_command.specs.declared.command.Command.{Command}
-use Rattle.spec_paxos.specs.Proposer.{to_propose}
-use Rattle.spec_paxos.specs.standing.Proposer.{Told, reported_at}
-use Rattle.spec_paxos.specs.standing.Schedule.{Setting, Fits, World, Event, Starts, Proposes, Handed, Stops, Boots, happens, run, begin, IsChosen, IsWanted}
-use Rattle.spec_paxos.proofs.Members.{in_nil, in_cons}
-use Rattle.spec_paxos.proofs.standing.Reported.{reported_in}
-use Rattle.law_agreement.proofs.Quorum.{majorities_meet}
+use Rattle.law_standing.proofs.Imports.{[], ◌++◌, ◌∷◌, ◌≡◌, Ballot, Boots, Command, Event, Fits, Handed, IsChosen, IsWanted, List, None, Option, Proposes}
+use Rattle.law_standing.proofs.Imports.{Setting, Some, Starts, Stops, Told, World, begin, happens, in_cons, in_nil, inl, inr, majorities_meet, refl}
+use Rattle.law_standing.proofs.Imports.{reported_at, reported_in, run, subst, to_propose, ℕ, ⊤}
 use Rattle.law_standing.proofs.StandingFacts.{HasVoted, AreCast, Asked, Sound}
 use Rattle.law_standing.proofs.StandingMovesKeepFacts.{IsMove, Keeps, Sends, Turns, Asks, keep_later, keeps}
 use Rattle.law_standing.proofs.StandingSchedulesKeepFacts.{moves, happens_sound, run_sound, begin_sound}

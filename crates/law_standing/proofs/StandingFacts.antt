@@ -1,21 +1,8 @@
 -- What holds of every world that a schedule leads to.
-use Rattle.std.proofs.Common.{ℕ, ◌+◌, ◌≤◌, ◌<◌, Bool, true, ◌≡◌, ◌≢◌, ◌⊎◌, List, length, Option, Some, None}
-use Rattle.std.specs.Prelude.{⊤}
-use Rattle.petal_command.specs.declared.ballot.Ballot.{Ballot}
-use Rattle.petal_command.specs.declared.command.Command.{Command}
-use Rattle.petal_command.specs.Ballot.{number}
-use Rattle.spec_paxos.specs.Member.{In}
-use Rattle.spec_paxos.specs.Quorum.{IsMajority}
-use Rattle.spec_paxos.specs.Acceptor.{rank}
-use Rattle.spec_paxos.specs.Proposer.{rank_of, is_in, to_propose}
-use Rattle.spec_paxos.specs.standing.Letters.{Report, Letter, Prepare, Promise, Accept, Accepted, Refuse, Chosen}
-use Rattle.spec_paxos.specs.standing.Kept.{promised_at, promised_from}
-use Rattle.spec_paxos.specs.standing.Kept.{Accepted as Vote, Chosen as Learnt}
-use Rattle.spec_paxos.specs.standing.Acceptor.{last_place}
-use Rattle.spec_paxos.specs.standing.Listing.{IsRisingFrom, IsEnd}
-use Rattle.spec_paxos.specs.standing.Proposer.{Told, Ask, Phase, Idle, Started, Standing, reported_at, is_within}
-use Rattle.spec_paxos.specs.standing.Schedule.{Setting, sent, World, IsChosen}
-use Rattle.spec_paxos.proofs.standing.Committed.{IsRising}
+use Rattle.law_standing.proofs.Imports.{◌+◌, ◌<◌, ◌≡◌, ◌≢◌, ◌≤◌, ◌⊎◌, Accept, Accepted, Ask, Ballot, Bool, Chosen, Command, Idle, In, IsChosen, IsEnd}
+use Rattle.law_standing.proofs.Imports.{IsMajority, IsRising, IsRisingFrom, Learnt, Letter, List, None, Option, Phase, Prepare, Promise, Refuse, Report}
+use Rattle.law_standing.proofs.Imports.{Setting, Some, Standing, Started, Told, Vote, World, is_in, is_within, last_place, length, number, promised_at}
+use Rattle.law_standing.proofs.Imports.{promised_from, rank, rank_of, reported_at, sent, to_propose, true, ℕ, ⊤}
 
 -- 0 while the server has promised nothing at the place, else one more than the ballot's number
 abbrev pub promised : World → ℕ → ℕ → ℕ

@@ -1,20 +1,11 @@
 -- The moves that an event is made of: each keeps what holds.
-use Rattle.std.proofs.Common.{ℕ, ◌+◌, ◌≤◌, ◌<◌, Bool, true, ◌≡◌, ◌≢◌, ◌⊎◌, inl, inr, List, ◌∷◌, Option, Some, None, arith, sym, ap, subst, ◌∙◌}
-use Rattle.std.specs.Prelude.{⊤}
-use Rattle.std.proofs.lemmas.Bool.Decides.{nat_tests}
-use Rattle.petal_command.specs.declared.ballot.Ballot.{Ballot}
-use Rattle.petal_command.specs.declared.command.Command.{Command}
-use Rattle.petal_command.specs.Ballot.{number}
-use Rattle.spec_paxos.specs.Member.{In}
-use Rattle.spec_paxos.specs.Acceptor.{rank}
-use Rattle.spec_paxos.specs.Proposer.{to_propose}
-use Rattle.spec_paxos.specs.standing.Letters.{Letter, Prepare, Accept}
-use Rattle.spec_paxos.specs.standing.Kept.{StateRecord, Inc, PromiseFrom, Accepted, Chosen, promised_at, promised_from, committed}
-use Rattle.spec_paxos.specs.standing.Proposer.{Told, Ask, Phase, Idle, Started, Standing, reported_at, is_within, is_behind, asking}
-use Rattle.spec_paxos.specs.standing.Schedule.{Setting, sent, World, Event, Proposes, keep, send, turn, IsChosen}
-use Rattle.spec_paxos.proofs.Members.{in_cons, in_there, in_here}
-use Rattle.spec_paxos.proofs.standing.Committed.{IsRising, IsFit, in_committed, committed_in, promised_rises, pledge_rises, rising_committed}
-use Rattle.law_agreement.proofs.MovesKeepFacts.{at_put, one_server, not_in_nobody}
+use Rattle.law_standing.proofs.Imports.{◌+◌, ◌<◌, ◌∙◌, ◌∷◌, ◌≡◌, ◌≢◌, ◌≤◌, ◌⊎◌, Accept, Ask, Ballot, Bool, Command, Event, Idle, In, Inc, IsChosen, IsFit}
+use Rattle.law_standing.proofs.Imports.{IsRising, Letter, List, None, Option, Phase, Prepare, PromiseFrom, Proposes, Setting, Some, Standing, Started}
+use Rattle.law_standing.proofs.Imports.{StateRecord, Told, World, ap, arith, asking, at_put, committed, committed_in, in_committed, in_cons, in_here}
+use Rattle.law_standing.proofs.Imports.{in_there, inl, inr, is_behind, is_within, keep, nat_tests, not_in_nobody, number, one_server, pledge_rises}
+use Rattle.law_standing.proofs.Imports.{promised_at, promised_from, promised_rises, rank, reported_at, rising_committed, send, sent, subst, sym, to_propose}
+use Rattle.law_standing.proofs.Imports.{true, turn, ℕ, ⊤}
+use Rattle.spec_paxos.specs.standing.Kept.{Accepted, Chosen}
 use Rattle.law_standing.proofs.StandingFacts.{promised, HasPledged, HasVoted, Asked, Prepared, IsSafe, IsBacked, Knows, IsUpTo, AsksOnly, Sound, IsLater}
 use Rattle.law_standing.proofs.LaterStandingWorlds.{later_backed, later_owns, later_cast, later_safe, later_knows, later_chosen}
 

@@ -1,39 +1,21 @@
 -- Each event keeps what holds, and so does each schedule.
-use Rattle.std.proofs.Common.{ℕ, ◌+◌, ◌≤◌, ◌<◌, Bool, true, false, ◌≡◌, ◌≢◌, ◌⊎◌, inl, inr, List, [], ◌∷◌, ◌++◌, nat_lt, ◌&&◌, if◌then◌else◌}
-use Rattle.std.proofs.Common.{set, length, unwrap_or, Option, Some, None, arith, refl, sym, ap, subst, ◌∙◌}
-use Rattle.std.specs.Prelude.{not, min, nat_le}
-use Rattle.std.proofs.lemmas.Bool.{cases_lt, and_parts}
-use Rattle.std.proofs.lemmas.Bool.Decides.{nat_tests}
-use Rattle.petal_command.specs.declared.ballot.Ballot.{Ballot}
-use Rattle.petal_command.specs.declared.command.Command.{Command}
-use Rattle.petal_command.specs.Ballot.{number, same}
-use Rattle.spec_paxos.specs.Member.{In, put}
-use Rattle.spec_paxos.specs.Quorum.{IsMajority}
-use Rattle.spec_paxos.specs.Acceptor.{rank}
-use Rattle.spec_paxos.specs.Proposer.{rank_of, is_in, has_majority, to_propose, is_for, counts}
-use Rattle.spec_paxos.specs.standing.Letters.{Report, Letter, Prepare, Promise, Accept, Accepted, Refuse, Chosen}
-use Rattle.spec_paxos.specs.standing.Kept.{StateRecord, Inc, PromiseFrom, promised_at, promised_from, accepted_at, inc_of, least, committed}
-use Rattle.spec_paxos.specs.standing.Kept.{Accepted as Vote, Chosen as Learnt}
-use Rattle.spec_paxos.specs.standing.Acceptor.{is_open_at, is_open_from, is_unpromised_from, listed, until_of, promise_of}
-use Rattle.spec_paxos.specs.standing.Proposer.{Told, Ask, Phase, Idle, Started, Standing, reported_at, tells, starting, collected, counted, hear, is_within}
-use Rattle.spec_paxos.specs.standing.Proposer.{is_behind, may_propose}
-use Rattle.spec_paxos.specs.standing.Schedule.{Setting, Fits, Sent, sent, World, End, Goes, StopsBefore, StopsAfter, Event, Starts, Proposes, Handed}
-use Rattle.spec_paxos.specs.standing.Schedule.{Stops, Boots}
-use Rattle.spec_paxos.specs.standing.Schedule.{keep, commit, send, turn, ended, started, starts, proposes, comes_out, handed, arrives, boots}
-use Rattle.spec_paxos.specs.standing.Schedule.{happens, run, begin, IsChosen}
-use Rattle.spec_paxos.proofs.Members.{in_nil, in_cons, in_here, in_there, put_cases, in_got}
-use Rattle.spec_paxos.proofs.Committed.{in_front}
-use Rattle.spec_paxos.proofs.standing.Committed.{in_committed, committed_in, promise_covers, promise_pledges, accepted_stands, accepted_in}
-use Rattle.spec_paxos.proofs.standing.Listed.{listing}
-use Rattle.spec_paxos.specs.standing.Listing.{IsListing}
-use Rattle.spec_paxos.proofs.standing.Reported.{in_reported, reported_in, reported_rises}
-use Rattle.law_agreement.proofs.MovesKeepFacts.{one_server, not_in_nobody}
-use Rattle.law_agreement.proofs.Quorum.{either, majorities_meet}
-use Rattle.law_agreement.proofs.SchedulesKeepFacts.{for_them, joined, at_true}
+use Rattle.law_standing.proofs.Imports.{[], if◌then◌else◌, ◌&&◌, ◌++◌, ◌+◌, ◌<◌, ◌∙◌, ◌∷◌, ◌≡◌, ◌≢◌, ◌≤◌, ◌⊎◌, Accept, Accepted, Ask, Ballot, Bool, Boots}
+use Rattle.law_standing.proofs.Imports.{Chosen, Command, End, Event, Fits, Goes, Handed, Idle, In, Inc, IsChosen, IsListing, IsMajority, Learnt, Letter, List}
+use Rattle.law_standing.proofs.Imports.{None, Option, Phase, Prepare, Promise, PromiseFrom, Proposes, Refuse, Report, Sent, Setting, Some, Standing, Started}
+use Rattle.law_standing.proofs.Imports.{Starts, StateRecord, Stops, StopsAfter, StopsBefore, Told, Vote, World, accepted_at, accepted_in, accepted_stands}
+use Rattle.law_standing.proofs.Imports.{and_parts, ap, arith, arrives, at_true, begin, boots, cases_lt, collected, comes_out, commit, committed, committed_in}
+use Rattle.law_standing.proofs.Imports.{counted, counts, either, ended, false, for_them, handed, happens, has_majority, hear, in_committed, in_cons, in_front}
+use Rattle.law_standing.proofs.Imports.{in_got, in_here, in_nil, in_reported, in_there, inc_of, inl, inr, is_behind, is_for, is_in, is_open_at, is_open_from}
+use Rattle.law_standing.proofs.Imports.{is_unpromised_from, is_within, joined, keep, least, length, listed, listing, majorities_meet, may_propose, min}
+use Rattle.law_standing.proofs.Imports.{nat_le, nat_lt, nat_tests, not, not_in_nobody, number, one_server, promise_covers, promise_of, promise_pledges}
+use Rattle.law_standing.proofs.Imports.{promised_at, promised_from, proposes, put, put_cases, rank, rank_of, refl, reported_at, reported_in, reported_rises}
+use Rattle.law_standing.proofs.Imports.{run, same, send, sent, set, started, starting, starts, subst, sym, tells, to_propose, true, turn, until_of, unwrap_or}
+use Rattle.law_standing.proofs.Imports.{ℕ}
 use Rattle.law_standing.proofs.StandingFacts.{HasPromised, HasPledged, HasVoted, IsGreatestBelow, AreCast, Asked, Prepared, IsSafe, IsPromise, IsBacked}
 use Rattle.law_standing.proofs.StandingFacts.{HasHeard, IsSafeInRange, Knows, AsksOnly, Sound}
 use Rattle.law_standing.proofs.LaterStandingWorlds.{later_pledged}
-use Rattle.law_standing.proofs.StandingMovesKeepFacts.{same_grown, commit_grown, keep_later, MayAsk, Keeps, Sends, Turns, Asks, move_sound, Leads, Still, goes, last, keeps}
+use Rattle.law_standing.proofs.StandingMovesKeepFacts.{same_grown, commit_grown, keep_later, MayAsk, Keeps, Sends, Turns, Asks, move_sound, Leads, Still}
+use Rattle.law_standing.proofs.StandingMovesKeepFacts.{goes, last, keeps}
 
 -- ### The proposer hears promises
 

@@ -1,8 +1,8 @@
 -- What a state says of a cell, by the row of its link.
 use Rattle.law_state.proofs.Imports.{if◌then◌else◌, ◌&&◌, ◌==◌, ◌∙◌, ◌≡◌, ◌⊎◌, Bool, Both, Cell, LinkRow, Lost, None, Only, Option, Some, State, ap}
-use Rattle.law_state.proofs.Imports.{authority, both, both_true, by_bool, cell_link, false, first, has_server, inl, inr, is_up, lead}
-use Rattle.law_state.proofs.Imports.{leaving, live, none_some, not, option_and_then, option_map, option_map_or, readable, row_authority, row_in_both}
-use Rattle.law_state.proofs.Imports.{row_lead, same_numbers, same_some, second, serves, some_or_none, state_lead, subst, sym, true, true_false, ℕ}
+use Rattle.law_state.proofs.Imports.{authority, both, both_true, by_bool, cell_link, false, first, has_server, inl, inr, is_up, lead, leaving, live}
+use Rattle.law_state.proofs.Imports.{none_some, not, option_and_then, option_map, option_map_or, readable, row_authority, row_in_both, row_lead, same_numbers}
+use Rattle.law_state.proofs.Imports.{same_some, second, serves, some_or_none, state_lead, subst, sym, true, true_false, ℕ}
 use Rattle.law_state.specs.LinkRows.{ByBoth, ByNone, ByOne}
 use Rattle.law_state.specs.Steady.{IsLinked, IsSteady}
 

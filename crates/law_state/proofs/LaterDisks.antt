@@ -1,8 +1,7 @@
 -- Disks that come later: where they stand, what they are named, and that their cells had no links before.
-use Rattle.law_state.proofs.Imports.{[], ◌++◌, ◌+◌, ◌<◌, ◌∙◌, ◌∷◌, ◌≡◌, ◌≤◌, ◌⊎◌, Cell, DiskRow, In, List, None, Some, State}
-use Rattle.law_state.proofs.Imports.{ap, arith, cell_link, drop, has_map, inl, inr, length, length-append, named, nat_lists_same, none_some}
-use Rattle.law_state.proofs.Imports.{refl, same_name, same_some, slice_get, slice_get_past, slice_get_within, some_or_none, subst, suc, sym}
-use Rattle.law_state.proofs.Imports.{true, zero, ℕ}
+use Rattle.law_state.proofs.Imports.{[], ◌++◌, ◌+◌, ◌<◌, ◌∙◌, ◌∷◌, ◌≡◌, ◌≤◌, ◌⊎◌, Cell, DiskRow, In, List, None, Some, State, ap, arith, cell_link, drop}
+use Rattle.law_state.proofs.Imports.{has_map, inl, inr, length, length-append, named, nat_lists_same, none_some, refl, same_name, same_some, slice_get}
+use Rattle.law_state.proofs.Imports.{slice_get_past, slice_get_within, some_or_none, subst, suc, sym, true, zero, ℕ}
 use Rattle.law_state.specs.Tables.{IsGrown, IsLaterDisk, IsSettledState}
 use Rattle.law_state.proofs.Owners.{no_owner}
 use Rattle.law_state.proofs.ListLookups.{found_at, get_in, get_last, get_within, in_get, get_drop}

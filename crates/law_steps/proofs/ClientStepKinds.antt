@@ -3,18 +3,17 @@ use Rattle.law_steps.proofs.Imports.{[], if◌then◌else◌, ◌&&◌, ◌++◌
 use Rattle.law_steps.proofs.Imports.{Deliver, DiskView, In, IsPrefix, Learning, Letter, Line, List, MayClient, None, Option, Pattern, Post, Reaction, Request}
 use Rattle.law_steps.proofs.Imports.{Setting, Sight, Some, State, Step, Tick, World, about, after, answered_where, answers, ap, append_assoc, asking}
 use Rattle.law_steps.proofs.Imports.{asks_and_sends, both_true, by_bool, by_test, called, calls, cell_asked, client_state, client_step, command_of, epoch_for}
-use Rattle.law_steps.proofs.Imports.{false, find, fold-append, goes_out, goes_out_where, goes_the_old_way, heard, hears, hears_any, hears_of, in-append, inl}
-use Rattle.law_steps.proofs.Imports.{inr, is_read, is_settled, is_some, is_witness, is_write, judged, judged_by, latest, length, line_in, log_rev, map}
-use Rattle.law_steps.proofs.Imports.{nat_le, newly_asked, next_entries, next_line, not, only, pattern_block, post_in_turn, post_to, posts_for, read_posts}
-use Rattle.law_steps.proofs.Imports.{read_posts_at, refl, refusal, replies, rests, rounds, same_numbers, sees, sees_for, sees_from, sends_or_proposes}
-use Rattle.law_steps.proofs.Imports.{servers_of, settles, state_after, stays_open, subst, sym, takes_all, takes_entries, takes_entry, then_goes_out, ticked}
-use Rattle.law_steps.proofs.Imports.{to_propose, true, verdict_for, way_now, with_sight, witnessed, write_posts, ℕ}
+use Rattle.law_steps.proofs.Imports.{false, find, fold-append, front_itself, front_more, front_on, front_same, goes_out, goes_out_where, goes_the_old_way}
+use Rattle.law_steps.proofs.Imports.{heard, hears, hears_any, hears_of, in-append, inl, inr, is_read, is_settled, is_some, is_witness, is_write, judged}
+use Rattle.law_steps.proofs.Imports.{judged_by, latest, length, line_in, log_rev, map, nat_le, newly_asked, next_entries, next_line, not, only, pattern_block}
+use Rattle.law_steps.proofs.Imports.{post_in_turn, post_to, posts_for, read_posts, read_posts_at, refl, refusal, replies, rests, rounds, same_numbers, sees}
+use Rattle.law_steps.proofs.Imports.{sees_for, sees_from, sends_or_proposes, servers_of, settles, state_after, stays_open, subst, sym, takes_all}
+use Rattle.law_steps.proofs.Imports.{takes_entries, takes_entry, then_goes_out, ticked, to_propose, true, verdict_for, was_true, way_now, with_sight}
+use Rattle.law_steps.proofs.Imports.{witnessed, write_posts, ℕ}
 use Rattle.law_steps.specs.DidStep.{Heard}
 use Rattle.law_steps.specs.DidClient.{Turned, Says, Of_the_log, A_write, A_read, OnlySays, IsSame, WasSent, As_it_was, Anew, StaysOpen, IsReason, By_verdict}
 use Rattle.law_steps.specs.DidClient.{By_witness, IsJudged, Stops_it, Stops_at, Fails_it, Starts_it, Blanks_it, Has_no_space, Is_settled, Goes_on, Is_told}
 use Rattle.law_steps.specs.DidClient.{Begins, Reads, Ends, Shown, Judges}
-use Rattle.law_state.proofs.Fronts.{front_itself, front_same, front_more, front_on}
-use Rattle.law_state.proofs.TestFacts.{was_true}
 use Rattle.petal_msg.specs.declared.body.Body.TheVariants as body
 use Rattle.petal_msg.specs.declared.letter.Actor.TheVariants as actor
 use Rattle.petal_msg.specs.declared.operation.Ending.TheVariants as ending

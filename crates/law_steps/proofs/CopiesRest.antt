@@ -3,12 +3,12 @@ use Rattle.law_steps.proofs.Imports.{[], if◌then◌else◌, ◌+◌, ◌==◌,
 use Rattle.law_steps.proofs.Imports.{JobContext, JobResult, LastCopy, LinkId, LinkRow, List, Mark, NextCopy, None, Nothing, Option, PairState, Progress, Some}
 use Rattle.law_steps.proofs.Imports.{State, Stored, Wait, above, after, ap, at, begins_copy, blocks_left, both_true, by_bool, by_test, cell_apart, cell_at}
 use Rattle.law_steps.proofs.Imports.{cell_cmp, cell_gone, cell_gone_apart, cell_holder, cell_link, cell_of, cell_same, copying_on, eq_by_cmp, false, filter}
-use Rattle.law_steps.proofs.Imports.{found_at, found_itself, holder_of, holds_link, id_of, in-append, inl, inr, is_kept_on, is_link, is_link_under_way, is_on}
-use Rattle.law_steps.proofs.Imports.{is_under_way, needs_full_copy, last_copy, least, length, lesser, link_at, link_cmp, link_named, link_of, live, map}
-use Rattle.law_steps.proofs.Imports.{marked_blocks, nat_lt, next_block, next_copy, no_progress, none_some, option_and_then, option_map_or, progress_beside}
-use Rattle.law_steps.proofs.Imports.{progress_here, progress_on, proposed, refl, same_id, same_numbers, same_some, stored_blocks, subst, sym, true}
-use Rattle.law_steps.proofs.Imports.{true_false, tuple_of, unwrap_or, with_copied, with_copying, with_entry, with_full, with_last_copy, with_mark_on}
-use Rattle.law_steps.proofs.Imports.{with_page, with_progress, with_ticket, without_copying, ℕ}
+use Rattle.law_steps.proofs.Imports.{found_at, found_itself, holder_of, holds_link, id_of, in-append, in_filter, inl, inr, is_kept_on, is_link}
+use Rattle.law_steps.proofs.Imports.{is_link_under_way, is_on, is_under_way, last_copy, least, length, lesser, link_at, link_cmp, link_named, link_of}
+use Rattle.law_steps.proofs.Imports.{linked_at, live, map, marked_blocks, nat_lt, needs_full_copy, next_block, next_copy, no_progress, none_some}
+use Rattle.law_steps.proofs.Imports.{option_and_then, option_map_or, progress_beside, progress_here, progress_on, proposed, refl, same_id, same_numbers}
+use Rattle.law_steps.proofs.Imports.{same_some, stored_blocks, subst, sym, true, true_false, tuple_of, unwrap_or, with_copied, with_copying, with_entry}
+use Rattle.law_steps.proofs.Imports.{with_full, with_last_copy, with_mark_on, with_page, with_progress, with_ticket, without_copying, ℕ}
 use Rattle.law_steps.specs.DidHolder.{DidHolder, CopyStep, Unmarks_copied, Closes_copy, TakenCopy, Copy_as_is, Copy_trimmed, Copy_synced, Asks_page}
 use Rattle.law_steps.specs.DidHolder.{Turns_page, Begins_copy, Goes_on_copying, Finds_it_full, Tidies, first_copy}
 use Rattle.law_steps.specs.DidOther.{DidOther, first_last, TrimStep, Is_trimmed, Drops_entry, Is_copied_to, Goes_on_trimming, Puts_entry}
@@ -16,8 +16,6 @@ use Rattle.law_steps.specs.Did.{Did, Ignores, Refuses, By_read, By_lead, By_seco
 use Rattle.law_steps.specs.RestingCopies.{AreResting, CopyRests, LastRests}
 use Rattle.law_steps.proofs.OperationsRest.{same_cell_or_apart}
 use Rattle.law_steps.proofs.Subjects.{of_filler, of_lead, of_read, of_second, of_sweep}
-use Rattle.law_state.proofs.ListLookups.{in_filter}
-use Rattle.law_state.proofs.MembershipChanges.{linked_at}
 use Rattle.busy_marks.specs.declared.marks.MarkKind.TheVariants as mark
 
 -- ### What is left of it

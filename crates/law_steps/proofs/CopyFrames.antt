@@ -1,8 +1,9 @@
 -- What a job of copies leaves as it is: what the server remembers of writes, but that its numbers go on; and it speaks of copies alone.
 use Rattle.law_steps.proofs.Imports.{◌∙◌, ◌≡◌, ◌≤◌, Body, Cell, Copied, Copying, In, JobContext, JobResult, LastCopy, Letter, LinkRow, None, Option}
 use Rattle.law_steps.proofs.Imports.{PairState, Pairs, Post, Progress, Some, above, ap, arith, begins_copy, by_test, caught_put, cell_cmp, cell_cmp_total}
-use Rattle.law_steps.proofs.Imports.{cell_link, cell_of, chain_in, epochs_of, key_at, page_wanted, progress_on, refl, subject_of, subst, sym, true}
-use Rattle.law_steps.proofs.Imports.{with_copied, with_last_copy, with_page, with_progress, without_copying, ℕ}
+use Rattle.law_steps.proofs.Imports.{cell_link, cell_of, chain_in, epochs_of, key_at, mends_only, no_letter, no_posts, only_mend, only_stage, page_wanted}
+use Rattle.law_steps.proofs.Imports.{progress_on, refl, subject_of, subst, sym, true, with_copied, with_last_copy, with_page, with_progress, without_copying}
+use Rattle.law_steps.proofs.Imports.{ℕ}
 use Rattle.law_steps.specs.Ready.{IsRising}
 use Rattle.law_steps.proofs.TablesOfPuts.{put_rises, without_rises}
 use Rattle.law_steps.specs.DidHolder.{DidHolder, CopyStep, Asks_to_trim, Sends, Unmarks_copied, Closes_copy, TakenCopy, Copy_as_is, Copy_trimmed, Copy_synced}
@@ -10,9 +11,6 @@ use Rattle.law_steps.specs.DidHolder.{Asks_page, Turns_page, Begins_copy, Goes_o
 use Rattle.law_steps.specs.DidOther.{OtherReply, Replies, DidOther, first_last, TrimStep, Is_trimmed, Drops_entry, Answers_page, Is_copied_to}
 use Rattle.law_steps.specs.DidOther.{Goes_on_trimming, Puts_entry}
 use Rattle.law_steps.proofs.Letters.{posted}
-use Rattle.law_log.proofs.ScheduleTurns.{no_letter, no_posts}
-use Rattle.law_log.proofs.PairJobsLeaveLog.{only_stage}
-use Rattle.law_log.proofs.CopyJobsLeaveLog.{only_mend, mends_only}
 use Rattle.petal_msg.specs.declared.body.Body.TheVariants as body
 use Rattle.spec_rules.specs.declared.job.Job.TheVariants as job
 

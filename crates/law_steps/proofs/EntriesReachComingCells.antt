@@ -1,10 +1,10 @@
 -- Each step keeps it that entries move to cells whose region is on its way.
 use Rattle.law_steps.proofs.Imports.{[], ◌==◌, ◌||◌, ◌∙◌, ◌∷◌, ◌≡◌, Acted, AreStepsFrom, Blank, Body, Cell, Command, Filling, Firm, In, IsPrefix, JobResult}
 use Rattle.law_steps.proofs.Imports.{Key, Letter, List, Log, PairState, Pairs, Pending, Post, Record, Script, Sender, Server, Setting, Some, State, Step}
-use Rattle.law_steps.proofs.Imports.{Subject, World, all_put, ap, at, at-empty, blanked, cell_cmp, cell_of, chosen_log, chosen_state, coming, crossed}
-use Rattle.law_steps.proofs.Imports.{down_posts, false, filter, in-append, inl, inr, is_asked, is_clients, is_logged, length, letters_of, log_rev, none_some}
-use Rattle.law_steps.proofs.Imports.{not, range_with_len, refl, said_to_all, sender, setting_of, settling, stamped, start, state_after, stays, stepped}
-use Rattle.law_steps.proofs.Imports.{subject_of, subst, sym, true, true_false, world_after, ℕ}
+use Rattle.law_steps.proofs.Imports.{Subject, World, all_put, ap, at, at-empty, below_itself, blanked, cell_cmp, cell_of, chosen_log, chosen_state, coming}
+use Rattle.law_steps.proofs.Imports.{crossed, down_posts, false, filter, front_on, in-append, inl, inr, is_asked, is_clients, is_logged, length, letters_of}
+use Rattle.law_steps.proofs.Imports.{log_rev, none_some, not, range_with_len, refl, said_to_all, sender, setting_of, settling, stamped, start, state_after}
+use Rattle.law_steps.proofs.Imports.{stays, stepped, subject_of, subst, sym, true, true_false, world_after, ℕ}
 use Rattle.spec_rules.specs.World.{acts}
 use Rattle.law_steps.specs.ComingCells.{AreComing, WasComing}
 use Rattle.law_steps.specs.DidLead.{IsNextFill}
@@ -14,7 +14,6 @@ use Rattle.law_steps.specs.Ready.{AreFirm, Rests}
 use Rattle.law_steps.proofs.MovesAreOfComingCells.{next_comes}
 use Rattle.law_steps.proofs.FillsByJobs.{Stood, Writes, Fills, SaysFill, Is_other, Is_next, did_come, did_fills, is_fill, is_filling, logged_said}
 use Rattle.law_steps.proofs.FillsByJobs.{other_subject}
-use Rattle.law_state.proofs.Fronts.{below_itself, front_on}
 use Rattle.law_steps.proofs.KindsInHistories.{firm_now, happens, own_plain, proposed_pairs, rests_next}
 use Rattle.law_steps.proofs.Letters.{said}
 use Rattle.law_steps.proofs.ClientLetters.{is_ask, turned_asks}

@@ -2,7 +2,7 @@
 use Rattle.law_steps.proofs.Imports.{◌==◌, ◌≡◌, Actor, Body, Cell, IsSteady, Job, JobContext, JobResult, Letter, None, Option, PairState, Pending, Some}
 use Rattle.law_steps.proofs.Imports.{at_other_rev, by_test, cell_of, copies_on, copying_on, does, goes_on, handles, has_proposed, is_from_in, is_in}
 use Rattle.law_steps.proofs.Imports.{is_second, is_some, not, on_pair_full, on_replicate, on_replicated, on_reserve, on_reserved, pending_on, refl}
-use Rattle.law_steps.proofs.Imports.{same_numbers, true, wrong_rev, ℕ}
+use Rattle.law_steps.proofs.Imports.{same_numbers, true, was_true, wrong_rev, ℕ}
 use Rattle.law_steps.specs.Operations.{IsStaged}
 use Rattle.law_steps.specs.Did.{Did, Ignores, Refuses}
 use Rattle.law_steps.proofs.InvertRead.{did_read}
@@ -12,7 +12,6 @@ use Rattle.law_steps.proofs.InvertSweep.{did_sweeps}
 use Rattle.law_steps.proofs.InvertSecond.{did_reserve, did_replicate}
 use Rattle.law_steps.proofs.InvertHolder.{did_copies, did_mends, did_hello, did_trimmed, did_synced, did_sync_full}
 use Rattle.law_steps.proofs.InvertOther.{did_hello_ask, did_trim, did_trims, did_sync}
-use Rattle.law_state.proofs.TestFacts.{was_true}
 use Rattle.petal_msg.specs.declared.body.Body.TheVariants as body
 use Rattle.petal_msg.specs.declared.letter.Actor.TheVariants as actor
 use Rattle.spec_rules.specs.declared.job.Job.TheVariants as job

@@ -3,14 +3,13 @@ use Rattle.law_steps.proofs.Imports.{◌&&◌, ◌+◌, ◌<◌, ◌==◌, ◌�
 use Rattle.law_steps.proofs.Imports.{LinkRow, LinkState, Lost, MarkKind, NextCopy, None, Nothing, Only, Option, PairState, Some, State, Wait, arith}
 use Rattle.law_steps.proofs.Imports.{begins_copy, blocks_left, both_true, by_test, catches_up, cell_at, cell_same, chain_in, clears_old_marks, copies_on}
 use Rattle.law_steps.proofs.Imports.{copies_with, copy_acts, copy_stage, copying_on, false, get_within, goes_for, hears_hello, hears_page, hears_sync_full}
-use Rattle.law_steps.proofs.Imports.{hears_synced, hears_trimmed, idle_mark, is_link_under_way, is_syncing, is_under_way, least, length, link_named}
+use Rattle.law_steps.proofs.Imports.{hears_synced, hears_trimmed, idle_mark, is_link_under_way, is_syncing, is_under_way, least, length, less_by, link_named}
 use Rattle.law_steps.proofs.Imports.{mark_left, mends_found, nat_lt, nat_tests, next_block, next_copy, not, not_true, on_hello, on_sync_full, on_synced}
 use Rattle.law_steps.proofs.Imports.{on_trimmed, option_map_or, other_in, progress_on, refl, repairs, repairs_row, same_block, same_numbers, sends_entry}
-use Rattle.law_steps.proofs.Imports.{subst, sym, takes_mark, true, with_copying, ℕ}
+use Rattle.law_steps.proofs.Imports.{subst, sym, takes_mark, true, was_true, with_copying, ℕ}
 use Rattle.law_steps.specs.Did.{Did, Ignores, By_holder}
 use Rattle.law_steps.specs.DidHolder.{CopyStep, Asks_to_trim, Sends, Unmarks_copied, Closes_copy, IsHeldWith, IsSynced, first_copy, Copy_as_is, Copy_trimmed}
 use Rattle.law_steps.specs.DidHolder.{Copy_synced, Asks_page, Turns_page, Begins_copy, Goes_on_copying, Finds_it_full, Tidies}
-use Rattle.law_state.proofs.TestFacts.{less_by, was_true}
 use Rattle.petal_msg.specs.declared.body.Body.TheVariants as body
 use Rattle.petal_msg.specs.declared.copying.CopyAction.TheVariants as copy_action
 

@@ -2,12 +2,12 @@
 use Rattle.law_steps.proofs.Imports.{if◌then◌else◌, ◌&&◌, ◌+◌, ◌<◌, ◌==◌, ◌||◌, ◌∙◌, ◌≡◌, ◌≤◌, Again, Body, Bool, Cell, Copy, Finished, In, IsSteady}
 use Rattle.law_steps.proofs.Imports.{JobContext, JobResult, Moving, Newer, None, Older, Option, PairState, Pending, Post, Some, Stage, Wanted, acts}
 use Rattle.law_steps.proofs.Imports.{alone_action, ap, arith, at, both_action, both_true, by_bool, by_test, cell_of, cell_same, chain_in, copying_on}
-use Rattle.law_steps.proofs.Imports.{either_false, false, fill_operation, free_of, goes_on, goes_on_with, has_epoch, has_proposed, hears_fill}
+use Rattle.law_steps.proofs.Imports.{either_false, either_of, false, fill_operation, free_of, goes_on, goes_on_with, has_epoch, has_proposed, hears_fill}
 use Rattle.law_steps.proofs.Imports.{hears_pair_full, hears_replicated, hears_reserved, held, in_both, is_in, is_kept_back, is_lead, is_pending_for}
 use Rattle.law_steps.proofs.Imports.{is_replicating, is_reserving, is_some, is_under_way, is_writes_held, leads_link, live, nat_cmp, nat_lt, nat_tests}
-use Rattle.law_steps.proofs.Imports.{next_stage, not, not_true, on_fill, on_write, only, opened, opens, opens_fill, operation, pending_on, post_to, refl}
-use Rattle.law_steps.proofs.Imports.{said, same_numbers, says, second, standing, subst, sym, takes, takes_newer, true, true_false, with_opened, with_paired}
-use Rattle.law_steps.proofs.Imports.{with_pending, with_reserved, ℕ}
+use Rattle.law_steps.proofs.Imports.{next_stage, none_of, not, not_true, on_fill, on_write, only, opened, opens, opens_fill, operation, pending_on, post_to}
+use Rattle.law_steps.proofs.Imports.{refl, said, same_numbers, says, second, standing, subst, sym, takes, takes_newer, true, true_false, was_true}
+use Rattle.law_steps.proofs.Imports.{with_opened, with_paired, with_pending, with_reserved, ℕ}
 use Rattle.law_steps.specs.Operations.{IsStaged, AtRest, Waiting, Putting, Copying, Answering, waiting, putting, copying, answering, done_to}
 use Rattle.law_steps.specs.DidLead.{Asks_for, Repeats, Is_full, Opens, Marks, Puts, Gives_up, Unmarks, Closes, Opens_alone, Marks_alone, Puts_alone}
 use Rattle.law_steps.specs.DidLead.{Unmarks_alone, Closes_alone, Opens_fill, Opens_fill_alone, Has_fill, Has_no_room, Goes_on_retired, Asks, A_slot, A_copy}
@@ -15,9 +15,6 @@ use Rattle.law_steps.specs.DidLead.{IsNew, IsNewFill, Taken, As_it_is, As_told, 
 use Rattle.law_steps.specs.Did.{Did, Ignores, Refuses, For_a_write, By_copy_for_a_write, A_write, By_lead}
 use Rattle.law_steps.proofs.BusyLetters.{busy_not_held, busy_seq, held_not_busy, held_seq}
 use Rattle.law_steps.proofs.WhoLeads.{lead_links, link_alone}
-use Rattle.law_state.proofs.TestFacts.{was_true}
-use Rattle.law_state.proofs.SnapsQueueFences.{none_of}
-use Rattle.law_state.proofs.Owners.{either_of}
 use Rattle.petal_msg.specs.declared.body.Body.TheVariants as body
 use Rattle.petal_msg.specs.declared.letter.Actor.TheVariants as actor
 use Rattle.petal_msg.specs.declared.operation.Action.TheVariants as action

@@ -1,14 +1,13 @@
 -- What a server does so that a link is brought up to date is one of the kinds that the relation names: the other server's part.
 use Rattle.law_steps.proofs.Imports.{[], ◌<◌, ◌==◌, ◌∙◌, ◌∷◌, ◌≡◌, Body, Bool, Cell, Entry, JobContext, JobResult, LastCopy, LinkId, LinkRow, List, None}
 use Rattle.law_steps.proofs.Imports.{Option, PairState, Some, answers_page, arith, by_test, cell_holder, cell_of, cell_same, epochs_beyond, false, free_of}
-use Rattle.law_steps.proofs.Imports.{hears_entry, hears_sync, hears_trim, hears_trim_of, last_copy, link_named, nat_lt, nat_tests, none_some, on_hello_ask}
-use Rattle.law_steps.proofs.Imports.{on_sync, on_trim, puts_entry, refl, same_numbers, same_some, subst, sym, trims_again, trims_first, trims_for}
-use Rattle.law_steps.proofs.Imports.{trims_newly, trims_on, true, with_last_copy, ℕ}
+use Rattle.law_steps.proofs.Imports.{hears_entry, hears_sync, hears_trim, hears_trim_of, last_copy, less_by, link_named, nat_lt, nat_tests, none_some}
+use Rattle.law_steps.proofs.Imports.{on_hello_ask, on_sync, on_trim, puts_entry, refl, same_numbers, same_some, subst, sym, trims_again, trims_first}
+use Rattle.law_steps.proofs.Imports.{trims_for, trims_newly, trims_on, true, with_last_copy, ℕ}
 use Rattle.law_steps.specs.Did.{Did, Ignores, By_other}
 use Rattle.law_steps.specs.DidOther.{Replies, TrimStep, Is_trimmed, Drops_entry, IsOfCopy, first_last, Answers_page, Is_copied_to, Goes_on_trimming}
 use Rattle.law_steps.specs.DidOther.{Puts_entry, Has_entry, Has_no_slot}
 use Rattle.law_steps.proofs.InvertLead.{no_free}
-use Rattle.law_state.proofs.TestFacts.{less_by}
 use Rattle.petal_msg.specs.declared.body.Body.TheVariants as body
 
 newer_copy : (last number : ℕ) → nat_lt number last ≡ false → (number == last) ≡ false → last < number

@@ -1,7 +1,8 @@
 -- What a second server does for a write is one of the kinds that the relation names.
-use Rattle.law_steps.proofs.Imports.{◌+◌, ◌<◌, ◌==◌, ◌∙◌, ◌≡◌, ◌≤◌, Body, Bool, Cell, FollowProgress, JobContext, JobResult, Key, LastOp, List, None, Option, PairState}
-use Rattle.law_steps.proofs.Imports.{Some, ap, arith, by_test, cell_of, false, follows_once, free_of, has_slot, hears_replicate, hears_reserve, is_second}
-use Rattle.law_steps.proofs.Imports.{last_on, nat_lt, nat_tests, none_some, refl, reserves, same_numbers, same_some, subst, sym, true, true_false, ℕ}
+use Rattle.law_steps.proofs.Imports.{◌+◌, ◌<◌, ◌==◌, ◌∙◌, ◌≡◌, ◌≤◌, Body, Bool, Cell, FollowProgress, JobContext, JobResult, Key, LastOp, List, None, Option}
+use Rattle.law_steps.proofs.Imports.{PairState, Some, ap, arith, by_test, cell_of, false, follows_once, free_of, has_slot, hears_replicate, hears_reserve}
+use Rattle.law_steps.proofs.Imports.{is_second, last_on, nat_lt, nat_tests, none_some, refl, reserves, same_numbers, same_some, subst, sym, true, true_false}
+use Rattle.law_steps.proofs.Imports.{ℕ}
 use Rattle.law_steps.specs.Operations.{progress}
 use Rattle.law_steps.specs.DidSecond.{Sets_apart, Promises, Declines, Follows}
 use Rattle.law_steps.specs.Did.{Did, Ignores, By_second}

@@ -1,7 +1,7 @@
 -- What a server drops of cells that are no longer live is what the relation names.
-use Rattle.law_steps.proofs.Imports.{[], ◌∷◌, ◌≡◌, Body, Cell, Chain, Retired, JobContext, List, Mark, None, Option, PairState, Some, State, Store, by_test}
-use Rattle.law_steps.proofs.Imports.{retired_in, retired_key, retired_mark, false, is_in, live, next_retired, none_some, refl, same_some, subst, sweeps, sweeps_with}
-use Rattle.law_steps.proofs.Imports.{true}
+use Rattle.law_steps.proofs.Imports.{[], ◌∷◌, ◌≡◌, Body, Cell, Chain, JobContext, List, Mark, None, Option, PairState, Retired, Some, State, Store, by_test}
+use Rattle.law_steps.proofs.Imports.{false, is_in, live, next_retired, none_some, refl, retired_in, retired_key, retired_mark, same_some, subst, sweeps}
+use Rattle.law_steps.proofs.Imports.{sweeps_with, true}
 use Rattle.law_steps.specs.Did.{Did, Ignores, By_sweep}
 use Rattle.law_steps.specs.DidSweep.{Sweeps, cell_swept}
 use Rattle.petal_msg.specs.declared.retired.Retired.TheVariants as retired

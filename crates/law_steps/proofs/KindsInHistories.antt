@@ -1,11 +1,11 @@
 -- Each step that is allowed is of one of the kinds that the relation names, and what each kind keeps holds after every history.
 use Rattle.law_steps.proofs.Imports.{[], ◌++◌, ◌<◌, ◌∙◌, ◌∷◌, ◌≡◌, Acted, Actor, AreSteps, AreStepsFrom, Blank, Cell, Client, Firm, Follows, Grows}
 use Rattle.law_steps.proofs.Imports.{HasProperTuples, In, IsBelow, IsPrefix, JobResult, List, Log, MayActor, MayServer, PairState, Pairs, Pending, Record}
-use Rattle.law_steps.proofs.Imports.{Script, Server, Setting, Some, State, Step, World, all_put, ap, append_assoc, arith, at, at-empty, awake, blanked}
-use Rattle.law_steps.proofs.Imports.{by_settled, cell_cmp, chosen_log, chosen_state, client_state, client_step, clock_of, crossed, false, front_plain}
-use Rattle.law_steps.proofs.Imports.{has_proposed, in_later, inl, inr, is_in, log_below, next_line, none_some, proposed, put_same, raised, reacts, received}
-use Rattle.law_steps.proofs.Imports.{refl, server_state, server_step, setting_of, settled_by, settling, start, state_after, state_in, stays, step, stepped}
-use Rattle.law_steps.proofs.Imports.{subst, sym, true, true_false, wakes, world_after, ℕ}
+use Rattle.law_steps.proofs.Imports.{Script, Server, Setting, Some, State, Step, World, all_put, ap, append_assoc, arith, at, at-empty, awake, below_on}
+use Rattle.law_steps.proofs.Imports.{blanked, by_settled, cell_cmp, chosen_log, chosen_state, client_state, client_step, clock_of, crossed, false}
+use Rattle.law_steps.proofs.Imports.{front_plain, has_proposed, in_later, inl, inr, is_in, latter, log_below, next_line, none_some, proposed, put_same}
+use Rattle.law_steps.proofs.Imports.{raised, reacts, received, refl, server_state, server_step, setting_of, settled_by, settling, start, state_after}
+use Rattle.law_steps.proofs.Imports.{state_in, stays, step, stepped, steps_begin, subst, sym, true, true_false, wakes, world_after, world_joins, ℕ}
 use Rattle.spec_rules.specs.World.{acts}
 use Rattle.law_steps.specs.DidStep.{Handled, AreQueued, Worked, By_job, By_ballot, By_entry, Serving, Goes, Ends, Stays, Wakes, Fails, served_so, stopped_so}
 use Rattle.law_steps.specs.DidStep.{shown_so, own_place, Happens, Serves, Blanks, Turns}
@@ -13,7 +13,6 @@ use Rattle.law_steps.specs.Ready.{IsReady, IsRising, Ready, Rests, AreFirm}
 use Rattle.law_steps.proofs.Subjects.{copies_rise, unheld_stays}
 use Rattle.law_steps.proofs.TablesOfPuts.{rising_filter}
 use Rattle.law_steps.proofs.WhoLeads.{led_by_link, live_stage, stage_live}
-use Rattle.law_state.proofs.Fronts.{below_on}
 use Rattle.law_steps.specs.RestingCopies.{AreResting}
 use Rattle.law_steps.proofs.CopiesRest.{ballot_rests, did_rests, resting_equal}
 use Rattle.law_steps.proofs.RestAfterEntries.{log_rests, none_rest}
@@ -22,8 +21,6 @@ use Rattle.law_steps.proofs.ServerStepKinds.{is_blank, server_serves}
 use Rattle.law_steps.proofs.OperationsRest.{did_ready}
 use Rattle.law_steps.proofs.ClientStepKinds.{is_call, client_turns}
 use Rattle.law_steps.proofs.OneWorld.{past_max, queues_later, ready_held, not_retired, proposed_copies, ready_at}
-use Rattle.law_log.proofs.LogInHistories.{latter, world_joins}
-use Rattle.spec_history.proofs.Onwards.{steps_begin}
 use Rattle.petal_msg.specs.declared.letter.Actor.TheVariants as actor
 pub use Rattle.law_steps.proofs.OneWorld.{own_plain, own_steady, chosen_steady, own_below, runs_at, runs_now, ready_chosen, chosen_below, proposed_pairs}
 

@@ -2,15 +2,14 @@
 -- operation at the letter's revision.
 use Rattle.law_steps.proofs.Imports.{[], ◌&&◌, ◌==◌, ◌∙◌, ◌∷◌, ◌≡◌, Bool, Cell, Chain, Command, DiskRow, HasProperTuples, HasStage, In, JobContext, Key}
 use Rattle.law_steps.proofs.Imports.{LinkRow, List, Move, None, Option, PairState, Post, Some, State, ap, at, both_true, by_test, cell_link, cell_of}
-use Rattle.law_steps.proofs.Imports.{comes_before, comes_next, coming, earlier, false, filter, first_key, found_at, has_stage, id_of, inl, inr, is_fenced}
-use Rattle.law_steps.proofs.Imports.{is_link, is_on, is_the, kept_among, key_at, keys_in, keys_of, leaving, link_cmp, log_plain, map, move_region, mover}
-use Rattle.law_steps.proofs.Imports.{next_fill, none_some, not_noted, noted, number_itself, option_and_then, option_map_or, range_with_len, refl}
+use Rattle.law_steps.proofs.Imports.{comes_before, comes_next, coming, earlier, false, filter, first_key, found_at, has_stage, id_of, in_filter, inl, inr}
+use Rattle.law_steps.proofs.Imports.{is_fenced, is_link, is_on, is_the, kept_among, key_at, keys_in, keys_of, leaving, link_cmp, log_plain, map, move_region}
+use Rattle.law_steps.proofs.Imports.{mover, next_fill, none_some, not_noted, noted, number_itself, option_and_then, option_map_or, range_with_len, refl}
 use Rattle.law_steps.proofs.Imports.{region_leaving, region_of, region_on_way, region_to_move, row_lead, same_numbers, same_some, stage_at, state_after}
 use Rattle.law_steps.proofs.Imports.{subst, sym, target, true, true_false, ℕ}
 use Rattle.law_steps.specs.DidLead.{IsNextFill}
 use Rattle.law_steps.proofs.CopiesRest.{on_row, row_named}
 use Rattle.law_steps.proofs.TicksAskAgain.{in_flat_map}
-use Rattle.law_state.proofs.ListLookups.{in_filter}
 
 -- ### The next key of a link
 

@@ -2,17 +2,15 @@
 use Rattle.law_steps.proofs.Imports.{[], ◌++◌, ◌+◌, ◌<◌, ◌∙◌, ◌∷◌, ◌≡◌, ◌≤◌, Bool, Caught, Cell, Command, Firm, HasDied, HasLater, HasProperTuples}
 use Rattle.law_steps.proofs.Imports.{HasStarted, In, IsBelow, IsCaughtStill, IsHeldBy, IsPrefix, IsSteady, Job, Letter, LinkRow, List, None, Only, Option}
 use Rattle.law_steps.proofs.Imports.{PairState, Pending, Setting, Some, State, Table, World, alone_not_both, alone_row, ap, arith, at, between, by_bool}
-use Rattle.law_steps.proofs.Imports.{cell_cmp, cell_link, chosen_log, chosen_state, false, front_plain, has_proposed, holder_is_one, holds_link}
-use Rattle.law_steps.proofs.Imports.{id_of, in_both, in_once, in_up, inl, inr, is_alone_on, is_in, leads_link, length, link_named, live, log_alone, log_below}
-use Rattle.law_steps.proofs.Imports.{log_roles, log_steady, max, number_itself, other_of, proposed, refl, server_state, serves, so_alone, so_both, stage_at}
-use Rattle.law_steps.proofs.Imports.{state_after, subst, sym, true, true_false, ℕ}
+use Rattle.law_steps.proofs.Imports.{cell_cmp, cell_link, chosen_log, chosen_state, false, front_itself, front_long, front_more, front_on, front_plain}
+use Rattle.law_steps.proofs.Imports.{has_proposed, holder_is_one, holds_link, id_of, in_both, in_once, in_up, inl, inr, is_alone_on, is_in, leads_link}
+use Rattle.law_steps.proofs.Imports.{length, link_named, live, log_alone, log_below, log_roles, log_steady, max, number_itself, other_of, proposed, refl}
+use Rattle.law_steps.proofs.Imports.{same_only, server_state, serves, so_alone, so_both, stage_at, state_after, subst, sym, true, true_false, ℕ}
 use Rattle.law_steps.specs.DidStep.{AreQueued}
 use Rattle.law_steps.specs.Ready.{IsReady, Rests}
 use Rattle.law_steps.specs.Operations.{AtRest}
 use Rattle.law_steps.proofs.WhoLeads.{link_alone, live_stage, stage_live}
-use Rattle.law_state.proofs.Fronts.{front_itself, front_long, front_more, front_on}
 use Rattle.law_steps.proofs.HeldBackForCaughts.{held_as_flag}
-use Rattle.law_state.proofs.TestFacts.{same_only}
 
 pub past_max : (clock got stamp : ℕ) → max clock got + 1 ≤ stamp → clock < stamp
 past_max clock got stamp h = omega arith

@@ -2,13 +2,12 @@
 use Rattle.law_steps.proofs.Imports.{[], if◌then◌else◌, ◌&&◌, ◌++◌, ◌==◌, ◌||◌, ◌∙◌, ◌∷◌, ◌≡◌, ◌≤◌, Bool, Cell, Command, Copies, HasProperTuple}
 use Rattle.law_steps.proofs.Imports.{HasProperTuples, In, IsSettledState, LinkRow, List, None, Option, PairState, Some, State, StaysSo, Table, after, ap}
 use Rattle.law_steps.proofs.Imports.{arith, at, at-empty, at-where, both_true, by_bool, by_test, cell_cmp, cell_cmp_same, cell_link, cond, crossed, dies}
-use Rattle.law_steps.proofs.Imports.{either_false, ends_cell, ends_link, entry_stays, false, filter, fold-append, id_of, in_former, in_later, in_up, inc_of}
-use Rattle.law_steps.proofs.Imports.{inl, inr, is_alone, is_eq, is_none, is_up, link_cmp, live, log_below, log_plain, no_copies, no_progress, none_some, not}
-use Rattle.law_steps.proofs.Imports.{option_map_or, other_in, other_of, refl, same_id, same_some, stage_at, stage_most, state_after, subst, sym, touches}
-use Rattle.law_steps.proofs.Imports.{touches_cell, true, true_false, unwrap_or, up_some, ℕ}
+use Rattle.law_steps.proofs.Imports.{either_false, ends_cell, ends_link, entry_stays, false, filter, fold-append, front_more, id_of, in_former, in_later}
+use Rattle.law_steps.proofs.Imports.{in_up, inc_of, inl, inr, is_alone, is_eq, is_none, is_up, link_cmp, live, log_below, log_plain, no_copies, no_progress}
+use Rattle.law_steps.proofs.Imports.{none_some, not, option_map_or, other_in, other_of, refl, same_id, same_some, stage_at, stage_most, state_after, subst}
+use Rattle.law_steps.proofs.Imports.{sym, touches, touches_cell, true, true_false, unwrap_or, up_some, ℕ}
 use Rattle.spec_state.specs.State.{start}
 use Rattle.law_steps.specs.RestingCopies.{AreResting}
-use Rattle.law_state.proofs.Fronts.{front_more}
 use Rattle.law_steps.proofs.WhoLeads.{live_stage}
 use Rattle.law_steps.proofs.CopiesRest.{row_named}
 

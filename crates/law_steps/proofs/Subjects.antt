@@ -1,7 +1,7 @@
 -- What a job of each subject leaves as it is: a law that does not speak of the subject goes by this alone.
-use Rattle.law_steps.proofs.Imports.{[], ◌∙◌, ◌≡◌, ◌⊎◌, Action, Body, Cell, Copies, Ending, FollowProgress, Filling, Full, In, Job, JobContext, JobResult, Letter}
-use Rattle.law_steps.proofs.Imports.{LinkRow, List, None, OpKind, Option, PairState, Paired, Pending, Post, Some, State, Written, acts, ap, at, by_test}
-use Rattle.law_steps.proofs.Imports.{cell_cmp, cell_link, ends, false, gives_back, has_proposed, id_of, inl, inr, link_cmp, next_stage, no_progress}
+use Rattle.law_steps.proofs.Imports.{[], ◌∙◌, ◌≡◌, ◌⊎◌, Action, Body, Cell, Copies, Ending, Filling, FollowProgress, Full, In, Job, JobContext, JobResult}
+use Rattle.law_steps.proofs.Imports.{Letter, LinkRow, List, None, OpKind, Option, PairState, Paired, Pending, Post, Some, State, Written, acts, ap, at}
+use Rattle.law_steps.proofs.Imports.{by_test, cell_cmp, cell_link, ends, false, gives_back, has_proposed, id_of, inl, inr, link_cmp, next_stage, no_progress}
 use Rattle.law_steps.proofs.Imports.{option_map_or, progress_on, refl, subject_of, subst, sym, tells, unwrap_or, without_pending, ℕ}
 use Rattle.law_steps.specs.Ready.{IsRising}
 use Rattle.law_steps.specs.DidRead.{DidRead, Not_here, Shows}

@@ -1,9 +1,8 @@
 -- Rows of a table that was made by puts: each row is what stands at its key.
 use Rattle.law_steps.proofs.Imports.{[], ◌∙◌, ◌∷◌, ◌≡◌, ◌⊎◌, Bool, Equal, Greater, In, IsTotalOrder, Less, Ordering, Some, Table, ap, at, cond, false, filter}
-use Rattle.law_steps.proofs.Imports.{inl, inr, insert_entry, is_at, is_eq, lookup, match_ordering, ordering_reverse, put, refl, subst, sym, tied_itself, true}
-use Rattle.law_steps.proofs.Imports.{without}
+use Rattle.law_steps.proofs.Imports.{in_filter, inl, inr, insert_entry, is_at, is_eq, lookup, match_ordering, ordering_reverse, put, refl, subst, sym}
+use Rattle.law_steps.proofs.Imports.{tied_itself, true, without}
 use Rattle.law_steps.specs.Ready.{IsRising}
-use Rattle.law_state.proofs.ListLookups.{in_filter}
 
 -- a row of this key stands in the table
 abbrev HasKey : {K X : Type 0} → Table K X → K → Type 0

@@ -5,7 +5,7 @@ use Rattle.law_steps.proofs.Imports.{chain_in, copies_again, copy_awaited, copy_
 use Rattle.law_steps.proofs.Imports.{flat_map, has_proposed, in-append, in_both, inl, inr, is_in, key_at, leads_link, length, live, mark_left, nat_lt}
 use Rattle.law_steps.proofs.Imports.{next_copy, next_stage, not, not_true, only, option_map_or, other_in, page_asked, page_for, page_posts, pending_on}
 use Rattle.law_steps.proofs.Imports.{post_to, refl, second, sends_entry, sent_again, slice_get, subject_of, subst, sym, tick_posts, true, true_false}
-use Rattle.law_steps.proofs.Imports.{voter_of, ℕ}
+use Rattle.law_steps.proofs.Imports.{voter_of, was_true, ℕ}
 use Rattle.law_steps.specs.Operations.{IsStaged, Waiting, Putting, Copying, Answering, waiting, putting, copying, answering}
 use Rattle.law_steps.specs.DidLead.{Asks, A_trim, A_copied_entry, A_page, An_entry_to_move, Of_the_log, other_on}
 use Rattle.law_steps.specs.DidStep.{IsSeatedOrMute, is_between}
@@ -18,7 +18,6 @@ use Rattle.law_steps.proofs.InvertLead.{asks_slot, asks_copy, both_next, alone_n
 use Rattle.law_steps.proofs.WhoLeads.{retired_second}
 use Rattle.law_steps.proofs.LogJobs.{ballot_logged, ask_logged}
 use Rattle.law_steps.proofs.IdleServers.{logged_apart}
-use Rattle.law_state.proofs.TestFacts.{was_true}
 use Rattle.petal_msg.specs.declared.body.Body.TheVariants as body
 use Rattle.petal_msg.specs.declared.copying.CopyAction.TheVariants as copy_action
 use Rattle.petal_msg.specs.declared.operation.Action.TheVariants as action

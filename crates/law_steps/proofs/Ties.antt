@@ -1,13 +1,12 @@
 -- What ties a server that runs to what is chosen: a Caught of its own stands at most after its last entry.
 use Rattle.law_steps.proofs.Imports.{[], ◌++◌, ◌<◌, ◌∙◌, ◌∷◌, ◌≡◌, Bool, Both, ByBoth, ByNone, ByOne, Cell, Command, Firm, HasLater, HasStarted, IsCaughtIn}
-use Rattle.law_steps.proofs.Imports.{IsPrefix, LinkRow, List, Only, Setting, Some, State, StaysSo, World, ap, arith, cell_link, chosen_log, front_plain}
-use Rattle.law_steps.proofs.Imports.{has_proposed, has_server, id_of, in_once, inl, inr, is_alone_on, is_in, length, log_below, log_both, log_steady}
-use Rattle.law_steps.proofs.Imports.{none_some, other_of, places_from, same_numbers, same_place, same_some, server_state, serves, so_alone, stage_at}
-use Rattle.law_steps.proofs.Imports.{state_after, subst, sym, true, true_false, ℕ}
+use Rattle.law_steps.proofs.Imports.{IsPrefix, LinkRow, List, Only, Setting, Some, State, StaysSo, World, ap, arith, cell_link, chosen_log, front_long}
+use Rattle.law_steps.proofs.Imports.{front_more, front_on, front_plain, has_proposed, has_server, id_of, in_once, inl, inr, is_alone_on, is_in, length}
+use Rattle.law_steps.proofs.Imports.{log_below, log_both, log_steady, none_some, one_front, other_of, places_from, same_numbers, same_place, same_some}
+use Rattle.law_steps.proofs.Imports.{server_state, serves, so_alone, stage_at, state_after, subst, sym, true, true_false, ℕ}
 use Rattle.spec_state.specs.State.{start}
 use Rattle.law_state.proofs.GrownStates.{alone_not_both}
 use Rattle.law_steps.specs.Ties.{StaysAloneOrCaught, StaysInBoth}
-use Rattle.law_state.proofs.Fronts.{front_long, front_more, front_on, one_front}
 use Rattle.law_steps.proofs.KindsInHistories.{runs_at}
 use Rattle.law_steps.proofs.HeldBackForCaughts.{held_as_flag}
 

@@ -3,9 +3,8 @@ use Rattle.law_steps.proofs.Imports.{if◌then◌else◌, ◌<◌, ◌==◌, ◌
 use Rattle.law_steps.proofs.Imports.{Option, RegionState, Some, State, ap, arith, by_test, cell_link, false, in_both, is_alone, is_alone_on, is_lead, is_some}
 use Rattle.law_steps.proofs.Imports.{is_the, is_up, leads_link, live, live_new, live_old, live_under, move_region, new_stage, not, old_stage, option_and_then}
 use Rattle.law_steps.proofs.Imports.{option_map, option_map_or, owner, refl, region_of, row_in_both, row_lead, second, stage_at, stage_by, state_lead, true}
-use Rattle.law_steps.proofs.Imports.{true_false, tuple_of, ℕ}
+use Rattle.law_steps.proofs.Imports.{true_false, tuple_of, was_true, ℕ}
 use Rattle.spec_rules.specs.State.{leaving}
-use Rattle.law_state.proofs.TestFacts.{was_true}
 
 -- ### The lead
 

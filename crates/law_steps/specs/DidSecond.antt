@@ -1,6 +1,6 @@
 -- What the second server of a cell may have done for a write, rule by rule, with what was so when it was done.
-use Rattle.law_steps.specs.Imports.{Body, Cell, FollowProgress, JobContext, JobResult, Key, LastOp, PairState, cell_of, first, follows, free_of, is_second, last_on}
-use Rattle.law_steps.specs.Imports.{says_to, tells, with_last}
+use Rattle.law_steps.specs.Imports.{Body, Cell, FollowProgress, JobContext, JobResult, Key, LastOp, PairState, cell_of, first, follows, free_of, is_second}
+use Rattle.law_steps.specs.Imports.{last_on, says_to, tells, with_last}
 use Rattle.std.specs.Prelude.{◌+◌, ◌<◌, ◌≡◌, ◌≤◌, List, Some, true, ℕ}
 use Rattle.law_steps.specs.Operations.{progress}
 use Rattle.petal_msg.specs.declared.body.Body.TheVariants as body

@@ -1,5 +1,5 @@
 -- What a server may have dropped that it kept of cells which are no longer live, with what was so when it was done, by its own state.
-use Rattle.law_steps.specs.Imports.{Cell, Retired, JobContext, JobResult, PairState, cell_of, is_in, live, next_retired, without_retired}
+use Rattle.law_steps.specs.Imports.{Cell, JobContext, JobResult, PairState, Retired, cell_of, is_in, live, next_retired, without_retired}
 use Rattle.std.specs.Prelude.{[], ◌∷◌, ◌≡◌, Some, false, true}
 use Rattle.petal_msg.specs.declared.retired.Retired.TheVariants as retired
 use Rattle.spec_rules.specs.declared.job.Job.TheVariants as job

@@ -20,15 +20,15 @@ pub use Rattle.petal_msg.specs.declared.body.Body.{Body}
 pub use Rattle.petal_msg.specs.declared.copying.Copying.{Copying}
 pub use Rattle.petal_msg.specs.declared.copying.LastCopy.{LastCopy}
 pub use Rattle.petal_msg.specs.declared.copying.NextCopy.TheVariants.{Block, Nothing}
-pub use Rattle.petal_msg.specs.declared.retired.Retired.{Retired}
 pub use Rattle.petal_msg.specs.declared.letter.Actor.{Actor}
 pub use Rattle.petal_msg.specs.declared.letter.Letter.{Letter}
 pub use Rattle.petal_msg.specs.declared.operation.Ending.{Ending}
-pub use Rattle.petal_msg.specs.declared.operation.FollowProgress.{FollowProgress}
 pub use Rattle.petal_msg.specs.declared.operation.Finished.{Finished}
+pub use Rattle.petal_msg.specs.declared.operation.FollowProgress.{FollowProgress}
 pub use Rattle.petal_msg.specs.declared.operation.LastOp.{LastOp}
 pub use Rattle.petal_msg.specs.declared.operation.Pending.{Pending}
 pub use Rattle.petal_msg.specs.declared.operation.Stage.{Stage}
+pub use Rattle.petal_msg.specs.declared.retired.Retired.{Retired}
 pub use Rattle.petal_table.specs.Table.{Table}
 pub use Rattle.script_lines.specs.Pattern.{pattern_block}
 pub use Rattle.script_lines.specs.declared.answer.Answer.{Answer}

@@ -1,5 +1,5 @@
 -- How far an operation is, at its lead and at its second server.
-use Rattle.law_steps.specs.Imports.{Cell, FollowProgress, Finished, LastOp, Pending, Stage, State, cell_of, first_stage, in_both, leads_link, live, stage_at}
+use Rattle.law_steps.specs.Imports.{Cell, Finished, FollowProgress, LastOp, Pending, Stage, State, cell_of, first_stage, in_both, leads_link, live, stage_at}
 use Rattle.std.specs.Prelude.{◌+◌, ◌≡◌, ◌≤◌, Bool, None, Option, Some, false, true, ℕ}
 use Rattle.petal_msg.specs.declared.operation.FollowProgress.TheVariants as follow_progress
 use Rattle.petal_msg.specs.declared.operation.OpKind.TheVariants as kind

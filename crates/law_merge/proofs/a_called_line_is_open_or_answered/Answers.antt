@@ -1,4 +1,4 @@
-use Rattle.spec_rules.specs.World.{setting_of, start}
+use Rattle.law_merge.proofs.Imports.{setting_of, start}
 use Rattle.law_merge.proofs.CalledLines.{called_kept, place_kept}
 use Rattle.law_merge.proofs.a_called_line_is_open_or_answered.Goals as goal
 

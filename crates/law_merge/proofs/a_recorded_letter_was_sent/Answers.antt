@@ -1,4 +1,4 @@
-use Rattle.spec_rules.specs.World.{setting_of, start}
+use Rattle.law_merge.proofs.Imports.{setting_of, start}
 use Rattle.law_merge.proofs.RecordedLetters.{sent_by}
 use Rattle.law_merge.proofs.a_recorded_letter_was_sent.Goals as goal
 

@@ -1,6 +1,4 @@
-use Rattle.std.proofs.Common.{None, refl}
-use Rattle.spec_rules.specs.World.{setting_of, start}
-use Rattle.spec_rules.proofs.Tests.{none_some}
+use Rattle.law_merge.proofs.Imports.{None, none_some, refl, setting_of, start}
 use Rattle.law_merge.proofs.OwnHands.{known}
 use Rattle.law_merge.proofs.a_server_is_free_by_its_own_records.Goals as goal
 

@@ -1,6 +1,4 @@
-use Rattle.std.proofs.Common.{None}
-use Rattle.spec_rules.specs.World.{setting_of, start}
-use Rattle.spec_history.specs.Controls.{no_errand}
+use Rattle.law_merge.proofs.Imports.{None, no_errand, setting_of, start}
 use Rattle.law_merge.specs.OwnLines.{duty_of, lines_at}
 use Rattle.law_merge.proofs.HandsAgree.{held_along, in_hand_first}
 use Rattle.law_merge.proofs.a_servers_own_hand_is_the_operators.Goals as goal

@@ -1,4 +1,4 @@
-use Rattle.spec_rules.specs.World.{setting_of, start}
+use Rattle.law_merge.proofs.Imports.{setting_of, start}
 use Rattle.law_merge.proofs.OwnRecordsMake.{client_made, server_made}
 use Rattle.law_merge.proofs.an_actor_is_what_its_own_records_make.Goals as goal
 

@@ -1,5 +1,4 @@
-use Rattle.spec_rules.specs.World.{setting_of, start}
-use Rattle.spec_history.specs.Controls.{no_errand}
+use Rattle.law_merge.proofs.Imports.{no_errand, setting_of, start}
 use Rattle.law_merge.proofs.RecordsGrow.{joined_more}
 use Rattle.law_merge.proofs.joined_records_grow.Goals as goal
 

@@ -1,7 +1,5 @@
 -- By induction on the list.
-use Rattle.spec_rules.specs.Plans.{unarmed}
-use Rattle.spec_rules.specs.World.{setting_of, start}
-use Rattle.spec_history.specs.Controls.{no_errand}
+use Rattle.law_merge.proofs.Imports.{no_errand, setting_of, start, unarmed}
 use Rattle.law_merge.proofs.OwnPlans.{come_apart}
 use Rattle.law_merge.proofs.OwnStepsFollow.{obey_from, steps_from}
 use Rattle.law_merge.proofs.one_run_is_legal.Goals as goal

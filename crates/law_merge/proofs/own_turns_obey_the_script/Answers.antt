@@ -1,5 +1,4 @@
-use Rattle.spec_rules.specs.World.{setting_of, start}
-use Rattle.spec_history.specs.Controls.{no_errand}
+use Rattle.law_merge.proofs.Imports.{no_errand, setting_of, start}
 use Rattle.law_merge.specs.OwnLines.{duty_of, lines_at}
 use Rattle.law_merge.proofs.OwnTurnsObey.{obey_by_turns, tied_first}
 use Rattle.law_merge.proofs.own_turns_obey_the_script.Goals as goal

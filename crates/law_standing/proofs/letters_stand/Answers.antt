@@ -1,5 +1,4 @@
-use Rattle.spec_paxos.specs.standing.Letters.{Promise, Accepted}
-use Rattle.spec_paxos.specs.standing.Schedule.{begin}
+use Rattle.law_standing.proofs.Imports.{Accepted, Promise, begin}
 use Rattle.law_standing.proofs.StandingSchedulesKeepFacts.{run_sound, begin_sound}
 use Rattle.law_standing.proofs.letters_stand.Goals as goal
 

@@ -1,4 +1,4 @@
-use Rattle.spec_paxos.specs.standing.Schedule.{begin, run}
+use Rattle.law_standing.proofs.Imports.{begin, run}
 use Rattle.law_standing.proofs.StandingSchedulesKeepFacts.{run_sound, begin_sound, one_chosen}
 use Rattle.law_standing.proofs.one_value.Goals as goal
 

@@ -1,7 +1,4 @@
-use Rattle.std.proofs.Common.{refl}
-use Rattle.petal_command.specs.Ballot.{number}
-use Rattle.spec_paxos.specs.Member.{In, put}
-use Rattle.spec_paxos.specs.Proposer.{nobody}
+use Rattle.law_standing.proofs.Imports.{In, nobody, number, put, refl}
 use Rattle.law_standing.proofs.some_value.Goals as goal
 
 pub returns : goal.returns

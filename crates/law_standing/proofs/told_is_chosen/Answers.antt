@@ -1,6 +1,4 @@
-use Rattle.spec_paxos.specs.standing.Letters.{Chosen}
-use Rattle.spec_paxos.specs.standing.Schedule.{begin, run}
-use Rattle.spec_paxos.proofs.standing.Committed.{known_stands}
+use Rattle.law_standing.proofs.Imports.{Chosen, begin, known_stands, run}
 use Rattle.law_standing.proofs.StandingSchedulesKeepFacts.{run_sound, begin_sound}
 use Rattle.law_standing.proofs.told_is_chosen.Goals as goal
 
