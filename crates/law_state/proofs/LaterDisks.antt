@@ -6,7 +6,6 @@ use Rattle.law_state.specs.Tables.{IsGrown, IsLaterDisk, IsSettledState}
 use Rattle.law_state.proofs.Owners.{no_owner}
 use Rattle.law_state.proofs.ListLookups.{found_at, get_in, get_last, get_within, in_get, get_drop}
 use Rattle.law_state.proofs.Steady.{found, unlinked}
-use Rattle.spec_rules.specs.State as rules
 
 -- no disk of the list has the name of one that follows, one after another
 abbrev pub AreFresh : List DiskRow → List DiskRow → Type 0
