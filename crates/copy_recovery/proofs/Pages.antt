@@ -11,7 +11,7 @@ use Rattle.kept_chains.specs.Marking.{IsCommit}
 use Rattle.pair_memory.specs.declared.job_result.JobResult.{JobResult as Left}
 use Rattle.pair_memory.specs.declared.error.WorkError.{WorkError}
 use Rattle.pair_memory.specs.declared.error.WorkError.TheVariants.{Failed, JournalFull, NoMemory}
-use Rattle.pair_memory.specs.JobResult.{HoldsAt, IsDone}
+use Rattle.pair_memory.specs.JobResult.{HoldsAt, IsDone, held}
 use Rattle.pair_memory.specs.Refusals.{work_error}
 use Rattle.pair_memory.specs.PairMemory.{PairMemory}
 
@@ -42,7 +42,7 @@ failed_is store.NoMemory may is = absurd (cc)
 -- a job whose one commit was refused, and whose side is as before
 refused_done : {D T : Type 0} (device : Ghosts D) (here : JobContext) (old new : PairMemory) (before after : Holdings D) (e : StoreError) (rule : JobResult)
     → new ≡ old
-    → IsCommit {T = T} device before after (Err e) rule.own.store → IsDone device here old new before after (Err (work_error e)) rule
+    → IsCommit {T = T} device before after (Err e) rule.own.store → IsDone device here (held old before) (held new after) (Err (work_error e)) rule
 refused_done {D = D} device here old new before after e rule same commit = record {
   done = tt;
   keeps = tt;
@@ -67,6 +67,6 @@ refused_done {D = D} device here old new before after e rule same commit = recor
 pub refused_page : {D T : Type 0} (device : Ghosts D) (here : JobContext) (old : PairMemory) (copies : Copies) (before after : Holdings D)
     (e : StoreError) (rule : JobResult)
     → copies ≡ old.copies → IsCommit {T = T} device before after (Err e) rule.own.store
-    → IsDone device here old (record old { copies = copies }) before after (Err (work_error e)) rule
+    → IsDone device here (held old before) (held (record old { copies = copies }) after) (Err (work_error e)) rule
 refused_page device here old copies before after e rule same commit =
     refused_done device here old (record old { copies = copies }) before after e rule (λ i. record old { copies = same i }) commit

@@ -5,7 +5,7 @@ ghost use Rattle.spec_rules.specs.Copies as copies;
 ghost use Rattle.spec_rules.specs.State.{id_of, other_in};
 ghost use Rattle.spec_rules.specs.declared.job.Job.TheVariants as job;
 ghost use Rattle.pair_memory.specs.PairMemory.{own_of, HasTicketsAt};
-ghost use Rattle.pair_memory.specs.JobResult.{IsDone, IsSaid};
+ghost use Rattle.pair_memory.specs.JobResult.{IsDone, IsSaid, held};
 
 use crate::page::page_wanted;
 use copy_transfer::{begin_copy, cell_at, followed, idle_mark, next_copy, other_in};
@@ -70,7 +70,7 @@ fn take_mark<D: Disk>(
     block: BlockNo,
 ) -> Result<JobResult, WorkError>
     requires { HasTicketsAt side.now store.old }
-    ensures { IsDone D.Disk here.now side.now side.now store.old store.new result
+    ensures { IsDone D.Disk here.now (held side.now store.old) (held side.now store.new) result
         (copies.clears_old_marks (own_of side.now store.old) row.now (Some block)) }
 {
     let cell = cell_at(row, block);
@@ -91,7 +91,7 @@ fn clear_old_marks<D: Disk>(
     row: &LinkRow,
 ) -> Result<JobResult, WorkError>
     requires { HasTicketsAt side.now store.old }
-    ensures { IsDone D.Disk here.now side.now side.now store.old store.new result
+    ensures { IsDone D.Disk here.now (held side.now store.old) (held side.now store.new) result
         (copies.clears_old_marks (own_of side.now store.old) row.now (copies.idle_mark here.now.state row.now (own_of side.now store.old))) }
 {
     match idle_mark(here, side, store, row) {
@@ -107,7 +107,7 @@ fn repair_row<D: Disk>(
     row: &LinkRow,
 ) -> Result<JobResult, WorkError>
     requires { HasTicketsAt side.old store.old }
-    ensures { IsDone D.Disk here.now side.old side.new store.old store.new result
+    ensures { IsDone D.Disk here.now (held side.old store.old) (held side.new store.new) result
         (copies.repairs_row here.now (own_of side.old store.old) row.now row.now.state) }
 {
     match row.state {
@@ -129,7 +129,7 @@ pub fn repair<D: Disk>(
     link: LinkId,
 ) -> Result<JobResult, WorkError>
     requires { HasTicketsAt side.old store.old }
-    ensures { IsDone D.Disk here.now side.old side.new store.old store.new result
+    ensures { IsDone D.Disk here.now (held side.old store.old) (held side.new store.new) result
         (copies.repairs here.now (own_of side.old store.old) link) }
 {
     match here.state().link_row(link.map, link.link) {

@@ -4,7 +4,7 @@ ghost use Rattle.std.specs.Prelude.{◌≡◌, Some, None};
 ghost use Rattle.spec_rules.specs.Copies as copies;
 ghost use Rattle.spec_rules.specs.Store.{Store as Stored};
 ghost use Rattle.pair_memory.specs.PairMemory.{own_of, HasTicketsAt};
-ghost use Rattle.pair_memory.specs.JobResult.{IsDone, IsSaid};
+ghost use Rattle.pair_memory.specs.JobResult.{IsDone, IsSaid, held};
 ghost use Rattle.link_blocks.specs.Walks.{side_own};
 
 use busy_marks::MarkKind;
@@ -104,7 +104,7 @@ fn mark_page<D: Disk>(
     block: BlockNo,
 ) -> Result<JobResult, WorkError>
     requires { HasTicketsAt side.old store.old }
-    ensures { IsDone D.Disk here.now side.old side.new store.old store.new result
+    ensures { IsDone D.Disk here.now (held side.old store.old) (held side.new store.new) result
         (copies.turns_page (own_of side.old store.old) row.now before (Some block)) }
 {
     let link = link_id(row);
@@ -134,7 +134,7 @@ fn turn_page<D: Disk>(
     block: Option<BlockNo>,
 ) -> Result<JobResult, WorkError>
     requires { HasTicketsAt side.old store.old }
-    ensures { IsDone D.Disk here.now side.old side.new store.old store.new result
+    ensures { IsDone D.Disk here.now (held side.old store.old) (held side.new store.new) result
         (copies.turns_page (own_of side.old store.old) row.now before block) }
 {
     match block {
@@ -153,7 +153,7 @@ fn hear_page<D: Disk>(
     block: Option<BlockNo>,
 ) -> Result<JobResult, WorkError>
     requires { HasTicketsAt side.old store.old }
-    ensures { IsDone D.Disk here.now side.old side.new store.old store.new result
+    ensures { IsDone D.Disk here.now (held side.old store.old) (held side.new store.new) result
         (copies.hears_hello here.now (own_of side.old store.old) after block (Some row.now)) }
 {
     if other_in(here, row).is_none() {
@@ -182,7 +182,7 @@ pub fn on_hello<D: Disk>(
     block: Option<BlockNo>,
 ) -> Result<JobResult, WorkError>
     requires { HasTicketsAt side.old store.old }
-    ensures { IsDone D.Disk here.now side.old side.new store.old store.new result
+    ensures { IsDone D.Disk here.now (held side.old store.old) (held side.new store.new) result
         (copies.on_hello here.now (own_of side.old store.old) link after block) }
 {
     match here.state().link_row(link.map, link.link) {

@@ -15,7 +15,7 @@ ghost use Rattle.kept_chains.specs.Kept.{store_of};
 ghost use Rattle.kept_chains.specs.Walking.{row_of};
 ghost use Rattle.pair_memory.specs.declared.job_result.FollowUp.TheVariants as follow_up;
 ghost use Rattle.pair_memory.specs.PairMemory.{own_of, HasTicketsAt};
-ghost use Rattle.pair_memory.specs.JobResult.{IsDone, IsSaid};
+ghost use Rattle.pair_memory.specs.JobResult.{IsDone, IsSaid, held};
 ghost use Rattle.copy_transfer.specs.Stages.{copied_in};
 
 use busy_marks::MarkKind;
@@ -142,7 +142,7 @@ fn sync<D: Disk>(
 ) -> Result<JobResult, WorkError>
     requires tickets { HasTicketsAt side.old store.old }
     requires there { IsSome (at cell_cmp side.old.copies.pending cell) }
-    ensures { IsDone D.Disk here.now side.old side.new store.old store.new result
+    ensures { IsDone D.Disk here.now (held side.old store.old) (held side.new store.new) result
         (copies.copy_acts here.now (with_copying (own_of side.old store.old) cell copy) cell copy copy_action.Sync) }
 {
     match read_nth(here.alloc(), store, cell, copy.index as usize) {
@@ -163,7 +163,7 @@ fn unmark_block<D: Disk>(
 ) -> Result<JobResult, WorkError>
     requires tickets { HasTicketsAt side.old store.old }
     requires there { IsSome (at cell_cmp side.old.copies.pending cell) }
-    ensures { IsDone D.Disk here.now side.old side.new store.old store.new result
+    ensures { IsDone D.Disk here.now (held side.old store.old) (held side.new store.new) result
         (copies.copy_acts here.now (with_copying (own_of side.old store.old) cell copy) cell copy (copy_action.Unmark kind)) }
 {
     unmark(store, kind, cell)?;
@@ -242,7 +242,7 @@ pub fn copy_acts<D: Disk>(
 ) -> Result<JobResult, WorkError>
     requires tickets { HasTicketsAt side.old store.old }
     requires there { IsSome (at cell_cmp side.old.copies.pending cell) }
-    ensures { IsDone D.Disk here.now side.old side.new store.old store.new result
+    ensures { IsDone D.Disk here.now (held side.old store.old) (held side.new store.new) result
         (copies.copy_acts here.now (with_copying (own_of side.old store.old) cell copy) cell copy (copies.copy_stage (store_of store.old) cell copy)) }
 {
     match copy_stage(store, cell, copy) {

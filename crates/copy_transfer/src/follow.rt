@@ -10,7 +10,7 @@ ghost use Rattle.spec_rules.specs.Progress.{with_last_copy};
 ghost use Rattle.spec_rules.specs.Store.{cell_cmp, chain_in, epochs_of};
 ghost use Rattle.kept_chains.specs.Kept.{chains_of};
 ghost use Rattle.pair_memory.specs.PairMemory.{own_of, HasTicketsAt};
-ghost use Rattle.pair_memory.specs.JobResult.{IsDone, IsSaid};
+ghost use Rattle.pair_memory.specs.JobResult.{IsDone, IsSaid, held};
 ghost use Rattle.copy_transfer.specs.Entries.{dropped};
 
 use kept_chains::{drop_entry, epochs};
@@ -62,7 +62,7 @@ fn drop_one<D: Disk>(
 ) -> Result<JobResult, WorkError>
     requires tickets { HasTicketsAt side.now store.old }
     requires there { list_any (nat_eq epoch) (epochs_of (chain_in (chains_of store.old.entries) cell)) ≡ true }
-    ensures { IsDone D.Disk here.now side.now side.now store.old store.new result (dropped (own_of side.now store.old) cell epoch) }
+    ensures { IsDone D.Disk here.now (held side.now store.old) (held side.now store.new) result (dropped (own_of side.now store.old) cell epoch) }
 {
     let _ = side;
     drop_entry(store, key_at(cell, epoch))?;
@@ -79,7 +79,7 @@ fn trim<D: Disk>(
     last: &LastCopy,
 ) -> Result<JobResult, WorkError>
     requires { HasTicketsAt side.now store.old }
-    ensures { IsDone D.Disk here.now side.now side.now store.old store.new result
+    ensures { IsDone D.Disk here.now (held side.now store.old) (held side.now store.new) result
         (copies.trims_for (own_of side.now store.old) cell (Some holder) (Some last.now)) }
 {
     match beyond(here, store, cell, &last.epochs)? {
@@ -107,7 +107,7 @@ pub fn trim_on<D: Disk>(
     cell: Cell,
 ) -> Result<JobResult, WorkError>
     requires { HasTicketsAt side.now store.old }
-    ensures { IsDone D.Disk here.now side.now side.now store.old store.new result (copies.trims_on here.now (own_of side.now store.old) cell) }
+    ensures { IsDone D.Disk here.now (held side.now store.old) (held side.now store.new) result (copies.trims_on here.now (own_of side.now store.old) cell) }
 {
     match (holder_on(here, cell), side.copies.last_copy(cell)) {
         (Some(holder), Some(last)) => trim(here, side, store, cell, holder, last),
@@ -145,7 +145,7 @@ fn remember_and_drop<D: Disk>(
 ) -> Result<JobResult, WorkError>
     requires tickets { HasTicketsAt side.old store.old }
     requires there { list_any (nat_eq epoch) (epochs_of (chain_in (chains_of store.old.entries) cell)) ≡ true }
-    ensures { IsDone D.Disk here.now side.old side.new store.old store.new result
+    ensures { IsDone D.Disk here.now (held side.old store.old) (held side.new store.new) result
         (dropped (with_last_copy (own_of side.old store.old) cell last) cell epoch) }
 {
     if store.is_full() {
@@ -168,7 +168,7 @@ fn trim_newly<D: Disk>(
     last: LastCopy,
 ) -> Result<JobResult, WorkError>
     requires { HasTicketsAt side.old store.old }
-    ensures { IsDone D.Disk here.now side.old side.new store.old store.new result
+    ensures { IsDone D.Disk here.now (held side.old store.old) (held side.new store.new) result
         (copies.trims_for (with_last_copy (own_of side.old store.old) cell last) cell (Some holder) (Some last)) }
 {
     match beyond(here, store, cell, &last.epochs)? {
@@ -223,7 +223,7 @@ fn trim_after<D: Disk>(
     requires tickets { HasTicketsAt side.old store.old }
     requires known { option_map (λ known. known.op) (at cell_cmp side.old.copies.last cell) ≡ Some last }
     requires begins { copy.index ≡ 0 }
-    ensures { copies.cell_holder here.now cell ≡ Some holder → IsDone D.Disk here.now side.old side.new store.old store.new result
+    ensures { copies.cell_holder here.now cell ≡ Some holder → IsDone D.Disk here.now (held side.old store.old) (held side.new store.new) result
         (copies.on_trim here.now (own_of side.old store.old) copy.op cell copy.epochs) }
 {
     if copy.op < last {
@@ -249,7 +249,7 @@ pub fn on_trim<D: Disk>(
     epochs: &Sequence<Epoch>,
 ) -> Result<JobResult, WorkError>
     requires { HasTicketsAt side.old store.old }
-    ensures { IsDone D.Disk here.now side.old side.new store.old store.new result
+    ensures { IsDone D.Disk here.now (held side.old store.old) (held side.new store.new) result
         (copies.on_trim here.now (own_of side.old store.old) op cell epochs.now) }
 {
     let Some(holder) = holder_on(here, cell) else {

@@ -5,7 +5,7 @@ ghost use Rattle.spec_rules.specs.Copies as copies;
 ghost use Rattle.spec_rules.specs.Progress.{with_full, without_copying};
 ghost use Rattle.spec_rules.specs.Server.{silent};
 ghost use Rattle.pair_memory.specs.PairMemory.{own_of, HasTicketsAt};
-ghost use Rattle.pair_memory.specs.JobResult.{IsDone, IsSaid};
+ghost use Rattle.pair_memory.specs.JobResult.{IsDone, IsSaid, held};
 
 use crate::copy::{copy_acts, has_next};
 use pair_memory::{JobContext, JobResult, PairMemory, WorkError, silent};
@@ -27,7 +27,7 @@ pub fn copy_on<D: Disk>(
     cell: Cell,
 ) -> Result<JobResult, WorkError>
     requires tickets { HasTicketsAt side.old store.old }
-    ensures { IsDone D.Disk here.now side.old side.new store.old store.new result (copies.copies_on here.now (own_of side.old store.old) cell) }
+    ensures { IsDone D.Disk here.now (held side.old store.old) (held side.new store.new) result (copies.copies_on here.now (own_of side.old store.old) cell) }
 {
     let _ = side.copies.count();
     match side.copies.copying_on(cell) {
@@ -49,7 +49,7 @@ pub fn on_trimmed<D: Disk>(
     cell: Cell,
 ) -> Result<JobResult, WorkError>
     requires tickets { HasTicketsAt side.old store.old }
-    ensures { IsDone D.Disk here.now side.old side.new store.old store.new result (copies.on_trimmed here.now (own_of side.old store.old) op cell) }
+    ensures { IsDone D.Disk here.now (held side.old store.old) (held side.new store.new) result (copies.on_trimmed here.now (own_of side.old store.old) op cell) }
 {
     match side.copies.copying_on(cell) {
         Some(copy) if copy.op == op && !copy.trimmed => {
@@ -101,7 +101,7 @@ pub fn on_synced<D: Disk>(
     index: u32,
 ) -> Result<JobResult, WorkError>
     requires tickets { HasTicketsAt side.old store.old }
-    ensures { IsDone D.Disk here.now side.old side.new store.old store.new result (copies.on_synced here.now (own_of side.old store.old) op cell index) }
+    ensures { IsDone D.Disk here.now (held side.old store.old) (held side.new store.new) result (copies.on_synced here.now (own_of side.old store.old) op cell index) }
 {
     match side.copies.copying_on(cell) {
         Some(copy) if is_syncing(side, store, cell, copy, op) && copy.index == index => {

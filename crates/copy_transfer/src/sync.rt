@@ -10,7 +10,7 @@ ghost use Rattle.spec_rules.specs.Server as rules;
 ghost use Rattle.spec_rules.specs.Store.{cell_cmp, free_of};
 ghost use Rattle.kept_chains.specs.Kept.{store_of};
 ghost use Rattle.pair_memory.specs.PairMemory.{own_of, HasTicketsAt};
-ghost use Rattle.pair_memory.specs.JobResult.{IsDone, IsSaid};
+ghost use Rattle.pair_memory.specs.JobResult.{IsDone, IsSaid, held};
 ghost use Rattle.copy_transfer.specs.Entries.{entry_of, one_more};
 
 use link_blocks::holder_on;
@@ -75,7 +75,7 @@ fn put_entry<D: Disk>(
 ) -> Result<JobResult, WorkError>
     requires tickets { HasTicketsAt side.old store.old }
     requires there { IsSome (at cell_cmp side.old.copies.last (cell_of entry.now.key)) }
-    ensures { (last : Last) → next ≡ one_more last → IsDone D.Disk here.now side.old side.new store.old store.new result
+    ensures { (last : Last) → next ≡ one_more last → IsDone D.Disk here.now (held side.old store.old) (held side.new store.new) result
         (copies.puts_entry (own_of side.old store.old) (entry_of entry.now) last holder (nat_lt 0 (free_of (store_of store.old)))) }
 {
     let cell = entry.key.cell();
@@ -104,7 +104,7 @@ fn hear_entry<D: Disk>(
 ) -> Result<JobResult, WorkError>
     requires { HasTicketsAt side.old store.old }
     ensures { (last : Last) → at cell_cmp side.old.copies.last (cell_of entry.now.key) ≡ Some last → last.index ≡ index
-        → IsDone D.Disk here.now side.old side.new store.old store.new result
+        → IsDone D.Disk here.now (held side.old store.old) (held side.new store.new) result
         (copies.hears_entry (own_of side.old store.old) (entry_of entry.now) holder last) }
 {
     if entry.index < index {
@@ -151,7 +151,7 @@ pub fn on_sync<D: Disk>(
     entry: &CopiedEntry,
 ) -> Result<JobResult, WorkError>
     requires { HasTicketsAt side.old store.old }
-    ensures { IsDone D.Disk here.now side.old side.new store.old store.new result
+    ensures { IsDone D.Disk here.now (held side.old store.old) (held side.new store.new) result
         (copies.on_sync here.now (own_of side.old store.old) (entry_of entry.now)) }
 {
     let cell = entry.key.cell();

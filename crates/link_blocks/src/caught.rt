@@ -35,7 +35,7 @@ fn caught_as(here: &JobContext, row: &LinkRow, other: ServerId) -> Result<Option
     Ok(Some(Command::Caught {
         map: row.map,
         link: LinkNumber::checked(row.link).ok_or(NoMemory)?,
-        holder: ServerNumber::checked(here.me()).ok_or(NoMemory)?,
+        holder: here.number(),
         holder_inc: here.inc(),
         other: ServerNumber::checked(other).ok_or(NoMemory)?,
         other_inc,
@@ -74,7 +74,7 @@ fn with_found(wants: &mut Vec<Command>, found: Option<Command>) -> Result<(), No
 /// The Caught of each link that the server holds alone, whose other server is In, and of which nothing is left to copy.
 ///
 /// # Errors
-/// Out of memory, or where a link or a server has no number that a command can name.
+/// Out of memory, or where a link or its other server has no number that a command can name.
 pub fn caught_links<D: Disk>(
     here: &JobContext,
     side: &PairMemory,

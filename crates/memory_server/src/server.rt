@@ -20,6 +20,7 @@ use crate::failing::{TickError, of_state, of_store};
 use crate::taken::{Stops, done};
 use crate::work::work_first;
 use petal_base::{Inc, NoMemory, Rev, Sequence, ServerId};
+use petal_command::ServerNumber;
 use petal_disk::{Disk, MemDisk, Plan, Planned, Which};
 use petal_msg::Letter;
 use server_core::ServerCore;
@@ -115,7 +116,7 @@ impl MemServer {
     /// and a state device of its own.
     ///
     /// # Errors
-    /// Out of memory; `Unexpected` where a device fails.
+    /// Out of memory; `Unexpected` where a device fails, or where there is no such server.
     pub fn start(
         alloc: Global,
         me: ServerId,
@@ -126,6 +127,9 @@ impl MemServer {
         ensures device { IfOk result (λ server. ⟦<Planned<MemDisk> as Disk>⟧.size server.store.disk ≡ slot_start slots) }
         ensures plans { IfOk result (λ server. armed_of server ≡ unarmed) }
     {
+        let Some(me) = ServerNumber::checked(me) else {
+            return Err(HostError::Unexpected);
+        };
         let state = first_state(alloc)?;
         let store = first_store(alloc, slots)?;
         // made last, since nothing can fail any more then

@@ -14,7 +14,7 @@ use Rattle.pair_memory.specs.declared.error.WorkError.{WorkError}
 use Rattle.pair_memory.specs.declared.error.WorkError.TheVariants.{NoMemory}
 use Rattle.pair_memory.specs.declared.job_result.JobResult.{JobResult}
 use Rattle.pair_memory.specs.PairMemory.{PairMemory, own_of}
-use Rattle.pair_memory.specs.JobResult.{HoldsAt, IsBy, IsDone, IsSaid}
+use Rattle.pair_memory.specs.JobResult.{HoldsAt, IsBy, IsDone, IsSaid, held}
 
 module _ {D : Type 0} (device : Ghosts D) (only_now : (d : D) (c : List ℕ) → device.left_since d (device.moment d) c → device.may_leave d c) where
   -- a device that is kept leaves the store as it is, at any moment
@@ -41,7 +41,7 @@ module _ {D : Type 0} (device : Ghosts D) (only_now : (d : D) (c : List ℕ) →
       (shown : device.observable → HoldsAt device old → HoldsAt device new) (run : device.came_to old.disk new.disk) where
     -- what is said after a read is a job from before it
     pub after_read : (result : Result JobResult WorkError) (rule rule' : rules.JobResult) → device.faults old.disk ≤ device.faults new.disk
-        → (device.observable → rule ≡ rule') → IsSaid here side after new new result rule → IsDone device here side after old new result rule'
+        → (device.observable → rule ≡ rule') → IsSaid here side after new new result rule → IsDone device here (held side old) (held after new) result rule'
     after_read (Ok out) rule rule' later is said = record {
       done = λ t. subst (λ (r : rules.JobResult). IsBy here (own_of after new) out r) (is t) said.done;
       keeps = said.keeps;

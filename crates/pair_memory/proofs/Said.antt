@@ -9,7 +9,7 @@ use Rattle.pair_memory.specs.declared.error.WorkError.{WorkError}
 use Rattle.pair_memory.specs.declared.error.WorkError.TheVariants.{JournalFull, NoMemory}
 use Rattle.pair_memory.specs.declared.job_result.JobResult.{JobResult}
 use Rattle.pair_memory.specs.PairMemory.{PairMemory}
-use Rattle.pair_memory.specs.JobResult.{HoldsAt, IsFull, IsSaid, IsDone}
+use Rattle.pair_memory.specs.JobResult.{HoldsAt, IsFull, IsSaid, IsDone, held}
 
 module _ {D : Type 0} (device : Ghosts D) (stays : (d : D) → device.came_to d d)
     (only_now : (d : D) (c : List ℕ) → device.left_since d (device.moment d) c → device.may_leave d c) where
@@ -28,7 +28,7 @@ module _ {D : Type 0} (device : Ghosts D) (stays : (d : D) → device.came_to d 
   shown_still old new is holds = subst (HoldsAt device) (sym is) holds
 
   pub said_done : (here : JobContext) (old new : PairMemory) (old_store new_store : Holdings D) (answer : Result JobResult WorkError) (rule : rules.JobResult)
-      → IsSaid here old new old_store new_store answer rule → IsDone device here old new old_store new_store answer rule
+      → IsSaid here old new old_store new_store answer rule → IsDone device here (held old old_store) (held new new_store) answer rule
   said_done here old new old_store new_store (Ok out) rule said = record {
     done = λ _. said.done;
     keeps = said.keeps;
@@ -59,7 +59,7 @@ module _ {D : Type 0} (device : Ghosts D) (stays : (d : D) → device.came_to d 
 
   -- a job for whose record the journal has no room
   pub full_done : (here : JobContext) (old new : PairMemory) (before after : Holdings D) (rule : rules.JobResult) → IsFull old new before after rule
-      → IsDone device here old new before after (Err JournalFull) rule
+      → IsDone device here (held old before) (held new after) (Err JournalFull) rule
   full_done here old new before after rule full =
       let disk : after.disk ≡ before.disk = ap (λ (s : Holdings D). s.disk) full.same.1 in
       record {

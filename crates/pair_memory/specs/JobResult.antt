@@ -40,6 +40,19 @@ pub record IsBy (here : JobContext) (left : PairState) (done : JobResult) (rule 
 abbrev pub HasVersions : {D : Type 0} → Holdings D → Type 0
 HasVersions store = top_of (listed store.entries) < 2 ^ 64 - 1
 
+-- what a server has in memory of its pairs, and its store
+pub record Held (D : Type 0) : Type 0 where
+  pub side : PairMemory
+  pub store : Holdings D
+
+abbrev pub held : {D : Type 0} → PairMemory → Holdings D → Held D
+held side store = record { side = side; store = store }
+
+-- a job can be done: the tickets stand where they are needed, and the greatest version can be counted up
+pub record IsReady {D : Type 0} (side : PairMemory) (store : Holdings D) : Type 0 where
+  pub tickets : HasTicketsAt side store
+  pub versions : HasVersions store
+
 -- the count of faults does not fall, and `Failed` comes only where it has risen
 pub record HasFault {T : Type 0} (before now : ℕ) (result : Result T WorkError) : Type 0 where
   pub later : before ≤ now
@@ -64,16 +77,15 @@ module _ {D : Type 0} where
   -- the store shows it after the job too, and after one that was refused for memory, which left all but the device's state as it
   -- was. A crash at any moment leaves the store before the job, or the rule's after it. Any other refusal left the entries.
   -- `JournalFull` comes only where the journal has no room for the record of the job
-  pub record IsDone (device : Ghosts D) (here : JobContext) (old new : PairMemory) (before after : Holdings D) (result : Result JobResult WorkError)
-      (rule : Rule) : Type 0 where
-    pub done : IfOk result (λ done. device.observable → IsBy here (own_of new after) done rule)
-    pub keeps : OnOk result (HasTicketsAt new after)
-    pub holds : device.observable → HoldsAt device before → OnOk result (HoldsAt device after)
-    pub moments : device.observable → HoldsAt device before
-        → LeavesOnly device.moment device.left_since before.disk after.disk (StandsAsEither (store_of before) rule.own.store)
-    pub still : result ≡ Err NoMemory → device.observable → HoldsAt device before → HoldsAt device after
-    pub same : result ≡ Err NoMemory → (new ≡ old) × (after ≡ record before { disk = after.disk })
-    pub kept : OnErr result (device.observable → after.entries ≡ before.entries)
-    pub full : result ≡ Err JournalFull → IsFull old new before after rule
-    pub cause : HasFault (device.faults before.disk) (device.faults after.disk) result
-    pub run : device.came_to before.disk after.disk
+  pub record IsDone (device : Ghosts D) (here : JobContext) (before after : Held D) (result : Result JobResult WorkError) (rule : Rule) : Type 0 where
+    pub done : IfOk result (λ done. device.observable → IsBy here (own_of after.side after.store) done rule)
+    pub keeps : OnOk result (HasTicketsAt after.side after.store)
+    pub holds : device.observable → HoldsAt device before.store → OnOk result (HoldsAt device after.store)
+    pub moments : device.observable → HoldsAt device before.store
+        → LeavesOnly device.moment device.left_since before.store.disk after.store.disk (StandsAsEither (store_of before.store) rule.own.store)
+    pub still : result ≡ Err NoMemory → device.observable → HoldsAt device before.store → HoldsAt device after.store
+    pub same : result ≡ Err NoMemory → (after.side ≡ before.side) × (after.store ≡ record before.store { disk = after.store.disk })
+    pub kept : OnErr result (device.observable → after.store.entries ≡ before.store.entries)
+    pub full : result ≡ Err JournalFull → IsFull before.side after.side before.store after.store rule
+    pub cause : HasFault (device.faults before.store.disk) (device.faults after.store.disk) result
+    pub run : device.came_to before.store.disk after.store.disk

@@ -7,7 +7,7 @@ ghost use Rattle.spec_rules.specs.State as rules;
 
 use global_state::{GlobalState, Hold};
 use petal_base::{Cell, Inc, MapId, NoMemory, Rev, Sequence, ServerId};
-use petal_command::Command;
+use petal_command::{Command, ServerNumber};
 use petal_msg::{Actor, Body, Letter};
 use std::alloc::Global;
 use std::marker::Model;
@@ -17,7 +17,7 @@ use std::marker::Model;
 pub struct JobContext<'a> {
     alloc: Global,
     state: &'a GlobalState,
-    me: ServerId,
+    me: ServerNumber,
     inc: Inc,
 }
 
@@ -31,7 +31,7 @@ impl<'a> Model for JobContext<'a> {
 
 impl<'a> JobContext<'a> {
     /// At this server.
-    pub fn new(alloc: Global, state: &'a GlobalState, me: ServerId, inc: Inc) -> JobContext<'a>
+    pub fn new(alloc: Global, state: &'a GlobalState, me: ServerNumber, inc: Inc) -> JobContext<'a>
         ensures { result ≡ record { state = state.now; me = me; inc = inc } }
     {
         JobContext {
@@ -49,6 +49,13 @@ impl<'a> JobContext<'a> {
 
     /// The server.
     pub fn me(&self) -> ServerId
+        ensures { result ≡ self.now.me }
+    {
+        self.me.get()
+    }
+
+    /// The same, as commands name it.
+    pub fn number(&self) -> ServerNumber
         ensures { result ≡ self.now.me }
     {
         self.me
@@ -79,14 +86,14 @@ impl<'a> JobContext<'a> {
     pub fn is_lead(&self, cell: Cell) -> bool
         ensures { result ≡ rules.is_lead self.now.state self.now.me cell }
     {
-        self.state.is_lead(self.me, cell)
+        self.state.is_lead(self.me.get(), cell)
     }
 
     /// Whether the server leads the cell's link, whatever its region.
     pub fn leads_link(&self, cell: Cell) -> bool
         ensures { result ≡ rules.leads_link self.now.state self.now.me cell }
     {
-        self.state.leads_link(self.me, cell)
+        self.state.leads_link(self.me.get(), cell)
     }
 
     /// Whether the cell's link has both of its servers, whatever the cell's region.
@@ -100,14 +107,14 @@ impl<'a> JobContext<'a> {
     pub fn is_second(&self, cell: Cell) -> bool
         ensures { result ≡ rules.is_second self.now.state self.now.me cell }
     {
-        self.state.is_second(self.me, cell)
+        self.state.is_second(self.me.get(), cell)
     }
 
     /// Whether the server may answer reads of the cell.
     pub fn readable(&self, cell: Cell) -> bool
         ensures { result ≡ rules.readable self.now.state self.now.me cell }
     {
-        self.state.readable(self.me, cell)
+        self.state.readable(self.me.get(), cell)
     }
 
     /// The server that puts the cell first, in Both.
@@ -150,7 +157,7 @@ impl<'a> JobContext<'a> {
         ensures { result ∷ [] ≡ letters_of (sender self.now) nth (record { to = to; body = body } ∷ []) }
     {
         Letter {
-            from: Actor::Server(self.me),
+            from: Actor::Server(self.me.get()),
             inc: self.inc,
             to,
             rev: self.state.rev(),

@@ -2,7 +2,7 @@
 
 ghost use Rattle.std.specs.Prelude.{◌≡◌};
 ghost use Rattle.spec_rules.specs.Reads.{on_read};
-ghost use Rattle.pair_memory.specs.JobResult.{IsDone};
+ghost use Rattle.pair_memory.specs.JobResult.{IsDone, held};
 ghost use Rattle.pair_memory.specs.PairMemory.{HasTicketsAt, own_of};
 
 use crate::answer::{answer_read, said};
@@ -27,7 +27,7 @@ pub fn on_read<D: Disk>(
     epoch: Epoch,
 ) -> Result<JobResult, WorkError>
     requires { HasTicketsAt side.now store.old }
-    ensures { IsDone D.Disk here.now side.now side.now store.old store.new result
+    ensures { IsDone D.Disk here.now (held side.now store.old) (held side.now store.new) result
         (on_read here.now (own_of side.now store.old) client seq cell epoch) }
 {
     if !here.readable(cell) {

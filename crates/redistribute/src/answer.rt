@@ -4,7 +4,7 @@ ghost use Rattle.std.specs.Prelude.{◌≡◌, true, Ok};
 ghost use Rattle.spec_rules.specs.Progress.{with_full};
 ghost use Rattle.spec_rules.specs.Server as servers;
 ghost use Rattle.spec_rules.specs.Fills as rules;
-ghost use Rattle.pair_memory.specs.JobResult.{IsDone, IsSaid};
+ghost use Rattle.pair_memory.specs.JobResult.{IsDone, IsSaid, held};
 ghost use Rattle.pair_memory.specs.Letters.{posts_of};
 ghost use Rattle.pair_memory.specs.PairMemory.{own_of, HasTicketsAt};
 ghost use Rattle.redistribute.specs.Following.{following, filled_with};
@@ -71,7 +71,7 @@ fn go_after<D: Disk>(
     key: Key,
 ) -> Result<JobResult, WorkError>
     requires { HasTicketsAt side.old store.old }
-    ensures { IsDone D.Disk here.now side.old side.new store.old store.new result
+    ensures { IsDone D.Disk here.now (held side.old store.old) (held side.new store.new) result
         (rules.goes_after here.now (following (own_of side.old store.old) row.now key) row.now) }
 {
     let next = left_after(here, store, row, &Some(key));
@@ -94,7 +94,7 @@ pub fn on_filled<D: Disk>(
     key: Key,
 ) -> Result<JobResult, WorkError>
     requires { HasTicketsAt side.old store.old }
-    ensures { IsDone D.Disk here.now side.old side.new store.old store.new result (rules.on_filled here.now (own_of side.old store.old) key) }
+    ensures { IsDone D.Disk here.now (held side.old store.old) (held side.new store.new) result (rules.on_filled here.now (own_of side.old store.old) key) }
 {
     let Some(row) = link_before(here, key) else {
         return silent(here, side, store);

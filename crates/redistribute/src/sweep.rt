@@ -8,7 +8,7 @@ ghost use Rattle.spec_rules.specs.Store.{chain_in, epochs_of};
 ghost use Rattle.spec_rules.specs.Sweeping as sweeping;
 ghost use Rattle.kept_chains.specs.Kept.{chains_of, store_of};
 ghost use Rattle.pair_memory.specs.declared.job_result.FollowUp.TheVariants as follow_up;
-ghost use Rattle.pair_memory.specs.JobResult.{IsDone};
+ghost use Rattle.pair_memory.specs.JobResult.{IsDone, held};
 ghost use Rattle.pair_memory.specs.PairMemory.{own_of, HasTicketsAt};
 
 use crate::search::{retired_entry, retired_mark};
@@ -59,7 +59,7 @@ fn drop_one<D: Disk>(
 ) -> Result<JobResult, WorkError>
     requires tickets { HasTicketsAt side.now store.old }
     requires there { list_any (nat_eq key.epoch) (epochs_of (chain_in (chains_of store.old.entries) (cell_of key))) ≡ true }
-    ensures { IsDone D.Disk here.now side.now side.now store.old store.new result
+    ensures { IsDone D.Disk here.now (held side.now store.old) (held side.now store.new) result
         (sweeping.sweeps_with (own_of side.now store.old) (Some (retired.Key key))) }
 {
     let _ = side;
@@ -76,7 +76,7 @@ fn unmark_one<D: Disk>(
     cell: Cell,
 ) -> Result<JobResult, WorkError>
     requires { HasTicketsAt side.now store.old }
-    ensures { IsDone D.Disk here.now side.now side.now store.old store.new result
+    ensures { IsDone D.Disk here.now (held side.now store.old) (held side.now store.new) result
         (sweeping.sweeps_with (own_of side.now store.old) (Some (retired.Mark kind cell))) }
 {
     let _ = side;
@@ -96,7 +96,7 @@ pub fn sweep_one<D: Disk>(
     store: &mut Store<D>,
 ) -> Result<JobResult, WorkError>
     requires { HasTicketsAt side.now store.old }
-    ensures { IsDone D.Disk here.now side.now side.now store.old store.new result (sweeping.sweeps here.now (own_of side.now store.old)) }
+    ensures { IsDone D.Disk here.now (held side.now store.old) (held side.now store.new) result (sweeping.sweeps here.now (own_of side.now store.old)) }
 {
     // What `free` promises tells the proof that the entries are in order.
     let _ = store.free();

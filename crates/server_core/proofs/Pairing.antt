@@ -4,7 +4,7 @@ use Rattle.std.specs.Prelude.{slice_get}
 use Rattle.kept_chains.specs.Kept.{store_of}
 use Rattle.kept_chains.specs.Standing.{StandsAsEither}
 use Rattle.server_log.specs.Part.{Part, log_of}
-use Rattle.pair_memory.specs.JobResult.{HoldsAt, IsDone, follow_up}
+use Rattle.pair_memory.specs.JobResult.{HoldsAt, IsDone, follow_up, held}
 use Rattle.pair_memory.specs.PairMemory.{own_of}
 use Rattle.pair_memory.specs.declared.job_result.JobResult.{JobResult}
 use Rattle.petal_disk.specs.Disk.{LeavesOnly}
@@ -40,7 +40,7 @@ module _ {D : Type 0} (device : Ghosts D) (records : List StateRecord) (old new 
       (pair_left old (store_of before) records first there kind)
 
   -- it is done as the rule says
-  pub pair_worked : (done : JobResult) (letters : List Letter) → IsDone device (here_in old) old.side new.side before after (Ok done) rule
+  pub pair_worked : (done : JobResult) (letters : List Letter) → IsDone device (here_in old) (held old.side before) (held new.side after) (Ok done) rule
       → new.running ≡ old.running → new.log ≡ old.log → new.queue ≡ drop 1 old.queue ++ follow_up done.follow → letters ≡ done.letters
       → device.observable → HoldsAt device before → length records ≤ journal_records
       → acted new (store_of after) records letters ≡ works (here_in old) (server_of old (store_of before) records) old.queue
@@ -57,7 +57,7 @@ module _ {D : Type 0} (device : Ghosts D) (records : List StateRecord) (old new 
       ∙ sym (pair_works old (store_of before) records first there kind few_store few_log)
 
   -- and so is the rest
-  pub pair_work : (done : JobResult) (letters : List Letter) → IsDone device (here_in old) old.side new.side before after (Ok done) rule
+  pub pair_work : (done : JobResult) (letters : List Letter) → IsDone device (here_in old) (held old.side before) (held new.side after) (Ok done) rule
       → new.running ≡ old.running → new.log ≡ old.log → new.queue ≡ drop 1 old.queue ++ follow_up done.follow → letters ≡ done.letters
       → IsStoreWork device records old new before after (Ok letters)
   pair_work done letters is running log queue same = record {

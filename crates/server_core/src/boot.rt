@@ -80,8 +80,7 @@ impl ServerCore {
             (down_posts self.old.log.voter.me self.old.log.voter.inc self.old.log.voter.servers)) }
         ensures err { OnErr result (self.new ≡ self.old) }
     {
-        let (me, before, servers) = (self.me(), self.inc(), self.servers());
-        let number = ServerNumber::checked(me).ok_or(NoMemory)?;
+        let (number, before, servers) = (self.parts.log.number(), self.inc(), self.servers());
         let farewell = farewell(alloc, number, before + 1, servers)?;
         let (log, letters) = next_log(alloc, number, before, servers, state)?;
         self.parts.restart(alloc, log);

@@ -22,7 +22,8 @@ ghost use Rattle.server_core.specs.Work.{IsStoreWork};
 use crate::parts::ServerMemory;
 use global_state::GlobalState;
 use pair_memory::{JobContext, PairMemory, WorkError, enter_all, entry_jobs, lacks_room};
-use petal_base::{Inc, NoMemory, Sequence, ServerId};
+use petal_base::{Inc, NoMemory, Sequence};
+use petal_command::ServerNumber;
 use petal_disk::Disk;
 use petal_msg::Letter;
 use server_jobs::{add_all, enter, make_room};
@@ -44,7 +45,7 @@ fn next_lacks_room<D: Disk>(
 {
     match next {
         Some(next) => {
-            let here = JobContext::new(alloc, log.state(), log.me(), log.inc());
+            let here = JobContext::new(alloc, log.state(), log.number(), log.inc());
             lacks_room(&here, &next.entry, store)
         }
         None => false,
@@ -54,7 +55,7 @@ fn next_lacks_room<D: Disk>(
 /// What an entry that was applied does to the pairs and the store.
 fn enter_by<D: Disk>(
     alloc: Global,
-    me: ServerId,
+    me: ServerNumber,
     inc: Inc,
     entered: Option<Entered>,
     next: &GlobalState,
@@ -89,7 +90,7 @@ fn jobs_of_next(
 {
     match next {
         Some(next) => {
-            let here = JobContext::new(alloc, log.state(), log.me(), log.inc());
+            let here = JobContext::new(alloc, log.state(), log.number(), log.inc());
             entry_jobs(&here, &next.entry, side, &next.state)
         }
         None => Ok(Vec::new(alloc)),
@@ -160,7 +161,7 @@ fn enter_next<D: Disk, E: Disk>(
         → IsEntered D.Disk (here_by log.old) (next_known log.old state.now.records) side.old side.new store.old store.new result }
     ensures same { result ≡ Err error.NoMemory → (log.new ≡ log.old) × (side.new ≡ side.old) × (store.new ≡ store.old) }
 {
-    let (me, inc) = (log.me(), log.inc());
+    let (me, inc) = (log.number(), log.inc());
     // what was applied is owned here alone, since each early return of a caller would have to drop it too
     let (done, entered) = log.apply(alloc, state, next)?;
     match enter_by(alloc, me, inc, entered, log.state(), side, store) {

@@ -48,7 +48,7 @@ impl ServerMemory {
     {
         let _ = state;
         has_versions(store);
-        let here = JobContext::new(alloc, self.log.state(), self.log.me(), self.log.inc());
+        let here = JobContext::new(alloc, self.log.state(), self.log.number(), self.log.inc());
         let Some(job) = self.queue.front() else {
             return Ok(Sequence::new(alloc));
         };

@@ -51,14 +51,13 @@ impl ServerCore {
     /// made now, so that it can stop without memory.
     ///
     /// # Errors
-    /// Out of memory, or where the server has no number that a command can name.
-    pub fn start(alloc: Global, me: ServerId, servers: u8) -> Result<ServerCore, NoMemory>
+    /// Out of memory.
+    pub fn start(alloc: Global, me: ServerNumber, servers: u8) -> Result<ServerCore, NoMemory>
         ensures { IfOk result (λ core. core
             ≡ record { running = true; log = new_part (record { me = me; inc = 1; servers = servers }); side = new_side; queue = [] }) }
     {
-        let number = ServerNumber::checked(me).ok_or(NoMemory)?;
-        let farewell = farewell(alloc, number, 1, servers)?;
-        let log = LogSide::start(alloc, number, 1, servers)?;
+        let farewell = farewell(alloc, me, 1, servers)?;
+        let log = LogSide::start(alloc, me, 1, servers)?;
         Ok(ServerCore {
             parts: ServerMemory::new(alloc, log),
             farewell,

@@ -45,7 +45,12 @@ fn copies_after<D: Disk>(
     if !is_in(&parts.log) {
         return Ok(before);
     }
-    let here = JobContext::new(alloc, parts.log.state(), parts.log.me(), parts.log.inc());
+    let here = JobContext::new(
+        alloc,
+        parts.log.state(),
+        parts.log.number(),
+        parts.log.inc(),
+    );
     let copies = copy_letters_after(&here, &parts.side, store, before)?;
     fills_after(&here, &parts.side, store, copies)
 }
@@ -67,7 +72,12 @@ pub fn tick_letters<D: Disk>(
     ensures cause { IsReadFault (D.faults store.old.disk) (D.faults store.new.disk) result }
     ensures run { D.came_to store.old.disk store.new.disk }
 {
-    let here = JobContext::new(alloc, parts.log.state(), parts.log.me(), parts.log.inc());
+    let here = JobContext::new(
+        alloc,
+        parts.log.state(),
+        parts.log.number(),
+        parts.log.inc(),
+    );
     let ballot = parts.log.ballot_letters(alloc)?;
     let pending = write_letters_after(&here, &parts.side, ballot)?;
     let copies = copies_after(alloc, parts, store, pending)?;
@@ -112,7 +122,12 @@ fn link_jobs<D: Disk>(
     if !is_in(&parts.log) {
         return Ok(Vec::new(alloc));
     }
-    let here = JobContext::new(alloc, parts.log.state(), parts.log.me(), parts.log.inc());
+    let here = JobContext::new(
+        alloc,
+        parts.log.state(),
+        parts.log.number(),
+        parts.log.inc(),
+    );
     let mut queued = repair_jobs(&here, &parts.side, store)?;
     let mut sweeps = job_where(alloc, has_retired(parts.log.state(), store), Job::Sweep)?;
     queued.append(&mut sweeps)?;

@@ -3,8 +3,8 @@
 ghost use Rattle.std.specs.Prelude.{◌≡◌};
 ghost use Rattle.spec_rules.specs.State.{is_in};
 ghost use Rattle.spec_rules.specs.Jobs.{does, is_from_in, on_letter, stages};
-ghost use Rattle.pair_memory.specs.PairMemory.{own_of, HasTicketsAt};
-ghost use Rattle.pair_memory.specs.JobResult.{HasVersions, IsDone};
+ghost use Rattle.pair_memory.specs.PairMemory.{own_of};
+ghost use Rattle.pair_memory.specs.JobResult.{IsDone, IsReady, held};
 
 use crate::letters::{at_other_rev, handle};
 use copy_recovery::{copy_on, repair, trim_on};
@@ -51,9 +51,8 @@ fn on_letter<D: Disk>(
     store: &mut Store<D>,
     letter: &Letter,
 ) -> Result<JobResult, WorkError>
-    requires tickets { HasTicketsAt side.old store.old }
-    requires versions { HasVersions store.old }
-    ensures { IsDone D.Disk here.now side.old side.new store.old store.new result
+    requires ready { IsReady side.old store.old }
+    ensures { IsDone D.Disk here.now (held side.old store.old) (held side.new store.new) result
         (on_letter here.now (own_of side.old store.old) letter.now) }
 {
     if !is_here_in(here) {
@@ -74,9 +73,8 @@ fn stages<D: Disk>(
     store: &mut Store<D>,
     cell: Cell,
 ) -> Result<JobResult, WorkError>
-    requires tickets { HasTicketsAt side.old store.old }
-    requires versions { HasVersions store.old }
-    ensures { IsDone D.Disk here.now side.old side.new store.old store.new result
+    requires ready { IsReady side.old store.old }
+    ensures { IsDone D.Disk here.now (held side.old store.old) (held side.new store.new) result
         (stages here.now (own_of side.old store.old) cell) }
 {
     if side.locks.is_busy(cell) {
@@ -100,9 +98,8 @@ pub fn does<D: Disk>(
     store: &mut Store<D>,
     job: &Job,
 ) -> Result<JobResult, WorkError>
-    requires tickets { HasTicketsAt side.old store.old }
-    requires versions { HasVersions store.old }
-    ensures { IsDone D.Disk here.now side.old side.new store.old store.new result
+    requires ready { IsReady side.old store.old }
+    ensures { IsDone D.Disk here.now (held side.old store.old) (held side.new store.new) result
         (does here.now (own_of side.old store.old) job.now) }
 {
     match job {

@@ -4,7 +4,7 @@ ghost use Rattle.std.specs.Prelude.{◌≡◌};
 ghost use Rattle.petal_msg.specs.Kinds.{Copied, asked_by, subject_of};
 ghost use Rattle.spec_rules.specs.Jobs.{at_other_rev, handles};
 ghost use Rattle.pair_memory.specs.PairMemory.{own_of, HasTicketsAt};
-ghost use Rattle.pair_memory.specs.JobResult.{HasVersions, IsDone, IsSaid};
+ghost use Rattle.pair_memory.specs.JobResult.{IsDone, IsReady, IsSaid, held};
 
 use copy_recovery::{
     CopiedEntry, on_hello, on_hello_ask, on_sync, on_sync_full, on_synced, on_trim, on_trimmed,
@@ -70,7 +70,7 @@ fn copies<D: Disk>(
 ) -> Result<JobResult, WorkError>
     requires tickets { HasTicketsAt side.old store.old }
     requires copies { subject_of body.now ≡ Copied }
-    ensures { IsDone D.Disk here.now side.old side.new store.old store.new result
+    ensures { IsDone D.Disk here.now (held side.old store.old) (held side.new store.new) result
         (handles here.now (own_of side.old store.old) body.now) }
 {
     match body {
@@ -115,9 +115,8 @@ pub fn handle<D: Disk>(
     store: &mut Store<D>,
     letter: &Letter,
 ) -> Result<JobResult, WorkError>
-    requires tickets { HasTicketsAt side.old store.old }
-    requires versions { HasVersions store.old }
-    ensures { IsDone D.Disk here.now side.old side.new store.old store.new result
+    requires ready { IsReady side.old store.old }
+    ensures { IsDone D.Disk here.now (held side.old store.old) (held side.new store.new) result
         (handles here.now (own_of side.old store.old) letter.now.body) }
 {
     match &letter.body {

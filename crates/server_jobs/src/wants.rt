@@ -12,7 +12,7 @@ use epoch_snapshot::drained;
 use link_blocks::caught_links;
 use pair_memory::{JobContext, PairMemory};
 use petal_base::{NoMemory, Sequence};
-use petal_command::{Command, ServerNumber};
+use petal_command::Command;
 use petal_disk::Disk;
 use redistribute::moving;
 use server_log::LogSide;
@@ -37,7 +37,7 @@ fn with_report(wants: &mut Vec<Command>, log: &LogSide, fence: Option<u32>) -> R
         return Ok(());
     };
     wants.push(Command::Drained {
-        server: ServerNumber::checked(log.me()).ok_or(NoMemory)?,
+        server: log.number(),
         inc: log.inc(),
         fence,
     })?;
@@ -49,7 +49,7 @@ fn with_report(wants: &mut Vec<Command>, log: &LogSide, fence: Option<u32>) -> R
 /// awaits it and nothing that it holds is under way; then the `Moved` of each link of which nothing is left to move.
 ///
 /// # Errors
-/// Out of memory, or where a number is none that a command can name.
+/// Out of memory, or where a link or a server has no number that a command can name.
 #[tactic(auto, using(crate::proofs::Wanting::wants_out, crate::proofs::Wanting::wants_on))]
 pub fn own_wants<D: Disk>(
     alloc: Global,
@@ -62,7 +62,7 @@ pub fn own_wants<D: Disk>(
     if !is_in(log) {
         return log.own_join(alloc, store.fresh());
     }
-    let here = JobContext::new(alloc, log.state(), log.me(), log.inc());
+    let here = JobContext::new(alloc, log.state(), log.number(), log.inc());
     let mut wants = caught_links(&here, side, store)?;
     let fence = drained(log.state(), log.me(), &side.locks);
     with_report(&mut wants, log, fence)?;

@@ -13,10 +13,10 @@ use std::alloc::Global;
 use std::collections::BTreeMap;
 use std::marker::Model;
 
-/// Rows by place, which may be looked up beyond the greatest that a record can name. Contracts see the rows with their places, by rising place.
+/// Rows by place. Contracts see the rows with their places, by rising place.
 #[derive(Drop)]
 pub struct Places {
-    rows: BTreeMap<u64, Row>,
+    rows: BTreeMap<u32, Row>,
 }
 
 impl Model for Places {
@@ -39,14 +39,14 @@ impl Places {
     }
 
     /// The row of a place.
-    pub fn get(&self, place: u64) -> Option<&Row>
+    pub fn get(&self, place: u32) -> Option<&Row>
         ensures { option_copied result ≡ found_row self.now place }
     {
         self.rows.get(&place)
     }
 
     /// The row of a place, which takes no memory.
-    pub fn row(&self, place: u64) -> Row
+    pub fn row(&self, place: u32) -> Row
         ensures { result ≡ row_at self.now place }
     {
         match self.get(place) {
@@ -56,7 +56,7 @@ impl Places {
     }
 
     /// Whether a record about the place would change nothing.
-    pub fn keeps(&self, place: u64, entry: &StateRecord) -> bool
+    pub fn keeps(&self, place: u32, entry: &StateRecord) -> bool
         ensures same { result ≡ true → row_after place (row_at self.now place) entry.now ≡ row_at self.now place }
         ensures apart { result ≡ false → row_after place (row_at self.now place) entry.now ≢ row_at self.now place }
     {
@@ -64,7 +64,7 @@ impl Places {
     }
 
     /// Takes the memory that a note at this place needs.
-    pub fn make_room(&mut self, place: u64) -> Result<(), NoMemory>
+    pub fn make_room(&mut self, place: u32) -> Result<(), NoMemory>
         ensures same { (p : ℕ) → row_at self.new p ≡ row_at self.old p }
         ensures there { OnOk result (IsSome (found_row self.new place)) }
     {
@@ -76,7 +76,7 @@ impl Places {
     }
 
     /// The row of a place that has one.
-    fn put(&mut self, place: u64, row: Row)
+    fn put(&mut self, place: u32, row: Row)
         requires { IsSome (found_row self.old place) }
         ensures { (p : ℕ) → row_at self.new p ≡ (if p == place then row else row_at self.old p) }
     {
@@ -84,7 +84,7 @@ impl Places {
     }
 
     /// Keeps what a record says, at a place that has a row. It takes no memory.
-    pub fn note(&mut self, place: u64, entry: &StateRecord)
+    pub fn note(&mut self, place: u32, entry: &StateRecord)
         requires there { IsSome (found_row self.old place) }
         requires here { (p : ℕ)
             → row_after p (row_at self.old p) entry.now ≡ (if p == place then row_after place (row_at self.old place) entry.now else row_at self.old p) }
@@ -96,19 +96,17 @@ impl Places {
 }
 
 /// The row of the place after a record.
-fn row_noted(place: u64, row: Row, entry: &StateRecord) -> Row
+fn row_noted(place: u32, row: Row, entry: &StateRecord) -> Row
     ensures { result ≡ row_after place row entry.now }
 {
     match entry {
-        StateRecord::Promise { place: at, ballot } if u64::from(*at) == place => promise_row(
-            row, *ballot,
-        ),
+        StateRecord::Promise { place: at, ballot } if *at == place => promise_row(row, *ballot),
         StateRecord::Accepted {
             place: at,
             ballot,
             command,
-        } if u64::from(*at) == place => accept_row(row, *ballot, command.copy()),
-        StateRecord::Chosen { place: at, command } if u64::from(*at) == place => {
+        } if *at == place => accept_row(row, *ballot, command.copy()),
+        StateRecord::Chosen { place: at, command } if *at == place => {
             choose_row(row, command.copy())
         },
         _ => row,

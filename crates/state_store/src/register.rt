@@ -86,7 +86,7 @@ fn noted_at(places: Places, place: u32, entry: &StateRecord) -> Result<Places, N
     ensures { IfOk result (λ after. (p : ℕ) → row_at after p ≡ row_after p (row_at places p) entry.now) }
 {
     let mut places = places;
-    places.make_room(place as u64)?;
-    places.note(place as u64, entry);
+    places.make_room(place)?;
+    places.note(place, entry);
     Ok(places)
 }

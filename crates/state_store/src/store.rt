@@ -149,18 +149,18 @@ impl<D: Disk> StateStore<D> {
     pub fn promised(&self, place: u32) -> Option<Ballot>
         ensures { result ≡ (row_of self.now.records place).promised }
     {
-        self.places.row(place as u64).promised
+        self.places.row(place).promised
     }
 
     /// What was accepted last for the place, and in which ballot.
     pub fn accepted(&self, place: u32) -> Option<(Ballot, Command)>
         ensures { result ≡ (row_of self.now.records place).accepted }
     {
-        self.places.row(place as u64).accepted
+        self.places.row(place).accepted
     }
 
-    /// What is known to be chosen for the place, which may be beyond the greatest that a record can name.
-    pub fn chosen(&self, place: u64) -> Option<Command>
+    /// What is known to be chosen for the place.
+    pub fn chosen(&self, place: u32) -> Option<Command>
         ensures { result ≡ (row_of self.now.records place).chosen }
     {
         self.places.row(place).chosen
@@ -326,7 +326,7 @@ impl<D: Disk> StateStore<D> {
         ensures later { D.faults self.old.disk ≤ D.faults self.new.disk }
         ensures run { D.came_to self.old.disk self.new.disk }
     {
-        if self.places.keeps(place as u64, entry) {
+        if self.places.keeps(place, entry) {
             return Ok(());
         }
         self.add(place, entry)
@@ -352,9 +352,9 @@ impl<D: Disk> StateStore<D> {
         ensures later { D.faults self.old.disk ≤ D.faults self.new.disk }
         ensures run { D.came_to self.old.disk self.new.disk }
     {
-        self.places.make_room(place as u64)?;
+        self.places.make_room(place)?;
         self.device.append(entry)?;
-        self.places.note(place as u64, entry);
+        self.places.note(place, entry);
         Ok(())
     }
 

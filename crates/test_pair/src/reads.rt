@@ -4,7 +4,7 @@ use crate::stores::with_sevens;
 use global_state::GlobalState;
 use pair_memory::{JobContext, PairMemory};
 use petal_base::{Cell, Key, Name, NoMemory, Tuple};
-use petal_command::{ClientNumber, Command};
+use petal_command::{ClientNumber, Command, ServerNumber};
 use petal_disk::{DeviceError, Disk};
 use petal_msg::{Body, Reply};
 use read_either::{answer_read, said};
@@ -70,7 +70,7 @@ fn reply<D: Disk>(
     if !state.readable(1, cell) {
         return Ok(None);
     }
-    let here = JobContext::new(alloc, state, 1, 1);
+    let here = JobContext::new(alloc, state, ServerNumber::new(1), 1);
     match answer_read(&here, side, store, cell, 0) {
         Ok(reply) => Ok(Some(reply)),
         Err(error) => Err(error),

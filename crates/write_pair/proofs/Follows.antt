@@ -26,7 +26,7 @@ use Rattle.pair_memory.specs.declared.job_result.JobResult.{JobResult as Left}
 use Rattle.pair_memory.specs.declared.error.WorkError.{WorkError}
 use Rattle.pair_memory.specs.declared.error.WorkError.TheVariants.{NoMemory}
 use Rattle.pair_memory.specs.PairMemory.{PairMemory, HasTickets, HasTicketsAt, needs_apart, own_of, pairs_of}
-use Rattle.pair_memory.specs.JobResult.{IsBy, IsDone, IsSaid, only}
+use Rattle.pair_memory.specs.JobResult.{IsBy, IsDone, IsSaid, held, only}
 use Rattle.pair_memory.specs.Slots.{IsKept}
 use Rattle.pair_memory.proofs.Said.{all_same}
 use Rattle.pair_memory.proofs.Tickets.{kept_followed}
@@ -121,10 +121,10 @@ module _ {D : Type 0} (here : JobContext) (side : PairMemory) (store : Holdings 
 
   -- the cell of a key, where it has a name of its own
   pub at_key : (device : Ghosts D) (new : PairMemory) (after : Holdings D) (answer : Result Left WorkError) (key : Key) (bytes : List ℕ) → cell ≡ cell_of key
-      → IsDone device here side new store after answer (follows_in here (own_of side store) number key bytes cell)
-      → IsDone device here side new store after answer (follows here (own_of side store) number key bytes)
+      → IsDone device here (held side store) (held new after) answer (follows_in here (own_of side store) number key bytes cell)
+      → IsDone device here (held side store) (held new after) answer (follows here (own_of side store) number key bytes)
   at_key device new after answer key bytes is done =
-      subst (λ (c : Cell). IsDone device here side new store after answer (follows_in here (own_of side store) number key bytes c)) is done
+      subst (λ (c : Cell). IsDone device here (held side store) (held new after) answer (follows_in here (own_of side store) number key bytes c)) is done
 
 -- the tickets once the copy is put in its slot
 pub follows_keeps : (pending : Table Cell Pending) (was last : Table Cell LastOp) (own before apart : Table Cell ℕ) (tickets left : List ℕ) (cell : Cell)

@@ -29,7 +29,7 @@ use Rattle.pair_memory.specs.declared.job_result.JobResult.{JobResult}
 use Rattle.pair_memory.specs.declared.job_result.FollowUp.TheVariants as follow
 use Rattle.pair_memory.specs.declared.error.WorkError.{WorkError}
 use Rattle.pair_memory.specs.PairMemory.{PairMemory, HasTickets, HasTicketsAt, needs_own, own_of}
-use Rattle.pair_memory.specs.JobResult.{IsBy, IsDone, IsSaid, only}
+use Rattle.pair_memory.specs.JobResult.{IsBy, IsDone, IsSaid, held, only}
 use Rattle.pair_memory.proofs.Said.{said_done}
 use Rattle.pair_memory.proofs.Tickets as tickets
 use Rattle.write_pair.specs.Moved.{IsMoved}
@@ -193,7 +193,7 @@ module _ {D : Type 0} (here : JobContext) (side : PairMemory) (store : Holdings 
       (kept : Store) (t : T) (done : JobResult)
       → new ≡ staged side.pending op.cell (with_flag op.stage kind is) (at cell_cmp side.pending op.cell)
       → IsCommit device store after (Ok t) kept → done ≡ record { letters = []; follow = Some (follow.Stage op.cell) }
-      → IsDone device here side (record side { pending = new }) store after (Ok done) (flagged kind is kept)
+      → IsDone device here (held side store) (held (record side { pending = new }) after) (Ok done) (flagged kind is kept)
   flags_done device kind is new after kept t done table commit said = rw (table ∙ flagged_is kind is, said) (record {
     done = λ told. record {
       own = ap (put_own (put cell_cmp side.pending op.cell (with_mark_at op kind is))) (commit.done told)
@@ -243,7 +243,7 @@ pub said_acts : {D : Type 0} (device : Ghosts D) (stays : (d : D) → device.cam
     (here : JobContext) (own : PairState) (op : Pending) (old new : PairMemory) (before after : Holdings D)
     (answer : Result JobResult WorkError) (next is : Action)
     → next ≡ is → IsSaid here old new before after answer (acts here own op is)
-    → IsDone device here old new before after answer (acts here own op next)
+    → IsDone device here (held old before) (held new after) answer (acts here own op next)
 said_acts device stays only_now here own op old new before after answer next is same said =
-    subst (λ (a : Action). IsDone device here old new before after answer (acts here own op a)) (sym same)
+    subst (λ (a : Action). IsDone device here (held old before) (held new after) answer (acts here own op a)) (sym same)
     (said_done device stays only_now here old new before after answer _ said)

@@ -18,7 +18,7 @@ use Rattle.kept_chains.specs.Standing.{StandsAsEither}
 use Rattle.pair_memory.specs.declared.job_result.JobResult.{JobResult}
 use Rattle.pair_memory.specs.declared.error.WorkError.{WorkError}
 use Rattle.pair_memory.specs.declared.error.WorkError.TheVariants.{JournalFull, NoMemory}
-use Rattle.pair_memory.specs.JobResult.{HasFault, HoldsAt, IsDone, IsFull}
+use Rattle.pair_memory.specs.JobResult.{HasFault, HoldsAt, IsDone, IsFull, held}
 use Rattle.pair_memory.specs.PairMemory.{PairMemory, HasTicketsAt, needs_own, own_of, pairs_of}
 use Rattle.pair_memory.specs.Slots.{IsOutAt}
 use Rattle.pair_memory.proofs.Tickets as tickets
@@ -94,10 +94,10 @@ module _ {D : Type 0} (op : Pending) (side : PairMemory) (store : Holdings D) (h
     -- what its first stage leaves, as seen from before it was opened; unless that was refused, as it is taken back then
     pub opened_done : (here : JobContext) (device : Ghosts D) (last : PairMemory) (left : Holdings D) (result : Result JobResult WorkError) (room : Bool)
         → room ≡ true
-        → ¬ (result ≡ Err NoMemory) → ¬ (result ≡ Err JournalFull) → IsDone device here new last after left result (goes_on here (own_of new after) op.cell)
-        → IsDone device here side last store left result (begun here (own_of side store) op room)
+        → ¬ (result ≡ Err NoMemory) → ¬ (result ≡ Err JournalFull) → IsDone device here (held new after) (held last left) result (goes_on here (own_of new after) op.cell)
+        → IsDone device here (held side store) (held last left) result (begun here (own_of side store) op room)
     opened_done here device last left result room is memory full stage =
-        rw is (subst (λ (rule : Rule). IsDone device here side last store left result rule)
+        rw is (subst (λ (rule : Rule). IsDone device here (held side store) (held last left) result rule)
         (ap (λ (own : PairState). goes_on here own op.cell) opened_is) (record {
           done = stage.done;
           keeps = stage.keeps;

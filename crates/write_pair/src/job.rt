@@ -4,8 +4,8 @@ ghost use Rattle.std.specs.Prelude.{◌≡◌, true, Err};
 ghost use Rattle.petal_msg.specs.Kinds.{is_of_write, subject_of};
 ghost use Rattle.spec_rules.specs.Jobs.{handles};
 ghost use Rattle.pair_memory.specs.declared.error.WorkError.TheVariants as error;
-ghost use Rattle.pair_memory.specs.PairMemory.{own_of, HasTicketsAt};
-ghost use Rattle.pair_memory.specs.JobResult.{HasVersions, IsDone};
+ghost use Rattle.pair_memory.specs.PairMemory.{own_of};
+ghost use Rattle.pair_memory.specs.JobResult.{IsDone, IsReady, held};
 
 use crate::lead::{Wanted, on_pair_full, on_replicated, on_reserved, on_write};
 use crate::second::{on_replicate, on_reserve};
@@ -27,9 +27,8 @@ pub fn on_letter<D: Disk>(
     letter: &Letter,
 ) -> Result<JobResult, WorkError>
     requires letter { is_of_write (subject_of letter.now.body) ≡ true }
-    requires tickets { HasTicketsAt side.old store.old }
-    requires versions { HasVersions store.old }
-    ensures job { IsDone D.Disk here.now side.old side.new store.old store.new result (handles here.now (own_of side.old store.old) letter.now.body) }
+    requires ready { IsReady side.old store.old }
+    ensures job { IsDone D.Disk here.now (held side.old store.old) (held side.new store.new) result (handles here.now (own_of side.old store.old) letter.now.body) }
     ensures same { result ≡ Err error.NoMemory → store.new ≡ store.old }
 {
     match &letter.body {

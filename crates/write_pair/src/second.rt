@@ -12,7 +12,7 @@ ghost use Rattle.petal_msg.specs.declared.operation.FollowProgress.TheVariants a
 ghost use Rattle.kept_chains.specs.Kept.{store_of};
 ghost use Rattle.pair_memory.specs.declared.error.WorkError.TheVariants as error;
 ghost use Rattle.pair_memory.specs.PairMemory.{needs_apart, own_of, HasTicketsAt};
-ghost use Rattle.pair_memory.specs.JobResult.{HasVersions, IsDone, IsSaid};
+ghost use Rattle.pair_memory.specs.JobResult.{IsDone, IsReady, IsSaid, held};
 
 use kept_chains::next_version;
 use pair_memory::{
@@ -207,10 +207,9 @@ fn follow<D: Disk>(
     key: Key,
     bytes: &SharedBlock,
 ) -> Result<JobResult, WorkError>
-    requires tickets { HasTicketsAt side.old store.old }
-    requires versions { HasVersions store.old }
+    requires ready { IsReady side.old store.old }
     requires has { needs_apart (at cell_cmp side.old.last (cell_of key)) ≡ true }
-    ensures job { IsDone D.Disk here.now side.old side.new store.old store.new result
+    ensures job { IsDone D.Disk here.now (held side.old store.old) (held side.new store.new) result
         (writes.follows here.now (own_of side.old store.old) op key bytes.now) }
     ensures same { result ≡ Err error.NoMemory → store.new ≡ store.old }
 {
@@ -241,9 +240,8 @@ pub fn on_replicate<D: Disk>(
     key: Key,
     bytes: &SharedBlock,
 ) -> Result<JobResult, WorkError>
-    requires tickets { HasTicketsAt side.old store.old }
-    requires versions { HasVersions store.old }
-    ensures job { IsDone D.Disk here.now side.old side.new store.old store.new result
+    requires ready { IsReady side.old store.old }
+    ensures job { IsDone D.Disk here.now (held side.old store.old) (held side.new store.new) result
         (writes.on_replicate here.now (own_of side.old store.old) op key bytes.now) }
     ensures same { result ≡ Err error.NoMemory → store.new ≡ store.old }
 {

@@ -5,7 +5,7 @@ ghost use Rattle.spec_rules.specs.Writes as writes;
 ghost use Rattle.petal_msg.specs.declared.operation.Action.TheVariants as action;
 ghost use Rattle.pair_memory.specs.declared.error.WorkError.TheVariants as error;
 ghost use Rattle.pair_memory.specs.PairMemory.{own_of, HasTicketsAt};
-ghost use Rattle.pair_memory.specs.JobResult.{HasVersions, IsDone, IsSaid};
+ghost use Rattle.pair_memory.specs.JobResult.{IsDone, IsReady, IsSaid, held};
 ghost use Rattle.write_pair.specs.Moved.{IsMoved};
 
 use crate::lead::stage::next_stage;
@@ -63,10 +63,9 @@ pub fn act<D: Disk>(
     store: &mut Store<D>,
     op: &Pending,
 ) -> Result<JobResult, WorkError>
-    requires tickets { HasTicketsAt side.old store.old }
-    requires versions { HasVersions store.old }
+    requires ready { IsReady side.old store.old }
     requires moved { IsMoved side.old.pending op.now }
-    ensures job { IsDone D.Disk here.now side.old side.new store.old store.new result
+    ensures job { IsDone D.Disk here.now (held side.old store.old) (held side.new store.new) result
         (writes.acts here.now (writes.with_pending (own_of side.old store.old) op.now) op.now (writes.next_stage here.now.state here.now.me op.now)) }
     ensures same { result ≡ Err error.NoMemory → store.new ≡ store.old }
 {
@@ -92,9 +91,8 @@ pub fn go_on<D: Disk>(
     store: &mut Store<D>,
     cell: Cell,
 ) -> Result<JobResult, WorkError>
-    requires tickets { HasTicketsAt side.old store.old }
-    requires versions { HasVersions store.old }
-    ensures job { IsDone D.Disk here.now side.old side.new store.old store.new result (writes.goes_on here.now (own_of side.old store.old) cell) }
+    requires ready { IsReady side.old store.old }
+    ensures job { IsDone D.Disk here.now (held side.old store.old) (held side.new store.new) result (writes.goes_on here.now (own_of side.old store.old) cell) }
     ensures same { result ≡ Err error.NoMemory → store.new ≡ store.old }
 {
     match side.pending_on(cell)? {

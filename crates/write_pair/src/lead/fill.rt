@@ -8,8 +8,8 @@ ghost use Rattle.spec_rules.specs.Store.{cell_cmp, chain_in, free_of};
 ghost use Rattle.pair_memory.specs.Copies.{has_proposed_in};
 ghost use Rattle.kept_chains.specs.Kept.{store_of};
 ghost use Rattle.pair_memory.specs.declared.error.WorkError.TheVariants as error;
-ghost use Rattle.pair_memory.specs.PairMemory.{own_of, HasTicketsAt};
-ghost use Rattle.pair_memory.specs.JobResult.{HasVersions, IsDone};
+ghost use Rattle.pair_memory.specs.PairMemory.{own_of};
+ghost use Rattle.pair_memory.specs.JobResult.{IsDone, IsReady, held};
 ghost use Rattle.write_pair.specs.Wanted.{moving};
 
 use crate::lead::open::open;
@@ -54,10 +54,9 @@ fn open_fill<D: Disk>(
     store: &mut Store<D>,
     entry: &Moving,
 ) -> Result<JobResult, WorkError>
-    requires tickets { HasTicketsAt side.old store.old }
-    requires versions { HasVersions store.old }
+    requires ready { IsReady side.old store.old }
     requires none { at cell_cmp side.old.pending (cell_of entry.now.key) ≡ None }
-    ensures job { IsDone D.Disk here.now side.old side.new store.old store.new result
+    ensures job { IsDone D.Disk here.now (held side.old store.old) (held side.new store.new) result
         (fills.opens_fill here.now (own_of side.old store.old) (moving entry.now) (nat_lt 0 (free_of (store_of store.old)))) }
     ensures same { result ≡ Err error.NoMemory → store.new ≡ store.old }
 {
@@ -72,10 +71,9 @@ fn hear_fill<D: Disk>(
     store: &mut Store<D>,
     entry: &Moving,
 ) -> Result<JobResult, WorkError>
-    requires tickets { HasTicketsAt side.old store.old }
-    requires versions { HasVersions store.old }
+    requires ready { IsReady side.old store.old }
     requires none { at cell_cmp side.old.pending (cell_of entry.now.key) ≡ None }
-    ensures job { IsDone D.Disk here.now side.old side.new store.old store.new result
+    ensures job { IsDone D.Disk here.now (held side.old store.old) (held side.new store.new) result
         (fills.hears_fill here.now (own_of side.old store.old) (moving entry.now) false
         (fills.has_epoch (chain_in (store_of store.old).chains (cell_of entry.now.key)) entry.now.key.epoch)
         (has_proposed_in here.now.state side.old.copies (cell_of entry.now.key))) }
@@ -103,9 +101,8 @@ pub fn on_fill<D: Disk>(
     store: &mut Store<D>,
     entry: &Moving,
 ) -> Result<JobResult, WorkError>
-    requires tickets { HasTicketsAt side.old store.old }
-    requires versions { HasVersions store.old }
-    ensures job { IsDone D.Disk here.now side.old side.new store.old store.new result
+    requires ready { IsReady side.old store.old }
+    ensures job { IsDone D.Disk here.now (held side.old store.old) (held side.new store.new) result
         (fills.on_fill here.now (own_of side.old store.old) (moving entry.now)) }
     ensures same { result ≡ Err error.NoMemory → store.new ≡ store.old }
 {

@@ -7,7 +7,7 @@ ghost use Rattle.server_store.specs.Tickets as lists;
 ghost use Rattle.kept_chains.specs.Kept.{store_of};
 ghost use Rattle.pair_memory.specs.declared.error.WorkError.TheVariants as error;
 ghost use Rattle.pair_memory.specs.PairMemory.{own_of, HasTicketsAt};
-ghost use Rattle.pair_memory.specs.JobResult.{HasVersions, IsDone};
+ghost use Rattle.pair_memory.specs.JobResult.{IsDone, IsReady, held};
 ghost use Rattle.pair_memory.specs.Slots.{IsOutAt};
 ghost use Rattle.write_pair.specs.Opened.{IsOpened, begun};
 
@@ -82,11 +82,10 @@ pub fn open<D: Disk>(
     store: &mut Store<D>,
     op: &Pending,
 ) -> Result<JobResult, WorkError>
-    requires tickets { HasTicketsAt side.old store.old }
-    requires versions { HasVersions store.old }
+    requires ready { IsReady side.old store.old }
     requires none { at cell_cmp side.old.pending op.now.cell ≡ None }
     requires new { op.now.stage.put ≡ false }
-    ensures job { IsDone D.Disk here.now side.old side.new store.old store.new result
+    ensures job { IsDone D.Disk here.now (held side.old store.old) (held side.new store.new) result
         (begun here.now (own_of side.old store.old) op.now (nat_lt 0 (free_of (store_of store.old)))) }
     ensures same { result ≡ Err error.NoMemory → store.new ≡ store.old }
 {

@@ -7,7 +7,7 @@ ghost use Rattle.spec_rules.specs.Writes as writes;
 ghost use Rattle.petal_msg.specs.declared.operation.Ending.TheVariants as ending;
 ghost use Rattle.pair_memory.specs.declared.error.WorkError.TheVariants as error;
 ghost use Rattle.pair_memory.specs.PairMemory.{own_of, HasTicketsAt};
-ghost use Rattle.pair_memory.specs.JobResult.{HasVersions, IsDone, IsSaid};
+ghost use Rattle.pair_memory.specs.JobResult.{IsDone, IsReady, IsSaid, held};
 
 use crate::lead::actions::act;
 use crate::lead::end::end;
@@ -43,9 +43,8 @@ pub fn on_reserved<D: Disk>(
     op: Op,
     cell: Cell,
 ) -> Result<JobResult, WorkError>
-    requires tickets { HasTicketsAt side.old store.old }
-    requires versions { HasVersions store.old }
-    ensures job { IsDone D.Disk here.now side.old side.new store.old store.new result (writes.on_reserved here.now (own_of side.old store.old) op cell) }
+    requires ready { IsReady side.old store.old }
+    ensures job { IsDone D.Disk here.now (held side.old store.old) (held side.new store.new) result (writes.on_reserved here.now (own_of side.old store.old) op cell) }
     ensures same { result ≡ Err error.NoMemory → store.new ≡ store.old }
 {
     match side.pending_on(cell)? {
@@ -110,9 +109,8 @@ pub fn on_replicated<D: Disk>(
     op: Op,
     cell: Cell,
 ) -> Result<JobResult, WorkError>
-    requires tickets { HasTicketsAt side.old store.old }
-    requires versions { HasVersions store.old }
-    ensures job { IsDone D.Disk here.now side.old side.new store.old store.new result (writes.on_replicated here.now (own_of side.old store.old) op cell) }
+    requires ready { IsReady side.old store.old }
+    ensures job { IsDone D.Disk here.now (held side.old store.old) (held side.new store.new) result (writes.on_replicated here.now (own_of side.old store.old) op cell) }
     ensures same { result ≡ Err error.NoMemory → store.new ≡ store.old }
 {
     match side.pending_on(cell)? {

@@ -8,7 +8,7 @@ ghost use Rattle.petal_msg.specs.declared.operation.Action.TheVariants as action
 ghost use Rattle.pair_memory.specs.declared.job_result.FollowUp.TheVariants as follow;
 ghost use Rattle.pair_memory.specs.declared.error.WorkError.TheVariants as error;
 ghost use Rattle.pair_memory.specs.PairMemory.{own_of, HasTicketsAt};
-ghost use Rattle.pair_memory.specs.JobResult.{HasVersions, IsDone, IsSaid};
+ghost use Rattle.pair_memory.specs.JobResult.{IsDone, IsReady, IsSaid, held};
 ghost use Rattle.kept_chains.specs.Kept.{store_of};
 ghost use Rattle.kept_chains.specs.Marking.{IsCommit};
 ghost use Rattle.write_pair.specs.Flagged.{flags, with_mark_as};
@@ -127,7 +127,7 @@ pub fn flags<D: Disk>(
 ) -> Result<JobResult, WorkError>
     requires tickets { HasTicketsAt side.old store.old }
     requires moved { IsMoved side.old.pending op.now }
-    ensures job { IsDone D.Disk here.now side.old side.new store.old store.new result
+    ensures job { IsDone D.Disk here.now (held side.old store.old) (held side.new store.new) result
         (flags (writes.with_pending (own_of side.old store.old) op.now) op.now kind is) }
     ensures same { result ≡ Err error.NoMemory → store.new ≡ store.old }
 {
@@ -153,11 +153,10 @@ pub fn put_own<D: Disk>(
     store: &mut Store<D>,
     op: &Pending,
 ) -> Result<JobResult, WorkError>
-    requires tickets { HasTicketsAt side.old store.old }
-    requires versions { HasVersions store.old }
+    requires ready { IsReady side.old store.old }
     requires moved { IsMoved side.old.pending op.now }
     requires put { op.now.stage.put ≡ false }
-    ensures job { IsDone D.Disk here.now side.old side.new store.old store.new result
+    ensures job { IsDone D.Disk here.now (held side.old store.old) (held side.new store.new) result
         (writes.acts here.now (writes.with_pending (own_of side.old store.old) op.now) op.now action.Put) }
     ensures same { result ≡ Err error.NoMemory → store.new ≡ store.old }
 {

@@ -2,14 +2,14 @@
 
 ghost use Rattle.std.specs.Prelude.{◌≡◌, ◌||◌, nat_lt, None, Err, IfOk};
 ghost use Rattle.petal_table.specs.Table.{at};
-ghost use Rattle.spec_rules.specs.State.{held};
+ghost use Rattle.spec_rules.specs.State as states;
 ghost use Rattle.spec_rules.specs.Store.{cell_cmp, free_of};
 ghost use Rattle.spec_rules.specs.Writes as writes;
 ghost use Rattle.kept_chains.specs.Kept.{store_of};
 ghost use Rattle.pair_memory.specs.declared.error.WorkError.TheVariants as error;
-ghost use Rattle.pair_memory.specs.PairMemory.{own_of, HasTicketsAt};
+ghost use Rattle.pair_memory.specs.PairMemory.{own_of};
 ghost use Rattle.pair_memory.specs.Copies.{has_proposed_in};
-ghost use Rattle.pair_memory.specs.JobResult.{HasVersions, IsDone};
+ghost use Rattle.pair_memory.specs.JobResult.{IsDone, IsReady, held};
 ghost use Rattle.write_pair.specs.Opened.{begun};
 ghost use Rattle.write_pair.specs.Wanted.{wanted};
 
@@ -76,7 +76,7 @@ fn is_pending_for(side: &PairMemory, want: &Wanted) -> bool
 
 /// Whether a fence holds the cell's writes, or a ballot was started for the `Caught` of its link.
 fn is_kept_back(here: &JobContext, side: &PairMemory, cell: Cell) -> bool
-    ensures { result ≡ (writes.is_writes_held (held here.now.state cell) || has_proposed_in here.now.state side.now.copies cell) }
+    ensures { result ≡ (writes.is_writes_held (states.held here.now.state cell) || has_proposed_in here.now.state side.now.copies cell) }
 {
     is_writes_held(here.held(cell)) || side.copies.has_proposed(here, cell)
 }
@@ -88,10 +88,9 @@ fn open_write<D: Disk>(
     store: &mut Store<D>,
     want: &Wanted,
 ) -> Result<JobResult, WorkError>
-    requires tickets { HasTicketsAt side.old store.old }
-    requires versions { HasVersions store.old }
+    requires ready { IsReady side.old store.old }
     requires none { at cell_cmp side.old.pending want.now.cell ≡ None }
-    ensures job { IsDone D.Disk here.now side.old side.new store.old store.new result
+    ensures job { IsDone D.Disk here.now (held side.old store.old) (held side.new store.new) result
         (begun here.now (own_of side.old store.old) (writes.operation here.now side.old.next (wanted want.now)) (nat_lt 0 (free_of (store_of store.old)))) }
     ensures same { result ≡ Err error.NoMemory → store.new ≡ store.old }
 {
@@ -106,9 +105,8 @@ fn take_newer<D: Disk>(
     store: &mut Store<D>,
     want: &Wanted,
 ) -> Result<JobResult, WorkError>
-    requires tickets { HasTicketsAt side.old store.old }
-    requires versions { HasVersions store.old }
-    ensures job { IsDone D.Disk here.now side.old side.new store.old store.new result
+    requires ready { IsReady side.old store.old }
+    ensures job { IsDone D.Disk here.now (held side.old store.old) (held side.new store.new) result
         (writes.takes here.now (own_of side.old store.old) (wanted want.now) writes.Newer) }
     ensures same { result ≡ Err error.NoMemory → store.new ≡ store.old }
 {
@@ -136,9 +134,8 @@ pub fn on_write<D: Disk>(
     store: &mut Store<D>,
     want: &Wanted,
 ) -> Result<JobResult, WorkError>
-    requires tickets { HasTicketsAt side.old store.old }
-    requires versions { HasVersions store.old }
-    ensures job { IsDone D.Disk here.now side.old side.new store.old store.new result
+    requires ready { IsReady side.old store.old }
+    ensures job { IsDone D.Disk here.now (held side.old store.old) (held side.new store.new) result
         (writes.on_write here.now (own_of side.old store.old) (wanted want.now)) }
     ensures same { result ≡ Err error.NoMemory → store.new ≡ store.old }
 {

@@ -18,13 +18,13 @@ pub returns-in-Ok-clause-entered : goal.returns-in-Ok-clause-entered
 returns-in-Ok-clause-entered g c = λ _.
     let done = c.in_ok-done.ensures in
     entered_with g.D.Disk tt c.in_ok-done.done
-    (rw (c.me-me.ensures, c.inc-inc.ensures, done.entry) at (c.in-Ok.ensures (state_of c.args.log.now) done.before))
+    (rw (c.number-me.ensures, c.inc-inc.ensures, done.entry) at (c.in-Ok.ensures (state_of c.args.log.now) done.before))
 
 pub returns-in-Err-clause-entered : goal.returns-in-Err-clause-entered
 returns-in-Err-clause-entered g c = λ _.
     let done = c.in_ok-done.ensures in
     entered_not g.D.Disk c.in-Err.error
-    (rw (c.me-me.ensures, c.inc-inc.ensures, done.entry) at (c.in-Err.ensures (state_of c.args.log.now) done.before))
+    (rw (c.number-me.ensures, c.inc-inc.ensures, done.entry) at (c.in-Err.ensures (state_of c.args.log.now) done.before))
 
 pub returns-in-Err-clause-same : goal.returns-in-Err-clause-same
 returns-in-Err-clause-same g c = λ is.

@@ -19,8 +19,8 @@ returns-clause-letters g c =
     let own = own_of it.side c.args.store.now in
     let copies = c.in_ok-copies.copies in
     let may : is_in here.state here.me here.inc ≡ true = sym c.is_in.ensures ∙ c.if-not-is_in.false in
-    let first = rw (c.new-here.ensures, c.me.ensures, c.inc.ensures, c.state.ensures) at c.in_ok-copies.ensures.letters in
-    let last = rw (c.new-here.ensures, c.me.ensures, c.inc.ensures, c.state.ensures) at c.fills_after.ensures.letters in
+    let first = rw (c.new-here.ensures, c.number.ensures, c.inc.ensures, c.state.ensures) at c.in_ok-copies.ensures.letters in
+    let last = rw (c.new-here.ensures, c.number.ensures, c.inc.ensures, c.state.ensures) at c.fills_after.ensures.letters in
     let same : own_of it.side c.letters_after.new.store ≡ own = ap (λ (s : Holdings _). own_of it.side s) c.letters_after.ensures.same in
     rw (← c.parts.view_is)
     (of_each _ _ (λ all is told.

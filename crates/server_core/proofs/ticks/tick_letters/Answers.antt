@@ -10,6 +10,6 @@ returns-clause-letters g c = λ told records.
     let copies = c.in_ok-copies.copies in
     rw (← c.parts.view_is)
     (tick_all core (store_of c.args.store.now) records c.in_ok-ballot.ballot c.in_ok-pending.pending copies c.in_ok-with_ask.field-0 c.in_ok-ballot.ensures
-    (rw (c.new-here.ensures, c.me.ensures, c.inc.ensures, c.state.ensures) at c.in_ok-pending.ensures)
+    (rw (c.new-here.ensures, c.number.ensures, c.inc.ensures, c.state.ensures) at c.in_ok-pending.ensures)
     ((rw (← c.parts.view_is) at c.in_ok-copies.ensures.letters) told)
     (c.in_ok-with_ask.ensures records))

@@ -12,13 +12,13 @@ use Rattle.write_pair.proofs.second.follow.Goals as goal
 pub spend-requires-clause-out : goal.spend-requires-clause-out
 spend-requires-clause-out g c = λ _ _ slot is.
     let side = c.args.side.now in
-    apart_out side.pending side.last side.own side.apart c.args.store.now.tickets c.requires.tickets c.cell-cell.result slot
+    apart_out side.pending side.last side.own side.apart c.args.store.now.tickets c.requires.ready.tickets c.cell-cell.result slot
     (ap (λ (s : PairMemory). at cell_cmp s.apart c.cell-cell.result) (sym c.side.view_is) ∙ is)
 
 pub returns-clause-job : goal.returns-clause-job
 returns-clause-job g c =
     let here = c.args.here.now in
-    let h = rw (← c.side.view_is) at c.requires.tickets in
+    let h = rw (← c.side.view_is) at c.requires.ready.tickets in
     let has = rw (← c.side.view_is) at (rw (← c.cell-cell.ensures) at c.requires.has) in
     let slot = apart_slot c.side.inside.locks c.side.inside.last c.side.inside.own c.side.inside.apart c.args.store.now.tickets h c.cell-cell.result has in
     let said = ap (λ (to : Option ℕ). letters_of (sender here) 0 (post_to to (body.Replicated c.args.op c.cell-cell.result))) c.first.ensures in

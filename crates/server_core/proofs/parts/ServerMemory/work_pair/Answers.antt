@@ -12,7 +12,7 @@ returns g c =
     let job = c.in-Some.job.now in
     let asked = rw (← c.self.view_is) at c.requires.first in
     let first = first_is it.queue.items job _ asked c.in-Some.ensures.lookup in
-    let done = rw (c.new-here.ensures, c.me.ensures, c.inc.ensures, c.state.ensures) at c.in_ok-done.ensures in
+    let done = rw (c.new-here.ensures, c.number.ensures, c.inc.ensures, c.state.ensures) at c.in_ok-done.ensures in
     rw (← c.self.view_is)
     (pair_work g.D.Disk c.args.state.now.records old new c.args.store.now c.does.new.store job first
     (rw first at asked) c.in_ok-done.done c.after-letters.result done refl refl

@@ -5,27 +5,32 @@ use Rattle.spec_rules.specs.Store.{free_of}
 use Rattle.write_pair.proofs.Opens.{full_back, opened_done, opened_tickets, slot_some, slot_out, side_back, store_back}
 use Rattle.write_pair.proofs.lead.open.open.Goals as goal
 
-pub go_on-requires-clause-tickets : goal.go_on-requires-clause-tickets
-go_on-requires-clause-tickets g c κs within =
-    opened_tickets c.args.op.now c.args.side.now c.args.store.now c.requires.tickets c.requires.none c.begin.new.side c.begin.new.store
-    (c.in_ok-begin.ensures.yes c.if-not-branch.false) c.requires.new
+pub go_on-requires-clause-ready : goal.go_on-requires-clause-ready
+go_on-requires-clause-ready g c κs within =
+    let opened = c.in_ok-begin.ensures.yes c.if-not-branch.false in
+    record {
+      tickets =
+          opened_tickets c.args.op.now c.args.side.now c.args.store.now c.requires.ready.tickets c.requires.none c.begin.new.side c.begin.new.store
+          opened c.requires.new;
+      versions = rw opened.store (c.requires.ready.versions);
+    }
 
 pub take_back-requires-clause-some : goal.take_back-requires-clause-some
 take_back-requires-clause-some g c κs within =
-    slot_some c.args.op.now c.args.side.now c.args.store.now c.requires.tickets c.requires.none c.begin.new.side c.begin.new.store
+    slot_some c.args.op.now c.args.side.now c.args.store.now c.requires.ready.tickets c.requires.none c.begin.new.side c.begin.new.store
     (c.in_ok-begin.ensures.yes c.if-not-branch.false) c.go_on.new.side c.go_on.new.store
     (c.in-Err-NoMemory.ensures.job.same (ap Err c.in-Err-NoMemory.field-0-is)).0 (c.in-Err-NoMemory.ensures.same (ap Err c.in-Err-NoMemory.field-0-is))
 
 pub take_back-requires-clause-out : goal.take_back-requires-clause-out
 take_back-requires-clause-out g c κs within =
-    slot_out c.args.op.now c.args.side.now c.args.store.now c.requires.tickets c.requires.none c.begin.new.side c.begin.new.store
+    slot_out c.args.op.now c.args.side.now c.args.store.now c.requires.ready.tickets c.requires.none c.begin.new.side c.begin.new.store
     (c.in_ok-begin.ensures.yes c.if-not-branch.false) c.go_on.new.side c.go_on.new.store (c.in-Err-NoMemory.ensures.job.same
     (ap Err c.in-Err-NoMemory.field-0-is)).0 (c.in-Err-NoMemory.ensures.same (ap Err c.in-Err-NoMemory.field-0-is)) c.requires.new
 
 pub returns-in-Err-NoMemory-clause-job : goal.returns-in-Err-NoMemory-clause-job
 returns-in-Err-NoMemory-clause-job g c =
     let law = g.met.D.Disk g.world.𝓛 g.world.𝓜 g.world.𝓡 ((λ s x. x), (λ x. x), (λ x. x), λ x. x) in
-    let h = rw (← c.side.view_is) at c.requires.tickets in
+    let h = rw (← c.side.view_is) at c.requires.ready.tickets in
     let none = rw (← c.side.view_is) at c.requires.none in
     let begun = rw (← c.side.view_is) at (c.in_ok-begin.ensures.yes c.if-not-branch.false) in
     let side_is = (c.in-Err-NoMemory.ensures.job.same (ap Err c.in-Err-NoMemory.field-0-is)).0 in
@@ -40,7 +45,7 @@ returns-in-Err-NoMemory-clause-job g c =
 
 pub returns-in-Err-NoMemory-clause-same : goal.returns-in-Err-NoMemory-clause-same
 returns-in-Err-NoMemory-clause-same g c _ =
-    store_back c.args.op.now c.args.side.now c.args.store.now c.requires.tickets c.requires.none c.begin.new.side c.begin.new.store
+    store_back c.args.op.now c.args.side.now c.args.store.now c.requires.ready.tickets c.requires.none c.begin.new.side c.begin.new.store
     (c.in_ok-begin.ensures.yes c.if-not-branch.false) c.go_on.new.side c.go_on.new.store
     (c.in-Err-NoMemory.ensures.job.same (ap Err c.in-Err-NoMemory.field-0-is)).0
     (c.in-Err-NoMemory.ensures.same (ap Err c.in-Err-NoMemory.field-0-is)) c.take_back.new.store c.take_back.ensures.store
@@ -48,19 +53,19 @@ returns-in-Err-NoMemory-clause-same g c _ =
 pub take_back-requires-in-Err-JournalFull-clause-some : goal.take_back-requires-in-Err-JournalFull-clause-some
 take_back-requires-in-Err-JournalFull-clause-some g c κs within =
     let full = c.in-Err-JournalFull.ensures.job.full (ap Err c.in-Err-JournalFull.field-0-is) in
-    slot_some c.args.op.now c.args.side.now c.args.store.now c.requires.tickets c.requires.none c.begin.new.side c.begin.new.store
+    slot_some c.args.op.now c.args.side.now c.args.store.now c.requires.ready.tickets c.requires.none c.begin.new.side c.begin.new.store
     (c.in_ok-begin.ensures.yes c.if-not-branch.false) c.go_on.new.side c.go_on.new.store full.same.0 full.same.1
 
 pub take_back-requires-in-Err-JournalFull-clause-out : goal.take_back-requires-in-Err-JournalFull-clause-out
 take_back-requires-in-Err-JournalFull-clause-out g c κs within =
     let full = c.in-Err-JournalFull.ensures.job.full (ap Err c.in-Err-JournalFull.field-0-is) in
-    slot_out c.args.op.now c.args.side.now c.args.store.now c.requires.tickets c.requires.none c.begin.new.side c.begin.new.store
+    slot_out c.args.op.now c.args.side.now c.args.store.now c.requires.ready.tickets c.requires.none c.begin.new.side c.begin.new.store
     (c.in_ok-begin.ensures.yes c.if-not-branch.false) c.go_on.new.side c.go_on.new.store full.same.0 full.same.1 c.requires.new
 
 pub returns-in-Err-JournalFull-clause-job : goal.returns-in-Err-JournalFull-clause-job
 returns-in-Err-JournalFull-clause-job g c =
     let law = g.met.D.Disk g.world.𝓛 g.world.𝓜 g.world.𝓡 ((λ s x. x), (λ x. x), (λ x. x), λ x. x) in
-    let h = rw (← c.side.view_is) at c.requires.tickets in
+    let h = rw (← c.side.view_is) at c.requires.ready.tickets in
     let none = rw (← c.side.view_is) at c.requires.none in
     let begun = rw (← c.side.view_is) at (c.in_ok-begin.ensures.yes c.if-not-branch.false) in
     let room = sym c.in_ok-begin.ensures.room ∙ c.if-not-branch.false in
@@ -73,14 +78,14 @@ returns-in-Err-JournalFull-clause-job g c =
 
 pub returns-in-Ok-clause-job : goal.returns-in-Ok-clause-job
 returns-in-Ok-clause-job g c =
-    opened_done c.args.op.now c.args.side.now c.args.store.now c.requires.tickets c.requires.none c.begin.new.side c.begin.new.store
+    opened_done c.args.op.now c.args.side.now c.args.store.now c.requires.ready.tickets c.requires.none c.begin.new.side c.begin.new.store
     (c.in_ok-begin.ensures.yes c.if-not-branch.false) c.args.here.now g.D.Disk c.go_on.new.side c.go_on.new.store
     _ (nat_lt 0 (free_of (store_of c.args.store.now)))
     (sym c.in_ok-begin.ensures.room ∙ c.if-not-branch.false) (λ no. absurd (cc)) (λ no. absurd (cc)) c.in-Ok.ensures.job
 
 pub returns-in-Err-Failed-clause-job : goal.returns-in-Err-Failed-clause-job
 returns-in-Err-Failed-clause-job g c =
-    opened_done c.args.op.now c.args.side.now c.args.store.now c.requires.tickets c.requires.none c.begin.new.side c.begin.new.store
+    opened_done c.args.op.now c.args.side.now c.args.store.now c.requires.ready.tickets c.requires.none c.begin.new.side c.begin.new.store
     (c.in_ok-begin.ensures.yes c.if-not-branch.false) c.args.here.now g.D.Disk c.go_on.new.side c.go_on.new.store
     _ (nat_lt 0 (free_of (store_of c.args.store.now)))
     (sym c.in_ok-begin.ensures.room ∙ c.if-not-branch.false) (λ no. absurd (cc)) (λ no. absurd (cc))

@@ -10,14 +10,14 @@ use Rattle.write_pair.proofs.lead.stages.put_own.Goals as goal
 pub spend-requires-clause-out : goal.spend-requires-clause-out
 spend-requires-clause-out g c = λ _ _ slot is.
     let side = c.args.side.now in
-    own_out side.pending side.last side.own side.apart c.args.store.now.tickets c.requires.tickets c.args.op.now.cell slot
+    own_out side.pending side.last side.own side.apart c.args.store.now.tickets c.requires.ready.tickets c.args.op.now.cell slot
     (ap (λ (s : PairMemory). at cell_cmp s.own c.args.op.now.cell) (sym c.side.view_is) ∙ is)
 
 pub returns-clause-job : goal.returns-clause-job
 returns-clause-job g c =
     rw (← c.side.view_is)
     (let before : PairMemory = left_of c.side.view_is in
-    let h = rw (← c.side.view_is) at c.requires.tickets in
+    let h = rw (← c.side.view_is) at c.requires.ready.tickets in
     let m = rw (← c.side.view_is) at c.requires.moved in
     let slot = own_slot c.args.here.now before c.args.store.now c.args.op.now h m c.requires.put in
     let table = rw c.put_stage.ensures at c.set_put.ensures.table in
