@@ -111,6 +111,7 @@ pub use Rattle.law_steps.proofs.ClientLetters.{is_ask}
 pub use Rattle.law_steps.proofs.ClientStepKinds.{Turning, client_turns, is_call}
 pub use Rattle.law_steps.proofs.KindsInHistories.{firm_after}
 pub use Rattle.law_steps.proofs.Letters.{Said, one_post, said as said_in}
+pub use Rattle.law_steps.proofs.LettersOfSteps.{asked_aside, is_aside, is_notice, logged_notice, notice_aside, serves_sent}
 pub use Rattle.law_steps.proofs.LogJobs.{LogFrame, applied_entry, applied_none, ask_logged, ballot_logged, letter_frame_of, start_frame_of}
 pub use Rattle.law_steps.proofs.ServerStepKinds.{server_serves}
 pub use Rattle.law_steps.specs.DidClient.{Ends, answer_of}

@@ -1,11 +1,9 @@
 -- What a server sends to whoever reads: the reply to the one read that it handles in the step.
-use Rattle.law_answers.proofs.Imports.{[], ◌∙◌, ◌∷◌, ◌≡◌, Acted, Actor, Body, Bool, By_ballot, By_entry, By_job, By_read, Cell, Did, Fails, Glanced, Goes}
-use Rattle.law_answers.proofs.Imports.{Grounded, Handled, In, IsReadable, IsSeatedOrMute, IsSteady, JobResult, Letter, List, Lives, NeverRetired, None}
-use Rattle.law_answers.proofs.Imports.{Not_here, Option, PairState, Post, SaysOk, Scene, Sender, Serving, Setting, Shows, Some, Stays, Step, Subject, Wakes}
-use Rattle.law_answers.proofs.Imports.{World, ap, awake, bytes_of, chain_in, down_posts, entry_at, false, inl, inr, is_logged, is_looked, job_tells}
-use Rattle.law_answers.proofs.Imports.{letters_of, map, mute_data, never_retired, own_place, owns_of, post_of, raised, refl, rev_of, said, same_data, sender}
-use Rattle.law_answers.proofs.Imports.{server_state, servers_of, stamped, subject_of, sym, true, true_false, without_rev, ℕ}
-use Rattle.law_steps.specs.DidStep.{Ends}
+use Rattle.law_answers.proofs.Imports.{[], ◌∙◌, ◌∷◌, ◌≡◌, Acted, Actor, Body, Bool, By_read, Cell, Did, Grounded, Handled, In, IsReadable, IsSeatedOrMute}
+use Rattle.law_answers.proofs.Imports.{IsSteady, JobResult, Letter, List, Lives, NeverRetired, None, Not_here, Option, PairState, Post, SaysOk, Scene}
+use Rattle.law_answers.proofs.Imports.{Sender, Serving, Setting, Shows, Some, Step, World, ap, bytes_of, chain_in, entry_at, false, inl, inr, is_looked}
+use Rattle.law_answers.proofs.Imports.{is_notice, job_tells, letters_of, mute_data, never_retired, own_place, owns_of, refl, said, same_data, sender}
+use Rattle.law_answers.proofs.Imports.{server_state, serves_sent, stamped, subject_of, subst, sym, true, true_false, ℕ}
 use Rattle.petal_msg.specs.declared.body.Body.TheVariants as body
 use Rattle.petal_msg.specs.declared.letter.Actor.TheVariants as actor
 
@@ -24,28 +22,11 @@ is_of_read _ = false
 
 -- ### What is not of a read
 
-logged_apart : (said : Body) → is_logged (subject_of said) ≡ true → is_of_read said ≡ false
-logged_apart (body.Data seq bytes) e = true_false refl (sym e)
-logged_apart (body.NotHere seq) e = true_false refl (sym e)
-logged_apart (body.Read client seq cell epoch) e = true_false refl (sym e)
-logged_apart _ e = refl
-
-is_glanced : Subject → Bool
-is_glanced Glanced = true
-is_glanced _ = false
-
-glanced_apart : (said : Body) → subject_of said ≡ Glanced → is_of_read said ≡ false
-unfolding is_glanced
-glanced_apart (body.Data seq bytes) e = true_false refl (sym (ap is_glanced e))
-glanced_apart (body.NotHere seq) e = true_false refl (sym (ap is_glanced e))
-glanced_apart (body.Read client seq cell epoch) e = true_false refl (sym (ap is_glanced e))
-glanced_apart _ e = refl
-
-downs_apart : (me inc : ℕ) (others : List ℕ) (post : Post) → In post (map (post_of (body.Down me inc)) others) → is_of_read post.body ≡ false
-unfolding In
-downs_apart me inc [] post h = absurd h
-downs_apart me inc (n ∷ others) post (inl e) = ap (λ (p : Post). is_of_read p.body) e
-downs_apart me inc (n ∷ others) post (inr h) = downs_apart me inc others post h
+notice_apart : (said : Body) → is_notice (subject_of said) ≡ true → is_of_read said ≡ false
+notice_apart (body.Data seq bytes) e = true_false e refl
+notice_apart (body.NotHere seq) e = true_false e refl
+notice_apart (body.Read client seq cell epoch) e = true_false e refl
+notice_apart _ e = refl
 
 -- nothing of the two is left
 neither : (setting : Setting) (w : World) (lives : Lives) (n : ℕ) (new : PairState) (to : Actor) (what : Body) → is_looked what ≡ false
@@ -152,17 +133,9 @@ module _ (g : Grounded) (steady : IsSteady g.state) (n stamp : ℕ) where
 
   pub sends : (what : Step) (acted : Acted) → Serving setting w n what acted → (letter : Letter) → In letter (stamped stamp acted.letters)
       → IsSentBy setting w n stamp (stamped stamp acted.letters) letter
-  unfolding In
-  sends what _ (Goes log done queue runs (By_job log' done' applied did seat) queued works) letter h =
-      job_sends runs done did (seated_tells runs done seat did) letter h
-  sends what _ (Goes log done queue runs (By_ballot log' started posts applied starts told) queued works) letter h =
-      all_apart mine posts (λ post i. logged_apart post.body (told post i)) letter h
-  sends what _ (Goes log done queue runs (By_entry log' entry more front) queued works) letter h = absurd h
-  sends what _ (Ends log done runs worked) letter h =
-      all_apart (without_rev (own_place setting w n)) (down_posts n (w.servers n).life.inc (servers_of (server_state setting w n)))
-      (downs_apart n (w.servers n).life.inc _) letter h
-  sends what _ (Stays who posts from shown) letter h = all_apart who posts (λ post i. glanced_apart post.body (shown post i)) letter h
-  sends what _ (Wakes booted asleep) letter h =
-      all_apart (record { from = actor.Server n; inc = (awake (raised (w.servers n))).life.inc; rev = rev_of (awake (raised (w.servers n))).log })
-      (down_posts n (w.servers n).life.inc (servers_of (server_state setting w n))) (downs_apart n (w.servers n).life.inc _) letter h
-  sends what _ (Fails booted asleep) letter h = absurd h
+  sends what acted serving letter h = elim (serves_sent setting w n stamp what acted serving letter h) [
+    | inl job ↦ subst (λ (a : Acted). IsSentBy setting w n stamp (stamped stamp a.letters) letter) (sym job.acted_is)
+        (job_sends job.runs job.done job.did (seated_tells job.runs job.done job.seat job.did) letter
+        (subst (λ (a : Acted). In letter (stamped stamp a.letters)) job.acted_is h))
+    | inr apart ↦ Is_apart (notice_apart letter.body apart)
+  ]

@@ -1,14 +1,14 @@
 -- Why a server refuses, or tells that no slot is free: what was so in the job in which it said so.
 use Rattle.law_answers.proofs.Imports.{◌∙◌, ◌≡◌, Actor, An_entry_to_move, Asks, Body, Bool, Cell, Ending, FoundNoSlot, Handled, HasEnded, In, IsBusy}
 use Rattle.law_answers.proofs.Imports.{IsHeldBack, IsNewFill, IsRefusal, Is_declined, JobContext, Key, Letter, Moving, OneMore, PairState, Pending, Post}
-use Rattle.law_answers.proofs.Imports.{Setting, Some, Step, Work, World, after, ap, at, by_bool, cell_cmp, cell_of, ended, false, first, free_of, inl, inr}
-use Rattle.law_answers.proofs.Imports.{is_logged, is_refused, is_second, letters_of_job, own_place, refl, rests_in, setting_in, subject_of, subst, sym, true}
-use Rattle.law_answers.proofs.Imports.{true_false, ℕ}
+use Rattle.law_answers.proofs.Imports.{Setting, Some, Step, Work, World, after, ap, at, by_bool, cell_cmp, cell_of, ended, false, first, free_of, inl}
+use Rattle.law_answers.proofs.Imports.{inr, is_aside, is_logged, is_refused, is_second, letters_of_job, logged_notice, notice_aside, own_place, refl}
+use Rattle.law_answers.proofs.Imports.{rests_in, setting_in, subject_of, subst, sym, true, true_false, ℕ}
 use Rattle.law_steps.specs.DidLead.{Of_the_log}
 use Rattle.law_jobs.specs.Sayings.{Says}
 use Rattle.law_answers.specs.FullCauses.{LacksRoom}
 use Rattle.law_answers.specs.Refusals.{HasNothingOf}
-use Rattle.law_answers.proofs.WhatStepsSend.{is_aside, logged_aside, sent_by}
+use Rattle.law_answers.proofs.WhatStepsSend.{sent_by}
 use Rattle.petal_msg.specs.declared.body.Body.TheVariants as body
 use Rattle.petal_msg.specs.declared.letter.Actor.TheVariants as actor
 use Rattle.petal_msg.specs.declared.operation.Ending.TheVariants as ending
@@ -37,7 +37,7 @@ reason_not_aside _ e = true_false e refl
 
 logged_none : (said : Body) → is_logged (subject_of said) ≡ true → has_reason said ≡ false
 logged_none said e =
-    by_bool (has_reason said) (λ on. true_false (logged_aside (subject_of said) e) (reason_not_aside said on)) (λ off. off)
+    by_bool (has_reason said) (λ on. true_false (notice_aside (subject_of said) (logged_notice (subject_of said) e)) (reason_not_aside said on)) (λ off. off)
 
 ended_none : (seq : ℕ) (how : Ending) → has_reason (ended seq how) ≡ false
 ended_none seq ending.Written = refl

@@ -1,22 +1,14 @@
 -- Which letters tell of a want of slots, or ask for one, and what a job has to show of those that it sends.
-use Rattle.law_answers.proofs.Imports.{◌<◌, ◌∙◌, ◌≡◌, ◌≤◌, ◌⊎◌, Answered, Body, Bool, Cell, Ending, Finished, Firm, In, Key, Letter, List, None, PairState}
+use Rattle.law_answers.proofs.Imports.{◌<◌, ◌∙◌, ◌≡◌, ◌≤◌, ◌⊎◌, Answered, Body, Bool, Cell, Ending, Finished, Firm, In, Key, Letter, List, PairState}
 use Rattle.law_answers.proofs.Imports.{Paired, Pending, Post, Rests, Setting, Some, Subject, Was, World, ap, at, cell_cmp, false, first, inl, is_clients}
-use Rattle.law_answers.proofs.Imports.{is_in, is_logged, length, moved_as, nat_cmp, post_to, refl, server_state, subject_of, sym, true, true_false, was_same}
+use Rattle.law_answers.proofs.Imports.{is_in, is_logged, length, moved_as, nat_cmp, refl, server_state, subject_of, sym, true, true_false, was_same}
 use Rattle.law_answers.proofs.Imports.{ℕ}
 use Rattle.law_answers.specs.Refusals.{IsNumbered, Refusals}
 use Rattle.petal_msg.specs.declared.body.Body.TheVariants as body
 use Rattle.petal_msg.specs.declared.letter.Actor.TheVariants as actor
 use Rattle.petal_msg.specs.declared.operation.Ending.TheVariants as ending
 
-pub nobody : (what : Body) (post : Post) → In post (post_to None what) → ⊥
-unfolding In
-nobody what post i = i
-
 -- what tells of a want of slots, or asks for one
-abbrev pub is_slot : Body → Bool
-is_slot (body.Reserve number cell) = true
-is_slot _ = false
-
 abbrev pub is_of_slots : Body → Bool
 is_of_slots (body.Full seq) = true
 is_of_slots (body.PairFull number cell) = true

@@ -1,14 +1,14 @@
 -- By each step, of a client or of a server, every refusal goes on to have its reason.
-use Rattle.law_answers.proofs.Imports.{[], ◌<◌, ◌∙◌, ◌∷◌, ◌≡◌, ◌≤◌, ◌⊎◌, Acted, Actor, Answered, Blank, Body, Bool, By_ballot, By_entry, By_job, Command}
+use Rattle.law_answers.proofs.Imports.{[], ◌<◌, ◌∙◌, ◌∷◌, ◌≡◌, ◌≤◌, ◌⊎◌, Acted, Actor, Blank, Body, Bool, By_ballot, By_entry, By_job, Command}
 use Rattle.law_answers.proofs.Imports.{Fails, Finished, Firm, Glanced, Heard, In, IsIdle, IsPrefix, Job, JobResult, Letter, List, Log, MayActor, Option}
-use Rattle.law_answers.proofs.Imports.{PairState, Paired, Pairs, Post, Reaction, Rests, Said, Sender, Server, Serves_on, Serving, Setting, Some, Stays, Step}
+use Rattle.law_answers.proofs.Imports.{PairState, Pairs, Post, Reaction, Rests, Said, Sender, Server, Serves_on, Serving, Setting, Some, Stays, Step}
 use Rattle.law_answers.proofs.Imports.{Stops_so, Turned, Wakes, Work, Worked, World, ap, arith, at, at-empty, awake, blanked, by_settled, cell_cmp}
 use Rattle.law_answers.proofs.Imports.{chosen_log, client_sender, client_state, client_step, client_turns, crossed, down_posts, false, in-append, inl, inr}
 use Rattle.law_answers.proofs.Imports.{is_ask, is_call, is_logged, length, letters_of, log_rev, map, nat_cmp, next_line, no_pairs, none_some, own_place}
 use Rattle.law_answers.proofs.Imports.{own_steady, post_of, proposed, proposed_pairs, raised, reacts, refl, said, sender, served, served_so, server_serves}
 use Rattle.law_answers.proofs.Imports.{server_state, servers_of, settled_by, shown_so, silent, stamped, stays, step, stopped, stopped_so, subject_of, subst}
 use Rattle.law_answers.proofs.Imports.{sym, true, true_false, turned_asks, wakes, was_same, without_rev, ℕ}
-use Rattle.law_answers.proofs.SlotLetters.{Duty, JobRefuses, Scene, WereRefused, is_of_slots}
+use Rattle.law_answers.proofs.SlotLetters.{Duty, JobRefuses, Scene, WereRefused, is_of_slots, not_full}
 use Rattle.law_answers.proofs.RefusalFrames.{IsDue, GoesOn, StepRefuses, still_declined, still_numbered, still_on, step_refusals}
 use Rattle.law_answers.specs.Refusals.{HadNoSlot, Refusals}
 use Rattle.law_answers.proofs.JobsRefuseForReasons.{asks_refuses, job_refuses, kept_refuses}
@@ -52,12 +52,6 @@ unfolding In
 all_down me inc [] post h = absurd h
 all_down me inc (n ∷ others) post (inl e) = ap (λ (p : Post). is_of_slots p.body) e
 all_down me inc (n ∷ others) post (inr h) = all_down me inc others post h
-
-glanced_not_full : (said : Body) → subject_of said ≡ Glanced → is_of_slots said ≡ false
-glanced_not_full (body.Full seq) e = absurd (let f : Answered ≡ Glanced = e in cc)
-glanced_not_full (body.PairFull number cell) e = absurd (let f : Paired ≡ Glanced = e in cc)
-glanced_not_full (body.Reserve number cell) e = absurd (let f : Paired ≡ Glanced = e in cc)
-glanced_not_full _ e = refl
 
 module _ (R S : ℕ → ℕ → Type 0) (it : WereRefused R S) (n stamp : ℕ) where
   open it use {setting, w, firm, rests, more, refusals}
@@ -262,7 +256,7 @@ module _ (R S : ℕ → ℕ → Type 0) (it : WereRefused R S) (n stamp : ℕ) w
         of_end (stopped_so setting w n log done) (without_rev (own_place setting w n)) downs refl downs_not_full refl
         (worked_on runs log done worked)
     serves_refuse _ (Stays who posts from shown) =
-        of_still (shown_so w n who posts) who posts refl (λ post i. glanced_not_full post.body (shown post i)) refl
+        of_still (shown_so w n who posts) who posts refl (λ post i. not_full post.body Glanced (shown post i) refl) refl
     serves_refuse _ (Wakes booted asleep) =
         of_wake (wakes (own_place setting w n) (awake (raised here))) _ downs refl downs_not_full refl (omega arith)
     serves_refuse _ (Fails booted asleep) =

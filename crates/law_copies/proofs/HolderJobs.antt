@@ -25,8 +25,8 @@ use Rattle.law_copies.proofs.LeftToCopy.{IsNext, next_is}
 use Rattle.law_copies.proofs.CopiesGoOn.{IsOnward, begun_onward, closed_onward, copied_itself, ended_onward, going_onward, onward_by, onward_tables}
 use Rattle.law_copies.proofs.HolderPace.{IsPaced, link_itself, paced_beside, paced_copied, paced_table}
 use Rattle.law_copies.proofs.CopyLetters.{telling}
-use Rattle.law_copies.proofs.RolesOfWorkers.{RoleIn, alone_not_second, cell_map, holder_not_other, kept_lives, named_id, one_named, page_on, role_keeps}
-use Rattle.law_copies.proofs.RolesOfWorkers.{alone_not_in_both, alone_not_row, idle_both, only_alone}
+use Rattle.law_copies.proofs.RolesOfWorkers.{IsSo, RoleIn, alone_not_in_both, alone_not_row, alone_not_second, cell_map, holder_not_other, idle_both}
+use Rattle.law_copies.proofs.RolesOfWorkers.{kept_lives, named_id, one_named, only_alone, page_on, role_keeps, so_or_apart, was_copying}
 use Rattle.law_copies.proofs.WorkedCell.{cell_apart_from}
 use Rattle.law_copies.proofs.EpochsRise.{did_rising}
 use Rattle.petal_msg.specs.declared.body.Body.TheVariants as body
@@ -126,6 +126,31 @@ module _ (heard : Body → Type 0) (here : JobContext) (links : ℕ) (row : Link
         | inl busy ↦ inl (mark_kept (with_ticket own.store) Stale Busy op.cell op.cell busy)
         | inr stale ↦ inr (mark_kept (with_ticket own.store) Stale Stale op.cell op.cell stale)
       ]) (inl refl) (λ some. some) (f.fit.rising op.cell)
+
+  -- the cell, which the server holds alone, isn't in Both
+  not_shared : {A : Type 0} (c : Cell) → IsHolding heard here links row c own vo → in_both here.state c ≡ true → A
+  not_shared c g both = alone_not_in_both here g.fit.steady c row g.is here.me (only_alone here.me row g.whole g.held) both
+
+  abbrev Here : PairState → Cell → Type 0
+  Here new c = IsHolding heard here links row c own vo → IsRising nat_cmp (chain_in new.store.chains c) → HolderStep heard links row c vo own new
+
+  lead_here : (done : JobResult) (d : DidLead heard here own done) → IsSo (Here done.own) (lead_cell heard here own done d)
+  lead_here _ (Gives_up op h is reserved put) = λ g rises. gives_up_at op is g
+  lead_here _ (Opens want new both) = λ g. not_shared want.cell g both
+  lead_here _ (Marks op h is both stage) = λ g. not_shared op.cell g both
+  lead_here _ (Puts op is both stage) = λ g. not_shared op.cell g both
+  lead_here _ (Unmarks op h is both stage) = λ g. not_shared op.cell g both
+  lead_here _ (Closes op is both stage) = λ g. not_shared op.cell g both
+  lead_here _ (Opens_alone want new alone) = λ g rises. opens_at (operation here own.pairs.next want) new.uncopied new.unheld g
+  lead_here _ (Marks_alone now op taken alone fresh) = marks_at now op taken
+  lead_here _ (Puts_alone now op taken alone stale put) = λ g. puts_at now op taken g stale
+  lead_here _ (Unmarks_alone now op taken alone stale put busy) = λ g. unmarks_at now op taken g stale
+  lead_here _ (Closes_alone now op taken alone stale put free) = closes_at now op taken
+  lead_here _ (Opens_fill moving new room both) = λ g. not_shared (cell_of moving.key) g both
+  lead_here _ (Opens_fill_alone moving new room alone) =
+      λ g rises. opens_at (fill_operation here own.pairs.next moving) new.uncopied new.unheld g
+  lead_here _ (Goes_on_retired now op taken off) = λ g. true_false (lives now op taken g) off
+  lead_here _ _ = tt
 
   -- ### A copy of the cell
 
@@ -238,40 +263,11 @@ module _ (heard : Body → Type 0) (here : JobContext) (links : ℕ) (row : Link
         let paced = same_paced done.own (ap (λ (c : Copies). c.progress) copies) (ap (λ (c : Copies). c.pending) copies) in
         kept done (beside done (By_lead done d) ne) (did_count heard here own done (By_lead done d)) paced.0 paced.1
 
-    lead_at : (c : Cell) (done : JobResult) (d : DidLead heard here own done) → lead_cell heard here own done d ≡ Some c
-        → (cell ≡ c → IsHolding heard here links row c own vo → HolderStep heard links row c vo own done.own) → Step done
-    lead_at c done d is here_it = either c done here_it (λ ne. lead_apart done d (λ e. ne (same_some (sym e ∙ is))))
-
-    both_not : (c : Cell) (done : JobResult) (d : DidLead heard here own done) → lead_cell heard here own done d ≡ Some c → in_both here.state c ≡ true
-        → Step done
-    both_not c done d is both = lead_at c done d is (λ e g. alone_not_in_both here f.fit.steady cell row f.is here.me mine
-        (subst (λ (q : Cell). in_both here.state q ≡ true) (sym e) both))
-
-    rises : (done : JobResult) → DidLead heard here own done → (c : Cell) → IsRising nat_cmp (chain_in done.own.store.chains c)
-    rises done d c = did_rising heard here own f.fit.rising done (By_lead done d) c
-
     lead_step : (done : JobResult) → DidLead heard here own done → Step done
-    lead_step _ (Gives_up op h is reserved put) = lead_at op.cell _ (Gives_up op h is reserved put) refl (λ e g. gives_up_at op is g)
-    lead_step _ (Opens want new both) = both_not want.cell _ (Opens want new both) refl both
-    lead_step _ (Marks op h is both stage) = both_not op.cell _ (Marks op h is both stage) refl both
-    lead_step _ (Puts op is both stage) = both_not op.cell _ (Puts op is both stage) refl both
-    lead_step _ (Unmarks op h is both stage) = both_not op.cell _ (Unmarks op h is both stage) refl both
-    lead_step _ (Closes op is both stage) = both_not op.cell _ (Closes op is both stage) refl both
-    lead_step _ (Opens_alone want new alone) = lead_at want.cell _ (Opens_alone want new alone) refl
-        (λ e g. opens_at (operation here own.pairs.next want) new.uncopied new.unheld g)
-    lead_step _ (Marks_alone now op taken alone fresh) = lead_at op.cell _ (Marks_alone now op taken alone fresh) refl
-        (λ e g. marks_at now op taken g (rises _ (Marks_alone now op taken alone fresh) op.cell))
-    lead_step _ (Puts_alone now op taken alone stale put) = lead_at op.cell _ (Puts_alone now op taken alone stale put) refl
-        (λ e g. puts_at now op taken g stale (rises _ (Puts_alone now op taken alone stale put) op.cell))
-    lead_step _ (Unmarks_alone now op taken alone stale put busy) = lead_at op.cell _ (Unmarks_alone now op taken alone stale put busy) refl
-        (λ e g. unmarks_at now op taken g stale (rises _ (Unmarks_alone now op taken alone stale put busy) op.cell))
-    lead_step _ (Closes_alone now op taken alone stale put free) = lead_at op.cell _ (Closes_alone now op taken alone stale put free) refl
-        (λ e g. closes_at now op taken g (rises _ (Closes_alone now op taken alone stale put free) op.cell))
-    lead_step _ (Opens_fill moving new room both) = both_not (cell_of moving.key) _ (Opens_fill moving new room both) refl both
-    lead_step _ (Opens_fill_alone moving new room alone) = lead_at (cell_of moving.key) _ (Opens_fill_alone moving new room alone) refl
-        (λ e g. opens_at (fill_operation here own.pairs.next moving) new.uncopied new.unheld g)
-    lead_step _ (Goes_on_retired now op taken off) = lead_at op.cell _ (Goes_on_retired now op taken off) refl (λ e g. true_false (lives now op taken g) off)
-    lead_step done d = lead_apart done d (λ e. none_some refl e)
+    lead_step done d = elim (so_or_apart (Here done.own) (lead_cell heard here own done d) (lead_here done d) cell) [
+      | inl step ↦ step f (did_rising heard here own f.fit.rising done (By_lead done d) cell)
+      | inr ne ↦ lead_apart done d ne
+    ]
 
     -- ### Copies
 
@@ -361,9 +357,10 @@ module _ (heard : Body → Type 0) (here : JobContext) (links : ℕ) (row : Link
     -- the pages of its link are done
     taken_paged : (c : Cell) (now : PairState) (copy : Copying) → TakenCopy heard own c now copy
         → (of : LinkRow) × (cell_link here.state c ≡ Some of) × ((progress_on now of).paged ≡ true)
-    taken_paged c _ _ (Copy_as_is copy is) = let r = f.fit.resting.copying c copy is in (r.row, r.is, r.paged)
-    taken_paged c _ _ (Copy_trimmed copy h is fresh) = let r = f.fit.resting.copying c copy is in (r.row, r.is, r.paged)
-    taken_paged c _ _ (Copy_synced copy h is trimmed lt) = let r = f.fit.resting.copying c copy is in (r.row, r.is, r.paged)
+    taken_paged c now copy taken =
+        let w = was_copying heard here own c now copy taken in
+        let r = f.fit.resting.copying c w.0 w.1 in
+        (r.row, r.is, ap (λ (p : Progress). p.paged) (w.3 r.row) ∙ r.paged)
 
     step_paced : (now : PairState) (c : Cell) (copy : Copying) (done : JobResult) → CopyStep here now c copy done → IsPaced row now done.own
     step_paced now c copy _ (Closes_copy synced left) =

@@ -3,8 +3,8 @@ use Rattle.law_copies.proofs.Imports.{◌+◌, ◌∙◌, ◌≡◌, ◌≢◌, 
 use Rattle.law_copies.proofs.Imports.{JobResult, Marks, Marks_alone, None, Opens, Opens_alone, Opens_fill, Opens_fill_alone, Option, PairState, Pending, Puts}
 use Rattle.law_copies.proofs.Imports.{Puts_alone, Some, Stage, Store, Taken, Unmarks, Unmarks_alone, about, ap, at, both_not_alone, cell_cmp, cell_gone}
 use Rattle.law_copies.proofs.Imports.{cell_of, cell_same, chain_in, chain_put, did_count, ends, false, fill_operation, gives_back, inl, inr, is_alone_on}
-use Rattle.law_copies.proofs.Imports.{lead_cell, live, marks, nat_cmp, none_some, of_ending, operation, put, puts, putting, refl, same_cell_or_apart}
-use Rattle.law_copies.proofs.Imports.{same_some, second, so_both, stage_live, subst, sym, taking, true, true_false, unmarks, version_of, with_mark_at}
+use Rattle.law_copies.proofs.Imports.{lead_cell, live, marks, nat_cmp, of_ending, operation, put, puts, putting, refl}
+use Rattle.law_copies.proofs.Imports.{second, so_both, stage_live, subst, sym, taking, true, true_false, unmarks, version_of, with_mark_at}
 use Rattle.law_copies.proofs.Imports.{with_opened, with_paired, with_pending, with_reserved, without_pending}
 use Rattle.law_copies.specs.Pair.{pair_of, PairOk, Keeps, Known}
 use Rattle.law_copies.specs.Visits.{AliveIn}
@@ -13,6 +13,7 @@ use Rattle.law_copies.proofs.WorkedCell.{rest_apart}
 use Rattle.petal_msg.specs.declared.body.Body.TheVariants as body
 use Rattle.petal_msg.specs.declared.operation.Ending.TheVariants as ending
 use Rattle.law_copies.proofs.CellChangesKeepCopies as moves
+use Rattle.law_copies.proofs.RolesOfWorkers.{IsSo, so_or_apart}
 
 module _ (it : CellInBoth) (second_own : PairState) (ok : PairOk (pair_of it.own second_own it.cell))
     (known : (said : Body) → it.heard said → (about said).cell ≡ Some it.cell → Known (pair_of it.own second_own it.cell) said) where
@@ -34,28 +35,17 @@ module _ (it : CellInBoth) (second_own : PairState) (ok : PairOk (pair_of it.own
       let rest = rest_apart heard here own fit.ready cell alive (fit.bare cell) done (By_lead done d) ne in
       moves.first_stays own done.own second_own cell rest.chain rest.pending (did_count heard here own done (By_lead done d)) ok
 
-  -- and one that may be at the cell
-  at_cell : (q : Cell) (done : JobResult) (d : DidLead heard here own done) → lead_cell heard here own done d ≡ Some q
-      → (q ≡ cell → Keeps (pair_of own second_own q) (pair_of done.own second_own q)) → K done.own
-  at_cell q done d is keeps = elim (same_cell_or_apart cell q) [
-    | inl e ↦ subst (λ (c : Cell). Keeps (pair_of own second_own c) (pair_of done.own second_own c)) (sym e) (keeps (sym e))
-    | inr ne ↦ beside done d (λ e. ne (same_some (sym e ∙ is)))
-  ]
-
   -- a cell that one server holds alone is another one
-  alone_beside : (q : Cell) (done : JobResult) (d : DidLead heard here own done) → lead_cell heard here own done d ≡ Some q
-      → is_alone_on here.state here.me q ≡ true → K done.own
-  alone_beside q done d is on = beside done d (λ e. true_false
-      (subst (λ (c : Cell). is_alone_on here.state here.me c ≡ true) (same_some (sym is ∙ e)) on)
-      (both_not_alone here.state here.me cell (so_both here.state cell row is_row both_row)))
+  alone_not : {A : Type 0} (q : Cell) → q ≡ cell → is_alone_on here.state here.me q ≡ true → A
+  alone_not q e on = true_false (subst (λ (c : Cell). is_alone_on here.state here.me c ≡ true) e on)
+      (both_not_alone here.state here.me cell (so_both here.state cell row is_row both_row))
 
   -- and so is one that is retired
-  retired_beside : (now : PairState) (op : Pending) (taken : Taken own now op) → live here.state op.cell ≡ false
-      → (done : JobResult) (d : DidLead heard here own done) → lead_cell heard here own done d ≡ Some op.cell → K done.own
-  retired_beside now op taken off done d is = beside done d (λ e.
+  retired_not : {A : Type 0} (now : PairState) (op : Pending) → Taken own now op → op.cell ≡ cell → live here.state op.cell ≡ false → A
+  retired_not now op taken e off =
       let t = taking own now op taken in
       let born = (fit.ready.staged op.cell t.old t.was).born in
-      true_false (stage_live here.state op.cell born (subst (λ (c : Cell). AliveIn here.state c) (same_some (sym e ∙ is)) alive)) off)
+      true_false (stage_live here.state op.cell born (subst (λ (c : Cell). AliveIn here.state c) (sym e) alive)) off
 
   -- ### At the cell
 
@@ -100,44 +90,50 @@ module _ (it : CellInBoth) (second_own : PairState) (ok : PairOk (pair_of it.own
 
   -- ### Each kind of its jobs
 
-  pub lead_keeps : (done : JobResult) → DidLead heard here own done → K done.own
-  lead_keeps _ (Gives_up op h is reserved put) =
+  abbrev Here : PairState → Cell → Type 0
+  Here new q = q ≡ cell → Keeps (pair_of own second_own q) (pair_of new second_own q)
+
+  lead_here : (done : JobResult) (d : DidLead heard here own done) → IsSo (Here done.own) (lead_cell heard here own done d)
+  lead_here _ (Gives_up op h is reserved put) =
       let base = gives_back (without_pending own op.cell) in
       let f = of_ending here base op op.kind ending.Full in
-      at_cell op.cell _ (Gives_up op h is reserved put) refl (λ e. changes op.cell (ends here base op op.kind ending.Full).own None
+      λ e. changes op.cell (ends here base op op.kind ending.Full).own None
       (ap (λ (t : Store). t.chains) f.store) f.next (ap (λ t. at cell_cmp t op.cell) f.pending ∙ cell_gone own.pairs.pending op.cell)
-      (moves.refuses (pair_of own second_own op.cell) op (ok_at op.cell e) is put))
-  lead_keeps _ (Opens want new both) =
-      at_cell want.cell _ (Opens want new both) refl (opens_keeps (operation here own.pairs.next want) new.none refl refl refl)
-  lead_keeps _ (Marks op h is both stage) =
+      (moves.refuses (pair_of own second_own op.cell) op (ok_at op.cell e) is put)
+  lead_here _ (Opens want new both) = opens_keeps (operation here own.pairs.next want) new.none refl refl refl
+  lead_here _ (Marks op h is both stage) =
       let one = with_reserved op in
       let two = with_mark_at one Busy true in
       let at_put = ap (λ (s : Stage). s.put) stage in
-      at_cell op.cell _ (Marks op h is both stage) refl (λ e. changes op.cell (marks (with_pending own one) one Busy).own (Some two) refl refl
+      λ e. changes op.cell (marks (with_pending own one) one Busy).own (Some two) refl refl
       (cell_same (put cell_cmp own.pairs.pending op.cell one) op.cell two)
-      (moves.marks (pair_of own second_own op.cell) op two (ok_at op.cell e) is at_put (known_at _ h op.cell refl e) refl at_put))
-  lead_keeps _ (Puts op is both stage) = at_cell op.cell _ (Puts op is both stage) refl (puts_keeps op is stage)
-  lead_keeps _ (Unmarks op h is both stage) =
+      (moves.marks (pair_of own second_own op.cell) op two (ok_at op.cell e) is at_put (known_at _ h op.cell refl e) refl at_put)
+  lead_here _ (Puts op is both stage) = puts_keeps op is stage
+  lead_here _ (Unmarks op h is both stage) =
       let one = with_paired op in
       let two = with_mark_at one Busy false in
       let at_put = ap (λ (s : Stage). s.put) stage in
-      at_cell op.cell _ (Unmarks op h is both stage) refl (λ e. changes op.cell (unmarks (with_pending own one) one Busy).own (Some two) refl refl
+      λ e. changes op.cell (unmarks (with_pending own one) one Busy).own (Some two) refl refl
       (cell_same (put cell_cmp own.pairs.pending op.cell one) op.cell two)
-      (moves.unmarks (pair_of own second_own op.cell) op two (ok_at op.cell e) is at_put (known_at _ h op.cell refl e) refl at_put))
-  lead_keeps _ (Closes op is both stage) =
+      (moves.unmarks (pair_of own second_own op.cell) op two (ok_at op.cell e) is at_put (known_at _ h op.cell refl e) refl at_put)
+  lead_here _ (Closes op is both stage) =
       let base = without_pending own op.cell in
       let f = of_ending here base op op.kind ending.Written in
-      at_cell op.cell _ (Closes op is both stage) refl (λ e. changes op.cell (ends here base op op.kind ending.Written).own None
+      λ e. changes op.cell (ends here base op op.kind ending.Written).own None
       (ap (λ (t : Store). t.chains) f.store) f.next (ap (λ t. at cell_cmp t op.cell) f.pending ∙ cell_gone own.pairs.pending op.cell)
-      (moves.closes (pair_of own second_own op.cell) op (ok_at op.cell e) is (ap (λ (s : Stage). s.put) stage) (ap (λ (s : Stage). s.paired) stage)))
-  lead_keeps _ (Opens_alone want new on) = alone_beside want.cell _ (Opens_alone want new on) refl on
-  lead_keeps _ (Marks_alone now op taken on fresh) = alone_beside op.cell _ (Marks_alone now op taken on fresh) refl on
-  lead_keeps _ (Puts_alone now op taken on stale put) = alone_beside op.cell _ (Puts_alone now op taken on stale put) refl on
-  lead_keeps _ (Unmarks_alone now op taken on stale put busy) = alone_beside op.cell _ (Unmarks_alone now op taken on stale put busy) refl on
-  lead_keeps _ (Closes_alone now op taken on stale put free) = alone_beside op.cell _ (Closes_alone now op taken on stale put free) refl on
-  lead_keeps _ (Opens_fill moving new room both) =
-      at_cell (cell_of moving.key) _ (Opens_fill moving new room both) refl
-      (opens_keeps (fill_operation here own.pairs.next moving) new.none refl refl refl)
-  lead_keeps _ (Opens_fill_alone moving new room on) = alone_beside (cell_of moving.key) _ (Opens_fill_alone moving new room on) refl on
-  lead_keeps _ (Goes_on_retired now op taken retired) = retired_beside now op taken retired _ (Goes_on_retired now op taken retired) refl
-  lead_keeps done d = beside done d (λ e. none_some refl e)
+      (moves.closes (pair_of own second_own op.cell) op (ok_at op.cell e) is (ap (λ (s : Stage). s.put) stage) (ap (λ (s : Stage). s.paired) stage))
+  lead_here _ (Opens_alone want new on) = λ e. alone_not want.cell e on
+  lead_here _ (Marks_alone now op taken on fresh) = λ e. alone_not op.cell e on
+  lead_here _ (Puts_alone now op taken on stale put) = λ e. alone_not op.cell e on
+  lead_here _ (Unmarks_alone now op taken on stale put busy) = λ e. alone_not op.cell e on
+  lead_here _ (Closes_alone now op taken on stale put free) = λ e. alone_not op.cell e on
+  lead_here _ (Opens_fill moving new room both) = opens_keeps (fill_operation here own.pairs.next moving) new.none refl refl refl
+  lead_here _ (Opens_fill_alone moving new room on) = λ e. alone_not (cell_of moving.key) e on
+  lead_here _ (Goes_on_retired now op taken retired) = λ e. retired_not now op taken e retired
+  lead_here _ _ = tt
+
+  pub lead_keeps : (done : JobResult) → DidLead heard here own done → K done.own
+  lead_keeps done d = elim (so_or_apart (Here done.own) (lead_cell heard here own done d) (lead_here done d) cell) [
+    | inl keeps ↦ keeps refl
+    | inr ne ↦ beside done d ne
+  ]

@@ -1,21 +1,20 @@
 -- A lead puts only on a block that is marked on its device, and its operations find the marks that their stages tell of.
 use Rattle.law_copies.proofs.Imports.{◌+◌, ◌<◌, ◌||◌, ◌∙◌, ◌≡◌, ◌≢◌, ◌⊎◌, Begins_copy, Body, Busy, By_holder, By_lead, By_other, By_second, Cell, Closes}
-use Rattle.law_copies.proofs.Imports.{Closes_alone, Closes_copy, CopyStep, Copy_as_is, Copy_synced, Copy_trimmed, Copying, Did, DidHolder, DidLead, Ending}
-use Rattle.law_copies.proofs.Imports.{Finds_it_full, Gives_up, Goes_on_copying, Goes_on_retired, Idle, IsIdle, IsMarked, JobContext, JobResult, MarkKind}
-use Rattle.law_copies.proofs.Imports.{Marks, Marks_alone, None, Opens, Opens_alone, Opens_fill, Opens_fill_alone, PairState, Pending, Puts, Puts_alone, Some}
-use Rattle.law_copies.proofs.Imports.{Stage, Stale, Store, Taken, TakenCopy, Turns_page, Unmarks, Unmarks_alone, among_least, ap, at, begins_copy, cell_at}
-use Rattle.law_copies.proofs.Imports.{cell_cmp, cell_gone, cell_same, chain_in, copied_chains, copying_on, did_ready, ends, false, fill_operation, first_copy}
-use Rattle.law_copies.proofs.Imports.{gives_back, inl, inr, is_clients, is_some, is_under_way, leads_link, led_by_link, live, live_stage, mark_kept}
-use Rattle.law_copies.proofs.Imports.{mark_there, marked_blocks, marks, nat_cmp, none_some, not, not_true, of_ending, of_holder, operation, pending_on}
-use Rattle.law_copies.proofs.Imports.{progress_on, puts, refl, same_cell_or_apart, same_some, some_or_none, stage_at, stale_kept, subst, sym, taking, true}
-use Rattle.law_copies.proofs.Imports.{true_false, unmarks, version_of, with_mark_at, with_mark_on, with_opened, with_page, with_paired, with_pending}
-use Rattle.law_copies.proofs.Imports.{with_reserved, without_pending, worked}
+use Rattle.law_copies.proofs.Imports.{Closes_alone, Copying, Did, DidHolder, DidLead, Ending, Finds_it_full, Gives_up, Goes_on_copying, Goes_on_retired}
+use Rattle.law_copies.proofs.Imports.{Idle, IsIdle, IsMarked, JobContext, JobResult, MarkKind, Marks, Marks_alone, None, Opens, Opens_alone, Opens_fill}
+use Rattle.law_copies.proofs.Imports.{Opens_fill_alone, PairState, Pending, Puts, Puts_alone, Some, Stage, Stale, Store, Taken, Turns_page, Unmarks}
+use Rattle.law_copies.proofs.Imports.{Unmarks_alone, among_least, ap, at, cell_at, cell_cmp, cell_gone, cell_same, chain_in, copying_on, did_ready, ends}
+use Rattle.law_copies.proofs.Imports.{false, fill_operation, gives_back, holder_cell, inl, inr, is_clients, is_some, is_under_way, lead_cell, leads_link}
+use Rattle.law_copies.proofs.Imports.{led_by_link, live, live_stage, mark_kept, mark_there, marked_blocks, marks, nat_cmp, none_some, not, not_true}
+use Rattle.law_copies.proofs.Imports.{of_ending, of_holder, operation, pending_on, puts, refl, same_some, some_or_none}
+use Rattle.law_copies.proofs.Imports.{stage_at, stale_kept, subst, sym, taking, true, true_false, unmarks, version_of, with_mark_at, with_mark_on}
+use Rattle.law_copies.proofs.Imports.{with_opened, with_paired, with_pending, with_reserved, without_pending, worked}
 use Rattle.law_copies.specs.Pair.{HasMarks, HaveMarks}
 use Rattle.law_copies.specs.LoneSteps.{IsFit}
 use Rattle.law_copies.proofs.ChainsRise.{in_left}
 use Rattle.law_copies.proofs.LeftToCopy.{next_is}
 use Rattle.law_copies.proofs.OtherIsNotHolder.{held_not_leading}
-use Rattle.law_copies.proofs.RolesOfWorkers.{RoleIn, leads_not_second, role}
+use Rattle.law_copies.proofs.RolesOfWorkers.{IsSo, RoleIn, holder_chains, leads_not_second, role, so_or_apart, was_copying}
 use Rattle.law_copies.proofs.WorkedCell.{marks_apart, rest_apart}
 use Rattle.petal_msg.specs.declared.operation.Ending.TheVariants as ending
 use Rattle.petal_msg.specs.declared.operation.OpKind.TheVariants as kind
@@ -32,6 +31,10 @@ module _ (heard : Body → Type 0) (here : JobContext) (own : PairState) (fit : 
   record KeepsAt (new : PairState) (cell : Cell) : Type 0 where
     marks : (op : Pending) → pending_on new cell ≡ Some op → HasMarks op new.store cell
     first : chain_in new.store.chains cell ≢ chain_in own.store.chains cell → IsMarked own.store cell
+
+  -- where the cell is live
+  abbrev Here : PairState → Cell → Type 0
+  Here new cell = live here.state cell ≡ true → KeepsAt new cell
 
   -- one operation is pending there
   one_at : (new : PairState) (cell : Cell) (op : Pending) → pending_on new cell ≡ Some op → HasMarks op new.store cell
@@ -82,11 +85,10 @@ module _ (heard : Body → Type 0) (here : JobContext) (own : PairState) (fit : 
     unworked done did no_role = beside done did (λ e. no_role (role heard here own fit done did q e))
 
     -- the job works on this cell, or beside it
-    at_cell : (cell : Cell) (done : JobResult) (did : Did heard here own done) → worked heard here own done did ≡ Some cell
-        → (live here.state cell ≡ true → KeepsAt done.own cell) → KeepsAt done.own q
-    at_cell cell done did is here_it = elim (same_cell_or_apart q cell) [
-      | inl e ↦ subst (KeepsAt done.own) (sym e) (here_it (ap (live here.state) (sym e) ∙ on))
-      | inr ne ↦ beside done did (λ e. ne (same_some (sym e ∙ is)))
+    at_work : (done : JobResult) (did : Did heard here own done) → IsSo (Here done.own) (worked heard here own done did) → KeepsAt done.own q
+    at_work done did so = elim (so_or_apart (Here done.own) (worked heard here own done did) so q) [
+      | inl here_it ↦ here_it on
+      | inr ne ↦ beside done did ne
     ]
 
   -- ### The lead's operation
@@ -158,102 +160,79 @@ module _ (heard : Body → Type 0) (here : JobContext) (own : PairState) (fit : 
       none_at (ends here now op op.kind how).own op.cell (ap (λ t. at cell_cmp t op.cell) f.pending ∙ none)
       (ap (λ (s : Store). chain_in s.chains op.cell) f.store ∙ ap (λ t. chain_in t op.cell) chains)
 
-  module _ (q : Cell) (on : live here.state q ≡ true) where
-    lead_at : (cell : Cell) (done : JobResult) (d : DidLead heard here own done) → worked heard here own done (By_lead done d) ≡ Some cell
-        → (live here.state cell ≡ true → KeepsAt done.own cell) → KeepsAt done.own q
-    lead_at cell done d = at_cell q on cell done (By_lead done d)
-
-    lead_marked : (done : JobResult) → DidLead heard here own done → KeepsAt done.own q
-    lead_marked _ (Gives_up op h is reserved put) = lead_at op.cell _ (Gives_up op h is reserved put) refl
-        (λ on. ending_at (gives_back (without_pending own op.cell)) op ending.Full (cell_gone own.pairs.pending op.cell) refl)
-    lead_marked _ (Opens want new both) = lead_at want.cell _ (Opens want new both) refl
-        (λ on. opening (operation here own.pairs.next want) (fresh_marks (operation here own.pairs.next want) refl refl (λ fill. written fill)))
-    lead_marked _ (Marks op h is both stage) = lead_at op.cell _ (Marks op h is both stage) refl
-        (λ on. let old = fit.marks op.cell op on is in
-        marking (with_pending own (with_reserved op)) (with_reserved op) refl
-        (record { busy = old.busy; stale = old.stale; lacks = old.lacks }) Busy)
-    lead_marked _ (Puts op is both stage) = lead_at op.cell _ (Puts op is both stage) refl
-        (λ on. let old = fit.marks op.cell op on is in putting own op refl old (inl (old.busy (ap (λ (s : Stage). s.busy) stage))))
-    lead_marked _ (Unmarks op h is both stage) = lead_at op.cell _ (Unmarks op h is both stage) refl
-        (λ on. let old = fit.marks op.cell op on is in
-        unmarking (with_pending own (with_paired op)) (with_paired op) refl (record { busy = old.busy; stale = old.stale; lacks = old.lacks }))
-    lead_marked _ (Closes op is both stage) = lead_at op.cell _ (Closes op is both stage) refl
-        (λ on. ending_at (without_pending own op.cell) op ending.Written (cell_gone own.pairs.pending op.cell) refl)
-    lead_marked _ (Opens_alone want new alone) = lead_at want.cell _ (Opens_alone want new alone) refl
-        (λ on. opening_alone (operation here own.pairs.next want) (fresh_marks (operation here own.pairs.next want) refl refl (λ fill. written fill)))
-    lead_marked _ (Marks_alone now op taken alone fresh) = lead_at op.cell _ (Marks_alone now op taken alone fresh) refl
-        (λ on. let t = taken_marks now op taken on in marking now op (ap (λ (s : Store). s.chains) t.1) t.0 Stale)
-    lead_marked _ (Puts_alone now op taken alone stale put) = lead_at op.cell _ (Puts_alone now op taken alone stale put) refl
-        (λ on. let t = taken_marks now op taken on in putting now op (ap (λ (s : Store). s.chains) t.1) t.0
-        (subst (λ (s : Store). IsMarked s op.cell) t.1 (inr (t.0.stale stale))))
-    lead_marked _ (Unmarks_alone now op taken alone stale put busy) = lead_at op.cell _ (Unmarks_alone now op taken alone stale put busy) refl
-        (λ on. let t = taken_marks now op taken on in unmarking now op (ap (λ (s : Store). s.chains) t.1) t.0)
-    lead_marked _ (Closes_alone now op taken alone stale put free) = lead_at op.cell _ (Closes_alone now op taken alone stale put free) refl
-        (λ on. ending_at (without_pending now op.cell) op ending.Written (cell_gone now.pairs.pending op.cell)
-        (ap (λ (s : Store). s.chains) (taking own now op taken).store))
-    lead_marked _ (Opens_fill moving new room both) =
-        let op = fill_operation here own.pairs.next moving in
-        lead_at op.cell _ (Opens_fill moving new room both) refl (λ on. opening op (fresh_marks op refl refl (λ fill. new.lacks)))
-    lead_marked _ (Opens_fill_alone moving new room alone) =
-        let op = fill_operation here own.pairs.next moving in
-        lead_at op.cell _ (Opens_fill_alone moving new room alone) refl (λ on. opening_alone op (fresh_marks op refl refl (λ fill. new.lacks)))
-    lead_marked _ (Goes_on_retired now op taken off) = lead_at op.cell _ (Goes_on_retired now op taken off) refl (λ on. true_false on off)
-    lead_marked done d = beside q on done (By_lead done d) (λ e. none_some refl e)
+  lead_marked : (done : JobResult) (d : DidLead heard here own done) → IsSo (Here done.own) (lead_cell heard here own done d)
+  lead_marked _ (Gives_up op h is reserved put) =
+      λ on. ending_at (gives_back (without_pending own op.cell)) op ending.Full (cell_gone own.pairs.pending op.cell) refl
+  lead_marked _ (Opens want new both) =
+      λ on. opening (operation here own.pairs.next want) (fresh_marks (operation here own.pairs.next want) refl refl (λ fill. written fill))
+  lead_marked _ (Marks op h is both stage) = λ on.
+      let old = fit.marks op.cell op on is in
+      marking (with_pending own (with_reserved op)) (with_reserved op) refl (record { busy = old.busy; stale = old.stale; lacks = old.lacks }) Busy
+  lead_marked _ (Puts op is both stage) = λ on.
+      let old = fit.marks op.cell op on is in putting own op refl old (inl (old.busy (ap (λ (s : Stage). s.busy) stage)))
+  lead_marked _ (Unmarks op h is both stage) = λ on.
+      let old = fit.marks op.cell op on is in
+      unmarking (with_pending own (with_paired op)) (with_paired op) refl (record { busy = old.busy; stale = old.stale; lacks = old.lacks })
+  lead_marked _ (Closes op is both stage) =
+      λ on. ending_at (without_pending own op.cell) op ending.Written (cell_gone own.pairs.pending op.cell) refl
+  lead_marked _ (Opens_alone want new alone) =
+      λ on. opening_alone (operation here own.pairs.next want) (fresh_marks (operation here own.pairs.next want) refl refl (λ fill. written fill))
+  lead_marked _ (Marks_alone now op taken alone fresh) = λ on.
+      let t = taken_marks now op taken on in marking now op (ap (λ (s : Store). s.chains) t.1) t.0 Stale
+  lead_marked _ (Puts_alone now op taken alone stale put) = λ on.
+      let t = taken_marks now op taken on in
+      putting now op (ap (λ (s : Store). s.chains) t.1) t.0 (subst (λ (s : Store). IsMarked s op.cell) t.1 (inr (t.0.stale stale)))
+  lead_marked _ (Unmarks_alone now op taken alone stale put busy) = λ on.
+      let t = taken_marks now op taken on in unmarking now op (ap (λ (s : Store). s.chains) t.1) t.0
+  lead_marked _ (Closes_alone now op taken alone stale put free) =
+      λ on. ending_at (without_pending now op.cell) op ending.Written (cell_gone now.pairs.pending op.cell)
+      (ap (λ (s : Store). s.chains) (taking own now op taken).store)
+  lead_marked _ (Opens_fill moving new room both) =
+      let op = fill_operation here own.pairs.next moving in λ on. opening op (fresh_marks op refl refl (λ fill. new.lacks))
+  lead_marked _ (Opens_fill_alone moving new room alone) =
+      let op = fill_operation here own.pairs.next moving in λ on. opening_alone op (fresh_marks op refl refl (λ fill. new.lacks))
+  lead_marked _ (Goes_on_retired now op taken off) = λ on. true_false on off
+  lead_marked _ _ = tt
 
   -- ### Copies
 
-  step_chains : (now : PairState) (cell : Cell) (copy : Copying) (done : JobResult) → CopyStep here now cell copy done
-      → done.own.store.chains ≡ now.store.chains
-  step_chains now cell copy _ (Closes_copy synced left) = copied_chains here now cell
-  step_chains now cell copy _ _ = refl
+  -- of a cell that is copied no operation is pending
+  copied_at : (cell : Cell) (done : JobResult) → DidHolder heard here own done → pending_on own cell ≡ None → KeepsAt done.own cell
+  copied_at cell done d none =
+      none_at done.own cell (ap (λ t. at cell_cmp t cell) (of_holder heard here own done d).pending ∙ none)
+      (ap (λ t. chain_in t cell) (holder_chains heard here own done d))
 
-  taken_store : (cell : Cell) (now : PairState) (copy : Copying) → TakenCopy heard own cell now copy
-      → (now.store ≡ own.store) × (pending_on own cell ≡ None)
-  taken_store cell _ _ (Copy_as_is copy is) = (refl, idle cell copy is)
-  taken_store cell _ _ (Copy_trimmed copy h is fresh) = (refl, idle cell copy is)
-  taken_store cell _ _ (Copy_synced copy h is trimmed lt) = (refl, idle cell copy is)
+  holder_marked : (done : JobResult) (d : DidHolder heard here own done) → IsSo (Here done.own) (holder_cell heard here own done d)
+  holder_marked _ (Turns_page id row other after (Some block) h held fresh at) = λ on.
+      let cell = cell_at row block in
+      record {
+        marks = λ op is.
+            let old = fit.marks cell op on is in
+            record {
+              busy = λ e. mark_kept own.store Stale Busy cell cell (old.busy e);
+              stale = λ e. mark_kept own.store Stale Stale cell cell (old.stale e);
+              lacks = old.lacks;
+            };
+        first = λ changed. absurd (changed refl);
+      }
+  holder_marked _ (Turns_page id row other after None h held fresh at) = tt
+  holder_marked done (Begins_copy id row other cell _ held next step) =
+      λ on. copied_at cell done (Begins_copy id row other cell done held next step) (next_is here.state id row own held.is cell next).free
+  holder_marked done (Goes_on_copying cell now copy _ taken step) =
+      let w = was_copying heard here own cell now copy taken in
+      λ on. copied_at cell done (Goes_on_copying cell now copy done taken step) (idle cell w.0 w.1)
+  holder_marked _ (Finds_it_full cell copy h is trimmed lt) =
+      λ on. copied_at cell _ (Finds_it_full cell copy h is trimmed lt) (idle cell copy is)
+  holder_marked _ _ = tt
+
+  -- ### All jobs
 
   module _ (q : Cell) (on : live here.state q ≡ true) where
-    -- of a cell that is copied no operation is pending
-    copied_at : (cell : Cell) (done : JobResult) (d : DidHolder heard here own done) → worked heard here own done (By_holder done d) ≡ Some cell
-        → pending_on own cell ≡ None → done.own.store.chains ≡ own.store.chains → KeepsAt done.own q
-    copied_at cell done d is none chains = at_cell q on cell done (By_holder done d) is
-        (λ on. none_at done.own cell (ap (λ t. at cell_cmp t cell) (of_holder heard here own done d).pending ∙ none) (ap (λ t. chain_in t cell) chains))
-
-    holder_marked : (done : JobResult) → DidHolder heard here own done → KeepsAt done.own q
-    holder_marked _ (Turns_page id row other after (Some block) h held fresh at) =
-        let cell = cell_at row block in
-        let new = with_page own row (progress_on own row) (Some block) in
-        at_cell q on cell _ (By_holder _ (Turns_page id row other after (Some block) h held fresh at)) refl (λ on. record {
-          marks = λ op is.
-              let old = fit.marks cell op on is in
-              record {
-                busy = λ e. mark_kept own.store Stale Busy cell cell (old.busy e);
-                stale = λ e. mark_kept own.store Stale Stale cell cell (old.stale e);
-                lacks = old.lacks;
-              };
-          first = λ changed. absurd (changed refl);
-        })
-    holder_marked done (Begins_copy id row other cell _ held next step) =
-        copied_at cell done (Begins_copy id row other cell done held next step) refl (next_is here.state id row own held.is cell next).free
-        (step_chains (begins_copy own cell) cell (first_copy own.pairs.next) done step)
-    holder_marked done (Goes_on_copying cell now copy _ taken step) =
-        let t = taken_store cell now copy taken in
-        copied_at cell done (Goes_on_copying cell now copy done taken step) refl t.1
-        (step_chains now cell copy done step ∙ ap (λ (s : Store). s.chains) t.0)
-    holder_marked _ (Finds_it_full cell copy h is trimmed lt) =
-        copied_at cell _ (Finds_it_full cell copy h is trimmed lt) refl (idle cell copy is) refl
-    holder_marked _ (Turns_page id row other after None h held fresh at) =
-        beside q on _ (By_holder _ (Turns_page id row other after None h held fresh at)) (λ e. none_some refl e)
-    holder_marked done d = beside q on done (By_holder done d) (λ e. none_some refl e)
-
-    -- ### All jobs
-
     marked : leads_link here.state here.me q ≡ true → (done : JobResult) → Did heard here own done → KeepsAt done.own q
-    marked leads _ (By_lead done d) = lead_marked q on done d
+    marked leads _ (By_lead done d) = at_work q on done (By_lead done d) (lead_marked done d)
     marked leads _ (By_second done d) = unworked q on done (By_second done d)
         (λ so. let b = led_by_link here.state here.me q leads in leads_not_second here fit.steady q b.0 b.1 leads so)
-    marked leads _ (By_holder done d) = holder_marked done d
+    marked leads _ (By_holder done d) = at_work q on done (By_holder done d) (holder_marked done d)
     marked leads _ (By_other done d) = unworked q on done (By_other done d) (λ by. held_not_leading here fit.steady q by.holder by.held leads)
     marked leads done did = unworked q on done did (λ none. none)
 

@@ -1,16 +1,17 @@
 -- What a server is to a cell, which can't be what else it is not; and as what it works on one.
-use Rattle.law_copies.proofs.Imports.{◌&&◌, ◌<◌, ◌==◌, ◌∙◌, ◌≡◌, ◌≤◌, Begins_copy, Block, Body, Both, Busy, By_holder, By_lead, By_other, By_second, Cell}
-use Rattle.law_copies.proofs.Imports.{Closes, Closes_alone, Copy_as_is, Copy_synced, Copy_trimmed, Copying, Did, DidHolder, DidLead, DidOther, DidSecond}
-use Rattle.law_copies.proofs.Imports.{Entry, Finds_it_full, Follows, Gives_up, Goes_on_copying, Goes_on_retired, Goes_on_trimming, Idle, IsBothRow}
-use Rattle.law_copies.proofs.Imports.{IsHeldWith, IsIdle, IsOfCopy, IsSteady, Is_copied_to, JobContext, JobResult, LastCopy, LinkId, LinkRow, Marks}
-use Rattle.law_copies.proofs.Imports.{Marks_alone, None, Only, Opens, Opens_alone, Opens_fill, Opens_fill_alone, Option, PairState, Pending, Puts, Puts_alone}
-use Rattle.law_copies.proofs.Imports.{Puts_entry, Sets_apart, Some, Stale, State, Taken, TakenCopy, Turns_page, Unmarks, Unmarks_alone, among_least, ap}
-use Rattle.law_copies.proofs.Imports.{both_row, both_true, by_test, cell_at, cell_holder, cell_link, cell_of, copying_on, filter, found_at, holder_cell}
-use Rattle.law_copies.proofs.Imports.{holder_of, id_of, in_both, inl, inr, is_alone, is_lead, is_link, is_second, is_the_one, is_under_way, is_up, lead_cell}
-use Rattle.law_copies.proofs.Imports.{lead_links, leads_link, link_led_by, link_named, live, live_stage, marked_blocks, next_copy, none_some, not, on_row}
-use Rattle.law_copies.proofs.Imports.{option_and_then, other_cell, other_in, other_of, page_cell, pending_on, refl, row_lead, row_named, same_numbers}
-use Rattle.law_copies.proofs.Imports.{same_or_apart, same_some, second, second_by, second_cell, stage_at, stage_live, subst, sym, taking, true, true_false}
-use Rattle.law_copies.proofs.Imports.{worked, ℕ}
+use Rattle.law_copies.proofs.Imports.{◌&&◌, ◌<◌, ◌==◌, ◌∙◌, ◌≡◌, ◌≤◌, ◌≢◌, ◌⊎◌, Begins_copy, Block, Body, Both, Busy, By_holder, By_lead, By_other}
+use Rattle.law_copies.proofs.Imports.{By_second, Cell, Closes, Closes_alone, Closes_copy, CopyStep, Copy_as_is, Copy_synced, Copy_trimmed, Copying, Did}
+use Rattle.law_copies.proofs.Imports.{DidHolder, DidLead, DidOther, DidSecond, Entry, Finds_it_full, Follows, Gives_up, Goes_on_copying, Goes_on_retired}
+use Rattle.law_copies.proofs.Imports.{Goes_on_trimming, Idle, IsBothRow, IsHeldWith, IsIdle, IsOfCopy, IsSteady, Is_copied_to, JobContext, JobResult}
+use Rattle.law_copies.proofs.Imports.{LastCopy, LinkId, LinkRow, Marks, Marks_alone, None, Only, Opens, Opens_alone, Opens_fill, Opens_fill_alone, Option}
+use Rattle.law_copies.proofs.Imports.{PairState, Pending, Puts, Puts_alone, Puts_entry, Sets_apart, Some, Stale, State, Store, Taken, TakenCopy}
+use Rattle.law_copies.proofs.Imports.{Turns_page, Unmarks, Unmarks_alone, among_least, ap, both_row, both_true, by_test, cell_at, cell_holder, cell_link}
+use Rattle.law_copies.proofs.Imports.{cell_of, copied_chains, copying_on, filter, found_at, holder_cell, holder_of, id_of, in_both, inl, inr, is_alone}
+use Rattle.law_copies.proofs.Imports.{is_lead, is_link, is_second, is_the_one, is_under_way, is_up, lead_cell, lead_links, leads_link, link_led_by}
+use Rattle.law_copies.proofs.Imports.{link_named, live, live_stage, marked_blocks, next_copy, none_some, not, on_row, option_and_then, other_cell}
+use Rattle.law_copies.proofs.Imports.{other_in, other_of, page_cell, page_chains, pending_on, progress_on, refl, row_lead, row_named, same_cell_or_apart}
+use Rattle.law_copies.proofs.Imports.{same_numbers, same_or_apart, same_some, second, second_by, second_cell, stage_at, stage_live, subst, sym, taking}
+use Rattle.law_copies.proofs.Imports.{true, true_false, worked, ℕ}
 use Rattle.law_copies.specs.LoneSteps.{IsFit, KeepsCell, KeepsRest}
 use Rattle.law_copies.proofs.LeftToCopy.{HasAny, marked_on, next_is, on_itself}
 use Rattle.law_copies.proofs.OtherIsNotHolder.{held_not_leading, other_apart}
@@ -127,13 +128,21 @@ pub record IsHeldBy (here : JobContext) (cell : Cell) : Type 0 where
   pub held : cell_holder here cell ≡ Some holder
 
 -- if there is a cell, it is so
-abbrev IsSo : (Cell → Type 0) → Option Cell → Type 0
+abbrev pub IsSo : (Cell → Type 0) → Option Cell → Type 0
 IsSo P None = Unit {0}
 IsSo P (Some cell) = P cell
 
 so_at : (P : Cell → Type 0) (at : Option Cell) → IsSo P at → (q : Cell) → at ≡ Some q → P q
 so_at P None so q e = none_some refl e
 so_at P (Some cell) so q e = subst P (same_some e) so
+
+-- it is so at this cell, or this one is not it
+pub so_or_apart : (P : Cell → Type 0) (at : Option Cell) → IsSo P at → (q : Cell) → P q ⊎ (at ≢ Some q)
+so_or_apart P None so q = inr (λ e. none_some refl e)
+so_or_apart P (Some cell) so q = elim (same_cell_or_apart q cell) [
+  | inl e ↦ inl (subst P (sym e) so)
+  | inr ne ↦ inr (λ e. ne (sym (same_some e)))
+]
 
 -- an idle mark is on a live cell of a link in Both
 pub idle_both : (here : JobContext) (own : PairState) (cell : Cell) → IsIdle here own cell → IsBothRow here.state cell × (live here.state cell ≡ true)
@@ -142,6 +151,28 @@ idle_both here own _ (Idle id row block named both idle) =
     let marked = marked_on here.state id row own block named
     (in_left (λ b. not (is_under_way own (cell_at row b))) (marked_blocks here.state row own) block i).0 in
     (record { row = row; is = marked.is; both = both }, marked.lives)
+
+module _ (heard : Body → Type 0) (here : JobContext) (own : PairState) where
+  -- a copy that is taken up was under way, in the same store
+  pub was_copying : (cell : Cell) (now : PairState) (copy : Copying) → TakenCopy heard own cell now copy
+      → (was : Copying) × (copying_on own cell ≡ Some was) × (now.store ≡ own.store)
+      × ((row : LinkRow) → progress_on now row ≡ progress_on own row)
+  was_copying cell _ _ (Copy_as_is copy is) = (copy, is, refl, λ row. refl)
+  was_copying cell _ _ (Copy_trimmed copy h is fresh) = (copy, is, refl, λ row. refl)
+  was_copying cell _ _ (Copy_synced copy h is trimmed lt) = (copy, is, refl, λ row. refl)
+
+  step_chains : (now : PairState) (cell : Cell) (copy : Copying) (done : JobResult) → CopyStep here now cell copy done
+      → done.own.store.chains ≡ now.store.chains
+  step_chains now cell copy _ (Closes_copy synced left) = copied_chains here now cell
+  step_chains now cell copy _ _ = refl
+
+  -- the holder keeps its chains
+  pub holder_chains : (done : JobResult) → DidHolder heard here own done → done.own.store.chains ≡ own.store.chains
+  holder_chains _ (Turns_page id row other after block h held fresh at) = page_chains own row block
+  holder_chains done (Begins_copy id row other cell _ held next step) = step_chains _ cell _ done step
+  holder_chains done (Goes_on_copying cell now copy _ taken step) =
+      step_chains now cell copy done step ∙ ap (λ (s : Store). s.chains) (was_copying cell now copy taken).2
+  holder_chains _ _ = refl
 
 module _ (heard : Body → Type 0) (here : JobContext) (own : PairState) (fit : IsFit heard here own) where
   -- of a cell that is not retired the server has something only where it is live
@@ -195,9 +226,7 @@ module _ (heard : Body → Type 0) (here : JobContext) (own : PairState) (fit : 
       let r = fit.resting.copying cell copy is in record { lives = r.live; row = r.row; is = r.is; other = r.other; other_is = r.other_is }
 
   pub taken_held : (cell : Cell) (now : PairState) (copy : Copying) → TakenCopy heard own cell now copy → IsHeldHere here cell
-  taken_held cell _ _ (Copy_as_is copy is) = copying_held cell copy is
-  taken_held cell _ _ (Copy_trimmed copy h is fresh) = copying_held cell copy is
-  taken_held cell _ _ (Copy_synced copy h is trimmed lt) = copying_held cell copy is
+  taken_held cell now copy taken = let w = was_copying heard here own cell now copy taken in copying_held cell w.0 w.1
 
   pub begun_held : (id : LinkId) (row : LinkRow) (other : ℕ) (cell : Cell) → IsHeldWith here id row other
       → next_copy here.state row own ≡ Block cell → IsHeldHere here cell

@@ -1,31 +1,20 @@
 -- Every step keeps that no server has an entry of an epoch that it doesn't know of, or of a cell that is not live yet, nor a letter of its
 -- revision tells of one.
-use Rattle.law_epochs.proofs.Imports.{[], ◌==◌, ◌∙◌, ◌∷◌, ◌≡◌, ◌≢◌, ◌≤◌, Acted, AreSteps, At, BeforeBlank, Blanks, Body, By_ballot, By_entry, By_job, Cell}
-use Rattle.law_epochs.proofs.Imports.{Chain, Command, Ends, Fails, Firm, Goes, Handled, Happens, In, IsNextFill, IsSound, JobResult, Key, Letter, List, Log}
-use Rattle.law_epochs.proofs.Imports.{PairState, Post, Record, Script, Sender, Serves, Serving, Some, State, Stays, Step, Store, Turns, Wakes, Worked, World}
-use Rattle.law_epochs.proofs.Imports.{always_firm, ap, arith, at, below_itself, by_run, cell_of, chain_in, chosen_state, client_sender, down_posts, false}
-use Rattle.law_epochs.proofs.Imports.{filter, front_on, in-append, inl, inr, last_happens, length, letters_of, log_rev, nat_cmp, next_comes, none_in, not}
-use Rattle.law_epochs.proofs.Imports.{own_place, own_plain, range_with_len, refl, run_of, said, said_to_all, sender, setting_of, slice_get, stage_at}
-use Rattle.law_epochs.proofs.Imports.{stage_facts, stamped, state_after, subject_of, subst, sym, turned_asks, twins_epoch, without_rev, ℕ}
+use Rattle.law_epochs.proofs.Imports.{[], ◌∙◌, ◌∷◌, ◌≡◌, ◌≢◌, ◌≤◌, Acted, AreSteps, Aside, At, BeforeBlank, Cell, Chain, Command, Firm, Handled, Happens}
+use Rattle.law_epochs.proofs.Imports.{In, IsNextFill, IsOfJob, IsSound, Key, Letter, List, Of_job, PairState, Post, Record, Script, Some, State, Step}
+use Rattle.law_epochs.proofs.Imports.{Store, Was_sent, always_firm, ap, arith, at, below_itself, by_run, cell_of, chain_in, chosen_state, front_on}
+use Rattle.law_epochs.proofs.Imports.{happens_sent, last_happens, length, log_rev, nat_cmp, next_comes, own_place, own_plain, refl, run_of, setting_of}
+use Rattle.law_epochs.proofs.Imports.{slice_get, stage_at, stage_facts, state_after, subject_of, subst, sym, twins_epoch, ℕ}
 use Rattle.law_epochs.specs.EntryEpochs.{AreEarly, HaveEarlyEntries}
 use Rattle.law_epochs.proofs.RowKeysHold.{at_key}
 use Rattle.law_epochs.proofs.PendingIsInTime.{firm}
 use Rattle.law_epochs.proofs.ReportedHaveNoPending.{grows}
 use Rattle.law_epochs.proofs.KeysToldByJobs.{IsMoverOwn, did_said, mover_store}
-use Rattle.law_epochs.proofs.EntryPredicates.{AreWithin, IsWithin, OfKey, asked_none, is_of_entries, logged_none, of_key_on, of_no_key}
+use Rattle.law_epochs.proofs.EntryPredicates.{AreWithin, IsWithin, OfKey, aside_none, of_key_on, of_no_key}
 use Rattle.law_epochs.proofs.KnownEntries.{AllEarly, IsKnown, before_within, fills_within, known_more, known_on, now_within, pending_within, start_early}
 use Rattle.law_epochs.proofs.KnownEntries.{stores_within, told_within}
 use Rattle.law_epochs.proofs.EpochScenes.{OneMore, ends_of}
-use Rattle.petal_msg.specs.declared.body.Body.TheVariants as body
 pub use Rattle.law_epochs.proofs.KnownEntries.{IsKnownBy, kept_by}
-
-posted_so : (P : Body → Type 0) (who : Sender) (stamp : ℕ) (posts : List Post) → ((post : Post) → In post posts → P post.body)
-    → (letter : Letter) → In letter (stamped stamp (letters_of who 0 posts)) → P letter.body
-posted_so P who stamp posts so letter i = let s = said who stamp 0 posts letter i in subst P (sym s.body) (so s.post s.there)
-
-downs_mute : (n inc servers : ℕ) (post : Post) → In post (down_posts n inc servers) → is_of_entries (subject_of post.body) ≡ false
-downs_mute n inc servers post i = ap (λ (b : Body). is_of_entries (subject_of b))
-    (said_to_all (body.Down n inc) (filter (λ k. not (k == n)) (range_with_len 0 servers)) post i)
 
 -- ### A step
 
@@ -63,58 +52,26 @@ module _ (it : OneMore) (old : AllEarly (ends_of it).setting (ends_of it).w) whe
 
   -- ### Letters
 
-  mute : (rev : ℕ) (said : Body) → is_of_entries (subject_of said) ≡ false → OfKey (IsKnown setting v rev) said
-  mute rev said e = of_no_key (IsKnown setting v rev) said e
-
-  mute_letters : (who : Sender) (stamp : ℕ) (posts : List Post) → ((post : Post) → In post posts → is_of_entries (subject_of post.body) ≡ false)
-      → (letter : Letter) → In letter (stamped stamp (letters_of who 0 posts)) → OfKey (IsKnown setting v letter.rev) letter.body
-  mute_letters who stamp posts quiet letter i =
-      mute letter.rev letter.body (posted_so (λ b. is_of_entries (subject_of b) ≡ false) who stamp posts quiet letter i)
-
-  worked_said : (n : ℕ) (log : Log) (done : JobResult) → Worked setting w n log done → (post : Post) → In post done.posts
-      → OfKey (IsWithin (bound n)) post.body
-  worked_said n _ _ (By_job log done same did seat) =
-      did_said (bound n) (Handled w n) (own_place setting w n) (w.servers n).own (now_within it old n)
-      (pending_within it old n) (told_within it old n) (moves_within n) done did
-  worked_said n _ _ (By_ballot log started posts same starts says) = λ post i.
-      of_no_key (IsWithin (bound n)) post.body (logged_none (subject_of post.body) (says post i))
-  worked_said n _ _ (By_entry log entry more onward) = λ post i. none_in post i
-
   -- a server says of its own revision what it knows
   own_known : (n rev : ℕ) → length (Own_log n) ≡ rev → (key : Key) → IsWithin (bound n) key → IsKnown setting v rev key
   own_known n rev long key early = record { front = Own_log n; lies = front_on (Own_log n) _ _ (knows.servers n) top_whole; long = long; early = early }
 
-  serves_said : (n stamp : ℕ) (what : Step) (acted : Acted) → Serving setting w n what acted → (letter : Letter)
-      → In letter (stamped stamp acted.letters) → OfKey (IsKnown setting v letter.rev) letter.body
-  serves_said n stamp what _ (Goes log done queue runs worked queued works) = λ letter i.
-      let s = said (sender (own_place setting w n)) stamp 0 done.posts letter i in
-      subst (OfKey (IsKnown setting v letter.rev)) (sym s.body)
-      (of_key_on (IsWithin (bound n)) (IsKnown setting v letter.rev)
-      (own_known n letter.rev (sym (log_rev setting.servers (Own_log n)) ∙ sym s.rev)) s.post.body (worked_said n log done worked s.post s.there))
-  serves_said n stamp what _ (Ends log done runs worked) = mute_letters (without_rev (own_place setting w n)) stamp _ (downs_mute n (w.servers n).life.inc _)
-  serves_said n stamp what _ (Stays who posts from shown) =
-      mute_letters who stamp posts (λ post i. ap is_of_entries (shown post i))
-  serves_said n stamp what _ (Wakes booted asleep) = mute_letters _ stamp _ (downs_mute n (w.servers n).life.inc _)
-  serves_said n stamp what _ (Fails booted asleep) = mute_letters (sender (own_place setting w n)) stamp [] (λ post i. none_in post i)
-
-  was_said : (letter : Letter) → In letter w.sent → OfKey (IsKnown setting v letter.rev) letter.body
-  was_said letter i = of_key_on (IsKnown setting w letter.rev) (IsKnown setting v letter.rev)
-      (known_on it old letter.rev) letter.body (old.letters letter i)
-
-  letters_said : (state : State) (u : World) → Happens setting state w u → (letter : Letter) → In letter u.sent
+  job_said : (n stamp : ℕ) (what : Step) (acted : Acted) (letter : Letter) → IsOfJob setting w n stamp what acted letter
       → OfKey (IsKnown setting v letter.rev) letter.body
-  letters_said state _ (Serves n stamp what acted lt within unblanked serving) letter i =
-      elim (in-append letter (stamped stamp acted.letters) w.sent i) [
-        | inl new ↦ serves_said n stamp what acted serving letter new
-        | inr before ↦ was_said letter before
-      ]
-  letters_said state _ (Blanks n stamp lt within asleep) letter i = was_said letter i
-  letters_said state _ (Turns c stamp in_call reacted lt within turned onward) letter i =
-      elim (in-append letter (stamped stamp (letters_of (client_sender c reacted.client) 0 reacted.posts)) w.sent i) [
-        | inl new ↦ mute_letters (client_sender c reacted.client) stamp reacted.posts
-            (λ post j. asked_none (subject_of post.body) (turned_asks _ _ _ _ _ _ _ turned post j)) letter new
-        | inr before ↦ was_said letter before
-      ]
+  job_said n stamp what acted letter job =
+      subst (OfKey (IsKnown setting v letter.rev)) (sym job.body)
+      (of_key_on (IsWithin (bound n)) (IsKnown setting v letter.rev)
+      (own_known n letter.rev (sym (log_rev setting.servers (Own_log n)) ∙ sym job.rev)) job.post.body
+      (did_said (bound n) (Handled w n) (own_place setting w n) (w.servers n).own (now_within it old n) (pending_within it old n) (told_within it old n)
+      (moves_within n) job.done job.did job.post job.there))
+
+  letters_said : (state : State) → Happens setting state w v → (letter : Letter) → In letter v.sent → OfKey (IsKnown setting v letter.rev) letter.body
+  letters_said state happened letter i = elim (happens_sent setting state w v happened letter i) [
+    | Was_sent before ↦ of_key_on (IsKnown setting w letter.rev) (IsKnown setting v letter.rev) (known_on it old letter.rev) letter.body
+        (old.letters letter before)
+    | Of_job n stamp what acted job now others ↦ job_said n stamp what acted letter job
+    | Aside apart ↦ of_no_key (IsKnown setting v letter.rev) letter.body (aside_none (subject_of letter.body) apart)
+  ]
 
   -- ### The world after the step
 
@@ -144,7 +101,7 @@ module _ (it : OneMore) (old : AllEarly (ends_of it).setting (ends_of it).w) whe
         before = λ n b is cell epoch entry there. grown n cell epoch
             (before_within it old state v happened n b is cell epoch entry there);
         fills = λ n cell op is fills. grown n (cell_of op.key) op.key.epoch (fills_within it old state v happened n cell op is fills);
-        letters = letters_said state v happened;
+        letters = letters_said state happened;
       }
 
 pub all_early : (script : Script) (records : List Record) → IsSound script → AreSteps script records → AllEarly (setting_of script) (At script records)

@@ -1,8 +1,8 @@
 -- What is so of each entry of a store by its cell and epoch, and of the keys that letters tell of.
-use Rattle.law_epochs.proofs.Imports.{[], ◌||◌, ◌∙◌, ◌∷◌, ◌≡◌, Body, Bool, Cell, Chain, Copied, Filling, Key, Logged, Paired, Read_asked, Some, Store, Stored}
-use Rattle.law_epochs.proofs.Imports.{Subject, Table, Write_asked, ap, at, at-empty, at_apart, cell_cmp, cell_of, chain_apart, chain_in, chain_put, chains_at}
-use Rattle.law_epochs.proofs.Imports.{chains_with, drop_apart, false, gone_apart, gone_chain, gone_same, inl, inr, is_asked, is_logged, nat_cmp, none_some}
-use Rattle.law_epochs.proofs.Imports.{put, refl, same_cell_or_apart, same_or_apart, subject_of, subst, sym, true, unwrap_or, without, without_entry, ℕ}
+use Rattle.law_epochs.proofs.Imports.{[], ◌∙◌, ◌∷◌, ◌≡◌, Body, Bool, Cell, Chain, Copied, Filling, Key, Logged, Paired, Some, Store, Stored, Subject}
+use Rattle.law_epochs.proofs.Imports.{Table, ap, at, at-empty, at_apart, cell_cmp, cell_of, chain_apart, chain_in, chain_put, chains_at, chains_with}
+use Rattle.law_epochs.proofs.Imports.{drop_apart, false, gone_apart, gone_chain, gone_same, inl, inr, is_aside, is_logged, nat_cmp, none_some, put, refl}
+use Rattle.law_epochs.proofs.Imports.{same_cell_or_apart, same_or_apart, subject_of, subst, sym, true, true_false, unwrap_or, without, without_entry, ℕ}
 use Rattle.petal_msg.specs.declared.body.Body.TheVariants as body
 
 abbrev pub IsWithin : (bound : Cell → ℕ → Type 0) → Key → Type 0
@@ -43,11 +43,11 @@ pub logged_none : (s : Subject) → is_logged s ≡ true → is_of_entries s ≡
 logged_none Logged e = refl
 logged_none _ e = cc
 
-pub asked_none : (s : Subject) → (is_asked s || is_logged s) ≡ true → is_of_entries s ≡ false
-asked_none Logged e = refl
-asked_none Read_asked e = refl
-asked_none Write_asked e = refl
-asked_none _ e = cc
+pub aside_none : (s : Subject) → is_aside s ≡ true → is_of_entries s ≡ false
+aside_none Paired e = true_false e refl
+aside_none Copied e = true_false e refl
+aside_none Filling e = true_false e refl
+aside_none _ e = refl
 
 -- ### Chains
 

@@ -50,6 +50,7 @@ pub use Rattle.law_state.proofs.TwinsAreOfOneDisk.{twins_epoch}
 pub use Rattle.law_state.specs.Epochs.{era_at}
 pub use Rattle.law_state.specs.Homes.{era_by}
 pub use Rattle.law_state.specs.LinkChanges.{IsTouchedBy}
+pub use Rattle.law_steps.proofs.LettersOfSteps.{Aside, IsOfJob, Of_job, Was_sent, happens_sent, is_aside}
 pub use Rattle.law_steps.proofs.MovesAreOfComingCells.{next_comes, stage_facts}
 pub use Rattle.law_steps.proofs.Records.{split_fronts}
 pub use Rattle.petal_table.proofs.Rows.{gone_apart, gone_same}

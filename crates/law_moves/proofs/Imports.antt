@@ -39,11 +39,11 @@ pub use Rattle.law_jobs.proofs.Imports.{start_rests, stood, taking}
 pub use Rattle.law_copies.specs.Imports.{WasStarted, blank_joins_in, is_between, kept_store, one_put_ahead}
 pub use Rattle.law_copies.proofs.Imports.{At, BeforeBlank, Blanks, By_ballot, By_caught, By_entry, By_job, By_join, By_leave, Drops, Effect, Ends, Fails}
 pub use Rattle.law_copies.proofs.Imports.{Fills, Goes, HasJoinedSince, IsCaughtBy, IsInBoth, May, Serves, Serving, Sets, Stays, Stood, Turns, Wakes, Worked}
-pub use Rattle.law_copies.proofs.Imports.{Writes, applied, before_part, by_run, chain_apart, chain_put, chosen_caught_was, copied_chains, counted, counted_by}
+pub use Rattle.law_copies.proofs.Imports.{Writes, applied, before_part, by_run, chain_apart, chain_put, chosen_caught_was, counted, counted_by, puts}
 pub use Rattle.law_copies.proofs.Imports.{did_come, drop_apart, drop_none, either_true, first_by, first_state, front_within, happened_in, in_none, job_keeps}
 pub use Rattle.law_copies.proofs.Imports.{joined_counts, joined_since, kept, kept_by, letters_of_job, link_led_by, live_stage, log_both_place, log_grown}
 pub use Rattle.law_copies.proofs.Imports.{log_lost, log_touched, longer, lost_not_both, none_before_none, of_ending, of_filler, on_row, one_before}
-pub use Rattle.law_copies.proofs.Imports.{page_chains, past_link, places_grow, primary_is_one, row_joined, run_of, running_fronts, said, second_by}
+pub use Rattle.law_copies.proofs.Imports.{past_link, places_grow, primary_is_one, row_joined, run_of, running_fronts, said, second_by}
 pub use Rattle.law_copies.proofs.Imports.{secondary_is_one, setting_in, since, split_last, stage_live, start_plain, stays_alone, stays_both, told_own}
 pub use Rattle.law_copies.proofs.Imports.{tuple_on, turned_asks, without_rev}
 pub use Rattle.law_epochs.proofs.Imports.{AliveIn, IsAt, IsLinked, IsTouchedBy, WasThere, at_by, at_most_or_above, ballot_store, epoch_at, is_at, is_at_so}
@@ -59,6 +59,7 @@ pub use Rattle.law_copies.proofs.PlacesByFronts.{alive_on, fronts_meet, linked_b
 pub use Rattle.law_copies.proofs.ServedAtLaterFronts.{alone_or_flagged, both_last, both_since, other_than, same_only, serves_alone, serves_its, unseen_beyond}
 pub use Rattle.law_copies.proofs.StoreHistories.{in_counts, in_own, kept_after, own_by}
 pub use Rattle.law_copies.proofs.StoresAlongRecords.{before_last, stays_filled}
+pub use Rattle.law_copies.proofs.RolesOfWorkers.{holder_chains}
 pub use Rattle.law_copies.specs.CopyProgress.{AreCopying, HasSent, IsCaught, IsLeft, IsTold}
 pub use Rattle.law_copies.specs.GoodCopies.{AreTwins, Good, pair_at}
 pub use Rattle.law_copies.specs.Pair.{AreCopies, PairOk, Known as Tells, Working, far, pair_of}
@@ -66,7 +67,7 @@ pub use Rattle.law_copies.specs.Visits.{HasReached, IsHere, IsLast, half, store_
 pub use Rattle.law_copies.specs.WaitingStores.{IsOwn}
 pub use Rattle.law_epochs.proofs.EntriesAfterJobs.{did_kept}
 pub use Rattle.law_epochs.proofs.EntriesNeverEarly.{IsKnownBy, all_early, before_then, now_then}
-pub use Rattle.law_epochs.proofs.EntryPredicates.{AreWithin, IsWithin, OfKey, asked_none, is_of_entries, logged_none, none_within, of_key_on, of_no_key}
+pub use Rattle.law_epochs.proofs.EntryPredicates.{AreWithin, IsWithin, OfKey, aside_none, is_of_entries, logged_none, none_within, of_key_on, of_no_key}
 pub use Rattle.law_epochs.proofs.EpochScenes.{OneMore, Run, cut, end_of, ends_of}
 pub use Rattle.law_epochs.proofs.EpochsInHistories.{place_timely, running_timely, second_timely}
 pub use Rattle.law_epochs.proofs.KeysToldByJobs.{IsMoverOwn, did_said, mover_store}
@@ -93,6 +94,7 @@ pub use Rattle.law_state.specs.LaterStates.{KeepsRoles}
 pub use Rattle.law_state.specs.NotedLinks.{HasMovedIn}
 pub use Rattle.law_steps.proofs.EntriesReachComingCells.{comes_after, start_comes}
 pub use Rattle.law_steps.proofs.FillsByJobs.{IsOpenedFill, Is_next, Is_other, did_fills, is_fill}
+pub use Rattle.law_steps.proofs.LettersOfSteps.{Aside, Of_job, Was_sent, happens_sent}
 pub use Rattle.law_steps.proofs.MovesAreOfComingCells.{leaves_with, next_on, region_left}
 pub use Rattle.law_steps.specs.ComingCells.{WasComing}
 pub use Rattle.law_steps.specs.DidStep.{IsSeatedOrMute}

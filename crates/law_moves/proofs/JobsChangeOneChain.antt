@@ -1,14 +1,15 @@
 -- A job changes at most one chain: that of an operation that is pending here, of one whose lead asked to follow, or of a cell whose
 -- link the other server holds alone, and copies to this one.
-use Rattle.law_moves.proofs.Imports.{[], ◌+◌, ◌<◌, ◌∙◌, ◌∷◌, ◌≡◌, ◌≢◌, ◌⊎◌, Begins_copy, Body, By_filler, By_holder, By_lead, By_other, By_read, By_second}
-use Rattle.law_moves.proofs.Imports.{By_sweep, Cell, Chain, Closes, Closes_alone, Closes_copy, CopyStep, Copy_as_is, Copy_synced, Copy_trimmed, Copying, Did}
-use Rattle.law_moves.proofs.Imports.{DidHolder, DidLead, DidOther, DidSecond, Drops_entry, Entry, Follows, Full, Gives_up, Goes_on_copying, Goes_on_retired}
-use Rattle.law_moves.proofs.Imports.{Goes_on_trimming, Ignores, IsSeatedOrMute, Is_copied_to, Is_trimmed, JobContext, JobResult, Key, LastCopy, List}
-use Rattle.law_moves.proofs.Imports.{Marks_alone, PairState, Pending, Promises, Puts, Puts_alone, Puts_entry, Refuses, Retired, Some, Stage, Store, Stored}
-use Rattle.law_moves.proofs.Imports.{Sweeps, Table, Taken, TakenCopy, TrimStep, Turns_page, Unmarks_alone, Written, ap, cell_holder, cell_of, cell_swept}
-use Rattle.law_moves.proofs.Imports.{chain_apart, chain_in, chains_with, copied_chains, drop_apart, drop_none, epochs_beyond, false, first_last, gives_back}
-use Rattle.law_moves.proofs.Imports.{inl, inr, is_in, is_second, key_at, last_copy, last_on, live, of_ending, of_filler, of_read, page_chains, pending_on}
-use Rattle.law_moves.proofs.Imports.{refl, sym, taking, told_own, true, version_of, with_last_copy, without_entry, without_pending, without_retired, ℕ}
+use Rattle.law_moves.proofs.Imports.{[], ◌+◌, ◌<◌, ◌∙◌, ◌∷◌, ◌≡◌, ◌≢◌, ◌⊎◌, Body, By_filler, By_holder, By_lead, By_other, By_read}
+use Rattle.law_moves.proofs.Imports.{By_second, By_sweep, Cell, Chain, Closes, Closes_alone}
+use Rattle.law_moves.proofs.Imports.{Did, DidLead, DidOther, DidSecond, Drops_entry, Entry, Follows, Full, Gives_up}
+use Rattle.law_moves.proofs.Imports.{Goes_on_retired, Goes_on_trimming, Ignores, IsSeatedOrMute, Is_copied_to, Is_trimmed, JobContext, JobResult, Key}
+use Rattle.law_moves.proofs.Imports.{LastCopy, List, Marks_alone, PairState, Pending, Promises, Puts, Puts_alone, Puts_entry, Refuses, Retired, Some}
+use Rattle.law_moves.proofs.Imports.{Stage, Store, Stored, Sweeps, Table, Taken, TrimStep, Unmarks_alone, Written, ap, cell_holder}
+use Rattle.law_moves.proofs.Imports.{cell_of, cell_same, cell_swept, chain_apart, chain_in, chains_with, drop_apart, drop_none}
+use Rattle.law_moves.proofs.Imports.{epochs_beyond, false, first_last, gives_back, holder_chains, inl, inr, is_in, is_second, key_at, last_copy, last_on}
+use Rattle.law_moves.proofs.Imports.{live, of_ending, of_filler, of_read, pending_on, puts, refl, same_some, sym, taking, told_own, true}
+use Rattle.law_moves.proofs.Imports.{version_of, with_last_copy, without_entry, without_pending, without_retired, ℕ}
 use Rattle.petal_msg.specs.declared.body.Body.TheVariants as body
 use Rattle.petal_msg.specs.declared.retired.Retired.TheVariants as retired
 use Rattle.petal_msg.specs.declared.operation.FollowProgress.TheVariants as follow_progress
@@ -21,6 +22,7 @@ pub record PutsOwn (own new : PairState) : Type 0 where
   pub entry : Stored
   pub bytes : entry.bytes ≡ op.bytes
   pub chains : new.store.chains ≡ chains_with own.store.chains op.key entry
+  pub is_put : (later : Pending) → pending_on new op.cell ≡ Some later → later.stage.put ≡ true
 
 -- the second server has put what it was asked to
 pub record PutsAsked (heard : Body → Type 0) (here : JobContext) (own new : PairState) : Type 0 where
@@ -99,7 +101,15 @@ module _ (heard : Body → Type 0) (here : JobContext) (own : PairState) (never 
 
   abbrev pub lead_stores : (done : JobResult) → DidLead heard here own done → S done.own
   lead_stores _ (Puts op is both stage) =
-      An_own (record { op = op; is = is; fresh = ap (λ (s : Stage). s.put) stage; entry = _; bytes = refl; chains = refl })
+      An_own (record {
+        op = op;
+        is = is;
+        fresh = ap (λ (s : Stage). s.put) stage;
+        entry = _;
+        bytes = refl;
+        chains = refl;
+        is_put = λ later there. ap (λ (o : Pending). o.stage.put) (same_some (sym there ∙ cell_same own.pairs.pending op.cell _));
+      })
   lead_stores _ (Puts_alone now op taken alone stale put) =
       let k = taking own now op taken in
       let entry : Stored = record { version = version_of (chain_in now.store.chains op.cell) + 1; bytes = op.bytes } in
@@ -110,6 +120,8 @@ module _ (heard : Body → Type 0) (here : JobContext) (own : PairState) (never 
         entry = entry;
         bytes = ap (λ (o : Pending). o.bytes) k.is;
         chains = λ i. chains_with (k.store i).chains (k.is i).key entry;
+        is_put = λ later there. ap (λ (o : Pending). o.stage.put) (same_some (sym there
+            ∙ ap (λ (o : Pending). pending_on (puts now op).own o.cell) (sym k.is) ∙ cell_same now.pairs.pending op.cell _));
       })
   lead_stores _ (Gives_up op h is reserved put) =
       Nothing_new (ap (λ (x : Store). x.chains) (of_ending here (gives_back (without_pending own op.cell)) op op.kind Full).store)
@@ -142,23 +154,6 @@ module _ (heard : Body → Type 0) (here : JobContext) (own : PairState) (never 
   second_stores _ seated _ = Nothing_new refl
 
   -- ### Copies
-
-  step_chains : (now : PairState) (cell : Cell) (copy : Copying) (done : JobResult) → CopyStep here now cell copy done
-      → done.own.store.chains ≡ now.store.chains
-  step_chains now cell copy _ (Closes_copy synced left) = copied_chains here now cell
-  step_chains now cell copy _ _ = refl
-
-  pub taken_chains : (cell : Cell) (now : PairState) (copy : Copying) → TakenCopy heard own cell now copy → now.store.chains ≡ own.store.chains
-  taken_chains cell _ _ (Copy_as_is copy is) = refl
-  taken_chains cell _ _ (Copy_trimmed copy h is fresh) = refl
-  taken_chains cell _ _ (Copy_synced copy h is trimmed lt) = refl
-
-  -- the holder keeps its chains
-  pub holder_chains : (done : JobResult) → DidHolder heard here own done → done.own.store.chains ≡ own.store.chains
-  holder_chains _ (Turns_page id row other after block h held fresh at) = page_chains own row block
-  holder_chains done (Begins_copy id row other cell _ held next step) = step_chains _ cell _ done step
-  holder_chains done (Goes_on_copying cell now copy _ taken step) = step_chains now cell copy done step ∙ taken_chains cell now copy taken
-  holder_chains _ _ = refl
 
   -- nothing is stored, or the copy's
   abbrev pub OtherStores : PairState → Type 0
@@ -224,7 +219,7 @@ module _ (heard : Body → Type 0) (here : JobContext) (own : PairState) (never 
   did_stores _ seated (By_read done d) = Nothing_new (ap (λ (o : PairState). o.store.chains) (of_read heard here own done d).same)
   did_stores _ seated (By_lead done d) = lead_stores done d
   did_stores _ seated (By_second done d) = second_stores done seated d
-  did_stores _ seated (By_holder done d) = Nothing_new (holder_chains done d)
+  did_stores _ seated (By_holder done d) = Nothing_new (holder_chains heard here own done d)
   did_stores _ seated (By_other done d) = as_stores (other_changes done seated d)
   did_stores _ seated (By_filler done d) = Nothing_new (ap (λ (x : Store). x.chains) (of_filler heard here own done d).store)
   did_stores _ seated (By_sweep _ (Sweeps what seat next off)) = Of_the_retired (swept what seat off)

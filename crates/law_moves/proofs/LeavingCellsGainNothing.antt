@@ -20,9 +20,6 @@ has_put old new epoch e bytes p has = ap (λ (c : Chain). is_some (at nat_cmp c 
   | inr ne ↦ ap is_some (at_apart old epoch p.0 e ne) ∙ has
 ]
 
-pub has_new : (old new : Chain) (epoch : ℕ) (bytes : List ℕ) → IsPutOn old new epoch bytes → Has new epoch
-has_new old new epoch bytes p = ap (λ (c : Chain). is_some (at nat_cmp c epoch)) p.2 ∙ ap is_some (at_same old epoch p.0)
-
 -- what is so of the store that counts, and goes on to be so of the server's own
 kept_map : (P : Store → Type 0) (joins : ℕ) (o : Option BeforeBlank) (s t : Store) → P (kept_store joins o s) → (P s → P t) → P (kept_store joins o t)
 kept_map P joins None s t was step = step was

@@ -74,9 +74,6 @@ never_both one other (inr h) (inr k) = let a = h.1 in let b = k.1 in absurd (ome
 pub after_is : (one other : Key) → comes_before one other ≡ false → IsAfter one other
 after_is one other e = elim (either_way one other) [ inl before ↦ true_false (is_before one other before) e | inr following ↦ following ]
 
-pub is_after : (one other : Key) → IsAfter one other → comes_before one other ≡ false
-is_after one other following = by_bool (comes_before one other) (λ e. never_both one other (before_is one other e) following) (λ e. e)
-
 after_itself : (key : Key) → IsAfter key key
 after_itself key = inr (refl, omega arith)
 

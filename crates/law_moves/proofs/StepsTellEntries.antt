@@ -1,17 +1,16 @@
 -- What a step of a history may have done to each server, and which letters it sent that tell of entries.
-use Rattle.law_moves.proofs.Imports.{[], ◌++◌, ◌+◌, ◌==◌, ◌∙◌, ◌∷◌, ◌≡◌, ◌≢◌, ◌≤◌, ◌⊎◌, Acted, AreSteps, At, BeforeBlank, Blanks, Body, Bool, By_ballot}
-use Rattle.law_moves.proofs.Imports.{By_entry, By_job, Caught, Command, Did, Ends, Fails, Firm, Goes, Good, Handled, Happens, In, IsPrefix, IsSeatedOrMute}
-use Rattle.law_moves.proofs.Imports.{IsSound, JobResult, Join, Key, Letter, LinkId, LinkRow, List, Log, None, OneMore, Option, PairState, Pairs, Post, Record}
-use Rattle.law_moves.proofs.Imports.{Script, Sender, Server, Serves, Serving, Some, State, Stays, Step, Store, Table, Turns, Wakes, Worked, World, after}
-use Rattle.law_moves.proofs.Imports.{all_put, always_firm, ap, arith, asked_none, at, at-where, awake, ballot_store, before_last, below_itself}
-use Rattle.law_moves.proofs.Imports.{blank_joins_in, blanked, by_bool, by_settled, chosen_log, chosen_state, client_sender, cond, counted_by, crossed}
-use Rattle.law_moves.proofs.Imports.{down_posts, ends_of, entry_after, false, filter, first_incs, front_itself, front_more, front_on, front_plain, front_same}
-use Rattle.law_moves.proofs.Imports.{good_after, history_grows, history_is_firm, holds_link, in-append, in_former, in_later, inl, inr, is_eq, is_in}
-use Rattle.law_moves.proofs.Imports.{is_of_entries, is_some, join_was_wanted, kept, last_happens, length, letters_of, link_cmp, link_named, log_rev}
-use Rattle.law_moves.proofs.Imports.{logged_none, longer, none_some, not, own_place, proposed, proposed_pairs, put_apart, put_at, put_same, raised}
-use Rattle.law_moves.proofs.Imports.{range_with_len, refl, run_of, said, said_to_all, same_id, same_or_apart, sender, server_state, settling, since, stamped}
-use Rattle.law_moves.proofs.Imports.{state_after, step_goes, subject_of, subst, sym, true, true_false, turned_asks, who_is_in, without_rev, ℕ}
-use Rattle.petal_msg.specs.declared.body.Body.TheVariants as body
+use Rattle.law_moves.proofs.Imports.{[], ◌++◌, ◌+◌, ◌∙◌, ◌∷◌, ◌≡◌, ◌≢◌, ◌≤◌, ◌⊎◌, Acted, AreSteps, Aside, At, BeforeBlank, Blanks, Bool, By_ballot}
+use Rattle.law_moves.proofs.Imports.{By_entry, By_job, Caught, Command, Did, Ends, Fails, Firm, Goes, Good, Handled, Happens, In, IsPrefix}
+use Rattle.law_moves.proofs.Imports.{IsSeatedOrMute, IsSound, JobResult, Join, Key, Letter, LinkId, LinkRow, List, Log, None, Of_job, OneMore, Option}
+use Rattle.law_moves.proofs.Imports.{PairState, Pairs, Post, Record, Script, Server, Serves, Serving, Some, State, Stays, Step, Store, Table, Turns}
+use Rattle.law_moves.proofs.Imports.{Wakes, Was_sent, Worked, World, after, all_put, always_firm, ap, arith, aside_none, at, at-where, awake}
+use Rattle.law_moves.proofs.Imports.{ballot_store, before_last, below_itself, blank_joins_in, blanked, by_bool, by_settled, chosen_log, chosen_state}
+use Rattle.law_moves.proofs.Imports.{cond, counted_by, crossed, ends_of, entry_after, false, filter, first_incs, front_itself, front_more, front_on}
+use Rattle.law_moves.proofs.Imports.{front_plain, front_same, good_after, happens_sent, history_grows, history_is_firm, holds_link, in_former, inl, inr}
+use Rattle.law_moves.proofs.Imports.{is_eq, is_in, is_of_entries, is_some, join_was_wanted, kept, last_happens, length, link_cmp, link_named, log_rev}
+use Rattle.law_moves.proofs.Imports.{longer, none_some, own_place, proposed, proposed_pairs, put_apart, put_at, put_same, raised, refl, run_of, same_id}
+use Rattle.law_moves.proofs.Imports.{same_or_apart, server_state, settling, since, state_after, step_goes, subject_of, subst, sym, true, true_false}
+use Rattle.law_moves.proofs.Imports.{who_is_in, ℕ}
 
 holds_filled : (own : PairState) (o : Option LinkRow) → (holds_link own o).filled ≡ own.filled
 holds_filled own None = refl
@@ -208,79 +207,30 @@ module _ (it : OneMore) where
     Posted : IsPosted letter → IsSent letter
     Other : is_of_entries (subject_of letter.body) ≡ false → IsSent letter
 
-  abbrev SaysNone : List Post → Type 0
-  SaysNone posts = (post : Post) → In post posts → is_of_entries (subject_of post.body) ≡ false
-
-  none_said : (letter : Letter) (who : Sender) (stamp : ℕ) (posts : List Post) → SaysNone posts → In letter (stamped stamp (letters_of who 0 posts))
-      → IsSent letter
-  none_said letter who stamp posts none i =
-      let s = said who stamp 0 posts letter i in Other (ap (λ b. is_of_entries (subject_of b)) s.body ∙ none s.post s.there)
-
-  downs_none : (n inc servers : ℕ) → SaysNone (down_posts n inc servers)
-  downs_none n inc servers post i = ap (λ (b : Body). is_of_entries (subject_of b))
-      (said_to_all (body.Down n inc) (filter (λ k. not (k == n)) (range_with_len 0 servers)) post i)
-
-  worked_said : (n stamp : ℕ) (log : Log) (done : JobResult) (to : Server) → ((m : ℕ) → m ≢ n → v.servers m ≡ Was m) → v.servers n ≡ to
-      → (Was n).life.running ≡ true → to.own ≡ done.own
-      → to.log.applied ≡ log.applied → to.life.inc ≡ (Was n).life.inc → Worked setting w n log done → (letter : Letter)
-      → In letter (stamped stamp (letters_of (sender (own_place setting w n)) 0 done.posts)) → IsSent letter
-  unfolding In
-  worked_said n stamp _ _ to others is runs own_is log_is inc_is (By_job log done same did seat) letter i =
-      let s = said (sender (own_place setting w n)) stamp 0 done.posts letter i in
-      Posted (record {
-        n = n;
-        to = to;
-        is = is;
-        job = record { done = done; runs = runs; did = did; seat = seat; own_is = own_is; log_is = log_is ∙ same; inc_is = inc_is };
-        post = s.post;
-        there = s.there;
-        body = s.body;
-        rev = s.rev ∙ log_rev script.servers (Was n).log.applied;
-        others = others;
-      })
-  worked_said n stamp _ _ to others is runs own_is log_is inc_is (By_ballot log started posts same starts says) letter i =
-      none_said letter (sender (own_place setting w n)) stamp posts (λ post j. logged_none (subject_of post.body) (says post j)) i
-  worked_said n stamp _ _ to others is runs own_is log_is inc_is (By_entry log entry more onward) letter i = absurd i
-
-  served_said : (n stamp : ℕ) (what : Step) (acted : Acted) → ((m : ℕ) → m ≢ n → v.servers m ≡ Was m) → v.servers n ≡ acted.server
-      → Serving setting w n what acted → (letter : Letter)
-      → In letter (stamped stamp acted.letters) → IsSent letter
-  unfolding In
-  served_said n stamp what _ others is (Goes log done queue runs works queued so) letter i =
-      worked_said n stamp log done _ others is runs refl refl refl works letter i
-  served_said n stamp what _ others is (Ends log done runs works) letter i =
-      none_said letter (without_rev (own_place setting w n)) stamp _ (downs_none n (Was n).life.inc _) i
-  served_said n stamp what _ others is (Stays who posts from shown) letter i = none_said letter who stamp posts (λ post j. ap is_of_entries (shown post j)) i
-  served_said n stamp what _ others is (Wakes booted asleep) letter i = none_said letter _ stamp _ (downs_none n (Was n).life.inc _) i
-  served_said n stamp what _ others is (Fails booted asleep) letter i = none_said letter (sender (own_place setting w n)) stamp [] (λ post j. absurd j) i
-
-  sent_by : (state : State) (u : World) → v ≡ u → Happens setting state w u → (letter : Letter) → In letter u.sent → IsSent letter
-  sent_by state _ is (Serves n stamp what acted lt within unblanked serves) letter i =
-      elim (in-append letter (stamped stamp acted.letters) w.sent i) [
-        | inl new ↦ served_said n stamp what acted
-            (λ m ne. ap (λ (u : World). u.servers m) is ∙ put_apart w.servers n acted.server m ne)
-            (ap (λ (u : World). u.servers n) is ∙ put_same w.servers n acted.server) serves letter new
-        | inr old ↦ Before old
-      ]
-  sent_by state _ is (Blanks n stamp lt within asleep) letter i = Before i
-  sent_by state _ is (Turns c stamp in_call reacted lt within turned onward) letter i =
-      elim (in-append letter (stamped stamp (letters_of (client_sender c reacted.client) 0 reacted.posts)) w.sent i) [
-        | inl new ↦ none_said letter (client_sender c reacted.client) stamp reacted.posts
-            (λ post j. asked_none (subject_of post.body) (turned_asks _ _ _ _ _ _ _ turned post j)) new
-        | inr old ↦ Before old
-      ]
-
   pub sent : (letter : Letter) → In letter v.sent → IsSent letter
-  sent = sent_by (chosen_state setting v) v refl happened
-
-  sent_on_by : (state : State) (u : World) → Happens setting state w u → (letter : Letter) → In letter w.sent → In letter u.sent
-  sent_on_by state _ (Serves n stamp what acted lt within unblanked serves) letter i = in_later letter (stamped stamp acted.letters) w.sent i
-  sent_on_by state _ (Blanks n stamp lt within asleep) letter i = i
-  sent_on_by state _ (Turns c stamp in_call reacted lt within turned onward) letter i =
-      in_later letter (stamped stamp (letters_of (client_sender c reacted.client) 0 reacted.posts)) w.sent i
-
-  pub sent_on : (letter : Letter) → In letter w.sent → In letter v.sent
-  sent_on = sent_on_by (chosen_state setting v) v happened
+  sent letter i = elim (happens_sent setting (chosen_state setting v) w v happened letter i) [
+    | Was_sent old ↦ Before old
+    | Of_job n stamp what acted job now others ↦ Posted (record {
+      n = n;
+      to = acted.server;
+      is = now;
+      job = record {
+        done = job.done;
+        runs = job.runs;
+        did = job.did;
+        seat = job.seat;
+        own_is = ap (λ (a : Acted). a.server.own) job.acted_is;
+        log_is = ap (λ (a : Acted). a.server.log.applied) job.acted_is ∙ job.same;
+        inc_is = ap (λ (a : Acted). a.server.life.inc) job.acted_is;
+      };
+      post = job.post;
+      there = job.there;
+      body = job.body;
+      rev = job.rev ∙ log_rev script.servers (Was n).log.applied;
+      others = others;
+    })
+    | Aside apart ↦ Other (aside_none (subject_of letter.body) apart)
+  ]
 
 -- ### Incarnations
 

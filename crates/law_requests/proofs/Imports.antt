@@ -59,6 +59,7 @@ pub use Rattle.law_steps.proofs.CopyFrames.{of_holder, of_other}
 pub use Rattle.law_steps.proofs.HeldBackForCaughts.{held_as_flag}
 pub use Rattle.law_steps.proofs.KindsInHistories.{chosen_below, chosen_steady, own_below, own_plain, own_steady, proposed_pairs, runs_at, runs_now}
 pub use Rattle.law_steps.proofs.Letters.{said}
+pub use Rattle.law_steps.proofs.LettersOfSteps.{is_notice, serves_sent}
 pub use Rattle.law_steps.proofs.Records.{none_before_none, split_last, split_one}
 pub use Rattle.law_steps.proofs.Restages.{was_taken}
 pub use Rattle.law_steps.proofs.Subjects.{of_filler, of_lead, of_second}
@@ -72,7 +73,7 @@ pub use Rattle.law_steps.specs.DidClient.{Shown, Starts_it, StaysOpen, Stops_at,
 pub use Rattle.law_steps.specs.DidStep.{Blanks, By_ballot, By_entry, By_job, Ends, Fails, Goes, Heard, IsOnward, IsSeatedOrMute, Serves, Serving, Stays}
 pub use Rattle.law_steps.specs.DidStep.{Turns, Wakes, Worked, served_so, shown_so, stopped_so, without_rev}
 pub use Rattle.law_steps.specs.WakingServers.{AllMayWake}
-pub use Rattle.petal_msg.specs.Kinds.{Answered, Read_asked, Write_asked, is_refused}
+pub use Rattle.petal_msg.specs.Kinds.{Answered, Glanced, Read_asked, Write_asked, is_refused}
 pub use Rattle.script_lines.specs.Requests.{names}
 pub use Rattle.spec_history.specs.Claims.{AreHeldAlong, IsLateAt, IsOver, ReportsHold, Requests, WritesNothingSince}
 pub use Rattle.spec_rules.specs.Clients.{write_refusal}

@@ -213,18 +213,6 @@ module _ (servers : ℕ) (front whole : List Command) (plain : HasProperTuples s
             ∙ link.has;
       }
 
-  -- at a place of its link who led a cell is In as before, until the cell is retired, and leads it while it takes writes
-  pub seat_at_place : (n inc : ℕ) (cell : Cell) (row : LinkRow) → cell_link earlier cell ≡ Some row
-      → places_from (start servers) whole row ≡ places_from (start servers) front row → LedBy earlier n inc cell
-      → (is_in later n inc ≡ true) ⊎ HasDied later cell
-  seat_at_place n inc cell row is place led = elim (same_place servers front whole cell row plain prefix is place) [
-    | inl stays ↦
-        let link = own_link earlier was_steady n cell led.leads in
-        let has = subst (λ (r : LinkRow). has_server n r ≡ true) (same_some (sym link.is ∙ is)) link.has in
-        inl (seat_stays earlier later cell row stays n inc has led.seated)
-    | inr died ↦ inr died
-  ]
-
   pub led_at_place : (n inc : ℕ) (cell : Cell) (row : LinkRow) → cell_link earlier cell ≡ Some row
       → places_from (start servers) whole row ≡ places_from (start servers) front row → stage_at later cell ≤ 2 → LedBy earlier n inc cell
       → LedBy later n inc cell

@@ -1,7 +1,7 @@
 -- Where the request of a pending operation is open still: its server has led the cell since it opened it. The cell has not been left since, since
 -- the server would have reported to the fence of its region before, with no such operation pending.
 use Rattle.law_requests.proofs.Imports.{[], if◌then◌else◌, ◌++◌, ◌+◌, ◌<◌, ◌∙◌, ◌∷◌, ◌≡◌, ◌≤◌, ◌⊎◌, Caught, Cell, Command, Drained, Firm, HasComeSecond}
-use Rattle.law_requests.proofs.Imports.{HasProperTuples, IsPrefix, LinkRow, List, Pending, Rests, Setting, Some, Wanted, World, alone_not_both, ap, arith, at}
+use Rattle.law_requests.proofs.Imports.{IsPrefix, LinkRow, List, Pending, Rests, Setting, Some, Wanted, World, alone_not_both, ap, arith, at}
 use Rattle.law_requests.proofs.Imports.{between, by_bool, cases_lt, cell_cmp, cell_link, chosen_log, chosen_state, epoch_at, era_at, era_low, false}
 use Rattle.law_requests.proofs.Imports.{front_itself, front_long, front_more, front_on, front_plain, has_proposed, held, held_as_flag, id_of, in_once, inl}
 use Rattle.law_requests.proofs.Imports.{inr, is_clients, is_flagged, is_in, is_lead, is_the_one, is_writes_held, lead_links, length, log_alone, log_below}
@@ -32,9 +32,6 @@ RemembersCaughts setting w n inc = (front : List Command) (row : LinkRow) (other
     → is_flagged (w.servers n).own (id_of row) ≡ true
 
 module _ (setting : Setting) (w : World) (firm : Firm setting w) where
-  pub client_plain : (c : ℕ) → HasProperTuples setting.servers (w.clients c).applied
-  client_plain c = front_plain setting.servers _ _ firm.plain (firm.clients c)
-
   -- what a client has applied up to a revision
   pub chosen_front : (c rev : ℕ) (at : IsAt (w.clients c).applied rev) → IsPrefix at.front (chosen_log setting w)
   chosen_front c rev at = front_on at.front _ _ at.lies (firm.clients c)

@@ -1,18 +1,17 @@
 -- What is known of requests is kept by each step.
-use Rattle.law_requests.proofs.Imports.{◌<◌, ◌==◌, ◌∙◌, ◌≡◌, ◌≢◌, Acted, Actor, AllMayWake, Blank, Blanks, Body, Bool, Cell, Ends, Fails, Firm, Goes, Happens}
-use Rattle.law_requests.proofs.Imports.{HasProperTuples, Heard, In, IsPrefix, Letter, List, Pending, Post, Reaction, Ready, Sender, Serves, Serving, Setting}
-use Rattle.law_requests.proofs.Imports.{Some, State, Stays, Step, Turned, Turns, Wakes, Wanted, World, acts, ap, arith, at, awake, blanked, cell_cmp}
-use Rattle.law_requests.proofs.Imports.{client_sender, down_posts, false, filter, in_later, inl, is_clients, length, letters_of, log_rev, not, own_place}
-use Rattle.law_requests.proofs.Imports.{raised, range_with_len, reacts, refl, rev_of, said, said_to_all, sender, served_so, server_state, servers_of}
-use Rattle.law_requests.proofs.Imports.{shown_so, stamped, stays, stopped_so, subject_of, subst, sym, true, wakes, was_same, without_rev, ℕ}
-use Rattle.law_requests.specs.KnownRequests.{Seen, Lives, AreLives, lives_after, seen, Known, KnownLetter, PendingFor, AskingBy, KnowsReports}
-use Rattle.law_requests.proofs.ServerStepsKeepRequests.{Scene, WasOrNew, goes_on, opened_now, says_known, step_asking, steps}
+use Rattle.law_requests.proofs.Imports.{◌<◌, ◌≡◌, ◌≢◌, Acted, Actor, AllMayWake, Blank, Blanks, Body, Bool, Cell, Firm, Glanced, Happens, HasProperTuples}
+use Rattle.law_requests.proofs.Imports.{Heard, In, IsPrefix, Logged, Pending, Reaction, Ready, Serves, Serving, Setting, Some, State, Step, Subject}
+use Rattle.law_requests.proofs.Imports.{Turned, Turns, Wanted, World, acts, ap, arith, at, blanked, cell_cmp, client_sender, false, in_later, inl, inr}
+use Rattle.law_requests.proofs.Imports.{is_clients, is_notice, length, letters_of, log_rev, reacts, refl, server_state, serves_sent, stamped, stays}
+use Rattle.law_requests.proofs.Imports.{subject_of, subst, sym, true, true_false, was_same, ℕ}
+use Rattle.law_requests.specs.KnownRequests.{Lives, AreLives, lives_after, seen, Known, PendingFor, AskingBy, KnowsReports}
+use Rattle.law_requests.proofs.LeadJobsKeepRequests.{job_tells}
+use Rattle.law_requests.proofs.ServerStepsKeepRequests.{SaysOk, Scene, WasOrNew, goes_on, opened_now, says_known, step_asking, steps}
 use Rattle.law_requests.proofs.RequestsKnownLater.{Later, pending_later, tells_request, untold}
 use Rattle.law_requests.proofs.IncarnationsGoOn.{Lived, done_beside, lives_still}
 use Rattle.law_requests.proofs.ClientKindsKeepRequests.{turn_ok}
 use Rattle.law_requests.proofs.ClientStepsKeepRequests.{TurnOk, seen_with, turn_asking, turn_later}
-use Rattle.law_requests.proofs.StepsGoOnOrBoot.{blanks_step, serves_step, worked_shows, worked_stepped}
-use Rattle.petal_msg.specs.declared.body.Body.TheVariants as body
+use Rattle.law_requests.proofs.StepsGoOnOrBoot.{blanks_step, serves_step}
 use Rattle.petal_msg.specs.declared.letter.Actor.TheVariants as actor
 pub use Rattle.law_steps.proofs.KindsInHistories.{proposed_pairs}
 
@@ -33,18 +32,10 @@ ended_later setting w v lives known on n inc want rev lt p =
     let un = p.unfinished in
     pending_later setting (seen lives w) (seen (lives_after lives v) v) on.later n inc want rev p (omega arith)
 
--- letters that tell of no request
-all_untold : (setting : Setting) (v : Seen) (who : Sender) (stamp : ℕ) (posts : List Post)
-    → ((post : Post) → In post posts → tells_request (subject_of post.body) ≡ false) → (letter : Letter)
-    → In letter (stamped stamp (letters_of who 0 posts)) → KnownLetter setting v letter
-all_untold setting v who stamp posts none letter i =
-    let s = said who stamp 0 posts letter i in
-    untold setting v letter.from letter.to letter.rev letter.body (ap (λ (b : Body). tells_request (subject_of b)) s.body ∙ none s.post s.there)
-
--- a server that stops, and one that boots, tell the others
-downs_untold : (n inc servers : ℕ) (post : Post) → In post (down_posts n inc servers) → tells_request (subject_of post.body) ≡ false
-downs_untold n inc servers post i = ap (λ (b : Body). tells_request (subject_of b))
-    (said_to_all (body.Down n inc) (filter (λ k. not (k == n)) (range_with_len 0 servers)) post i)
+notice_untold : (subject : Subject) → is_notice subject ≡ true → tells_request subject ≡ false
+notice_untold Logged e = refl
+notice_untold Glanced e = refl
+notice_untold _ e = true_false e refl
 
 module _ (scene : Scene) (ready : Ready scene.setting scene.state scene.w) (n stamp : ℕ) (what : Step) where
   open scene use {setting, w, lives}
@@ -52,43 +43,25 @@ module _ (scene : Scene) (ready : Ready scene.setting scene.state scene.w) (n st
   abbrev after : Acted → World
   after acted = (acts setting w n what stamp acted).world
 
-  -- what an entry leaves of the server's own part
+  -- a job tells of requests what is known of them, and no other letter of a server tells of one
   pub serves_asking : AllMayWake setting w → (acted : Acted) → Serving setting w n what acted
       → AskingBy setting (after acted) (lives_after lives (after acted))
-  unfolding In
-  serves_asking wake _ (Goes log done queue runs worked queued works) =
-      let acted = served_so setting w n log done queue in
-      let shows = worked_shows scene ready n stamp what runs log done worked in
-      let step = worked_stepped scene ready n stamp what runs log done worked acted.server refl refl refl in
+  serves_asking wake acted serving =
+      let step = serves_step scene ready n stamp what wake acted serving in
       let later = seen (lives_after lives (after acted)) (after acted) in
       let rev : length (w.servers n).log.applied ≡ (server_state setting w n).rev = sym (log_rev setting.servers (w.servers n).log.applied) in
-      step_asking scene n stamp what acted step (λ letter i.
-      let s = said (sender (own_place setting w n)) stamp 0 done.posts letter i in
-      let k = says_known scene n stamp what acted step runs refl (server_state setting w n).rev rev s.post.to s.post.body (shows.says s.post s.there) in
-      subst (λ (b : Body). Known setting later letter.from letter.to letter.rev b) (sym s.body)
-      (subst (λ (r : ℕ). Known setting later letter.from letter.to r s.post.body) (sym s.rev)
-      (subst (λ (a : Actor). Known setting later letter.from a (server_state setting w n).rev s.post.body) (sym s.to)
-      (subst (λ (a : Actor). Known setting later a s.post.to (server_state setting w n).rev s.post.body) (sym s.from) k))))
-  serves_asking wake _ (Ends log done runs worked) =
-      let acted = stopped_so setting w n log done in
-      step_asking scene n stamp what acted (serves_step scene ready n stamp what wake _ (Ends log done runs worked))
-      (all_untold setting (seen (lives_after lives (after acted)) (after acted)) (without_rev (own_place setting w n)) stamp
-      (down_posts n (w.servers n).life.inc (servers_of (server_state setting w n)))
-      (downs_untold n (w.servers n).life.inc (servers_of (server_state setting w n))))
-  serves_asking wake _ (Stays who posts from shown) =
-      let acted = shown_so w n who posts in
-      step_asking scene n stamp what acted (serves_step scene ready n stamp what wake _ (Stays who posts from shown))
-      (all_untold setting (seen (lives_after lives (after acted)) (after acted)) who stamp posts (λ post i. ap tells_request (shown post i)))
-  serves_asking wake _ (Wakes booted asleep) =
-      let server = awake (raised (w.servers n)) in
-      let acted = wakes (own_place setting w n) server in
-      step_asking scene n stamp what acted (serves_step scene ready n stamp what wake _ (Wakes booted asleep))
-      (all_untold setting (seen (lives_after lives (after acted)) (after acted))
-      (record { from = actor.Server n; inc = server.life.inc; rev = rev_of server.log }) stamp
-      (down_posts n (w.servers n).life.inc (servers_of (server_state setting w n)))
-      (downs_untold n (w.servers n).life.inc (servers_of (server_state setting w n))))
-  serves_asking wake _ (Fails booted asleep) =
-      step_asking scene n stamp what (stays (raised (w.servers n))) (serves_step scene ready n stamp what wake _ (Fails booted asleep)) (λ letter i. absurd i)
+      step_asking scene n stamp what acted step (λ letter i. elim (serves_sent setting w n stamp what acted serving letter i) [
+        | inl job ↦ (
+            let says = (job_tells scene n job.runs job.done job.seat job.did).says job.post job.there in
+            let k = says_known scene n stamp what acted step job.runs (ap (λ (a : Acted). a.server.life.inc) job.acted_is)
+            (server_state setting w n).rev rev job.post.to job.post.body
+            (subst (λ (a : Acted). SaysOk setting w lives n a.server.own job.post.to job.post.body) (sym job.acted_is) says) in
+            subst (λ (b : Body). Known setting later letter.from letter.to letter.rev b) (sym job.body)
+            (subst (λ (r : ℕ). Known setting later letter.from letter.to r job.post.body) (sym job.rev)
+            (subst (λ (a : Actor). Known setting later letter.from a (server_state setting w n).rev job.post.body) (sym job.to)
+            (subst (λ (a : Actor). Known setting later a job.post.to (server_state setting w n).rev job.post.body) (sym job.sent.from) k))))
+        | inr apart ↦ untold setting later letter.from letter.to letter.rev letter.body (notice_untold (subject_of letter.body) apart)
+      ])
 
   -- what was known of incarnations is known later
   pub serves_later : AllMayWake setting w → (acted : Acted) → Serving setting w n what acted

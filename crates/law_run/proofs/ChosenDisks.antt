@@ -106,12 +106,6 @@ module _ (servers : ℕ) (s : State) (p : IsSettledState servers s) (disks : Are
         pub old_leaves : stage_at s (old_cell row block) ≡ 3
         old_leaves = stage_here (old_cell row block) old_homed.has ∙ old_homed.is
 
-        pub old_epoch : epoch_at s (old_cell row block) ≡ row.epoch
-        old_epoch = epoch_here (old_cell row block) old_homed.has
-
-      pub named_lives : is_between row block ≡ false → stage_at s (named_cell row block) ≡ 2
-      named_lives apart = named_stage ∙ ap (λ b. if b then 1 else 2) apart
-
     -- a cell of the disk's maps, by how far it is
     module _ (cell : Cell) (has : has_map cell.map row ≡ true) where
       stage_row : stage_at s cell ≡ stage_under cell row

@@ -120,10 +120,7 @@ module _ (this : ServerStep) where
     later_has : has_map named.map later.now ≡ true
     later_has = ap (λ (r : DiskRow). has_map named.map r) (sym later_is) ∙ disk_named.has
 
-    -- the entry of that cell, before the step and after it
-    abbrev pub entry_was : ℕ → Option Stored
-    entry_was e = entry_of chosen (counted this.setting this.w) named e
-
+    -- the entry of that cell after the step
     abbrev pub entry_now : ℕ → Option Stored
     entry_now e = entry_of after (counted this.setting v) named e
 

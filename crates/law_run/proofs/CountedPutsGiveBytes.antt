@@ -89,8 +89,9 @@ module _ (this : ServerStep) (same : chosen_log this.setting (later_world this) 
     own_told : (op : Pending) (is : at cell_cmp own.pairs.pending op.cell ≡ Some op) (unput : op.stage.put ≡ false) (entry : Stored)
         (bytes : entry.bytes ≡ op.bytes)
         (chains : (new this).store.chains ≡ chains_with own.store.chains op.key entry)
-        → Jobs (An_own (record { op = op; is = is; fresh = unput; entry = entry; bytes = bytes; chains = chains })) → TakesTold this
-    own_told op is unput entry bytes chains job = elim (some_or_none (authority chosen op.cell)) [
+        (is_put : (later : Pending) → at cell_cmp (new this).pairs.pending op.cell ≡ Some later → later.stage.put ≡ true)
+        → Jobs (An_own (record { op = op; is = is; fresh = unput; entry = entry; bytes = bytes; chains = chains; is_put = is_put })) → TakesTold this
+    own_told op is unput entry bytes chains is_put job = elim (some_or_none (authority chosen op.cell)) [
       | inr none ↦ other (λ e. none_some none e)
       | inl some ↦ elim (same_or_apart some.0 this.n) [
         | inr ne ↦ other (λ e. absurd (ne (same_some (sym some.1 ∙ e))))
@@ -110,7 +111,7 @@ module _ (this : ServerStep) (same : chosen_log this.setting (later_world this) 
             (λ mine. ap (λ c. chain_in c (named_cell row b)) chains
             ∙ chain_apart own.store.chains (cell_of op.key) _ (named_cell row b)
             (λ e. never (ap (authority chosen) (sym keyed ∙ sym e) ∙ mine))))) in
-            told_of taken (An_own (record { op = op; is = is; fresh = unput; entry = entry; bytes = bytes; chains = chains })) job
+            told_of taken (An_own (record { op = op; is = is; fresh = unput; entry = entry; bytes = bytes; chains = chains; is_put = is_put })) job
             (λ clients e. absurd (never e))
 
         mine : is_clients op.kind ≡ true → authority chosen op.cell ≡ Some this.n → TakesTold this
@@ -128,7 +129,7 @@ module _ (this : ServerStep) (same : chosen_log this.setting (later_world this) 
             let here_mine : authority chosen (cell_of op.key) ≡ Some this.n = ap (authority chosen) keyed ∙ counted in
             let put : PutsHere this same = record { key = op.key; entry = entry; chains = chains; own_counts = own_counts; mine = here_mine } in
             let taken = all_given this (given_put this same put epoch op bytes place) in
-            told_of taken (An_own (record { op = op; is = is; fresh = unput; entry = entry; bytes = bytes; chains = chains })) job
+            told_of taken (An_own (record { op = op; is = is; fresh = unput; entry = entry; bytes = bytes; chains = chains; is_put = is_put })) job
             (λ clients e. put_held this same put epoch op bytes place taken)
 
         -- a fill
@@ -142,7 +143,7 @@ module _ (this : ServerStep) (same : chosen_log this.setting (later_world this) 
             let put : PutsHere this same = record { key = op.key; entry = entry; chains = chains; own_counts = own_counts; mine = here_mine } in
             let taken = all_given this (fill_given this same put op.bytes bytes one op.rev
             (this.ground.moves.fills.asked this.n op.cell op is fill) lacks) in
-            told_of taken (An_own (record { op = op; is = is; fresh = unput; entry = entry; bytes = bytes; chains = chains })) job
+            told_of taken (An_own (record { op = op; is = is; fresh = unput; entry = entry; bytes = bytes; chains = chains; is_put = is_put })) job
             (λ clients e. true_false clients fill)
 
     asked_told : (a : PutsAsked hears here own (new this)) → Jobs (An_asked a) → TakesTold this
@@ -226,7 +227,7 @@ module _ (this : ServerStep) (same : chosen_log this.setting (later_world this) 
     -- a job that changes at most one chain
     pub stored_told : (s : StoresSo hears here own (new this)) → Jobs s → TakesTold this
     stored_told (Nothing_new chains) job = calm_told this same chains (λ k onward. job k onward tt) says
-    stored_told (An_own p) job = own_told p.op p.is p.fresh p.entry p.bytes p.chains job
+    stored_told (An_own p) job = own_told p.op p.is p.fresh p.entry p.bytes p.chains p.is_put job
     stored_told (An_asked a) job = asked_told a job
     stored_told (A_copy c) job = copy_told c job
     stored_told (Of_the_retired d) job = retired_drops d job

@@ -96,7 +96,7 @@ pub use Rattle.law_moves.proofs.EpochHistories.{early_after, pending_timely, pla
 pub use Rattle.law_moves.proofs.FillsAtSeconds.{second_after}
 pub use Rattle.law_moves.proofs.JobsChangeOneChain.{A_copy, An_asked, An_own, CopiesSo, Drops, Is_dropped, Is_dropped_first, Is_put, NeverRetired}
 pub use Rattle.law_moves.proofs.JobsChangeOneChain.{Nothing_new, Of_the_retired, OtherStores, PutsAsked, PutsCopy, PutsOwn, StoresSo, copied_apart}
-pub use Rattle.law_moves.proofs.JobsChangeOneChain.{did_stores, holder_chains, lead_stores, other_changes, second_stores, swept}
+pub use Rattle.law_moves.proofs.JobsChangeOneChain.{did_stores, lead_stores}
 pub use Rattle.law_moves.proofs.KnownOfMoves.{comes_after, filling_after, over_after, retired_frozen, rule_after}
 pub use Rattle.law_moves.proofs.MovesInHistories.{known_after, none_chosen}
 pub use Rattle.law_moves.proofs.NextFill.{in_flat}
@@ -138,6 +138,7 @@ pub use Rattle.law_steps.proofs.ClientLetters.{is_ask}
 pub use Rattle.law_steps.proofs.ClientStepKinds.{client_turns, is_call}
 pub use Rattle.law_steps.proofs.KindsInHistories.{happens, ready_chosen, rests_next}
 pub use Rattle.law_steps.proofs.Letters.{one_post, posted}
+pub use Rattle.law_steps.proofs.LettersOfSteps.{is_notice, serves_sent}
 pub use Rattle.law_steps.proofs.LogJobs.{LogFrame, applied_entry, applied_none, letter_frame_of, start_frame_of}
 pub use Rattle.law_steps.proofs.ServerStepKinds.{chosen_same, server_serves}
 pub use Rattle.law_steps.proofs.TicksAskAgain.{in_flat_map}

@@ -1,18 +1,18 @@
 -- A read that was told that the new map has nothing, and is answered under the old one: whoever answers has what was frozen.
-use Rattle.law_run.proofs.Imports.{[], if◌then◌else◌, ◌&&◌, ◌||◌, ◌∙◌, ◌∷◌, ◌≡◌, ◌≤◌, Acted, Actor, AreStepsFrom, Blank, Bool, By_ballot, By_entry, By_job}
-use Rattle.law_run.proofs.Imports.{By_read, Cell, Did, Ends, Fails, Firm, Goes, Handled, In, IsPrefix, IsRead, IsReadable, IsSteady, JobResult, Letter, List}
-use Rattle.law_run.proofs.Imports.{MayActor, NeverRetired, None, NotThere, Not_here, Post, Record, Sender, Serving, Setting, Shows, Some, State, Stays, Step}
-use Rattle.law_run.proofs.Imports.{Wakes, World, acts, ap, arith, awake, begins_to_leave, both_true, by_bool, by_test, bytes_of, chain_in, chain_that_counts}
-use Rattle.law_run.proofs.Imports.{chosen_log, chosen_state, data_among, down_posts, entry_at, epoch_at, front_itself, front_on, in_former, in_none, inl, inr}
-use Rattle.law_run.proofs.Imports.{leaving, length, letters_of, log_below, log_rev, none_some, not, old_data, one_post, own_place, own_plain, own_steady}
-use Rattle.law_run.proofs.Imports.{owns_of, raised, reads_old, refl, rev_of, said, sender, server_serves, server_state, server_step, servers_of, stage_at}
-use Rattle.law_run.proofs.Imports.{stage_facts, stamped, step, stepped, subst, sym, true, true_false, turns, without_rev, ℕ}
+use Rattle.law_run.proofs.Imports.{[], if◌then◌else◌, ◌&&◌, ◌||◌, ◌∙◌, ◌∷◌, ◌≡◌, ◌≤◌, Acted, Actor, Answered, AreStepsFrom, Blank, Bool, By_read, Cell}
+use Rattle.law_run.proofs.Imports.{Did, Firm, Handled, In, IsPrefix, IsRead, IsReadable, IsSteady, JobResult, Letter, List, MayActor, NeverRetired, None}
+use Rattle.law_run.proofs.Imports.{NotThere, Not_here, Record, Refused, Serving, Setting, Shows, Some, State, Step, Subject, World, acts, ap, arith}
+use Rattle.law_run.proofs.Imports.{begins_to_leave, both_true, by_bool, by_test, bytes_of, chain_in, chain_that_counts, chosen_log, chosen_state}
+use Rattle.law_run.proofs.Imports.{data_among, entry_at, epoch_at, false, front_itself, front_on, in_former, inl, inr, is_notice, leaving, length}
+use Rattle.law_run.proofs.Imports.{letters_of, log_below, log_rev, none_some, not, old_data, one_post, own_place, own_plain, own_steady, owns_of}
+use Rattle.law_run.proofs.Imports.{reads_old, refl, said, sender, server_serves, server_state, server_step, serves_sent, stage_at, stage_facts, stamped}
+use Rattle.law_run.proofs.Imports.{step, stepped, subject_of, subst, sym, true, true_false, turns, ℕ}
 use Rattle.law_run.specs.MachineTies.{Ground}
 use Rattle.law_run.proofs.EntryAtEpoch.{AreUpTo}
 use Rattle.law_run.proofs.GroundGives.{never_retired}
 use Rattle.law_run.proofs.ReadsLookWhereSent.{Accepts, AreGrounded, ground_now, is_looked, who_accepts}
 use Rattle.law_run.proofs.ContentsAsked.{known_read, own_up_to, reader_serves, reads_old_is}
-use Rattle.law_run.proofs.DataLetters.{IsUnended, downs_unended, glances_unended, logged_unended, mute_data, unended_no_data}
+use Rattle.law_run.proofs.DataLetters.{is_reply, mute_data, unended_data}
 use Rattle.law_run.proofs.RunScenes.{Grounded}
 use Rattle.law_run.proofs.SearchesFindData.{IsAmong, in_data, some_data}
 use Rattle.petal_msg.specs.declared.body.Body.TheVariants as body
@@ -37,16 +37,16 @@ same_seq e = cc
 pub same_data : {a b : ℕ} {xs ys : List ℕ} → body.Data a xs ≡ body.Data b ys → xs ≡ ys
 same_data e = cc
 
+notice_unended : (subject : Subject) → is_notice subject ≡ true → is_reply subject ≡ false
+notice_unended Answered e = true_false e refl
+notice_unended Refused e = true_false e refl
+notice_unended _ e = refl
+
 module _ (g : Grounded) (steady : IsSteady g.state) (y stamp : ℕ) (letter : Letter) (seq : ℕ) (bytes : List ℕ) (says : letter.body ≡ body.Data seq bytes) where
   open g use {setting, w as u}
 
   abbrev S : Type 0
   S = IsShown setting u y letter seq bytes
-
-  -- of letters that end no request none has data
-  not_unended : (who : Sender) (posts : List Post) → ((post : Post) → In post posts → IsUnended post)
-      → In letter (stamped stamp (letters_of who 0 posts)) → S
-  not_unended who posts all h = true_false (ap is_looked says) (unended_no_data who stamp posts all letter h)
 
   job_shows : (done : JobResult) → Did (Handled u y) (own_place setting u y) (owns_of u y) done → (u.servers y).life.running ≡ true
       → In letter (stamped stamp (letters_of (sender (own_place setting u y)) 0 done.posts)) → S
@@ -75,19 +75,10 @@ module _ (g : Grounded) (steady : IsSteady g.state) (y stamp : ℕ) (letter : Le
       true_false (ap is_looked (sym s.body ∙ says)) (mute_data (Handled u y) (own_place setting u y) (owns_of u y) never done d tt s.post s.there)
 
   pub shows : (what : Step) (acted : Acted) → Serving setting u y what acted → In letter (stamped stamp acted.letters) → S
-  shows what _ (Goes log done queue runs (By_job log' done' applied did seat) queued works) h = job_shows done did runs h
-  shows what _ (Goes log done queue runs (By_ballot log' started posts applied starts told) queued works) h =
-      not_unended (sender (own_place setting u y)) posts (λ post i. logged_unended post.body (told post i)) h
-  shows what _ (Goes log done queue runs (By_entry log' entry more front) queued works) h =
-      not_unended (sender (own_place setting u y)) [] (λ post i. in_none post i) h
-  shows what _ (Ends log done runs worked) h =
-      not_unended (without_rev (own_place setting u y)) _ (downs_unended y (u.servers y).life.inc (servers_of (server_state setting u y))) h
-  shows what _ (Stays who posts from shown) h = not_unended who posts (λ post i. glances_unended post (shown post i)) h
-  shows what _ (Wakes booted asleep) h =
-      not_unended (record { from = actor.Server y; inc = (awake (raised (u.servers y))).life.inc; rev = rev_of (awake (raised (u.servers y))).log })
-      (down_posts y (u.servers y).life.inc (servers_of (server_state setting u y)))
-      (downs_unended y (u.servers y).life.inc (servers_of (server_state setting u y))) h
-  shows what _ (Fails booted asleep) h = not_unended (without_rev (own_place setting u y)) [] (λ post i. in_none post i) h
+  shows what acted serving h = elim (serves_sent setting u y stamp what acted serving letter h) [
+    | inl job ↦ job_shows job.done job.did job.runs (subst (λ (a : Acted). In letter (stamped stamp a.letters)) job.acted_is h)
+    | inr apart ↦ true_false (ap is_looked says) (unended_data letter.body (notice_unended (subject_of letter.body) apart))
+  ]
 
 -- ### Data of an old map
 

@@ -1,6 +1,6 @@
 -- A server that may read a cell which is not leaving has the copy that counts, and so the contents of the cell's block.
 use Rattle.law_run.proofs.Imports.{◌==◌, ◌∙◌, ◌≡◌, ◌≤◌, AliveIn, AreDisks, Bool, Both, ByBoth, ByNone, ByOne, Cell, DiskRow, Firm, HasStage, In, IsLinked}
-use Rattle.law_run.proofs.Imports.{IsServing, Line, LinkRow, List, None, Option, PairOk, PairState, Some, Store, Stored, alone_authority, ap, arith, at}
+use Rattle.law_run.proofs.Imports.{IsServing, LinkRow, List, None, Option, PairOk, PairState, Some, Store, Stored, alone_authority, ap, arith, at}
 use Rattle.law_run.proofs.Imports.{authority, both_authority, both_leads, by_bool, bytes_of, cases_lt, cell_cmp, chain_in, chosen_steady, coming, counted}
 use Rattle.law_run.proofs.Imports.{either_true, entry_at, entry_before, entry_by, entry_of, false, front_itself, half, has_map, held, inl, inr, is_all_held}
 use Rattle.law_run.proofs.Imports.{is_in, is_lead, is_some, is_the_so, leads_link, leaving, linked_between, live, log_roles, named_cell, old_cell, one_row}
@@ -15,9 +15,6 @@ use Rattle.law_run.proofs.EventsOfServerSteps.{ServerStep, ends_of, grounded, pl
 
 module _ (this : ServerStep) where
   open ends_of this use {top, chosen, own, own_state}
-
-  abbrev lines : List Line
-  lines = this.setting.lines
 
   -- the bytes of the server's entry
   abbrev pub data_of : Cell → ℕ → List ℕ

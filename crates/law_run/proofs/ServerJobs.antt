@@ -1,13 +1,12 @@
 -- Each kind of job shows what it has to, where the write of what it has put where it counts has had its bytes.
-use Rattle.law_run.proofs.Imports.{◌∙◌, ◌≡◌, ◌≢◌, ◌⊎◌, A_copy, AliveIn, An_asked, An_own, Both, By_filler, By_holder, By_lead, By_other, By_read, By_second}
-use Rattle.law_run.proofs.Imports.{By_sweep, Cell, Chain, Did, DidOther, DidSecond, Drops, Finished, Ignores, IsOpen, IsOwn, IsSeatedOrMute, IsSteady}
-use Rattle.law_run.proofs.Imports.{JobResult, LinkRow, NeverRetired, Nothing_new, Of_the_retired, Only, OtherStores, PairState, Pairs, Pending, Plain}
-use Rattle.law_run.proofs.Imports.{PutsAsked, PutsCopy, PutsOwn, Refuses, Some, Store, StoresSo, Sweeps, ap, at, cell_cmp, cell_of, chain_apart, chain_in}
-use Rattle.law_run.proofs.Imports.{chosen_state, copied_apart, did_finish, did_stores, finished_of, held_not_lead, holder_chains, inl, inr, is_clients}
-use Rattle.law_run.proofs.Imports.{is_lead, is_second, is_the_one, kept, lead_links, led_by, live, nat_cmp, of_filler, of_holder, of_other, of_read}
-use Rattle.law_run.proofs.Imports.{of_second, one_lead, other_changes, own_steady, owns_of, refl, same_cell_or_apart, same_some, second_by, second_stores}
-use Rattle.law_run.proofs.Imports.{subst, swept, sym, true, true_false, ℕ}
-use Rattle.law_steps.specs.DidSecond.{Follows}
+use Rattle.law_run.proofs.Imports.{◌∙◌, ◌≡◌, ◌≢◌, ◌⊎◌, A_copy, AliveIn, An_asked, An_own, Both, By_filler, By_holder, By_lead, By_other, By_read}
+use Rattle.law_run.proofs.Imports.{By_second, By_sweep, Cell, Chain, Did, Drops, Finished, Ignores, IsOpen, IsOwn, IsSeatedOrMute}
+use Rattle.law_run.proofs.Imports.{IsSteady, JobResult, LinkRow, NeverRetired, Nothing_new, Of_the_retired, Only, PairState, Pairs, Pending}
+use Rattle.law_run.proofs.Imports.{Plain, PutsAsked, PutsCopy, PutsOwn, Refuses, Some, Store, StoresSo, ap, at, cell_cmp, cell_of, chain_apart}
+use Rattle.law_run.proofs.Imports.{chain_in, chosen_state, copied_apart, did_finish, did_stores, finished_of, held_not_lead, inl, inr}
+use Rattle.law_run.proofs.Imports.{is_clients, is_lead, is_second, is_the_one, kept, lead_links, led_by, live, nat_cmp, of_filler, of_holder, of_other}
+use Rattle.law_run.proofs.Imports.{of_read, of_second, of_sweep, one_lead, own_steady, owns_of, same_cell_or_apart, same_some}
+use Rattle.law_run.proofs.Imports.{second_by, subst, sym, true, true_false, ℕ}
 use Rattle.law_run.specs.WritesGoOn.{is_held, Onward}
 use Rattle.law_run.proofs.CopiesThatDontCount.{copied_unfollowed}
 use Rattle.law_run.proofs.ServerFrames.{OwnFollow}
@@ -51,27 +50,22 @@ module _ (this : ServerStep) (k : Plain) where
     copy_beside new c cell lead = copied_apart hears own c.cell new.store.chains c.how cell
         (λ e. held_not_lead here steady_here c.cell c.holder c.held (subst (λ (q : Cell). Leads q) e lead))
 
-    -- a cell that the server leads keeps its chain, but for an operation of its own
-    abbrev IsNoOwn : {new : PairState} → StoresSo hears here own new → Type 0
-    IsNoOwn (An_own p) = ⊥
-    IsNoOwn _ = Unit {0}
-
-    led_chain : (new : PairState) (s : StoresSo hears here own new) → IsNoOwn s → (cell : Cell) → Leads cell
+    -- a cell that the server leads keeps its chain, where what is pending stays
+    led_chain : (new : PairState) → StoresSo hears here own new → new.pairs.pending ≡ own.pairs.pending → (cell : Cell) → Leads cell
         → chain_in new.store.chains cell ≡ mine cell
-    led_chain new (Nothing_new kept) none cell lead = ap (λ c. chain_in c cell) kept
-    led_chain new (An_own p) none cell lead = absurd none
-    led_chain new (An_asked a) none cell lead = asked_beside new a cell lead
-    led_chain new (A_copy c) none cell lead = copy_beside new c cell lead
-    led_chain new (Of_the_retired d) none cell lead = d.others cell (λ e. true_false (lead_links here.state this.n cell lead).0 (ap (live here.state) e ∙ d.off))
+    led_chain new (Nothing_new same) stays cell lead = ap (λ c. chain_in c cell) same
+    led_chain new (An_own p) stays cell lead = true_false (p.is_put p.op (ap (λ t. at cell_cmp t p.op.cell) stays ∙ p.is)) p.fresh
+    led_chain new (An_asked a) stays cell lead = asked_beside new a cell lead
+    led_chain new (A_copy c) stays cell lead = copy_beside new c cell lead
+    led_chain new (Of_the_retired d) stays cell lead = d.others cell (λ e. true_false (lead_links here.state this.n cell lead).0 (ap (live here.state) e ∙ d.off))
 
     -- operations that stay pending
-    stays_pending : (new : PairState) (s : StoresSo hears here own new) → IsNoOwn s → new.pairs.pending ≡ own.pairs.pending
-        → (cell : Cell) (o : Pending)
+    stays_pending : (new : PairState) → StoresSo hears here own new → new.pairs.pending ≡ own.pairs.pending → (cell : Cell) (o : Pending)
         → at cell_cmp new.pairs.pending cell ≡ Some o → Counted this k cell o (chain_in new.store.chains cell) → Held this k o
-    stays_pending new s none kept cell o is counted =
+    stays_pending new s kept cell o is counted =
         let was : at cell_cmp own.pairs.pending cell ≡ Some o = sym (ap (λ t. at cell_cmp t cell) kept) ∙ is in
         let lead = op_lead (grounded this) this.n cell o runs was in
-        was_held this k runs onward never cell o was (subst (Counted this k cell o) (led_chain new s none cell lead) counted)
+        was_held this k runs onward never cell o was (subst (Counted this k cell o) (led_chain new s kept cell lead) counted)
 
     -- another server, which has put, and has the link in Both with this one
     module _ (cell : Cell) (p : ℕ) (op : Pending) (row : LinkRow)
@@ -170,16 +164,10 @@ module _ (this : ServerStep) (k : Plain) where
           | inr why ↦ finish_held this k runs onward never done.own.pairs.pending c last why written still
         ]
 
-    second_no_own : (done : JobResult) (seated : IsSeatedOrMute here own done) (d : DidSecond hears here own done)
-        → IsNoOwn (second_stores hears here own never done seated d)
-    second_no_own done (inl seat) (Follows number key version bytes h s is) = tt
-    second_no_own done (inr apart) (Follows number key version bytes h s is) = tt
-    second_no_own _ seated _ = tt
-
-    other_pending : (done : JobResult) → DidOther hears here own done → OtherStores hears here own never done.own → (cell : Cell) (o : Pending)
-        → at cell_cmp done.own.pairs.pending cell ≡ Some o → Counted this k cell o (chain_in done.own.store.chains cell) → Held this k o
-    other_pending done d (inl same) = stays_pending done.own (Nothing_new same) tt (of_other hears here own done d).pending
-    other_pending done d (inr copy) = stays_pending done.own (A_copy copy) tt (of_other hears here own done d).pending
+    kept_pending : (done : JobResult) → IsSeatedOrMute here own done → Did hears here own done → done.own.pairs.pending ≡ own.pairs.pending
+        → (cell : Cell) (o : Pending) → at cell_cmp done.own.pairs.pending cell ≡ Some o → Counted this k cell o (chain_in done.own.store.chains cell)
+        → Held this k o
+    kept_pending done seated d = stays_pending done.own (did_stores hears here own never done seated d)
 
     did_pending : (done : JobResult) (seated : IsSeatedOrMute here own done) (d : Did hears here own done)
         → PutHeld this k (did_stores hears here own never done seated d)
@@ -187,21 +175,16 @@ module _ (this : ServerStep) (k : Plain) where
         → at cell_cmp done.own.pairs.pending cell ≡ Some o → Counted this k cell o (chain_in done.own.store.chains cell) → Held this k o
     did_pending _ seated Ignores held = λ cell o is. was_held this k runs onward never cell o is
     did_pending _ seated (Refuses to said is why back) held = λ cell o is. was_held this k runs onward never cell o is
-    did_pending _ seated (By_read done d) held =
-        let same = (of_read hears here own done d).same in
-        stays_pending done.own (Nothing_new (ap (λ (x : PairState). x.store.chains) same)) tt (ap (λ (x : PairState). x.pairs.pending) same)
     did_pending _ seated (By_lead done d) held = lead_pending this k runs onward never done d held
-    did_pending _ seated (By_second done d) held =
-        stays_pending done.own (second_stores hears here own never done seated d) (second_no_own done seated d)
-        (of_second hears here own done d).pending
-    did_pending _ seated (By_holder done d) held =
-        stays_pending done.own (Nothing_new (holder_chains hears here own never done d)) tt (of_holder hears here own done d).pending
-    did_pending _ seated (By_other done d) held = other_pending done d (other_changes hears here own never done seated d)
-    did_pending _ seated (By_filler done d) held =
-        let f = of_filler hears here own done d in
-        stays_pending done.own (Nothing_new (ap (λ (x : Store). x.chains) f.store)) tt (ap (λ (p : Pairs). p.pending) f.pairs)
-    did_pending _ seated (By_sweep _ (Sweeps what seat next off)) held =
-        stays_pending _ (Of_the_retired (swept hears here own never what seat off)) tt refl
+    did_pending done seated (By_read _ d) held = kept_pending done seated (By_read done d)
+        (ap (λ (x : PairState). x.pairs.pending) (of_read hears here own done d).same)
+    did_pending done seated (By_second _ d) held = kept_pending done seated (By_second done d) (of_second hears here own done d).pending
+    did_pending done seated (By_holder _ d) held = kept_pending done seated (By_holder done d) (of_holder hears here own done d).pending
+    did_pending done seated (By_other _ d) held = kept_pending done seated (By_other done d) (of_other hears here own done d).pending
+    did_pending done seated (By_filler _ d) held = kept_pending done seated (By_filler done d)
+        (ap (λ (p : Pairs). p.pending) (of_filler hears here own done d).pairs)
+    did_pending done seated (By_sweep _ d) held = kept_pending done seated (By_sweep done d)
+        (ap (λ (p : Pairs). p.pending) (of_sweep hears here own done d).pairs)
 
     pub did_job : (done : JobResult) (seated : IsSeatedOrMute here own done) (d : Did hears here own done)
         → PutHeld this k (did_stores hears here own never done seated d)

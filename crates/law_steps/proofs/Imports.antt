@@ -21,7 +21,7 @@ pub use Rattle.law_log.proofs.Imports.{Request, Retired, Script, Send, Sight, St
 pub use Rattle.law_log.proofs.Imports.{Wanted, Work, WorkEnd, about, above, all_put, answered_where, answers, answers_page, applies_known, applies_then}
 pub use Rattle.law_log.proofs.Imports.{ask_posts, asking, asks_and_sends, at_other_rev, awaited, awake, ballot_posts, before_known, begins_copy, blanked}
 pub use Rattle.law_log.proofs.Imports.{boots, called, calls, catches_up, caught_links, cell_at, cell_holder, cell_of, chain_in, clears_old_marks}
-pub use Rattle.law_log.proofs.Imports.{client_state, client_step, comes_out, command_of, copies_again, copies_with, copy_acts, copy_awaited, copy_posts}
+pub use Rattle.law_log.proofs.Imports.{client_sender, client_state, client_step, comes_out, command_of, copies_again, copies_with, copy_acts, copy_awaited, copy_posts}
 pub use Rattle.law_log.proofs.Imports.{copy_stage, copying_on, crossing, down_posts, draining, ended, ends, entered, epoch_for, eq_by_cmp, fill_of}
 pub use Rattle.law_log.proofs.Imports.{fill_operation, fill_posts, fills_row, first_wanted, flat_map, follows_once, free_of, get_within, gives_back}
 pub use Rattle.law_log.proofs.Imports.{glance_sender, glances, goes_for, goes_on_with, goes_out, goes_out_where, goes_the_old_way, has_command, has_epoch}
@@ -34,7 +34,7 @@ pub use Rattle.law_log.proofs.Imports.{is_syncing, is_under_way, is_witness, is_
 pub use Rattle.law_log.proofs.Imports.{known_front, known_inc, known_run, last_copy, last_on, learns_first, less_by, link_before, link_jobs, link_named}
 pub use Rattle.law_log.proofs.Imports.{log_plain, mends_found, moved_as, moving, nat_cmp, next_entries, next_line, next_place, no_progress, only, opened}
 pub use Rattle.law_log.proofs.Imports.{opens, opens_fill, other_in, own_join, own_leave, own_wants, page_asked, page_for, page_posts, page_wanted, pending_on}
-pub use Rattle.law_log.proofs.Imports.{post_in_turn, post_of, post_to, posts_for, progress_on, proposed, proposes, put_same, puts_entry, raised, reacts}
+pub use Rattle.law_log.proofs.Imports.{post_in_turn, post_of, post_to, posts_for, progress_on, proposed, proposes, put_apart, put_same, puts_entry, raised, reacts}
 pub use Rattle.law_log.proofs.Imports.{read_posts, read_posts_at, region_to_move, repairs_row, replies, reserves, rests, returning, rev_of, rounds, said}
 pub use Rattle.law_log.proofs.Imports.{same_block, says, sees, sees_for, sees_from, sender, sends_entry, sends_key, sends_moving, sends_or_proposes}
 pub use Rattle.law_log.proofs.Imports.{sent_again, server_state, server_step, setting_of, settles, silent, stage_jobs, stamped, start, starts_for, state_in}

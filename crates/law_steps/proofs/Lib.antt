@@ -34,6 +34,7 @@ pub mod KindsInHistories
 pub mod WorldsAreFirm
 pub mod FillsByJobs
 pub mod MovesAreOfComingCells
+pub mod LettersOfSteps
 pub mod EntriesReachComingCells
 pub mod Ties
 pub mod WakingGoesOn
