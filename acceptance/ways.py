@@ -25,10 +25,10 @@ def ended(child, seconds):
         child.wait()
         return None, f"it had not ended after {seconds:g} seconds"
 
-def into_file(command, given, seconds, **how):
-    """Runs with the output in a file."""
+def into_file(command, given, seconds, errors=subprocess.DEVNULL, **how):
+    """Runs with the output in a file, and what comes on standard error in another one, where that is given."""
     with tempfile.TemporaryFile() as out:
-        child = subprocess.Popen(command, stdin=given, stdout=out, stderr=subprocess.DEVNULL, **how)
+        child = subprocess.Popen(command, stdin=given, stdout=out, stderr=errors, **how)
         status, why = ended(child, seconds)
         out.seek(0)
         return status, out.read(), why
