@@ -1,14 +1,14 @@
 -- Which bodies count, as they are read piece by piece.
-use Rattle.std.proofs.Common.{◌≡◌, inl, inr, true, false, Bool, ℕ, ◌+◌, ◌-◌, ◌*◌, ◌<◌, ◌≤◌, List, [], ◌∷◌, ◌++◌, length, take, drop}
+use Rattle.std.proofs.Common.{◌≡◌, inl, inr, true, false, Bool, ℕ, ◌+◌, ◌-◌, ◌*◌, ◌<◌, ◌≤◌, List, [], ◌∷◌, ◌++◌, length}
 use Rattle.std.proofs.Common.{get_or, sym, ◌∙◌, ap, subst, arith, length-append}
 use Rattle.std.proofs.Math.Nat.{mul-add, mul-zero}
-use Rattle.std.proofs.lemmas.List.{get_or_append_left, get_or-append_right, get_or-drop, get_or-take, drop-take, drop-drop, take-take, same_lists}
+use Rattle.std.proofs.lemmas.List.{get_or_append_left, get_or-append_right, same_lists}
 use Rattle.std.proofs.lemmas.Bool.{cases_eq}
 use Rattle.std.proofs.lemmas.Option.{slice_get-get_or}
 use Rattle.petal_disk.specs.Disk.{part, Only}
 use Rattle.block_journal.specs.Records.{IsOpen, body_at, Counts, Stands, Stored}
 use Rattle.block_journal.specs.Pieces.{Took}
-use Rattle.block_journal.proofs.Slots.{apart}
+use Rattle.block_journal.proofs.Slots.{apart, byte_of_part, part_of_part}
 
 pub counts_one : (r base : ℕ) (file body : List ℕ) → IsOpen r base file 0 → body_at r base file 0 ≡ body → Counts r base 1 file (body ∷ [])
 counts_one r base file body opened is = record {
@@ -63,17 +63,12 @@ counts_in_piece r at n file piece xs wide is counts =
     let byte : (i : ℕ) → i < n → get_or piece (0 + r * i) 0 ≡ get_or file (at + r * i) 0 = λ i lt.
     ap (λ (k : ℕ). get_or piece k 0) (let e : 0 + r * i ≡ r * i = omega arith in e)
     ∙ ap (λ (l : List ℕ). get_or l (r * i) 0) is
-    ∙ get_or-take (r * n) (drop at file) (r * i) 0 (omega (arith, apart r i n lt, wide))
-    ∙ get_or-drop at file (r * i) 0 in
+    ∙ byte_of_part file at (r * n) (r * i) (omega (arith, apart r i n lt, wide)) in
     let body : (i : ℕ) → i < n → body_at r 0 piece i ≡ body_at r at file i = λ i lt.
-    let rest = r * n - (r * i + 1) in
-    let split : r * i + 1 + rest ≡ r * n = omega (arith, apart r i n lt, wide) in
-    ap (λ (k : ℕ). take (r - 1) (drop k piece)) (let e : 0 + r * i + 1 ≡ r * i + 1 = omega arith in e)
-    ∙ ap (λ (l : List ℕ). take (r - 1) (drop (r * i + 1) l)) (is ∙ ap (λ (k : ℕ). take k (drop at file)) (sym split))
-    ∙ ap (λ (l : List ℕ). take (r - 1) l) (drop-take (r * i + 1) rest (drop at file))
-    ∙ take-take (r - 1) rest (drop (r * i + 1) (drop at file)) (omega (arith, apart r i n lt, wide))
-    ∙ ap (λ (l : List ℕ). take (r - 1) l) (drop-drop (r * i + 1) at file)
-    ∙ ap (λ (k : ℕ). take (r - 1) (drop k file)) (let e : at + (r * i + 1) ≡ at + r * i + 1 = omega arith in e) in
+    ap (λ (k : ℕ). part piece k (r - 1)) (let e : 0 + r * i + 1 ≡ r * i + 1 = omega arith in e)
+    ∙ ap (λ (l : List ℕ). part l (r * i + 1) (r - 1)) is
+    ∙ part_of_part file at (r * n) (r * i + 1) (r - 1) (omega (arith, apart r i n lt, wide))
+    ∙ ap (λ (k : ℕ). part file k (r - 1)) (let e : at + (r * i + 1) ≡ at + r * i + 1 = omega arith in e) in
     record {
       few = counts.few;
       counted = λ i lt. let within : i < n = omega (arith, counts.few) in
@@ -94,20 +89,26 @@ piece_more r base n m file seen xs ys more wide same all counts took =
       (λ e. omega (arith, long, took.not_all e)),
     )
 
--- a region stands for no other bodies than those that count
-pub only_those : (r base limit : ℕ) (file : List ℕ) (xs ys : List (List ℕ)) → Counts r base limit file xs → Stands r base limit file ys → xs ≡ ys
-only_those r base limit file xs ys counts stands =
-    let no_fewer : ¬ (length xs < length ys) = λ lt. counts.ends (omega (arith, stands.few)) (stands.counted (length xs) lt).0 in
-    let no_more : ¬ (length ys < length xs) = λ lt. stands.closed (length ys) (omega arith) (omega (arith, counts.few)) (counts.counted (length ys) lt).0 in
+-- one list counts in a region
+pub counts_once : (r base limit : ℕ) (file : List ℕ) (xs ys : List (List ℕ)) → Counts r base limit file xs → Counts r base limit file ys → xs ≡ ys
+counts_once r base limit file xs ys one other =
+    let no_fewer : ¬ (length xs < length ys) = λ lt. one.ends (omega (arith, other.few)) (other.counted (length xs) lt).0 in
+    let no_more : ¬ (length ys < length xs) = λ lt. other.ends (omega (arith, one.few)) (one.counted (length ys) lt).0 in
     let same : length xs ≡ length ys = omega (arith, no_fewer, no_more) in
     same_lists xs ys same (λ k d lt.
     let within : k < length ys = omega (arith, same) in
-    let here : get_or xs k [] ≡ get_or ys k [] = sym (counts.counted k lt).1 ∙ (stands.counted k within).1 in
+    let here : get_or xs k [] ≡ get_or ys k [] = sym (one.counted k lt).1 ∙ (other.counted k within).1 in
     let left = slice_get-get_or xs k d lt in
     let left' = slice_get-get_or xs k [] lt in
     let right = slice_get-get_or ys k d within in
     let right' = slice_get-get_or ys k [] within in
     cc (left, left', right, right', here))
+
+-- a region stands for no other bodies than those that count
+pub only_those : (r base limit : ℕ) (file : List ℕ) (xs ys : List (List ℕ)) → Counts r base limit file xs → Stands r base limit file ys → xs ≡ ys
+only_those r base limit file xs ys counts stands =
+    counts_once r base limit file xs ys counts
+    (record { few = stands.few; counted = stands.counted; ends = λ lt. stands.closed (length ys) (omega arith) lt })
 
 -- what a read finds is stored where a crash leaves nothing else
 pub stored_now : (r base limit : ℕ) (seen : List ℕ) (may_leave : List ℕ → Type 0) (bodies : List (List ℕ)) (count : ℕ) → count ≡ length bodies

@@ -3,7 +3,7 @@ use Rattle.std.proofs.Common.{◌≡◌, true, false, Bool, ℕ, ◌+◌, List, 
 use Rattle.std.specs.Prelude.{Option, Some, None, if◌then◌else◌}
 use Rattle.petal_disk.specs.Disk.{Only}
 use Rattle.block_journal.specs.Records.{Counts}
-use Rattle.block_journal.specs.Halves.{HeadCounts, HalvesState, Shows, Stored, first_is_later, half_start}
+use Rattle.block_journal.specs.Halves.{HeadCounts, CountIn, HalvesState, Shows, Stored, first_is_later, half_start}
 use Rattle.block_journal.specs.Heads.{GateIs, GenerationIs, IsFound, IsLaterHalf, NoHeadCounts, later_of}
 use Rattle.block_journal.specs.declared.half.Half.TheVariants.{First, Second}
 use Rattle.block_journal.specs.declared.head.Later.{Later}
@@ -41,7 +41,12 @@ found_later None (Some second) first_open second_open base file gate one gate' o
 found_later (Some first) (Some second) first_open second_open base file gate one gate' other =
     both first second first_open second_open (first_is_later first second) base file refl gate one gate' other
 
--- the bodies that are read behind its Head are stored
+-- the bodies that are read behind its Head are the list
+pub found_list : (base : ℕ) (found : Later) (file : List ℕ) (bodies : List (List ℕ)) → IsLaterHalf base file found
+    → Counts 64 (half_start base found.half + 64) 32767 file bodies → CountIn base found.half found.generation file bodies
+found_list base found file bodies later counts = record { head = later.head; later = later.other_before; counts = counts }
+
+-- and they are stored
 pub found_stored : (base : ℕ) (found : Later) (count : ℕ) (file seen : List ℕ) (leave : List ℕ → Type 0) (bodies : List (List ℕ)) → seen ≡ file
     → Only seen leave → IsLaterHalf base file found → Counts 64 (half_start base found.half + 64) 32767 file bodies → count ≡ length bodies
     → Stored (record { base = base; active = found.half; generation = found.generation; count = count; idle_open = found.idle_open }) seen leave bodies
@@ -49,7 +54,7 @@ found_stored base found count file seen leave bodies same only later counts long
     let state : HalvesState =
     record { base = base; active = found.half; generation = found.generation; count = count; idle_open = found.idle_open } in
     let shows : Shows state file bodies = record {
-      list = record { head = later.head; later = later.other_before; counts = counts };
+      list = found_list base found file bodies later counts;
       opened = later.idle.is_open;
       shut = later.idle.is_shut;
     } in

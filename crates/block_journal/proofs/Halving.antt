@@ -21,7 +21,7 @@ pub halves_apart : (base : ℕ) (half : Half)
 halves_apart base First = inl (omega arith)
 halves_apart base Second = inr (omega arith)
 
-torn_back : (p n : ℕ) (x y : List ℕ) → Torn p n x y → Torn p n y x
+pub torn_back : (p n : ℕ) (x y : List ℕ) → Torn p n x y → Torn p n y x
 torn_back p n x y torn = record { before = sym torn.before; after = sym torn.after; size = sym torn.size }
 
 pub head_torn : (p n at generation : ℕ) (x y : List ℕ) → Torn p n x y → Outside p n at 64 → HeadCounts at generation x → HeadCounts at generation y

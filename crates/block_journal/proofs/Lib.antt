@@ -1,3 +1,4 @@
+pub mod Apart
 mod Append
 pub mod Counting
 pub mod Frame
@@ -8,6 +9,7 @@ mod Grouped
 mod Groups
 mod Halving
 mod Heads
+pub mod Lists
 mod Ranges
 mod Rows
 mod Slots

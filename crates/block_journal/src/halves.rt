@@ -1,16 +1,17 @@
 //! A journal that turns: two halves, of which the later one counts.
 
-ghost use Rattle.std.specs.Prelude.{◌≡◌, ◌≤◌, ◌<◌, ◌+◌, ◌-◌, ◌*◌, ◌++◌, ◌↔◌, [], ℕ, List, true, false, length, slice_index, OnOk, IfOk, IfSome, IfNone, IsErrOf};
+ghost use Rattle.std.specs.Prelude.{◌≡◌, ◌⊎◌, ◌≤◌, ◌<◌, ◌+◌, ◌-◌, ◌*◌, ◌++◌, ◌↔◌, [], ℕ, List, true, false, length, slice_index, OnOk, IfOk, IfSome, IfNone, IsErrOf};
 ghost use Rattle.petal_disk.specs.Disk.{Follows, LeavesOnly, LeftByWrite, Only, Torn, Within};
 ghost use Rattle.device_faults.specs.Faults.{HasCause};
-ghost use Rattle.block_journal.specs.Halves.{Stored, OldOrNew, LeftByChange, next_generation, other_half};
+ghost use Rattle.block_journal.specs.Gate.{IsShut};
+ghost use Rattle.block_journal.specs.Halves.{Stored, IsListOf, OldOrNew, LeftByChange, next_generation, other_half};
 ghost use Rattle.block_journal.specs.Heads.{NoHeadCounts, IsShutAt, gate_bytes};
 ghost use Rattle.block_journal.specs.Records.{contents};
 ghost use Rattle.block_journal.specs.declared.error.JournalError.TheVariants as error;
 
 use crate::JournalError;
 use crate::bodies::Bodies;
-use crate::gate::OPEN;
+use crate::gate::{OPEN, close_gate};
 use crate::group::{write_group, write_list};
 use crate::half::{Body, GROUP_BODIES, HALF_BODIES, HALVES_BYTES, Half, RECORD_BYTES, TURN_BYTES};
 use crate::head::{find_later, head_body, next_generation};
@@ -106,6 +107,30 @@ impl Halves {
         })
     }
 
+    /// Makes halves of no bodies on a device whose gate it closes first: so what the records that it clears stood for is no longer
+    /// read. A crash at any moment leaves what it might have left before, or a closed gate. It takes no memory.
+    ///
+    /// # Errors
+    /// The device failed.
+    pub fn format_after_gate<D: Disk>(disk: &mut D, base: u64) -> Result<Halves, Failed>
+        requires following { 1 ≤ base }
+        requires region { base + HALVES_BYTES ≤ D.size disk.old }
+        ensures state { IfOk result (λ halves. halves
+            ≡ record { base = base; active = Half.First; generation = 1; count = 0; idle_open = false }) }
+        ensures stored { IfOk result (λ halves. D.observable → Stored halves (D.seen disk.new) (D.may_leave disk.new) []) }
+        ensures durable { OnOk result (D.observable → Only (D.seen disk.new) (D.may_leave disk.new)) }
+        ensures shut { OnOk result (D.observable → IsShut (D.seen disk.new)) }
+        ensures any_moment { D.observable → LeavesOnly D.moment D.left_since disk.old disk.new (λ c. D.may_leave disk.old c ⊎ IsShut c) }
+        ensures either { D.observable → (D.seen disk.new ≡ D.seen disk.old) ⊎ IsShut (D.seen disk.new) }
+        ensures size { D.size disk.new ≡ D.size disk.old }
+        ensures cause { HasCause (D.faults disk.old) (D.faults disk.new) result }
+        ensures run { D.came_to disk.old disk.new }
+    {
+        let _size = disk.len();
+        close_gate(disk)?;
+        Halves::format(disk, base)
+    }
+
     /// Opens the halves from `base` on: syncs, and gives the bodies of the later half among those whose Head counts, in order. None
     /// where no Head counts.
     ///
@@ -121,6 +146,8 @@ impl Halves {
         ensures place { IfOk result (λ found. IfSome found (λ out. (out.0.base ≡ base) × (out.0.count ≡ length out.1.items))) }
         ensures stored { IfOk result (λ found. IfSome found (λ out. D.observable
             → Stored out.0 (D.seen disk.new) (D.may_leave disk.new) (contents out.1.items))) }
+        ensures only { IfOk result (λ found. IfSome found (λ out. D.observable → (bodies : List (List ℕ))
+            → IsListOf base (D.seen disk.old) bodies → contents out.1.items ≡ bodies)) }
         ensures durable { OnOk result (D.observable → Only (D.seen disk.new) (D.may_leave disk.new)) }
         ensures seen { D.seen disk.new ≡ D.seen disk.old }
         ensures crash { Within (D.may_leave disk.old) (D.may_leave disk.new) }

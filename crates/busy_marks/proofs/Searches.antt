@@ -1,23 +1,29 @@
 -- What a search in a sorted list of marks finds.
-use Rattle.std.proofs.Common.{◌≡◌, ◌≤◌, ℕ, Bool, true, false, ◌&&◌, ◌==◌, nat_lt, nat_le, List, [], ◌∷◌, Option, None}
-use Rattle.std.proofs.Common.{Some, option_map, refl, sym, ap, ◌∙◌, arith, inl, inr}
-use Rattle.std.proofs.lemmas.Bool.{cases_Bool}
+use Rattle.std.proofs.Common.{◌++◌, append_assoc, subst, ◌+◌, length, get_or, ◌≡◌, ◌≤◌, ◌<◌, ◌⊎◌, ℕ, Bool, true, false, ◌&&◌, ◌==◌, nat_lt, nat_le}
+use Rattle.std.proofs.Common.{List, [], ◌∷◌, Option, None, Some, refl, sym, ap, ◌∙◌, arith, inl, inr}
+use Rattle.std.proofs.lemmas.Bool.{cases_Bool, cases_eq}
+use Rattle.std.proofs.lemmas.Map.Keys.{Less-from_sorted}
+use Rattle.std.proofs.lemmas.Option.{slice_get-get_or}
 use Rattle.std.proofs.lemmas.Bool.Decides.{nat_tests}
 use Rattle.std.proofs.lemmas.List.Elements.{All-head, All-tail}
-use Rattle.std.specs.Prelude.{filter}
+use Rattle.std.proofs.lemmas.List.{append-nil}
+use Rattle.sorted_list.proofs.Orders.{below_next}
+use Rattle.busy_marks.specs.declared.marks.MarkKind.{MarkKind}
+use Rattle.std.specs.Prelude.{filter, fold}
 use Rattle.std.specs.List.{All, AllByRecursion, find}
 use Rattle.std.specs.List.Sorted.{IsStrictlySortedBy}
-use Rattle.std.specs.Ordering.{is_eq}
-use Rattle.std.specs.Map.Iter.{TakesFirst}
+use Rattle.std.specs.Ordering.{is_eq, match_ordering, nat_cmp, ordering_then}
 use Rattle.std.specs.Set.{remove_key}
 use Rattle.std.specs.BTreeMap.{is_at}
-use Rattle.std.specs.declared.cmp.Ordering.TheVariants.{Less}
-use Rattle.std.specs.BTreeMap.Range.{is_from_start, range_contains}
+use Rattle.std.specs.declared.cmp.Ordering.TheVariants.{Less, Equal, Greater}
+use Rattle.std.specs.BTreeMap.Range.{is_from_start}
+use Rattle.std.specs.BTreeSet.{insert_key}
+use Rattle.sorted_list.specs.Lists.{placed}
+use Rattle.std.specs.Option.{IsSome, is_some}
 use Rattle.std.specs.declared.cmp.Ordering.{Ordering}
 use Rattle.std.specs.declared.ops.Bound.{Bound}
-use Rattle.std.specs.declared.ops.Bound.TheVariants.{Unbounded}
 use Rattle.busy_marks.specs.declared.marks.Mark.{Mark}
-use Rattle.busy_marks.specs.Marks.{mark_cmp, same_mark, without_mark, above, lesser, next_marked, next_marked_map}
+use Rattle.busy_marks.specs.Marks.{kind_rank, mark_cmp, has_mark, same_mark, with_mark, without_mark, above, lesser, next_marked, next_marked_map}
 use Rattle.busy_marks.specs.Searches.{after_block, from_map, block_on, map_on}
 use Rattle.busy_marks.proofs.Orders.{is_mark, ties, reach, reach_map, before}
 
@@ -118,49 +124,85 @@ no_map after last (m ∷ ms) none all =
     let skipped = none m.cell.map (All-head (λ x. x.cell.map ≤ last) m ms all) in
     rw skipped (no_map after last ms none (All-tail (λ x. x.cell.map ≤ last) m ms all))
 
--- ### First of a range
+-- the last mark has the greatest map
+pub last_greatest : (ms : List Mark) (at : ℕ) (any : Mark) → IsStrictlySortedBy mark_cmp ms → at + 1 ≡ length ms
+    → All (λ m. m.cell.map ≤ (get_or ms at any).cell.map) ms
+last_greatest ms at any sorted ends = λ k d lt.
+    let here = slice_get-get_or ms at d (omega (arith, ends)) in
+    let there = slice_get-get_or ms at any (omega (arith, ends)) in
+    let same : get_or ms at d ≡ get_or ms at any = cc (here, there) in
+    elim (cases_eq k at) [
+      | inl one ↦ rw (one, same) (omega arith)
+      | inr other ↦
+          let over = Less-from_sorted mark_cmp ms k at d sorted (omega (arith, lt, ends, other)) (omega (arith, ends)) in
+          let le = (before (get_or ms k d) (get_or ms at d) over).0 in
+          let less : nat_le (get_or ms k d).cell.map (get_or ms at any).cell.map ≡ true = rw same at le in
+          grind (arith, nat_tests, less)
+    ]
 
-met : {A : Type 0} (shows : A → Mark) (m : Mark) (later : List Mark) (r : Option A) (t : List Mark) → TakesFirst shows (m ∷ later) r t
-    → option_map shows r ≡ Some m
-met shows m later None t taken = absurd (let h = taken.0 in cc)
-met shows m later (Some x) t taken = let h : m ≡ shows x = cc in ap Some (sym h)
+-- ### By an order that is this one
 
-ended : {A : Type 0} (shows : A → Mark) (r : Option A) (t : List Mark) → TakesFirst shows [] r t → option_map shows r ≡ None
-ended shows None t taken = refl
-ended shows (Some x) t taken = absurd (cc)
-
-pub first_found : {A : Type 0} (shows : A → Mark) (p : Mark → Bool) (ms : List Mark) (r : Option A) (t : List Mark) → TakesFirst shows (filter p ms) r t
-    → option_map shows r ≡ find p ms
-first_found shows p [] r t taken = ended shows r t taken
-first_found shows p (m ∷ ms) r t taken = elim (cases_Bool (p m)) [
-  | inl is ↦ rw is (met shows m (filter p ms) r t (rw is at taken))
-  | inr is ↦ rw is (first_found shows p ms r t (rw is at taken))
-]
-
-find_same : (p q : Mark → Bool) (ms : List Mark) → ((m : Mark) → p m ≡ q m) → find p ms ≡ find q ms
-find_same p q [] same = refl
-find_same p q (m ∷ ms) same = elim (cases_Bool (q m)) [
-  | inl is ↦ rw (same m, is) refl
-  | inr is ↦ rw (same m, is) (find_same p q ms same)
-]
-
-and_true : (b : Bool) → b && true ≡ b
-and_true true = refl
-and_true false = refl
-
--- ### With an order that is this one
-
-pub first_between : {A : Type 0} (shows : A → Mark) (order : Mark → Mark → Ordering) (start : Bound Mark) (ms between : List Mark)
-    (r : Option A) (t : List Mark)
-    → order ≡ mark_cmp → between ≡ filter (range_contains order start Unbounded) ms → TakesFirst shows between r t
-    → option_map shows r ≡ find (is_from_start mark_cmp start) ms
-first_between shows order start ms between r t same is taken =
-    first_found shows (range_contains order start Unbounded) ms r t (rw (← is) taken)
-    ∙ find_same (range_contains order start Unbounded) (is_from_start mark_cmp start) ms
-    (λ m. and_true (is_from_start order start m) ∙ ap (λ (R : Mark → Mark → Ordering). is_from_start R start m) same)
+pub first_by : (order : Mark → Mark → Ordering) (start : Bound Mark) (ms : List Mark) (r : Option Mark) → IsStrictlySortedBy order ms → order ≡ mark_cmp
+    → r ≡ find (is_from_start order start) ms → r ≡ find (is_from_start mark_cmp start) ms
+first_by order start ms r ordered same is = is ∙ ap (λ (R : Mark → Mark → Ordering). find (is_from_start R start) ms) same
 
 -- that what is left is in the order tells which order it is
 pub taken_by : (order : Mark → Mark → Ordering) (mark : Mark) (ms left : List Mark) → IsStrictlySortedBy order left → order ≡ mark_cmp
     → IsStrictlySortedBy mark_cmp ms → left ≡ remove_key (is_at (order mark)) ms → left ≡ without_mark ms mark
 taken_by order mark ms left ordered same sorted is =
     is ∙ ap (λ (R : Mark → Mark → Ordering). remove_key (is_at (R mark)) ms) same ∙ taken_out mark ms sorted
+
+-- a mark takes the place of itself
+placed_is : (ms : List Mark) (mark : Mark) → placed mark_cmp ms mark ≡ with_mark ms mark
+placed_is [] mark = refl
+placed_is (m ∷ ms) mark = elim (mark_cmp mark m) as (λ o. mark_cmp mark m ≡ o
+    → match_ordering o (mark ∷ m ∷ ms) (mark ∷ ms) (m ∷ placed mark_cmp ms mark)
+    ≡ match_ordering o (mark ∷ m ∷ ms) (m ∷ ms) (m ∷ insert_key mark_cmp ms mark)) [
+      | Less ↦ λ _. refl
+      | Equal ↦ λ tie. ap (λ (k : Mark). k ∷ ms) (sym (is_mark m mark (sym (ties mark m) ∙ ap is_eq tie)))
+      | Greater ↦ λ _. ap (λ (l : List Mark). m ∷ l) (placed_is ms mark)
+    ] refl
+
+pub set_by : (order : Mark → Mark → Ordering) (mark : Mark) (ms new : List Mark) → IsStrictlySortedBy order new → order ≡ mark_cmp
+    → new ≡ placed order ms mark → new ≡ with_mark ms mark
+set_by order mark ms new ordered same is = is ∙ ap (λ (R : Mark → Mark → Ordering). placed R ms mark) same ∙ placed_is ms mark
+
+found_any : (ms : List Mark) (mark : Mark) → is_some (find (is_at (mark_cmp mark)) ms) ≡ has_mark mark ms
+found_any [] mark = refl
+found_any (m ∷ ms) mark = elim (cases_Bool (same_mark m mark)) [
+  | inl same ↦ rw (ties mark m, same) refl
+  | inr apart ↦ rw (ties mark m, apart) (found_any ms mark)
+]
+
+pub has_by : (order : Mark → Mark → Ordering) (mark : Mark) (ms : List Mark) → IsStrictlySortedBy order ms → order ≡ mark_cmp
+    → is_some (find (is_at (order mark)) ms) ≡ has_mark mark ms
+has_by order mark ms ordered same = ap (λ (R : Mark → Mark → Ordering). is_some (find (is_at (R mark)) ms)) same ∙ found_any ms mark
+
+pub room_by : (order : Mark → Mark → Ordering) (mark : Mark) (ms : List Mark) (spare : ℕ) → order ≡ mark_cmp
+    → (0 < spare) ⊎ (has_mark mark ms ≡ true) → (0 < spare) ⊎ IsSome (find (is_at (order mark)) ms)
+room_by order mark ms spare same room = elim room [
+  | inl there ↦ inl there
+  | inr has ↦ inr (ap (λ (R : Mark → Mark → Ordering). is_some (find (is_at (R mark)) ms)) same ∙ found_any ms mark ∙ has)
+]
+
+-- ### Marks in order, one by one
+
+turned : (a b : Mark) (j k : MarkKind)
+    → ordering_then (ordering_then (nat_cmp a.cell.map b.cell.map) (nat_cmp a.cell.block b.cell.block)) (nat_cmp (kind_rank j) (kind_rank k)) ≡ Less
+    → ordering_then (ordering_then (nat_cmp b.cell.map a.cell.map) (nat_cmp b.cell.block a.cell.block)) (nat_cmp (kind_rank k) (kind_rank j)) ≡ Greater
+turned a b j k less = grind (arith, nat_tests, less)
+
+-- a mark that comes after all others stands last
+pub mark_last : (mark : Mark) (ms : List Mark) → AllByRecursion (λ m. mark_cmp m mark ≡ Less) ms → with_mark ms mark ≡ ms ++ mark ∷ []
+mark_last mark [] over = refl
+mark_last mark (m ∷ ms) over =
+    let past : mark_cmp mark m ≡ Greater = turned m mark m.kind mark.kind over.0 in rw past (ap (λ (l : List Mark). m ∷ l) (mark_last mark ms over.1))
+
+pub marks_refilled : (front ms : List Mark) → IsStrictlySortedBy mark_cmp (front ++ ms) → fold with_mark front ms ≡ front ++ ms
+marks_refilled front [] sorted = sym (append-nil front)
+marks_refilled front (m ∷ ms) sorted =
+    let last : with_mark front m ≡ front ++ m ∷ [] = mark_last m front (below_next mark_cmp m front ms sorted) in
+    let whole : (front ++ m ∷ []) ++ ms ≡ front ++ m ∷ ms = append_assoc front (m ∷ []) ms in
+    ap (λ (l : List Mark). fold with_mark l ms) last
+    ∙ marks_refilled (front ++ m ∷ []) ms (subst (λ (l : List Mark). IsStrictlySortedBy mark_cmp l) (sym whole) sorted)
+    ∙ whole

@@ -8,6 +8,11 @@ use Rattle.busy_marks.specs.declared.marks.Mark.{Mark}
 use Rattle.busy_marks.specs.declared.marks.MarkKind.{MarkKind}
 use Rattle.busy_marks.specs.declared.marks.MarkKind.TheVariants.{Busy, Stale}
 
+-- marks in order, and for how many more there is room
+pub record Marked : Type 0 where
+  pub marks : List Mark
+  pub spare : ℕ
+
 abbrev pub same_kind : MarkKind → MarkKind → Bool
 same_kind Busy Busy = true
 same_kind Stale Stale = true

@@ -13,7 +13,7 @@ pub record IsFound (slots : ℕ) (fresh : Bool) (found : Found) : Type 0 where
   pub tickets : found.ledger.tickets ≡ []
   pub spelled : AreSpelled found.log.records
   pub fit : AllFit slots (formatted fresh) found.log.records
-  pub kept : kept_of fresh found.log.records ≡ record { entries = found.ledger.entries; marks = found.marks; fresh = found.fresh }
+  pub kept : kept_of fresh found.log.records ≡ record { entries = found.ledger.entries; marks = found.marks.marks; fresh = found.fresh }
 
 -- the refusals of opening
 abbrev pub IsOpenError : StoreError → Type 0

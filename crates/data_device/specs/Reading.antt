@@ -11,7 +11,7 @@ use Rattle.data_device.specs.Slots.{slot_start}
 
 -- what the records so far give
 abbrev pub kept_by : Replay → Kept
-kept_by replay = record { entries = replay.ledger.entries; marks = replay.marks; fresh = replay.fresh }
+kept_by replay = record { entries = replay.ledger.entries; marks = replay.marks.marks; fresh = replay.fresh }
 
 -- the records before are spelled, and no record that fits after them is spelled by the body of this index
 pub record IsBad (slots : ℕ) (fresh : Bool) (bodies : List (List ℕ)) (index : ℕ) : Type 0 where

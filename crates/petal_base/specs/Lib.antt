@@ -3,3 +3,4 @@ pub mod Name
 pub mod Cells
 pub mod Tuple
 pub mod Limits
+pub mod Origins

@@ -53,3 +53,9 @@ pub const REGIONS: u8 = 16;
 
 /// A device's journal has room for so many records.
 pub const JOURNAL_RECORDS: u32 = 65_536;
+
+/// A store has at most so many slots.
+pub const MAX_SLOTS: u32 = 1024;
+
+/// A store has at most so many marks and rows.
+pub const MARKS_LIMIT: u32 = 28_672;

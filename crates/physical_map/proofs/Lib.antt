@@ -4,3 +4,4 @@ pub mod Places
 pub mod Searches
 pub mod Tops
 pub mod Parts
+pub mod Refills

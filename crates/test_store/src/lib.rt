@@ -1,7 +1,9 @@
-//! Tests of stores on a device in memory: a journal's bytes and what is read after a stop, a server's store, and what is there after a
-//! stop at each call of a put. The crate itself has no code.
+//! Tests of stores on a device in memory: a journal's bytes and what is read after a stop, the same of two halves, a server's store,
+//! and what is there after a stop at each call of a put. The crate itself has no code.
 #![tactic(auto)]
 
+#[cfg(test)]
+mod halves;
 #[cfg(test)]
 mod journals;
 #[cfg(test)]

@@ -2,7 +2,8 @@ use Rattle.std.proofs.Common.{◌≡◌, ◌+◌, ◌∙◌, ℕ, List, length, 
 use Rattle.std.proofs.lemmas.List.{length-map}
 use Rattle.block_journal.specs.Halves.{half_start}
 use Rattle.block_journal.specs.Records.{contents, Counts}
-use Rattle.block_journal.proofs.Found.{found_stored}
+use Rattle.block_journal.proofs.Found.{found_list, found_stored}
+use Rattle.block_journal.proofs.Lists.{list_once}
 use Rattle.block_journal.proofs.halves.Halves.open.Goals as goal
 
 pub returns-clause-stored : goal.returns-clause-stored
@@ -19,3 +20,15 @@ returns-clause-stored g c told =
     (λ file here. c.in_ok-later.ensures.durable told file (c.read_bodies.ensures.crash file here) ∙ sym c.read_bodies.ensures.seen)
     ((rw c.in-Some.is at c.in_ok-later.ensures.found) told) counts
     (count ∙ sym (length-map c.in_ok-bodies.bodies.items _))
+
+pub returns-clause-only : goal.returns-clause-only
+returns-clause-only g c told bodies list =
+    let d = g.D.Disk in
+    let later = c.in-Some.later in
+    let all = contents c.in_ok-bodies.bodies.items in
+    let counts : Counts 64 (half_start c.args.base later.half + 64) 32767 (d.seen c.args.disk.now) all =
+    subst (λ (file : List ℕ). Counts 64 (half_start c.args.base later.half + 64) 32767 file all) c.find_later.ensures.device.same_seen
+    ((rw c.start.ensures at c.in_ok-bodies.ensures.counts) told) in
+    list_once c.args.base (d.seen c.args.disk.now) all bodies
+    (later.half, (later.generation, found_list c.args.base later (d.seen c.args.disk.now) all ((rw c.in-Some.is at c.in_ok-later.ensures.found) told) counts))
+    list
