@@ -1,2 +1,3 @@
+mod Few
 mod Lines
 mod Turns
