@@ -10,12 +10,6 @@ use petal_script::read_script;
 use script_lines::Script;
 use std::alloc::Global;
 
-/// The greatest number that a drill is drawn from.
-pub const MOST_SEED: u32 = 2_147_483_647;
-
-/// The most requests that a drill has.
-pub const MOST_REQUESTS: u32 = 800;
-
 #[tactic(auto, using(crate::proofs::Turns::one_turn_more))]
 fn drilled(alloc: Global, seed: u32, count: u32) -> Result<Writer, NoMemory>
     ensures { IfOk result (λ drill. drill ≡ drill_after seed count) }

@@ -10,5 +10,5 @@ mod laws;
 mod writer;
 
 pub use counts::{Counts, summary_text};
-pub use drill::{MOST_REQUESTS, MOST_SEED, drill_script};
+pub use drill::drill_script;
 pub use laws::counts_are_few;
