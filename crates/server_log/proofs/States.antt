@@ -4,7 +4,7 @@ use Rattle.petal_command.specs.declared.command.Command.{Command}
 use Rattle.spec_state.specs.State.{State, start}
 use Rattle.spec_state.specs.Command.{after, state_after}
 
-revs_from : (s : State) (log : List Command) → (fold after s log).rev ≡ s.rev + length log
+pub revs_from : (s : State) (log : List Command) → (fold after s log).rev ≡ s.rev + length log
 revs_from s [] = omega arith
 revs_from s (c ∷ log) = let later = revs_from (after s c) log in omega arith
 

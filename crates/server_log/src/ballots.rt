@@ -142,7 +142,7 @@ pub fn start_ballot<D: Disk>(
     let servers = log.servers();
     let room = room_for(alloc, servers)?;
     let envelope = log.envelope();
-    let place = log.next_place()?;
+    let place = log.ballot_place()?;
     let round = log.next_round(state, place)?;
     let ballot = Ballot {
         round,

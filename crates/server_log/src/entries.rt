@@ -9,7 +9,7 @@ ghost use Rattle.server_log.specs.Said.{IsLogSaid};
 ghost use Rattle.server_log.specs.Done.{IsLogDone};
 
 use crate::memory::{LogDone, LogSide, known_run, only, room_for};
-use petal_base::{NoMemory, Rev, Sequence};
+use petal_base::{Rev, Sequence};
 use petal_command::Command;
 use petal_disk::Disk;
 use petal_msg::{Actor, Body};
@@ -46,7 +46,7 @@ pub(crate) fn learn<D: Disk>(
 fn is_next<D: Disk>(log: &LogSide, state: &StateStore<D>, place: u32) -> bool
     ensures { result ≡ (is_none (known_at state.now.records place) && (place == next_place (log_of log.now state.now.records))) }
 {
-    state.chosen(place).is_none() && u64::from(place) == u64::from(log.rev()) + 1
+    state.chosen(place as u64).is_none() && place as u64 == log.next_place()
 }
 
 /// What follows the revision asked is told, perhaps nothing.
@@ -60,8 +60,7 @@ pub(crate) fn on_ask<D: Disk>(
 ) -> Result<LogDone, StateError>
     ensures { IsLogSaid log.now log.now state.now.records result (rules.on_ask (log_of log.now state.now.records) from rev) }
 {
-    let first = rev.checked_add(1).ok_or(NoMemory)?;
-    let commands = known_run(alloc, state, first, MOST)?;
+    let commands = known_run(alloc, state, rev, MOST)?;
     let room = room_for(alloc, 1)?;
     let news = Body::News {
         after: rev,

@@ -29,7 +29,7 @@ fn unknown_from<D: Disk>(
     let mut unknown = Sequence::new(alloc);
     let mut place = from;
     for command in commands {
-        if state.chosen(place).is_none() {
+        if state.chosen(place as u64).is_none() {
             unknown.push((place, command.copy()))?;
         }
         place = place.checked_add(1).ok_or(NoMemory)?;

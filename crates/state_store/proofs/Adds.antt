@@ -1,5 +1,5 @@
 -- What a record about one place changes: the row of that place alone.
-use Rattle.std.proofs.Common.{◌≡◌, ◌⊎◌, inl, ℕ, Bool, true, false, if◌then◌else◌, ◌==◌, List, refl, sym, ap, subst, ◌∙◌, arith, ◌≢◌, [], ◌∷◌}
+use Rattle.std.proofs.Common.{◌≡◌, inl, ℕ, Bool, true, false, if◌then◌else◌, ◌==◌, List, refl, sym, ap, subst, ◌∙◌, arith, ◌≢◌, [], ◌∷◌}
 use Rattle.std.proofs.Common.{◌++◌, length-append, inr, ⊎_elim, Result, Ok, Err, OnOk}
 use Rattle.std.proofs.lemmas.Bool.Decides.{nat_tests}
 use Rattle.petal_command.specs.declared.ballot.Ballot.{Ballot}
@@ -7,7 +7,6 @@ use Rattle.petal_command.specs.declared.command.Command.{Command}
 use Rattle.spec_paxos.specs.declared.record.StateRecord.{StateRecord}
 use Rattle.spec_paxos.specs.declared.record.StateRecord.TheVariants.{Promise, Accepted, Chosen}
 use Rattle.spec_paxos.specs.declared.record.Row.{Row}
-use Rattle.state_store.specs.declared.error.StateError.TheVariants as error
 use Rattle.petal_disk.specs.Disk.{LeavesOnly}
 use Rattle.petal_disk.specs.declared.disk.Disk.{Ghosts}
 use Rattle.petal_disk.proofs.Moments.{weaker}

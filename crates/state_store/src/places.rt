@@ -1,6 +1,6 @@
 //! What is kept for each place, for looking up.
 
-ghost use Rattle.std.specs.Prelude.{◌≡◌, ℕ, [], ◌==◌, if◌then◌else◌, ◌≢◌, true, false, IsSome, OnOk};
+ghost use Rattle.std.specs.Prelude.{◌≡◌, ◌<◌, ◌^◌, ℕ, [], ◌==◌, if◌then◌else◌, ◌≢◌, true, false, IsSome, IfSome, OnOk};
 ghost use Rattle.std.specs.Option.{option_copied};
 ghost use Rattle.spec_paxos.specs.Kept.{row_after, empty_row};
 ghost use Rattle.state_store.specs.Rows.{found_row, row_at};
@@ -13,19 +13,23 @@ use std::alloc::Global;
 use std::collections::BTreeMap;
 use std::marker::Model;
 
-/// Rows by place. Contracts see the rows with their places, by rising place.
+/// Rows by place. A place may be asked for that no record can name, and has none. Contracts see the rows with their places, by
+/// rising place.
 #[derive(Drop)]
 pub struct Places {
-    rows: BTreeMap<u32, Row>,
+    rows: BTreeMap<u64, Row>,
 }
 
 impl Model for Places {
-    ghost use Rattle.std.specs.Prelude.{List, ℕ};
+    ghost use Rattle.std.specs.Prelude.{List, ℕ, IsSome, ◌<◌, ◌^◌};
     ghost use Rattle.spec_paxos.specs.declared.record.Row.{Row};
+    ghost use Rattle.state_store.specs.Rows.{found_row};
 
     ghost Value = { List (ℕ × Row) };
 
     ghost view = { λ p. p.rows.entries };
+
+    ghost invariant = { λ p. (place : ℕ) → IsSome (found_row p.rows.entries place) → place < 2 ^ 32 };
 }
 
 impl Places {
@@ -39,15 +43,17 @@ impl Places {
     }
 
     /// The row of a place.
-    pub fn get(&self, place: u32) -> Option<&Row>
-        ensures { option_copied result ≡ found_row self.now place }
+    pub fn get(&self, place: u64) -> Option<&Row>
+        ensures row { option_copied result ≡ found_row self.now place }
+        ensures within { IfSome result (λ _. place < 2 ^ 32) }
     {
         self.rows.get(&place)
     }
 
-    /// The row of a place, which takes no memory.
-    pub fn row(&self, place: u32) -> Row
-        ensures { result ≡ row_at self.now place }
+    /// The row of a place, which takes no memory. None is kept beyond the places that a record can name.
+    pub fn row(&self, place: u64) -> Row
+        ensures row { result ≡ row_at self.now place }
+        ensures within { IfSome result.chosen (λ _. place < 2 ^ 32) }
     {
         match self.get(place) {
             None => empty_row(),
@@ -60,7 +66,10 @@ impl Places {
         ensures same { result ≡ true → row_after place (row_at self.now place) entry.now ≡ row_at self.now place }
         ensures apart { result ≡ false → row_after place (row_at self.now place) entry.now ≢ row_at self.now place }
     {
-        is_same_row(&row_noted(place, self.row(place), entry), &self.row(place))
+        is_same_row(
+            &row_noted(place, self.row(place as u64), entry),
+            &self.row(place as u64),
+        )
     }
 
     /// Takes the memory that a note at this place needs.
@@ -68,6 +77,7 @@ impl Places {
         ensures same { (p : ℕ) → row_at self.new p ≡ row_at self.old p }
         ensures there { OnOk result (IsSome (found_row self.new place)) }
     {
+        let place = place as u64;
         if self.rows.contains_key(&place) {
             return Ok(());
         }
@@ -80,7 +90,7 @@ impl Places {
         requires { IsSome (found_row self.old place) }
         ensures { (p : ℕ) → row_at self.new p ≡ (if p == place then row else row_at self.old p) }
     {
-        let _ = self.rows.insert(place, row);
+        let _ = self.rows.insert(place as u64, row);
     }
 
     /// Keeps what a record says, at a place that has a row. It takes no memory.
@@ -90,7 +100,7 @@ impl Places {
             → row_after p (row_at self.old p) entry.now ≡ (if p == place then row_after place (row_at self.old place) entry.now else row_at self.old p) }
         ensures { (p : ℕ) → row_at self.new p ≡ row_after p (row_at self.old p) entry.now }
     {
-        let row = row_noted(place, self.row(place), entry);
+        let row = row_noted(place, self.row(place as u64), entry);
         self.put(place, row);
     }
 }

@@ -1,7 +1,7 @@
 //! The state store of a server.
 
 ghost use Rattle.std.specs.Prelude.{◌≡◌, ◌≢◌, ◌⊎◌, ◌≤◌, ◌<◌, ◌+◌, ◌==◌, ◌++◌, ◌∷◌, [], ℕ, List, Option, min, if◌then◌else◌, OnOk, OnErr, IfOk};
-ghost use Rattle.std.specs.Prelude.{IfErr, IsErrOf, IsOk, take, length, Some, None, false};
+ghost use Rattle.std.specs.Prelude.{◌^◌, IfSome, IfErr, IsErrOf, IsOk, take, length, Some, None, false};
 ghost use Rattle.petal_disk.specs.Plans.{beneath, plan_state};
 ghost use Rattle.petal_disk.specs.Disk.{LeavesOnly, Within};
 ghost use Rattle.petal_disk.specs.Keeping.{KeepsDevice};
@@ -149,19 +149,20 @@ impl<D: Disk> StateStore<D> {
     pub fn promised(&self, place: u32) -> Option<Ballot>
         ensures { result ≡ (row_of self.now.records place).promised }
     {
-        self.places.row(place).promised
+        self.places.row(place as u64).promised
     }
 
     /// What was accepted last for the place, and in which ballot.
     pub fn accepted(&self, place: u32) -> Option<(Ballot, Command)>
         ensures { result ≡ (row_of self.now.records place).accepted }
     {
-        self.places.row(place).accepted
+        self.places.row(place as u64).accepted
     }
 
-    /// What is known to be chosen for the place.
-    pub fn chosen(&self, place: u32) -> Option<Command>
-        ensures { result ≡ (row_of self.now.records place).chosen }
+    /// What is known to be chosen for the place, which may be beyond the greatest that a record can name.
+    pub fn chosen(&self, place: u64) -> Option<Command>
+        ensures chosen { result ≡ (row_of self.now.records place).chosen }
+        ensures within { IfSome result (λ _. place < 2 ^ 32) }
     {
         self.places.row(place).chosen
     }

@@ -1,9 +1,8 @@
 //! Entries of the log that are known, and that are applied.
 
-ghost use Rattle.std.specs.Prelude.{◌≡◌, ◌+◌, ◌++◌, ◌∷◌, [], length, option_map, IfOk, IfSome, OnOk, OnErr};
+ghost use Rattle.std.specs.Prelude.{◌≡◌, ◌≤◌, ◌+◌, ◌++◌, ◌∷◌, [], length, option_map, IfOk, IfSome, OnOk, OnErr};
 ghost use Rattle.spec_rules.specs.Entries as rules;
 ghost use Rattle.spec_rules.specs.Log.{Log, known, next_place};
-ghost use Rattle.spec_state.specs.Command.{after};
 ghost use Rattle.server_log.specs.Entered.{IsNext, entry_of};
 ghost use Rattle.server_log.specs.Part.{log_of, sender_of, state_of};
 ghost use Rattle.server_log.specs.Said.{IsBy};
@@ -33,16 +32,6 @@ pub struct Entered {
     pub before: GlobalState,
 }
 
-/// The state with one entry more.
-fn state_with(alloc: Global, state: &GlobalState, entry: &Command) -> Result<GlobalState, NoMemory>
-    ensures { IfOk result (λ next. next ≡ after state.now entry.now) }
-{
-    if state.rev() == Rev::MAX {
-        return Err(NoMemory);
-    }
-    state.next(alloc, entry)
-}
-
 /// One entry more: the state with it, and it among those applied. Gives it, with the state before.
 fn enter(
     state: &mut GlobalState,
@@ -62,42 +51,34 @@ fn enter(
     })
 }
 
-/// The commands known for this place and those after it, up to the first that is not known, and so many at most.
+/// The commands known for the places after this revision, up to the first that is not known, and so many at most.
 ///
 /// # Errors
 /// Out of memory.
 pub fn known_run<D: Disk>(
     alloc: Global,
     state: &StateStore<D>,
-    from: u32,
+    rev: Rev,
     most: u32,
 ) -> Result<Sequence<Command>, NoMemory>
-    ensures { (log : Log) → log.records ≡ state.now.records → IfOk result (λ run. run ≡ rules.known_run log from most) }
+    ensures run { (log : Log) → log.records ≡ state.now.records → IfOk result (λ run. run ≡ rules.known_run log (rev + 1) most) }
+    ensures few { IfOk result (λ run. length run ≤ most) }
 {
     let mut run = Sequence::new(alloc);
-    let mut place = from;
-    for _told in 0..most {
-        let Some(command) = state.chosen(place) else {
+    for told in 0..most {
+        let Some(command) = state.chosen(rev as u64 + 1 + told as u64) else {
             return Ok(run);
         };
         run.push(command)?;
-        place = place.checked_add(1).ok_or(NoMemory)?;
     }
     Ok(run)
 }
 
 impl LogSide {
-    /// The place after that of the next entry.
-    fn place_after_next(&self) -> Result<u32, NoMemory>
-        ensures { IfOk result (λ place. place ≡ length self.now.applied + 2) }
-    {
-        self.next_place()?.checked_add(1).ok_or(NoMemory)
-    }
-
     /// The next entry, where it is known, with the state that it makes.
     ///
     /// # Errors
-    /// Out of memory, or where its place has no number.
+    /// Out of memory.
     pub fn next_entry<D: Disk>(
         &self,
         alloc: Global,
@@ -105,9 +86,9 @@ impl LogSide {
     ) -> Result<Option<Next>, NoMemory>
         ensures { IfOk result (IsNext self.now state.now.records) }
     {
-        match state.chosen(self.next_place()?) {
+        match state.chosen(self.next_place()) {
             Some(entry) => {
-                let state = state_with(alloc, &self.state, &entry)?;
+                let state = self.state.next(alloc, &entry)?;
                 Ok(Some(Next { entry, state }))
             }
             None => Ok(None),
@@ -137,7 +118,7 @@ impl LogSide {
         let Some(found) = found else {
             return Ok((only(Sequence::new(alloc)), None));
         };
-        let next = self.place_after_next()?;
+        let next = self.next_place() + 1;
         let entered = enter(&mut self.state, &mut self.applied, found)?;
         self.proposer.phase = Phase::Idle;
         self.refused = 0;

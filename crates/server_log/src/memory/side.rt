@@ -1,6 +1,6 @@
 //! What a server has in memory of the agreed log.
 
-ghost use Rattle.std.specs.Prelude.{◌≡◌, ◌<◌, ◌+◌, IfOk, length};
+ghost use Rattle.std.specs.Prelude.{◌≡◌, ◌≤◌, ◌<◌, ◌+◌, ◌^◌, IfOk, length};
 ghost use Rattle.spec_rules.specs.World.{greatest_u32};
 ghost use Rattle.server_log.specs.Part.{new_part, sender_of, state_of};
 
@@ -130,11 +130,20 @@ impl LogSide {
         self.inc += 1;
     }
 
-    /// The place after the last applied entry.
+    /// The place after the last applied entry. It may be beyond the greatest that a record can name.
+    pub fn next_place(&self) -> u64
+        ensures place { result ≡ length self.now.applied + 1 }
+        ensures state { result ≡ (state_of self.now).rev + 1 }
+        ensures above { result ≤ 2 ^ 32 }
+    {
+        self.rev() as u64 + 1
+    }
+
+    /// The same, as a ballot names it.
     ///
     /// # Errors
     /// Where that has no number.
-    pub fn next_place(&self) -> Result<u32, NoMemory>
+    pub fn ballot_place(&self) -> Result<u32, NoMemory>
         ensures { IfOk result (λ place. place ≡ length self.now.applied + 1) }
     {
         self.rev().checked_add(1).ok_or(NoMemory)

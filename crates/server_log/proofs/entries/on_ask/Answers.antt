@@ -1,7 +1,7 @@
-use Rattle.std.proofs.Common.{◌≡◌, ◌+◌, ℕ, List, [], ◌∷◌, refl, ap, ◌∙◌, rules}
+use Rattle.std.proofs.Common.{List, [], ◌∷◌, refl, ap, ◌∙◌}
 use Rattle.petal_command.specs.declared.command.Command.{Command}
 use Rattle.petal_msg.specs.declared.body.Body.TheVariants as body
-use Rattle.spec_rules.specs.Entries.{known_run, on_ask}
+use Rattle.spec_rules.specs.Entries.{on_ask}
 use Rattle.spec_rules.specs.Server.{Sender, letters_of}
 use Rattle.server_log.specs.Part.{log_of, sender_of}
 use Rattle.server_log.proofs.entries.on_ask.Goals as goal
@@ -10,7 +10,6 @@ pub returns : goal.returns
 unfolding on_ask
 returns g c =
     let log = log_of c.args.log.now c.args.state.now.records in
-    let first : c.in_ok-first.first ≡ c.args.rev + 1 = search rules in
     record {
       done = rw c.only.ensures (record {
         log = refl;
@@ -18,7 +17,7 @@ returns g c =
             ∙ ap (λ (who : Sender). letters_of who 0 (record { to = c.args.from; body = body.News c.args.rev c.in_ok-commands.commands } ∷ []))
             c.envelope.ensures
             ∙ ap (λ (run : List Command). letters_of (sender_of c.args.log.now) 0 (record { to = c.args.from; body = body.News c.args.rev run } ∷ []))
-            (c.in_ok-commands.ensures log refl ∙ ap (λ (place : ℕ). known_run log place 64) first);
+            (c.in_ok-commands.ensures.run log refl);
         jobs = refl;
       });
       voter = refl;
