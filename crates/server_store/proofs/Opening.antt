@@ -15,7 +15,7 @@ abbrev pub store_in : {D : Type 0} → List ℕ → Found → D → Holdings D
 store_in seen found disk = record {
   entries = map (held_in seen) found.ledger.entries;
   tickets = found.ledger.tickets;
-  marks = found.marks;
+  marks = found.marks.marks;
   slots = found.ledger.slots;
   fresh = found.fresh;
   log = found.log;

@@ -60,7 +60,7 @@ impl<D: Disk> Model for Store<D> {
     ghost view = { λ s. record {
       entries = map (held_in (D.seen s.disk)) s.ledger.entries;
       tickets = s.ledger.tickets;
-      marks = s.marks;
+      marks = s.marks.marks;
       slots = s.ledger.slots;
       fresh = s.fresh;
       log = s.log;
@@ -68,7 +68,7 @@ impl<D: Disk> Model for Store<D> {
     } };
 
     ghost invariant = { λ s. (slot_start s.ledger.slots ≤ D.size s.disk)
-        × (kept_of s.log.fresh s.log.records ≡ record { entries = s.ledger.entries; marks = s.marks; fresh = s.fresh }) };
+        × (kept_of s.log.fresh s.log.records ≡ record { entries = s.ledger.entries; marks = s.marks.marks; fresh = s.fresh }) };
 }
 
 impl<D: Disk> Store<D> {

@@ -12,9 +12,9 @@ use Rattle.server_store.proofs.store.Store.mark.Goals as goal
 pub invariant_of-self-in-Err : goal.invariant_of-self-in-Err
 invariant_of-self-in-Err g c =
     let m : Mark = record { kind = c.args.kind; cell = c.args.cell } in
-    let marks = c.self.inside.marks in
+    let marks = c.self.inside.marks.marks in
     let none : has_mark m marks ≡ false = sym c.has.ensures ∙ c.if-has.false in
-    let back : c.clear.new.self ≡ marks = c.clear.ensures ∙ ap (λ (ms : List Mark). without_mark ms m) c.in_ok-set.ensures.ok ∙ taken_back m marks none in
+    let back : c.clear.new.self.marks ≡ marks = c.clear.ensures.marks ∙ ap (λ (ms : List Mark). without_mark ms m) c.in_ok-set.ensures.ok ∙ taken_back m marks none in
     rw (back, c.commit.ensures.size, c.commit.ensures.fresh, c.in-Err.ensures.err) c.self.invariant
 
 pub returns-in-Ok-clause-listed : goal.returns-in-Ok-clause-listed
@@ -23,9 +23,9 @@ returns-in-Ok-clause-listed g c = rw (← c.self.view_is) (listed_still _ _ c.se
 pub returns-in-Err-clause-err : goal.returns-in-Err-clause-err
 returns-in-Err-clause-err g c =
     let m : Mark = record { kind = c.args.kind; cell = c.args.cell } in
-    let marks = c.self.inside.marks in
+    let marks = c.self.inside.marks.marks in
     let none : has_mark m marks ≡ false = sym c.has.ensures ∙ c.if-has.false in
-    rw (← c.self.view_is) (c.clear.ensures ∙ ap (λ (ms : List Mark). without_mark ms m) c.in_ok-set.ensures.ok ∙ taken_back m marks none)
+    rw (← c.self.view_is) (c.clear.ensures.marks ∙ ap (λ (ms : List Mark). without_mark ms m) c.in_ok-set.ensures.ok ∙ taken_back m marks none)
 
 pub returns-in-Err-clause-listed : goal.returns-in-Err-clause-listed
 returns-in-Err-clause-listed g c = rw (← c.self.view_is) (listed_still _ _ c.self.inside.ledger.entries)
@@ -33,16 +33,16 @@ returns-in-Err-clause-listed g c = rw (← c.self.view_is) (listed_still _ _ c.s
 pub returns-in-Err-clause-full : goal.returns-in-Err-clause-full
 returns-in-Err-clause-full g c is =
     let m : Mark = record { kind = c.args.kind; cell = c.args.cell } in
-    let marks = c.self.inside.marks in
+    let marks = c.self.inside.marks.marks in
     let none : has_mark m marks ≡ false = sym c.has.ensures ∙ c.if-has.false in
-    let back : c.clear.new.self ≡ marks = c.clear.ensures ∙ ap (λ (ms : List Mark). without_mark ms m) c.in_ok-set.ensures.ok ∙ taken_back m marks none in
+    let back : c.clear.new.self.marks ≡ marks = c.clear.ensures.marks ∙ ap (λ (ms : List Mark). without_mark ms m) c.in_ok-set.ensures.ok ∙ taken_back m marks none in
     let same = c.in-Err.ensures.unchanged is in
     rw (← c.self.view_is) (c.in-Err.ensures.full.0 is, ap not none, rw (back, same.0, same.1) refl)
 
 pub returns-then-has-clause-ok : goal.returns-then-has-clause-ok
 returns-then-has-clause-ok g c =
     let m : Mark = record { kind = c.args.kind; cell = c.args.cell } in
-    let marks = c.self.inside.marks in
+    let marks = c.self.inside.marks.marks in
     let there : has_mark m marks ≡ true = sym c.has.ensures ∙ c.if-has.true in
     let order : IsStrictlySortedBy mark_cmp marks =
     subst (λ (k : Kept). IsStrictlySortedBy mark_cmp k.marks) c.self.invariant.1 (marks_sorted c.self.inside.log.fresh c.self.inside.log.records) in

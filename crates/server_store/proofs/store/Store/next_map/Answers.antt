@@ -10,7 +10,7 @@ pub returns : goal.returns
 returns g c =
     let own = c.self.inside in
     let es = listed (map (held_in (g.D.Disk.seen own.disk)) own.ledger.entries) in
-    let marks = next_marked_map c.args.after own.marks in
+    let marks = next_marked_map c.args.after own.marks.marks in
     let entries = c.next_map.ensures
     ∙ ap (λ (l : List Entry). next_map_of c.args.after l) (c.map.ensures ∙ is_listed (g.D.Disk.seen own.disk) own.ledger.entries) in
     rw (← c.self.view_is) (c.lesser_of.ensures ∙ ap (λ (o : Option ℕ). lesser o c.next_map-2.result) entries

@@ -9,7 +9,7 @@ use Rattle.server_store.proofs.store.Store.unmark.Goals as goal
 pub returns-then-not-has-clause-ok : goal.returns-then-not-has-clause-ok
 returns-then-not-has-clause-ok g c =
     let m : Mark = record { kind = c.args.kind; cell = c.args.cell } in
-    let marks = c.self.inside.marks in
+    let marks = c.self.inside.marks.marks in
     let none : has_mark m marks ≡ false = sym c.has.ensures ∙ c.if-not-has.true in
     rw (← c.self.view_is) (sym (not_marked m marks none))
 
@@ -36,7 +36,7 @@ returns-clause-committed g c =
     record {
       records = grind (arith, common_steps);
       unrecorded = grind (arith, common_steps);
-      holds = λ told. rw (← c.self.view_is, c.clear.ensures, c.commit.ensures.contents told c.self.inside.ledger.entries)
+      holds = λ told. rw (← c.self.view_is, c.clear.ensures.marks, c.commit.ensures.contents told c.self.inside.ledger.entries)
           (λ h. c.in_ok-commit.ensures.keeps told c.self.inside.ledger.slots _ h);
       either = λ told. rw (← c.self.view_is) (λ h. c.commit.ensures.either told c.self.inside.ledger.slots _ h);
       any_moment = λ told. rw (← c.self.view_is) (λ h. c.commit.ensures.any_moment told c.self.inside.ledger.slots _ h);
