@@ -6,7 +6,9 @@
 //! ahead, had asked it to put. A put of which no letter of its step tells is found by a look into the server that has made it.
 
 use crate::asked::{is_asked, stopped_in, worked_in};
+use crate::choices::Choices;
 use crate::contents::Contents;
+use crate::disks::{Disks, Done, Link};
 use crate::operations::{
     Operation, ahead_on, entry_of, is_brought_in, is_replicated_in, replicated_by,
 };
@@ -14,7 +16,6 @@ use crate::reads::{accepted, is_by_old_map, old_data, since_boot};
 use crate::stores::{Looks, Stores, counted};
 use crate::told::Told;
 use crate::writes::{Writers, copy_write};
-use oracle_state::{Choices, Disks, Done, Link};
 use petal_base::{ClientId, Key, NoMemory, OPERATOR, Seq, ServerId, SharedBlock};
 use petal_msg::{Actor, Body, Letter};
 use script_lines::{Answer, Request, Script};

@@ -1,6 +1,6 @@
 //! Operations of pairs of servers, as letters name them.
 
-use oracle_state::Link;
+use crate::disks::Link;
 use petal_base::{Cell, Key, NoMemory, Op, SharedBlock};
 use petal_msg::{Actor, Body, Letter};
 use spec_history::Record;
