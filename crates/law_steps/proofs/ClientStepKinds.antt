@@ -93,7 +93,7 @@ still_open : (rev : ℕ) (old : Asked) (o : Option Asked) → StaysOpen rev (Som
 still_open rev old None h = absurd h
 still_open rev old (Some now) h = record { now = now; is = refl; same = h }
 
-was_open : (rev : ℕ) (o : Option Asked) (now : Asked) → StaysOpen rev o (Some now) → (old : Asked) × (o ≡ Some old) × IsSame rev old now
+pub was_open : (rev : ℕ) (o : Option Asked) (now : Asked) → StaysOpen rev o (Some now) → (old : Asked) × (o ≡ Some old) × IsSame rev old now
 was_open rev None now h = absurd h
 was_open rev (Some old) now h = (old, refl, h)
 

@@ -1,12 +1,12 @@
 -- What a job of each subject leaves as it is: a law that does not speak of the subject goes by this alone.
 use Rattle.law_steps.proofs.Imports.{[], ◌∙◌, ◌≡◌, ◌⊎◌, Action, Body, Cell, Copies, Ending, Filling, FollowProgress, Full, In, Job, JobContext, JobResult}
 use Rattle.law_steps.proofs.Imports.{Letter, LinkRow, List, None, OpKind, Option, PairState, Paired, Pending, Post, Some, State, Written, acts, ap, at}
-use Rattle.law_steps.proofs.Imports.{by_test, cell_cmp, cell_link, ends, false, gives_back, has_proposed, id_of, inl, inr, link_cmp, next_stage, no_progress}
+use Rattle.law_steps.proofs.Imports.{Busy, Stale, by_test, cell_cmp, cell_link, ends, false, gives_back, has_proposed, id_of, inl, inr, link_cmp, next_stage, no_progress}
 use Rattle.law_steps.proofs.Imports.{option_map_or, progress_on, refl, subject_of, subst, sym, tells, unwrap_or, without_pending, ℕ}
 use Rattle.law_steps.specs.Ready.{IsRising}
 use Rattle.law_steps.specs.DidRead.{DidRead, Not_here, Shows}
 use Rattle.law_steps.specs.DidLead.{DidLead, Repeats, Marks, Puts, Gives_up, Unmarks, Closes, Opens_alone, Marks_alone, Puts_alone, Unmarks_alone}
-use Rattle.law_steps.specs.DidLead.{Closes_alone, Opens_fill_alone, Goes_on_retired}
+use Rattle.law_steps.specs.DidLead.{Closes_alone, Opens_fill_alone, Goes_on_retired, Taken}
 use Rattle.law_steps.specs.DidSecond.{DidSecond, Sets_apart, Promises, Declines, Follows}
 use Rattle.law_steps.specs.DidFiller.{DidFiller, Is_filled, Is_out_of_slots}
 use Rattle.law_steps.specs.DidSweep.{DidSweep, Sweeps}
@@ -136,6 +136,10 @@ module _ (heard : Body → Type 0) (here : JobContext) (own : PairState) where
     says = λ post i. inr (record { seq = seq; is = (one_post _ _ post i).1 });
   }
 
+  taken_frame : (now : PairState) (op : Pending) → Taken own now op → (next : Action) → LeadFrame own (acts here now op next)
+  taken_frame now op taken next =
+      frame_on own now (acts here now op next) (taking own now op taken).last (taking own now op taken).copies (acts_frame here now op next)
+
   pub of_lead : (done : JobResult) → DidLead heard here own done → LeadFrame own done
   unfolding In
   of_lead _ (Repeats want last h lead is e) = record { last = refl; copies = refl; no_letters = λ letter i. i }
@@ -147,31 +151,13 @@ module _ (heard : Body → Type 0) (here : JobContext) (own : PairState) where
   of_lead _ (Closes op is both stage) =
       frame_on own (without_pending own op.cell) _ refl refl (ends_frame here (without_pending own op.cell) op op.kind Written)
   of_lead _ (Opens_alone want new alone) = record { last = refl; copies = refl; no_letters = λ letter i. elim i [ inl e ↦ cc | inr none ↦ none ] }
-  of_lead _ (Marks_alone now op taken alone fresh) =
-      record {
-        last = (taking own now op taken).last;
-        copies = (taking own now op taken).copies;
-        no_letters = λ letter i. elim i [ inl e ↦ cc | inr none ↦ none ];
-      }
-  of_lead _ (Puts_alone now op taken alone stale put) =
-      record {
-        last = (taking own now op taken).last;
-        copies = (taking own now op taken).copies;
-        no_letters = λ letter i. elim i [ inl e ↦ cc | inr none ↦ none ];
-      }
-  of_lead _ (Unmarks_alone now op taken alone stale put busy) =
-      record {
-        last = (taking own now op taken).last;
-        copies = (taking own now op taken).copies;
-        no_letters = λ letter i. elim i [ inl e ↦ cc | inr none ↦ none ];
-      }
-  of_lead _ (Closes_alone now op taken alone stale put free) =
-      frame_on own (without_pending now op.cell) _ (taking own now op taken).last (taking own now op taken).copies
-      (ends_frame here (without_pending now op.cell) op op.kind Written)
+  of_lead _ (Marks_alone now op taken alone fresh) = taken_frame now op taken (action.Mark Stale)
+  of_lead _ (Puts_alone now op taken alone stale put) = taken_frame now op taken action.Put
+  of_lead _ (Unmarks_alone now op taken alone stale put busy) = taken_frame now op taken (action.Unmark Busy)
+  of_lead _ (Closes_alone now op taken alone stale put free) = taken_frame now op taken action.Answer
   of_lead _ (Opens_fill_alone moving new room alone) =
       record { last = refl; copies = refl; no_letters = λ letter i. elim i [ inl e ↦ cc | inr none ↦ none ] }
-  of_lead _ (Goes_on_retired now op taken off) =
-      frame_on own now _ (taking own now op taken).last (taking own now op taken).copies (acts_frame here now op (next_stage here.state here.me op))
+  of_lead _ (Goes_on_retired now op taken off) = taken_frame now op taken (next_stage here.state here.me op)
   of_lead _ _ = record { last = refl; copies = refl; no_letters = λ letter i. i }
 
   -- what a second server tells the lead
@@ -212,19 +198,6 @@ module _ (heard : Body → Type 0) (here : JobContext) (own : PairState) where
     silent = λ post i. i;
   }
 
-  same_copies : (done : JobResult) → done.own.copies ≡ own.copies → (state : State) (cell : Cell)
-      → has_proposed state done.own cell ≡ has_proposed state own cell
-  same_copies done e state cell =
-      ap (λ (c : Copies). option_map_or (λ (row : LinkRow). (unwrap_or (at link_cmp c.progress (id_of row)) no_progress).caught) (cell_link state cell) false) e
-
-  same_caught : (done : JobResult) → ((row : LinkRow) → (progress_on done.own row).caught ≡ (progress_on own row).caught) → (state : State) (cell : Cell)
-      → has_proposed state done.own cell ≡ has_proposed state own cell
-  same_caught done e state cell = by (cell_link state cell)
-    where
-      by : (o : Option LinkRow) → option_map_or (λ row. (progress_on done.own row).caught) o false ≡ option_map_or (λ row. (progress_on own row).caught) o false
-      by None = refl
-      by (Some row) = e row
-
   -- copies under way stand in the order of their cells
   pub copies_rise : (done : JobResult) → Did heard here own done → IsRising cell_cmp own.copies.pending → IsRising cell_cmp done.own.copies.pending
   copies_rise _ Ignores h = h
@@ -237,19 +210,28 @@ module _ (heard : Body → Type 0) (here : JobContext) (own : PairState) where
   copies_rise _ (By_filler done d) h = subst (IsRising cell_cmp) (sym (of_filler done d).pending) h
   copies_rise _ (By_sweep done d) h = subst (λ (c : Copies). IsRising cell_cmp c.pending) (sym (of_sweep done d).copies) h
 
-  -- no job starts a ballot for a Caught
+  by_copies : (done : JobResult) (row : LinkRow) → done.own.copies ≡ own.copies → (progress_on done.own row).caught ≡ (progress_on own row).caught
+  by_copies done row same = ap (λ (c : Copies). (unwrap_or (at link_cmp c.progress (id_of row)) no_progress).caught) same
+
+  -- a job starts no ballot for a Caught, and forgets none
+  pub caught_stays : (done : JobResult) → Did heard here own done → (row : LinkRow) → (progress_on done.own row).caught ≡ (progress_on own row).caught
+  caught_stays _ Ignores row = refl
+  caught_stays _ (Refuses to said is busy held) row = refl
+  caught_stays _ (By_read done d) row = ap (λ (o : PairState). (progress_on o row).caught) (of_read done d).same
+  caught_stays _ (By_lead done d) row = by_copies done row (of_lead done d).copies
+  caught_stays _ (By_second done d) row = by_copies done row (of_second done d).copies
+  caught_stays _ (By_holder done d) row = (of_holder heard here own done d).caught row
+  caught_stays _ (By_other done d) row = (of_other heard here own done d).caught row
+  caught_stays _ (By_filler done d) row = ap (λ t. (unwrap_or (at link_cmp t (id_of row)) no_progress).caught) (of_filler done d).progress
+  caught_stays _ (By_sweep done d) row = by_copies done row (of_sweep done d).copies
+
   pub unheld_stays : (done : JobResult) → Did heard here own done → (state : State) (cell : Cell) → has_proposed state own cell ≡ false
       → has_proposed state done.own cell ≡ false
-  unheld_stays _ Ignores state cell e = e
-  unheld_stays _ (Refuses to said is busy held) state cell e = e
-  unheld_stays _ (By_read done d) state cell e = ap (λ (o : PairState). has_proposed state o cell) (of_read done d).same ∙ e
-  unheld_stays _ (By_lead done d) state cell e = same_copies done (of_lead done d).copies state cell ∙ e
-  unheld_stays _ (By_second done d) state cell e = same_copies done (of_second done d).copies state cell ∙ e
-  unheld_stays _ (By_holder done d) state cell e = same_caught done (of_holder heard here own done d).caught state cell ∙ e
-  unheld_stays _ (By_other done d) state cell e = same_caught done (of_other heard here own done d).caught state cell ∙ e
-  unheld_stays _ (By_filler done d) state cell e =
-      same_caught done (λ row. ap (λ t. (unwrap_or (at link_cmp t (id_of row)) no_progress).caught) (of_filler done d).progress) state cell ∙ e
-  unheld_stays _ (By_sweep done d) state cell e = same_copies done (of_sweep done d).copies state cell ∙ e
+  unheld_stays done did state cell e = by (cell_link state cell) ∙ e
+    where
+      by : (o : Option LinkRow) → option_map_or (λ row. (progress_on done.own row).caught) o false ≡ option_map_or (λ row. (progress_on own row).caught) o false
+      by None = refl
+      by (Some row) = caught_stays done did row
 
   -- what follows a job up is a stage, and no letter
   pub no_letters : (done : JobResult) → Did heard here own done → (letter : Letter) → In (job.Letter letter) done.jobs → ⊥
