@@ -4,13 +4,14 @@ use Rattle.law_requests.proofs.Imports.{Handled, JobResult, LinkRow, Log, Settin
 use Rattle.law_requests.proofs.Imports.{World, ap, arith, id_of, is_flagged, kept_proposed, length, length-append}
 use Rattle.law_requests.proofs.Imports.{own_place, same_caught, server_state}
 use Rattle.law_requests.proofs.Imports.{sym, true, ℕ}
-use Rattle.law_steps.proofs.Subjects.{caught_stays}
+use Rattle.law_steps.proofs.Subjects.{of_did}
 
 pub worked_flags : (setting : Setting) (w : World) (n : ℕ) (log : Log) (done : JobResult) → Worked setting w n log done
     → (w.servers n).log.applied ≡ log.applied → (row : LinkRow) → is_flagged (w.servers n).own (id_of row) ≡ true
     → is_flagged done.own (id_of row) ≡ true
 worked_flags setting w n _ _ (By_job log done applied did seat) same row flag =
-    same_caught done.own row ∙ caught_stays (Handled w n) (own_place setting w n) (w.servers n).own done did row ∙ sym (same_caught (w.servers n).own row) ∙ flag
+    same_caught done.own row ∙ (of_did (Handled w n) (own_place setting w n) (w.servers n).own done did).caught row
+    ∙ sym (same_caught (w.servers n).own row) ∙ flag
 worked_flags setting w n _ _ (By_ballot log started posts applied starts says) same row flag =
     (kept_proposed (server_state setting w n) (w.servers n).own started).flags (id_of row) flag
 worked_flags setting w n _ _ (By_entry log entry more front) same row flag =

@@ -2,11 +2,11 @@
 -- operations alone, and an entry starts none.
 use Rattle.law_steps.proofs.Imports.{[], ◌&&◌, ◌==◌, ◌∙◌, ◌∷◌, ◌≡◌, Ask, Block, Bool, Caught, Cell, Command, Equal, Greater, HasLater, JobContext, Less}
 use Rattle.law_steps.proofs.Imports.{LinkId, LinkRow, NextCopy, None, Nothing, Option, Ordering, PairState, Pending, Progress, Some, State, Table, Wait, ap}
-use Rattle.law_steps.proofs.Imports.{at, at-where, either_false, same_some, subst, blocks_left, by_bool, by_test, cell_at, cell_cmp, cell_cmp_same, cell_link, cond, crossed, ends_link}
-use Rattle.law_steps.proofs.Imports.{eq_by_cmp, false, has_proposed, holds_link, id_of, is_at, is_eq, is_flagged, is_link, is_link_under_way, is_on}
-use Rattle.law_steps.proofs.Imports.{is_under_way, least, link_cmp, list_any, lookup, next_block, next_copy, none_some, not, number_itself, option_map_or}
-use Rattle.law_steps.proofs.Imports.{or_first, or_true, progress_beside, progress_on, proposed, refl, same_caught, same_id, sym, true, true_false}
-use Rattle.law_steps.proofs.Imports.{with_progress, ℕ}
+use Rattle.law_steps.proofs.Imports.{at, at-where, blocks_left, by_bool, by_test, cell_at, cell_cmp, cell_cmp_same, cell_link, cond, crossed, either_false}
+use Rattle.law_steps.proofs.Imports.{ends_link, eq_by_cmp, false, has_proposed, holds_link, id_of, is_at, is_eq, is_flagged, is_link, is_link_under_way}
+use Rattle.law_steps.proofs.Imports.{is_on, is_under_way, least, link_cmp, list_any, lookup, next_block, next_copy, none_some, not, number_itself}
+use Rattle.law_steps.proofs.Imports.{option_map_or, or_first, or_true, progress_beside, progress_on, proposed, refl, same_caught, same_id, same_some, subst}
+use Rattle.law_steps.proofs.Imports.{sym, true, true_false, with_progress, ℕ}
 use Rattle.law_steps.specs.DidStep.{IsBallotFor, Starts}
 
 pub held_as_flag : (state : State) (own : PairState) (cell : Cell) (row : LinkRow) → cell_link state cell ≡ Some row

@@ -1,6 +1,6 @@
 -- A pending operation was pending before, in whatever stage.
-use Rattle.law_steps.proofs.Imports.{◌∙◌, ◌≡◌, Cell, PairState, Pending, Some, Table, ap, at, cell_cmp, cell_gone, cell_gone_apart, inl, inr}
-use Rattle.law_steps.proofs.Imports.{none_some, refl, sym, without}
+use Rattle.law_steps.proofs.Imports.{◌∙◌, ◌≡◌, Cell, PairState, Pending, Some, Table, ap, at, cell_cmp, cell_gone, cell_gone_apart, inl, inr, none_some, refl}
+use Rattle.law_steps.proofs.Imports.{sym, without}
 use Rattle.law_steps.specs.DidLead.{As_it_is, As_told, Taken}
 use Rattle.law_steps.proofs.OperationsRest.{same_cell_or_apart}
 

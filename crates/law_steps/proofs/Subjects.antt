@@ -1,8 +1,8 @@
 -- What a job of each subject leaves as it is: a law that does not speak of the subject goes by this alone.
-use Rattle.law_steps.proofs.Imports.{[], ◌∙◌, ◌≡◌, ◌⊎◌, Action, Body, Cell, Copies, Ending, Filling, FollowProgress, Full, In, Job, JobContext, JobResult}
-use Rattle.law_steps.proofs.Imports.{Letter, LinkRow, List, None, OpKind, Option, PairState, Paired, Pending, Post, Some, State, Written, acts, ap, at}
-use Rattle.law_steps.proofs.Imports.{Busy, Stale, by_test, cell_cmp, cell_link, ends, false, gives_back, has_proposed, id_of, inl, inr, link_cmp, next_stage, no_progress}
-use Rattle.law_steps.proofs.Imports.{option_map_or, progress_on, refl, subject_of, subst, sym, tells, unwrap_or, without_pending, ℕ}
+use Rattle.law_steps.proofs.Imports.{[], ◌∙◌, ◌≡◌, ◌⊎◌, Action, Body, Busy, Cell, Copies, Ending, Filling, FollowProgress, Full, In, Job, JobContext}
+use Rattle.law_steps.proofs.Imports.{JobResult, Letter, LinkRow, List, None, OpKind, Option, PairState, Paired, Pending, Post, Some, Stale, State, Written}
+use Rattle.law_steps.proofs.Imports.{acts, ap, at, by_test, cell_cmp, cell_link, ends, false, gives_back, has_proposed, id_of, inl, inr, link_cmp, next_stage}
+use Rattle.law_steps.proofs.Imports.{no_progress, option_map_or, progress_on, refl, subject_of, subst, sym, tells, unwrap_or, without_pending, ℕ}
 use Rattle.law_steps.specs.Ready.{IsRising}
 use Rattle.law_steps.specs.DidRead.{DidRead, Not_here, Shows}
 use Rattle.law_steps.specs.DidLead.{DidLead, Repeats, Marks, Puts, Gives_up, Unmarks, Closes, Opens_alone, Marks_alone, Puts_alone, Unmarks_alone}
@@ -80,6 +80,13 @@ pub record EndsFrame (own : PairState) (done : JobResult) : Type 0 where
   pub filled : done.own.filled ≡ own.filled
   pub store : done.own.store ≡ own.store
   pub no_jobs : done.jobs ≡ []
+
+-- of each job: copies under way stand in the order of their cells; it starts no ballot for a Caught, and forgets none; and what follows it
+-- up is a stage, and no letter
+pub record DidFrame (own : PairState) (done : JobResult) : Type 0 where
+  pub rises : IsRising cell_cmp own.copies.pending → IsRising cell_cmp done.own.copies.pending
+  pub caught : (row : LinkRow) → (progress_on done.own row).caught ≡ (progress_on own row).caught
+  pub no_letters : (letter : Letter) → In (job.Letter letter) done.jobs → ⊥
 
 pub of_ending : (here : JobContext) (own : PairState) (op : Pending) (of : OpKind) (how : Ending) → EndsFrame own (ends here own op of how)
 of_ending here own op kind.Write how = record { pending = refl; last = refl; next = refl; copies = refl; filled = refl; store = refl; no_jobs = refl }
@@ -198,32 +205,30 @@ module _ (heard : Body → Type 0) (here : JobContext) (own : PairState) where
     silent = λ post i. i;
   }
 
-  -- copies under way stand in the order of their cells
-  pub copies_rise : (done : JobResult) → Did heard here own done → IsRising cell_cmp own.copies.pending → IsRising cell_cmp done.own.copies.pending
-  copies_rise _ Ignores h = h
-  copies_rise _ (Refuses to said is busy held) h = h
-  copies_rise _ (By_read done d) h = subst (λ (o : PairState). IsRising cell_cmp o.copies.pending) (sym (of_read done d).same) h
-  copies_rise _ (By_lead done d) h = subst (λ (c : Copies). IsRising cell_cmp c.pending) (sym (of_lead done d).copies) h
-  copies_rise _ (By_second done d) h = subst (λ (c : Copies). IsRising cell_cmp c.pending) (sym (of_second done d).copies) h
-  copies_rise _ (By_holder done d) h = (of_holder heard here own done d).rises h
-  copies_rise _ (By_other done d) h = (of_other heard here own done d).rises h
-  copies_rise _ (By_filler done d) h = subst (IsRising cell_cmp) (sym (of_filler done d).pending) h
-  copies_rise _ (By_sweep done d) h = subst (λ (c : Copies). IsRising cell_cmp c.pending) (sym (of_sweep done d).copies) h
+  same_copies : (done : JobResult) → done.own.copies ≡ own.copies → ((letter : Letter) → In (job.Letter letter) done.jobs → ⊥) → DidFrame own done
+  same_copies done same none = record {
+    rises = λ h. subst (λ (c : Copies). IsRising cell_cmp c.pending) (sym same) h;
+    caught = λ row. ap (λ (c : Copies). (unwrap_or (at link_cmp c.progress (id_of row)) no_progress).caught) same;
+    no_letters = none;
+  }
 
-  by_copies : (done : JobResult) (row : LinkRow) → done.own.copies ≡ own.copies → (progress_on done.own row).caught ≡ (progress_on own row).caught
-  by_copies done row same = ap (λ (c : Copies). (unwrap_or (at link_cmp c.progress (id_of row)) no_progress).caught) same
-
-  -- a job starts no ballot for a Caught, and forgets none
-  pub caught_stays : (done : JobResult) → Did heard here own done → (row : LinkRow) → (progress_on done.own row).caught ≡ (progress_on own row).caught
-  caught_stays _ Ignores row = refl
-  caught_stays _ (Refuses to said is busy held) row = refl
-  caught_stays _ (By_read done d) row = ap (λ (o : PairState). (progress_on o row).caught) (of_read done d).same
-  caught_stays _ (By_lead done d) row = by_copies done row (of_lead done d).copies
-  caught_stays _ (By_second done d) row = by_copies done row (of_second done d).copies
-  caught_stays _ (By_holder done d) row = (of_holder heard here own done d).caught row
-  caught_stays _ (By_other done d) row = (of_other heard here own done d).caught row
-  caught_stays _ (By_filler done d) row = ap (λ t. (unwrap_or (at link_cmp t (id_of row)) no_progress).caught) (of_filler done d).progress
-  caught_stays _ (By_sweep done d) row = by_copies done row (of_sweep done d).copies
+  pub of_did : (done : JobResult) → Did heard here own done → DidFrame own done
+  unfolding In
+  of_did _ Ignores = same_copies _ refl (λ letter i. i)
+  of_did _ (Refuses to said is busy held) = same_copies _ refl (λ letter i. i)
+  of_did _ (By_read done d) = let f = of_read done d in same_copies done (ap (λ (o : PairState). o.copies) f.same) (no_ending done f.no_jobs)
+  of_did _ (By_lead done d) = let f = of_lead done d in same_copies done f.copies f.no_letters
+  of_did _ (By_second done d) = let f = of_second done d in same_copies done f.copies (no_ending done f.no_jobs)
+  of_did _ (By_holder done d) = let f = of_holder heard here own done d in record { rises = f.rises; caught = f.caught; no_letters = f.no_letters }
+  of_did _ (By_other done d) = let f = of_other heard here own done d in record { rises = f.rises; caught = f.caught; no_letters = f.no_letters }
+  of_did _ (By_filler done d) =
+      let f = of_filler done d in
+      record {
+        rises = λ h. subst (IsRising cell_cmp) (sym f.pending) h;
+        caught = λ row. ap (λ t. (unwrap_or (at link_cmp t (id_of row)) no_progress).caught) f.progress;
+        no_letters = no_ending done f.no_jobs;
+      }
+  of_did _ (By_sweep done d) = let f = of_sweep done d in same_copies done f.copies f.no_letters
 
   pub unheld_stays : (done : JobResult) → Did heard here own done → (state : State) (cell : Cell) → has_proposed state own cell ≡ false
       → has_proposed state done.own cell ≡ false
@@ -231,17 +236,4 @@ module _ (heard : Body → Type 0) (here : JobContext) (own : PairState) where
     where
       by : (o : Option LinkRow) → option_map_or (λ row. (progress_on done.own row).caught) o false ≡ option_map_or (λ row. (progress_on own row).caught) o false
       by None = refl
-      by (Some row) = caught_stays done did row
-
-  -- what follows a job up is a stage, and no letter
-  pub no_letters : (done : JobResult) → Did heard here own done → (letter : Letter) → In (job.Letter letter) done.jobs → ⊥
-  unfolding In
-  no_letters _ Ignores letter i = i
-  no_letters _ (Refuses to said is busy held) letter i = i
-  no_letters _ (By_read done d) letter i = subst (λ (jobs : List Job). In (job.Letter letter) jobs) (of_read done d).no_jobs i
-  no_letters _ (By_lead done d) letter i = (of_lead done d).no_letters letter i
-  no_letters _ (By_second done d) letter i = subst (λ (jobs : List Job). In (job.Letter letter) jobs) (of_second done d).no_jobs i
-  no_letters _ (By_holder done d) letter i = (of_holder heard here own done d).no_letters letter i
-  no_letters _ (By_other done d) letter i = (of_other heard here own done d).no_letters letter i
-  no_letters _ (By_filler done d) letter i = subst (λ (jobs : List Job). In (job.Letter letter) jobs) (of_filler done d).no_jobs i
-  no_letters _ (By_sweep done d) letter i = (of_sweep done d).no_letters letter i
+      by (Some row) = (of_did done did).caught row

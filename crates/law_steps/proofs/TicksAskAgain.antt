@@ -1,11 +1,11 @@
 -- At a tick a server asks again for what its operations and copies wait for, and for nothing else.
-use Rattle.law_steps.proofs.Imports.{is_logged, [], ◌++◌, ◌∷◌, ◌≡◌, Action, Ask, Cell, Copy, In, LinkRow, List, MarkKind, NextCopy, None, Option, Pending, Post, Some}
+use Rattle.law_steps.proofs.Imports.{[], ◌++◌, ◌∷◌, ◌≡◌, Action, Ask, Cell, Copy, In, LinkRow, List, MarkKind, NextCopy, None, Option, Pending, Post, Some}
 use Rattle.law_steps.proofs.Imports.{Stage, Stored, alone_action, ask_posts, awaited, ballot_posts, both_action, by_bool, by_test, cell_cmp, cell_cmp_total}
 use Rattle.law_steps.proofs.Imports.{chain_in, copies_again, copy_awaited, copy_posts, copy_stage, copying_on, epochs_of, false, fill_posts, fills_row}
-use Rattle.law_steps.proofs.Imports.{flat_map, has_proposed, in-append, in_both, inl, inr, is_in, key_at, leads_link, length, live, mark_left, nat_lt}
-use Rattle.law_steps.proofs.Imports.{next_copy, next_stage, not, not_true, only, option_map_or, other_in, page_asked, page_for, page_posts, pending_on}
-use Rattle.law_steps.proofs.Imports.{post_to, refl, second, sends_entry, sent_again, slice_get, subject_of, subst, sym, tick_posts, true, true_false}
-use Rattle.law_steps.proofs.Imports.{voter_of, was_true, ℕ}
+use Rattle.law_steps.proofs.Imports.{flat_map, has_proposed, in-append, in_both, inl, inr, is_in, is_logged, key_at, leads_link, length, live, mark_left}
+use Rattle.law_steps.proofs.Imports.{nat_lt, next_copy, next_stage, not, not_true, only, option_map_or, other_in, page_asked, page_for, page_posts}
+use Rattle.law_steps.proofs.Imports.{pending_on, post_to, refl, second, sends_entry, sent_again, slice_get, subject_of, subst, sym, tick_posts, true}
+use Rattle.law_steps.proofs.Imports.{true_false, voter_of, was_true, ℕ}
 use Rattle.law_steps.specs.Operations.{IsStaged, Waiting, Putting, Copying, Answering, waiting, putting, copying, answering}
 use Rattle.law_steps.specs.DidLead.{Asks, A_trim, A_copied_entry, A_page, An_entry_to_move, Of_the_log, other_on}
 use Rattle.law_steps.specs.DidStep.{IsSeatedOrMute, is_between}
