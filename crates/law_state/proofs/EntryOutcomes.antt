@@ -2,12 +2,12 @@
 use Rattle.law_state.proofs.Imports.{◌+◌, ◌==◌, ◌∙◌, ◌≡◌, Bool, Caught, Command, DiskRow, Drained, Join, Leave, List, MakeDisk, Moved, None, Region, Snap}
 use Rattle.law_state.proofs.Imports.{Some, StartMove, State, Verdict, Whole, Witness, act, all_noted, by_test, false, is_head, is_new, is_some, is_taken}
 use Rattle.law_state.proofs.Imports.{is_tuple, is_up_as, latest, links_of, may_join, named, none_some, not, not_true, refl, same_some, slice_get, subst, sym}
-use Rattle.law_state.proofs.Imports.{told, true, with_disk, with_fence, with_link, with_move, ℕ}
+use Rattle.law_state.proofs.Imports.{◌&&◌, Err, Ok, Option, Result, both_true, snap_target, snapped, told, true, with_disk, with_fence, with_link, with_move, ℕ}
 use Rattle.law_state.specs.Plain.{HasProperTuple, asker}
 use Rattle.law_state.specs.Tables.{IsSettledState}
 use Rattle.law_state.proofs.Caughts.{IsCatch, act_caught, caught_by}
 use Rattle.law_state.proofs.MovesOfDisks.{IsNoting, act_moved, act_note, act_start, moved_state, noted_state}
-use Rattle.law_state.proofs.SnapsQueueFences.{act_drained, act_snap, none_of}
+use Rattle.law_state.proofs.SnapsQueueFences.{none_of}
 use Rattle.law_state.proofs.Joins.{joined_by}
 use Rattle.law_state.proofs.TestFacts.{was_true}
 use Rattle.law_state.proofs.Leaves.{left_by}
@@ -76,6 +76,15 @@ module _ (servers : ℕ) (s : State) (p : IsSettledState servers s) where
   not_new entry client seq asks old =
       Unchanged entry (λ c q is. subst (λ (x : ℕ × ℕ). is_new x.1 (latest s x.0) ≡ false) (same_some (sym asks ∙ is)) old)
 
+  snap_outcome : (client seq : ℕ) (disk name : List ℕ) → is_new seq (latest s client) ≡ true → (o : Option DiskRow) → named s.disks.rows disk ≡ o
+      → Outcome servers s p (Snap client seq disk name) (snapped s client seq name (snap_target s name o))
+  snap_outcome client seq disk name new None is = Tells (Snap client seq disk name) client seq Verdict.NoDisk refl new (Snap_unknown client seq disk name is)
+  snap_outcome client seq disk name new (Some row) is =
+      by_test (λ (target : Result ℕ Verdict). Outcome servers s p (Snap client seq disk name) (snapped s client seq name target)) (is_taken s name row)
+      (Err Verdict.Exists) (Ok row.id)
+      (λ has. Tells (Snap client seq disk name) client seq Verdict.Exists refl new (Snap_exists client seq disk name row is has))
+      (λ free. Queues client seq disk name new row is free)
+
   pub outcome : (entry : Command) → HasProperTuple servers entry → Outcome servers s p entry (act entry s)
   outcome (Join server inc blank) proper = by_test (Outcome servers s p (Join server inc blank)) (may_join (slice_get s.view.members server) inc)
       (joined_by s server inc blank) s (λ may. Joins server inc blank may) (λ no. of_nobody (Join server inc blank) refl)
@@ -89,17 +98,18 @@ module _ (servers : ℕ) (s : State) (p : IsSettledState servers s) where
       (λ new there. Tells (MakeDisk client seq name tuple) client seq Verdict.Exists refl new (Disk_exists client seq name tuple there))
       (λ new none. Makes client seq name tuple new none proper)
   outcome (Snap client seq disk name) proper =
-      act_snap (Outcome servers s p (Snap client seq disk name)) s client seq disk name (not_new (Snap client seq disk name) client seq refl)
-      (λ new none. Tells (Snap client seq disk name) client seq Verdict.NoDisk refl new (Snap_unknown client seq disk name none))
-      (λ new row found taken. Tells (Snap client seq disk name) client seq Verdict.Exists refl new (Snap_exists client seq disk name row found taken))
-      (λ new row found free. Queues client seq disk name new row found free)
+      by_test (Outcome servers s p (Snap client seq disk name)) (is_new seq (latest s client))
+      (snapped s client seq name (snap_target s name (named s.disks.rows disk))) s
+      (λ new. snap_outcome client seq disk name new (named s.disks.rows disk) refl) (not_new (Snap client seq disk name) client seq refl)
   outcome (StartMove client seq disk tuple) proper =
       act_start (Outcome servers s p (StartMove client seq disk tuple)) s client seq disk tuple (not_new (StartMove client seq disk tuple) client seq refl)
       (λ new none. Tells (StartMove client seq disk tuple) client seq Verdict.NoDisk refl new (Move_unknown client seq disk tuple none))
       (λ new row found busy. Tells (StartMove client seq disk tuple) client seq Verdict.Moving refl new (Is_moving client seq disk tuple row found busy))
       (λ new row found still. Begins client seq disk tuple new row found still proper)
   outcome (Drained server inc fence) proper =
-      act_drained (Outcome servers s p (Drained server inc fence)) s server inc fence (of_nobody (Drained server inc fence) refl) (Reports server inc fence)
+      by_test (Outcome servers s p (Drained server inc fence)) (is_head s fence && is_up_as s server inc) (record s { view = view.drained s.view server }) s
+      (λ e. let h = both_true (is_head s fence) (is_up_as s server inc) e in Reports server inc fence h.0 h.1)
+      (λ no. of_nobody (Drained server inc fence) refl)
   outcome (Moved of region link) proper =
       act_moved (Outcome servers s p (Moved of region link)) servers s p of region link (of_nobody (Moved of region link) refl)
       (λ h. act_note servers s p of region link h (Outcome servers s p (Moved of region link))
