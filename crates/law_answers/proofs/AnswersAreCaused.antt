@@ -13,7 +13,8 @@ use Rattle.law_answers.proofs.Imports.{true, true_false, verdict_for, zero, ℕ}
 use Rattle.law_answers.proofs.Lines.{IsOpenFor, open_for}
 use Rattle.law_answers.proofs.AnswersFitRequests.{verdict_said, cause_fits, read_may, refusal_fits, verdict_fits, write_may}
 use Rattle.law_answers.proofs.AnsweredOnce.{WasAnswered, was_answered}
-use Rattle.law_answers.specs.AskedCommands.{AreAsked, asker}
+use Rattle.law_answers.specs.AskedCommands.{AreAsked}
+use Rattle.law_state.specs.Plain.{asker}
 use Rattle.law_answers.proofs.LinesHavePlaces.{line_at, one_client, one_place}
 use Rattle.law_answers.proofs.CommandsWereAsked.{commands_are_asked}
 use Rattle.law_answers.proofs.OldNumbersStayOld.{judged_low}

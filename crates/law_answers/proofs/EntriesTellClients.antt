@@ -1,16 +1,18 @@
 -- What one entry makes of what clients were told of their last commands: its command tells one client, where it is new, and each fence that
 -- passes tells the client that waits for it.
-use Rattle.law_answers.proofs.Imports.{if◌then◌else◌, ◌<◌, ◌==◌, ◌∙◌, ◌≡◌, ◌≢◌, ◌≤◌, ◌⊎◌, Answer, Bool, Caught, Command, Drained, Fence, FenceKind}
-use Rattle.law_answers.proofs.Imports.{HasProperTuple, Join, Latest, Leave, List, MakeDisk, Moved, None, Option, Region, Snap, Some, StartMove, Verdict}
-use Rattle.law_answers.proofs.Imports.{Whole, Witness, act, act_caught, act_drained, act_snap, act_start, ap, arith, by_test, cases_lt, completes, confirmed}
-use Rattle.law_answers.proofs.Imports.{effect, false, frozen, get_set_beside, get_set_here, inl, inr, is_new, is_some, is_up_as, latest, length, length-set}
-use Rattle.law_answers.proofs.Imports.{links_of, may_join, move_of, moved_by, mover_in, named, nat_lt, nat_tests, none_of, none_some, not, not_true, note}
+use Rattle.law_answers.proofs.Imports.{if◌then◌else◌, ◌<◌, ◌==◌, ◌∙◌, ◌≡◌, ◌≢◌, ◌≤◌, ◌⊎◌, Answer, Bool, Command, Fence, FenceKind}
+use Rattle.law_answers.proofs.Imports.{HasProperTuple, Latest, List, None, Option, Region, Some, Verdict}
+use Rattle.law_answers.proofs.Imports.{Whole, act, ap, arith, by_test, cases_lt, confirmed}
+use Rattle.law_answers.proofs.Imports.{effect, false, frozen, get_set_beside, get_set_here, inl, inr, is_new, latest, length, length-set}
+use Rattle.law_answers.proofs.Imports.{nat_lt, nat_tests, none_some}
 use Rattle.law_answers.proofs.Imports.{number_itself, one_passed, passed, refl, same_numbers, same_or_apart, same_some, settled, settled_keeps, slice_get}
 use Rattle.law_answers.proofs.Imports.{slice_get_past, subst, suc, sym, told, true, true_false, unwrap_or, verdict_answer, verdict_for, with_disk, with_fence}
 use Rattle.law_answers.proofs.Imports.{with_move, ℕ}
 use Rattle.spec_state.specs.State.{State}
 use Rattle.spec_state.specs.Command.{after}
-use Rattle.law_answers.specs.AskedCommands.{asker}
+use Rattle.law_state.proofs.EntryOutcomes.{Begins, Makes, Outcome, Queues, Tells, Unchanged, outcome}
+use Rattle.law_state.specs.Plain.{asker}
+use Rattle.law_state.specs.Tables.{IsSettledState}
 use Rattle.global_tables.specs.declared.disk.Verdict.TheVariants as verdict
 use Rattle.script_lines.specs.declared.answer.Answer.TheVariants as answer
 
@@ -111,22 +113,6 @@ told_stays s d c q seq v given new h = elim (told_is s d c q v) [
 
 -- ### What a command comes to
 
--- a disk is not made where its command is not new, or its name is taken
-pub act_make : (P : State → Type 0) (s : State) (client seq : ℕ) (name tuple : List ℕ)
-    → (is_new seq (latest s client) ≡ false → P s)
-    → (is_new seq (latest s client) ≡ true → is_some (named s.disks.rows name) ≡ true → P (told s client seq verdict.Exists))
-    → (is_new seq (latest s client) ≡ true → named s.disks.rows name ≡ None → P (told (with_disk s name tuple) client seq verdict.Ok))
-    → P (act (MakeDisk client seq name tuple) s)
-act_make P s client seq name tuple old taken made =
-    by_test P (not (is_new seq (latest s client))) s _ (λ not_new. old (not_true (is_new seq (latest s client)) not_new))
-    (λ isnt. let new = not_false (is_new seq (latest s client)) isnt in
-    by_test P (is_some (named s.disks.rows name)) (told s client seq verdict.Exists) (told (with_disk s name tuple) client seq verdict.Ok)
-    (λ there. taken new there) (λ none. made new (none_of (named s.disks.rows name) none)))
-  where
-    not_false : (b : Bool) → not b ≡ false → b ≡ true
-    not_false true e = refl
-    not_false false e = true_false refl e
-
 -- a fence for a snapshot that passes tells its client that it was taken, where it is still its last command
 passes : (P : State → Type 0) (s : State) (disk : ℕ) (name : List ℕ) (client seq : ℕ)
     → P (record s { view = passed s.view; disks = frozen s.disks disk name })
@@ -169,46 +155,20 @@ passed_stays s fence disk name d c q seq given kind ok h =
     t : State
     t = record s { view = passed s.view; disks = frozen s.disks disk name }
 
--- a Moved tells no client anything
-pub moved_verdicts : (s : State) (of region link : ℕ) → (act (Moved of region link) s).verdicts ≡ s.verdicts
-moved_verdicts s of region link = by (mover_in s of region)
-  where
-    noted_same : (disk : ℕ) → (note s of disk region link).verdicts ≡ s.verdicts
-    noted_same disk = by_test (λ (t : State). t.verdicts ≡ s.verdicts) (completes link (links_of s of) (move_of s disk)) _ _
-        (λ all. by_test (λ (t : State). t.verdicts ≡ s.verdicts) (region == 15) _ _ (λ last. refl) (λ more. refl)) (λ some. refl)
-
-    by : (o : Option ℕ) → (moved_by s of region link o).verdicts ≡ s.verdicts
-    by None = refl
-    by (Some disk) = by_test (λ (t : State). t.verdicts ≡ s.verdicts) (nat_lt link (links_of s of)) _ s (λ low. noted_same disk) (λ high. refl)
-
 -- ### One entry
 
 -- what no telling changes of what clients were told, where it tells of no earlier command than the last
 module _ (P : List (Option Latest) → Type 0)
     (tells : (s : State) (d q : ℕ) (v : Verdict) → IsOnward s d q → P s.verdicts → P (told s d q v).verdicts) where
-  kept_act : (servers : ℕ) (e : Command) (s : State) → HasProperTuple servers e → P s.verdicts → P (act e s).verdicts
-  kept_act servers (MakeDisk client seq name tuple) s plain h =
-      act_make (λ (t : State). P t.verdicts) s client seq name tuple (λ old. h)
-      (λ new there. tells s client seq verdict.Exists (onward_new seq (latest s client) new) h)
-      (λ new none. tells (with_disk s name tuple) client seq verdict.Ok (onward_new seq (latest s client) new) h)
-  kept_act servers (Snap client seq disk name) s plain h =
-      act_snap (λ (t : State). P t.verdicts) s client seq disk name (λ old. h)
-      (λ new none. tells s client seq verdict.NoDisk (onward_new seq (latest s client) new) h)
-      (λ new row found taken. tells s client seq verdict.Exists (onward_new seq (latest s client) new) h)
-      (λ new row found free. tells (with_fence s (Whole row.id name client seq)) client seq verdict.Waiting (onward_new seq (latest s client) new) h)
-  kept_act servers (Join server inc blank) s plain h =
-      by_test (λ (t : State). P t.verdicts) (may_join (slice_get s.view.members server) inc) _ s (λ may. h) (λ no. h)
-  kept_act servers (Leave server inc) s plain h = by_test (λ (t : State). P t.verdicts) (is_up_as s server inc) _ s (λ up. h) (λ out. h)
-  kept_act servers (Caught of link holder holder_inc other other_inc) s plain h =
-      act_caught (λ (t : State). P t.verdicts) s of link holder holder_inc other other_inc (λ acts. h) h
-  kept_act servers (Drained server inc fence) s plain h = act_drained (λ (t : State). P t.verdicts) s server inc fence h (λ is up. h)
-  kept_act servers (StartMove client seq disk tuple) s plain h =
-      act_start (λ (t : State). P t.verdicts) s client seq disk tuple (λ old. h)
-      (λ new none. tells s client seq verdict.NoDisk (onward_new seq (latest s client) new) h)
-      (λ new row found busy. tells s client seq verdict.Moving (onward_new seq (latest s client) new) h)
-      (λ new row found free. tells (with_move s tuple row.id) client seq verdict.Ok (onward_new seq (latest s client) new) h)
-  kept_act servers (Moved of region link) s plain h = subst P (sym (moved_verdicts s of region link)) h
-  kept_act servers (Witness client seq turn) s plain h = h
+  kept_act : (servers : ℕ) (s : State) (p : IsSettledState servers s) (e : Command) (t : State) → Outcome servers s p e t → P s.verdicts → P t.verdicts
+  kept_act servers s p _ _ (Tells entry client seq v asks new why) h = tells s client seq v (onward_new seq (latest s client) new) h
+  kept_act servers s p _ _ (Makes client seq name tuple new fresh proper) h =
+      tells (with_disk s name tuple) client seq verdict.Ok (onward_new seq (latest s client) new) h
+  kept_act servers s p _ _ (Queues client seq disk name new row found free) h =
+      tells (with_fence s (Whole row.id name client seq)) client seq verdict.Waiting (onward_new seq (latest s client) new) h
+  kept_act servers s p _ _ (Begins client seq disk tuple new row found still proper) h =
+      tells (with_move s tuple row.id) client seq verdict.Ok (onward_new seq (latest s client) new) h
+  kept_act servers s p _ _ _ h = h
 
   kept_passed : (s : State) (kind : FenceKind) → P s.verdicts → P (effect kind (record s { view = passed s.view })).verdicts
   kept_passed s (Whole disk name client seq) h =
@@ -220,19 +180,20 @@ module _ (P : List (Option Latest) → Type 0)
   kept_settled : (s : State) → P s.verdicts → P (settled s).verdicts
   kept_settled s h = settled_keeps (λ (t : State). P t.verdicts) (λ t fence is now. kept_passed t fence.kind now) s h
 
-  pub kept_after : (servers : ℕ) (e : Command) (s : State) → HasProperTuple servers e → P s.verdicts → P (after s e).verdicts
-  kept_after servers e s plain h = kept_settled (act e s) (kept_act servers e s plain h)
+  pub kept_after : (servers : ℕ) (s : State) → IsSettledState servers s → (e : Command) → HasProperTuple servers e → P s.verdicts → P (after s e).verdicts
+  kept_after servers s p e proper h = kept_settled (act e s) (kept_act servers s p e (act e s) (outcome servers s p e proper) h)
 
 -- as many clients are told
-pub many_after : (servers : ℕ) (e : Command) (s : State) → HasProperTuple servers e → length (after s e).verdicts ≡ length s.verdicts
-many_after servers e s plain =
-    kept_after (λ verdicts. length verdicts ≡ length s.verdicts) (λ t d q v onward h. many_told t d q v ∙ h) servers e s plain refl
+pub many_after : (servers : ℕ) (s : State) → IsSettledState servers s → (e : Command) → HasProperTuple servers e
+    → length (after s e).verdicts ≡ length s.verdicts
+many_after servers s p e proper =
+    kept_after (λ verdicts. length verdicts ≡ length s.verdicts) (λ t d q v onward h. many_told t d q v ∙ h) servers s p e proper refl
 
-pub old_after : (servers : ℕ) (e : Command) (s : State) (c seq : ℕ) → HasProperTuple servers e → is_new seq (latest s c) ≡ false
-    → is_new seq (latest (after s e) c) ≡ false
-old_after servers e s c seq plain old =
+pub old_after : (servers : ℕ) (s : State) → IsSettledState servers s → (e : Command) (c seq : ℕ) → HasProperTuple servers e
+    → is_new seq (latest s c) ≡ false → is_new seq (latest (after s e) c) ≡ false
+old_after servers s p e c seq proper old =
     kept_after (λ verdicts. is_new seq (unwrap_or (slice_get verdicts c) None) ≡ false) (λ t d q v onward h. told_old t d c q seq v onward h)
-    servers e s plain old
+    servers s p e proper old
 
 pub passed_old : (s : State) (fence : Fence) (c seq : ℕ) → is_new seq (latest s c) ≡ false → is_new seq (latest (one_passed s fence) c) ≡ false
 passed_old s fence c seq old =
@@ -250,32 +211,24 @@ asked_by : (d q c seq : ℕ) → (let pair : Option (ℕ × ℕ) = Some (d, q) i
 asked_by d q c seq e = let same = same_some e in (ap (λ (x : ℕ × ℕ). x.0) same, ap (λ (x : ℕ × ℕ). x.1) same)
 
 -- after a client's own command its number is old
-old_act : (e : Command) (s : State) (c seq : ℕ) → asker e ≡ Some (c, seq) → c < length s.verdicts → is_new seq (latest (act e s) c) ≡ false
-old_act (MakeDisk client q name tuple) s c seq own low =
-    let one = asked_by client q c seq own in
-    act_make (λ (t : State). is_new seq (latest t c) ≡ false) s client q name tuple
-    (λ old. (λ i. is_new (sym one.1 i) (latest s (sym one.0 i))) ∙ old)
-    (λ new there. old_now s client c q seq verdict.Exists one.0 one.1 low)
-    (λ new none. old_now (with_disk s name tuple) client c q seq verdict.Ok one.0 one.1 low)
-old_act (Snap client q disk name) s c seq own low =
-    let one = asked_by client q c seq own in
-    act_snap (λ (t : State). is_new seq (latest t c) ≡ false) s client q disk name
-    (λ old. (λ i. is_new (sym one.1 i) (latest s (sym one.0 i))) ∙ old)
-    (λ new none. old_now s client c q seq verdict.NoDisk one.0 one.1 low)
-    (λ new row found taken. old_now s client c q seq verdict.Exists one.0 one.1 low)
-    (λ new row found free. old_now (with_fence s (Whole row.id name client q)) client c q seq verdict.Waiting one.0 one.1 low)
-old_act (StartMove client q disk tuple) s c seq own low =
-    let one = asked_by client q c seq own in
-    act_start (λ (t : State). is_new seq (latest t c) ≡ false) s client q disk tuple
-    (λ old. (λ i. is_new (sym one.1 i) (latest s (sym one.0 i))) ∙ old)
-    (λ new none. old_now s client c q seq verdict.NoDisk one.0 one.1 low)
-    (λ new row found busy. old_now s client c q seq verdict.Moving one.0 one.1 low)
-    (λ new row found free. old_now (with_move s tuple row.id) client c q seq verdict.Ok one.0 one.1 low)
-old_act _ s c seq own low = none_some refl own
+old_act : (servers : ℕ) (s : State) (p : IsSettledState servers s) (e : Command) (t : State) → Outcome servers s p e t → (c seq : ℕ)
+    → asker e ≡ Some (c, seq) → c < length s.verdicts → is_new seq (latest t c) ≡ false
+old_act servers s p _ _ (Unchanged entry old) c seq own low = old c seq own
+old_act servers s p _ _ (Tells entry client q v asks new why) c seq own low =
+    let one = asked_by client q c seq (sym asks ∙ own) in old_now s client c q seq v one.0 one.1 low
+old_act servers s p _ _ (Makes client q name tuple new fresh proper) c seq own low =
+    let one = asked_by client q c seq own in old_now (with_disk s name tuple) client c q seq verdict.Ok one.0 one.1 low
+old_act servers s p _ _ (Queues client q disk name new row found free) c seq own low =
+    let one = asked_by client q c seq own in old_now (with_fence s (Whole row.id name client q)) client c q seq verdict.Waiting one.0 one.1 low
+old_act servers s p _ _ (Begins client q disk tuple new row found still proper) c seq own low =
+    let one = asked_by client q c seq own in old_now (with_move s tuple row.id) client c q seq verdict.Ok one.0 one.1 low
+old_act servers s p _ _ _ c seq own low = none_some refl own
 
 pub settled_old : (s : State) (c seq : ℕ) → is_new seq (latest s c) ≡ false → is_new seq (latest (settled s) c) ≡ false
 settled_old s c seq old =
     kept_settled (λ verdicts. is_new seq (unwrap_or (slice_get verdicts c) None) ≡ false) (λ t d q v onward h. told_old t d c q seq v onward h) s old
 
-pub old_following : (e : Command) (s : State) (c seq : ℕ) → asker e ≡ Some (c, seq) → c < length s.verdicts → is_new seq (latest (after s e) c) ≡ false
-old_following e s c seq own low = settled_old (act e s) c seq (old_act e s c seq own low)
+pub old_following : (servers : ℕ) (s : State) → IsSettledState servers s → (e : Command) → HasProperTuple servers e → (c seq : ℕ)
+    → asker e ≡ Some (c, seq) → c < length s.verdicts → is_new seq (latest (after s e) c) ≡ false
+old_following servers s p e proper c seq own low =
+    settled_old (act e s) c seq (old_act servers s p e (act e s) (outcome servers s p e proper) c seq own low)

@@ -104,7 +104,6 @@ pub use Rattle.law_state.proofs.Moments.{first_moment, moment_later}
 pub use Rattle.law_state.proofs.MovesOfDisks.{IsNoting, act_moved, act_note, act_start}
 pub use Rattle.law_state.proofs.NamedCells.{asked_takes}
 pub use Rattle.law_state.proofs.Owners.{disk_at_is}
-pub use Rattle.law_state.proofs.SnapsQueueFences.{act_drained, act_snap}
 pub use Rattle.law_state.specs.LinkRows.{IsBetween}
 pub use Rattle.law_state.specs.Tables.{IsFence, IsForSnapshot, IsGrown, IsLaterDisk, Of_disk, Of_region}
 pub use Rattle.law_steps.proofs.ClientLetters.{is_ask}

@@ -1,8 +1,9 @@
 -- What a job of a server says of two matters: nothing of either, or that its letter had another revision; and what a tick says.
-use Rattle.law_answers.proofs.Imports.{if◌then◌else◌, ◌==◌, ◌≡◌, ◌≢◌, Actor, Bool, In, IsCalm, Job, JobContext, JobResult, Letter, None, Option, PairState}
+use Rattle.law_answers.proofs.Imports.{if◌then◌else◌, ◌==◌, ◌≡◌, ◌≢◌, Actor, In, IsCalm, Job, JobContext, JobResult, Letter, None, Option, PairState}
 use Rattle.law_answers.proofs.Imports.{Post, Server, Some, arith, ask_logged, asked_by, at_other_rev, ballot_logged, by_test, calm_handles, calm_mends}
-use Rattle.law_answers.proofs.Imports.{calm_stages, calm_sweeps, calm_where_in, dated_again, dated_copies_again, does, false, handles, is_from_in, is_in}
+use Rattle.law_answers.proofs.Imports.{calm_stages, calm_sweeps, calm_where_in, dated_again, dated_copies_again, does, handles, is_from_in, is_in}
 use Rattle.law_answers.proofs.Imports.{nat_tests, not, not_true, one_post, refl, repairs, silent, stages, sweeps, tick_posts, true, voter_of, wrong_rev, ℕ}
+use Rattle.law_state.proofs.TestFacts.{was_true}
 use Rattle.law_answers.proofs.LettersMuteOfRevisions.{IsMute, AreMute, M, both_mute, calm_mute, dated_mute, logged_mute, none_mute}
 use Rattle.petal_msg.specs.declared.body.Body.TheVariants as body
 use Rattle.petal_msg.specs.declared.letter.Actor.TheVariants as actor
@@ -65,10 +66,6 @@ module _ (here : JobContext) where
   differs : (a b : ℕ) → not (a == b) ≡ true → a ≢ b
   differs a b t = grind (arith, nat_tests, not_true)
 
-  stays_in : (b : Bool) → not b ≡ false → b ≡ true
-  stays_in true t = refl
-  stays_in false t = absurd (cc)
-
   tells_in : (own : PairState) (what : Job) (done : JobResult) → IsCalm own done → W what (if is_in here.state here.me here.inc then done else silent own)
   tells_in own what done calm =
       let found = if is_in here.state here.me here.inc then done else silent own in
@@ -79,7 +76,7 @@ module _ (here : JobContext) where
   job_tells own (job.Letter letter) =
       by_test (W (job.Letter letter)) (not (is_in here.state here.me here.inc)) _ _ (λ t. mute_tells (job.Letter letter) (silent own) none_mute) (λ now.
       by_test (W (job.Letter letter)) (not (letter.rev == here.state.rev)) _ _
-      (λ t. other_tells own letter letter.from (stays_in (is_in here.state here.me here.inc) now) (differs letter.rev here.state.rev t) refl) (λ t.
+      (λ t. other_tells own letter letter.from (was_true (is_in here.state here.me here.inc) now) (differs letter.rev here.state.rev t) refl) (λ t.
       by_test (W (job.Letter letter)) (not (is_from_in here.state letter.inc letter.from)) _ _ (λ t. mute_tells (job.Letter letter) (silent own) none_mute)
       (λ t. mute_tells (job.Letter letter) (handles here own letter.body) (calm_mute own (handles here own letter.body) (calm_handles here own letter.body)))))
   job_tells own (job.Stage cell) = tells_in own (job.Stage cell) (stages here own cell) (calm_stages here own cell)

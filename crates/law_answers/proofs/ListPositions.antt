@@ -1,11 +1,6 @@
 -- Where two elements of one list stand to each other, and two moments of one history.
 use Rattle.law_answers.proofs.Imports.{[], ◌++◌, ◌∙◌, ◌∷◌, ◌≡◌, IsMoment, List, Record, ap, append_assoc, refl, sym}
-
-first_is : {A : Type 0} {x z : A} {xs zs : List A} → x ∷ xs ≡ z ∷ zs → x ≡ z
-first_is e = cc
-
-rest_is : {A : Type 0} {x z : A} {xs zs : List A} → x ∷ xs ≡ z ∷ zs → xs ≡ zs
-rest_is e = cc
+use Rattle.law_steps.proofs.Records.{heads, tails}
 
 -- how two places of one list stand to each other: they are one, or one of them stands before the other
 pub data AreOrdered {A : Type 0} (front : List A) (x : A) (following : List A) (before : List A) (y : A) (after : List A) : Type 0 where
@@ -21,10 +16,10 @@ one_more e (Is_latter between is rest) = Is_latter between (λ i. e i ∷ is i) 
 
 pub ordered : {A : Type 0} (front : List A) (x : A) (following : List A) (before : List A) (y : A) (after : List A)
     → front ++ x ∷ following ≡ before ++ y ∷ after → AreOrdered front x following before y after
-ordered [] x following [] y after e = Are_one refl (first_is e) (rest_is e)
-ordered [] x following (b ∷ before) y after e = Is_former before (ap (λ k. k ∷ before) (sym (first_is e))) (rest_is e)
-ordered (a ∷ front) x following [] y after e = Is_latter front (ap (λ k. k ∷ front) (first_is e)) (sym (rest_is e))
-ordered (a ∷ front) x following (b ∷ before) y after e = one_more (first_is e) (ordered front x following before y after (rest_is e))
+ordered [] x following [] y after e = Are_one refl (heads e) (tails e)
+ordered [] x following (b ∷ before) y after e = Is_former before (ap (λ k. k ∷ before) (sym (heads e))) (tails e)
+ordered (a ∷ front) x following [] y after e = Is_latter front (ap (λ k. k ∷ front) (heads e)) (sym (tails e))
+ordered (a ∷ front) x following (b ∷ before) y after e = one_more (heads e) (ordered front x following before y after (tails e))
 
 -- ### Moments
 

@@ -1,7 +1,7 @@
 -- A read that asks the old map asks it as long as the revision of its latest send stays the same.
 use Rattle.law_answers.proofs.Imports.{[], if◌then◌else◌, ◌&&◌, ◌++◌, ◌+◌, ◌==◌, ◌∙◌, ◌∷◌, ◌≡◌, Actor, Answer, Asked, Body, Bool, Client, Command, Learning}
 use Rattle.law_answers.proofs.Imports.{Letter, List, None, Option, Reaction, Request, Sight, Some, State, about, answered_where, answers, ap, asks_and_sends}
-use Rattle.law_answers.proofs.Imports.{by_test, command_of, false, goes_out, goes_out_where, goes_the_old_way, heard, hears, hears_any, hears_of, is_read}
+use Rattle.law_answers.proofs.Imports.{by_test, command_of, goes_out, goes_out_where, goes_the_old_way, heard, hears, hears_any, hears_of, is_read}
 use Rattle.law_answers.proofs.Imports.{is_settled, is_witness, is_write, judged, judged_by, latest, length, map, nat_le, next_entries, none_some, not}
 use Rattle.law_answers.proofs.Imports.{number_itself, refl, refusal, replies, rests, rounds, same_some, sees, sees_for, sees_from, sends_or_proposes}
 use Rattle.law_answers.proofs.Imports.{servers_of, settles, stays_open, subst, sym, takes_all, takes_entries, takes_entry, ticked, to_propose, true}
@@ -32,9 +32,7 @@ so_stays o now so was new is there old rev = let k = so new there in k.3 ∙ ap 
 -- ### Sending
 
 and_itself : (a b : Bool) → a ≡ true → b ≡ true → (a && b) ≡ true
-and_itself true true e f = refl
-and_itself true false e f = f
-and_itself false b e f = e
+and_itself a b e f = cc
 
 module _ (state : State) (c : ℕ) where
   -- one that goes out

@@ -4,7 +4,7 @@ use Rattle.law_answers.proofs.Imports.{cases_lt, false, fold-append, get_within,
 use Rattle.law_answers.proofs.Imports.{slice_get, state_after, subst, suc, take, verdict_for, zero, ℕ}
 use Rattle.spec_state.specs.State.{State, start}
 use Rattle.spec_state.specs.Command.{after}
-use Rattle.law_answers.specs.AskedCommands.{asker}
+use Rattle.law_state.specs.Plain.{asker}
 use Rattle.law_answers.proofs.EntriesTellClients.{many_after, none_past, old_after, old_following}
 use Rattle.law_answers.proofs.RequestsStayDone.{plain_front, take_next}
 
@@ -27,7 +27,7 @@ module _ (servers : ℕ) (log : List Command) (plain : HasProperTuples servers l
   many_at zero low = refl
   many_at (suc k) low =
       let e = get_within log k (omega arith) in
-      ap (λ (s : State). length s.verdicts) (at_next k e.0 e.1) ∙ many_after servers e.0 (at k) (entry_plain k e.0 e.1) ∙ many_at k (omega arith)
+      ap (λ (s : State). length s.verdicts) (at_next k e.0 e.1) ∙ many_after servers (at k) (plain_at k) e.0 (entry_plain k e.0 e.1) ∙ many_at k (omega arith)
 
   -- a number that is old stays so
   pub old_on : (c seq i k : ℕ) → i ≤ k → k ≤ length log → is_new seq (latest (at i) c) ≡ false → is_new seq (latest (at k) c) ≡ false
@@ -37,7 +37,7 @@ module _ (servers : ℕ) (log : List Command) (plain : HasProperTuples servers l
     | inl before ↦
         let e = get_within log k (omega arith) in
         ap (λ (s : State). is_new seq (latest s c)) (at_next k e.0 e.1)
-        ∙ old_after servers e.0 (at k) c seq (entry_plain k e.0 e.1) (old_on c seq i k (omega arith) (omega arith) old)
+        ∙ old_after servers (at k) (plain_at k) e.0 c seq (entry_plain k e.0 e.1) (old_on c seq i k (omega arith) (omega arith) old)
   ]
 
   -- after a client's own command its number is old
@@ -45,7 +45,7 @@ module _ (servers : ℕ) (log : List Command) (plain : HasProperTuples servers l
       → is_new seq (latest (at (suc i)) c) ≡ false
   own_old c seq i e is low own few =
       ap (λ (s : State). is_new seq (latest s c)) (at_next i e is)
-      ∙ old_following e (at i) c seq own (let many = many_at i (omega arith) in omega arith)
+      ∙ old_following servers (at i) (plain_at i) e (entry_plain i e is) c seq own (let many = many_at i (omega arith) in omega arith)
 
   -- who is answered is one of the clients
   pub judged_low : (c seq k : ℕ) (given : Answer) → k ≤ length log → verdict_for seq (latest (at k) c) ≡ Some given → c < 9

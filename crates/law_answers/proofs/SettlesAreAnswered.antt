@@ -9,6 +9,7 @@ use Rattle.law_answers.proofs.Imports.{log_rev, longer, map, nat_cmp, nat_cmp_to
 use Rattle.law_answers.proofs.Imports.{rounds, run_of, same_numbers, same_or_apart, same_some, server_state, servers_of, setting_in, setting_of, settles}
 use Rattle.law_answers.proofs.Imports.{shown, slice_get, start, state_after, step, stepped_in, subst, suc, sym, true, true_false, was_sent, with_sight}
 use Rattle.law_answers.proofs.Imports.{world_after, zero, ℕ}
+use Rattle.law_state.proofs.TestFacts.{was_true}
 use Rattle.law_answers.proofs.AnsweredOnce.{pair_is, was_answered}
 use Rattle.law_answers.proofs.ListPositions.{sooner}
 use Rattle.law_answers.proofs.LinesHavePlaces.{line_at}
@@ -418,12 +419,8 @@ module _ (script : Script) (sound : IsSound script) where
             by_test Told (not (length seen == servers_of state)) _ _
             (λ t e. none_some refl e)
             (λ t. by_test Told (is_settled state (map (λ row. row.1) seen)) _ _
-            (λ s. told_so answer.Ok (round_ended round known (same_numbers (length seen) (servers_of state) (not_false _ t)) s))
+            (λ s. told_so answer.Ok (round_ended round known (same_numbers (length seen) (servers_of state) (was_true _ t)) s))
             (λ s e. none_some refl e))
-          where
-            not_false : (b : Bool) → not b ≡ false → b ≡ true
-            not_false true e = refl
-            not_false false e = true_false refl e
 
         settles_told : Told (settles state client asked sight)
         settles_told =

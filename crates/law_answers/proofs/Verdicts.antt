@@ -1,11 +1,11 @@
 -- Where a plain log gives a client its verdict: by the client's own command, of which the state before its place says what the verdict says;
 -- and a snapshot that waits there is taken once its fence passes.
-use Rattle.law_answers.proofs.Imports.{◌+◌, ◌<◌, ◌∙◌, ◌≡◌, ◌≢◌, ◌≤◌, ◌⊎◌, Answer, Caught, Command, DiskRow, Drained, Fence, HasProperTuples, IsForSnapshot}
-use Rattle.law_answers.proofs.Imports.{IsNoting, IsRequeued, IsUnsettled, Join, Leave, List, MakeDisk, Moved, None, Of_disk, Of_region, Option, Region}
-use Rattle.law_answers.proofs.Imports.{Request, Snap, Snapshot, Some, StartMove, Verdict, Whole, Witness, act, act_caught, act_drained, act_moved, act_note}
-use Rattle.law_answers.proofs.Imports.{act_snap, act_start, acting, ap, arith, by_test, cases_lt, command_of, effect, false, following, get_after, get_last}
+use Rattle.law_answers.proofs.Imports.{◌+◌, ◌<◌, ◌∙◌, ◌≡◌, ◌≢◌, ◌≤◌, ◌⊎◌, Answer, Command, DiskRow, Fence, HasProperTuples, IsForSnapshot}
+use Rattle.law_answers.proofs.Imports.{IsRequeued, IsUnsettled, List, MakeDisk, None, Of_disk, Of_region, Option, Region}
+use Rattle.law_answers.proofs.Imports.{Request, Snap, Snapshot, Some, StartMove, Verdict, Whole, act}
+use Rattle.law_answers.proofs.Imports.{act_start, acting, ap, arith, cases_lt, command_of, effect, false, following, get_after, get_last}
 use Rattle.law_answers.proofs.Imports.{get_within, has_made, head_get, here_now, inl, inr, is_moving, is_name_taken, is_new, is_none, is_snap, is_some}
-use Rattle.law_answers.proofs.Imports.{is_taken, is_up_as, lacks_disk, latest, length, may_join, named, none_some, note, one_passed, option_map_or, passed}
+use Rattle.law_answers.proofs.Imports.{is_taken, lacks_disk, latest, length, named, none_some, one_passed, option_map_or, passed}
 use Rattle.law_answers.proofs.Imports.{passed_here, passing, ready_by, refl, requeued_awaiting, requeued_itself, requeued_reported, row_frozen, row_moving}
 use Rattle.law_answers.proofs.Imports.{same_some, servers_in, settled, settled_keeps, slice_get, slice_get_within, snapshot_named, some_or_none, state_after}
 use Rattle.law_answers.proofs.Imports.{subst, suc, sym, take, text_itself, told, true, true_false, unwrap_or, verdict_answer, verdict_for, view-effect}
@@ -14,9 +14,10 @@ use Rattle.global_tables.specs.Disk.{same_name}
 use Rattle.spec_state.specs.State.{State}
 use Rattle.spec_state.specs.Command.{after}
 use Rattle.law_state.proofs.Fences.{Acted}
-use Rattle.law_answers.specs.AskedCommands.{asker}
+use Rattle.law_state.proofs.EntryOutcomes.{act_make}
+use Rattle.law_state.specs.Plain.{asker}
 use Rattle.law_answers.proofs.CommandsWereAsked.{asker_of}
-use Rattle.law_answers.proofs.EntriesTellClients.{told_answers, act_make, judged_last, judged_old, old_now, onward_new, passed_old, passed_or, passed_stays}
+use Rattle.law_answers.proofs.EntriesTellClients.{told_answers, judged_last, judged_old, old_now, onward_new, passed_old, passed_or, passed_stays}
 use Rattle.law_answers.proofs.EntriesTellClients.{settled_old, told_old, told_or, told_stays}
 use Rattle.law_answers.proofs.RequestsStayDone.{nobody_told, named_on, last_found, has_kept, made_on, asks_it, request_of, same_whole, no_whole, row_known_at}
 use Rattle.law_answers.proofs.RequestsStayDone.{settled_moving, IsMoving}
@@ -24,6 +25,7 @@ use Rattle.law_answers.proofs.OldNumbersStayOld.{at_next, entry_plain, many_at, 
 use Rattle.global_tables.specs.declared.disk.Verdict.TheVariants as verdict
 use Rattle.script_lines.specs.declared.answer.Answer.TheVariants as answer
 use Rattle.script_lines.specs.declared.request.Request.TheVariants as request
+use Rattle.law_state.proofs.EntryOutcomes as entries
 
 -- ### Along a log
 
@@ -371,43 +373,33 @@ module _ (servers : ℕ) (log : List Command) (plain : HasProperTuples servers l
               ap (has_kept (told (with_move s tuple row.id) d q verdict.Ok)) a,
             )) (region_queued_then (told (with_move s tuple row.id) d q verdict.Ok) row.id 0)
 
-      -- a Moved tells nobody
-      noted_by : (of region link : ℕ) (n : IsNoting s of region link) → To (note s of n.row.id region link)
-      noted_by of region link n =
-          act_note servers s (plain_at servers log plain k) of region link n To
-          (λ some acts. still _ (requeued_itself s.view.queue) refl acts)
-          (λ all more acts. has_next s _ p h acts (silent s _ refl) (region_queued_then _ n.row.id (region + 1)))
-          (λ all last acts. still _ (requeued_itself s.view.queue) refl acts)
+      -- what is refused is so by the state before
+      refuses : (e : Command) (v : Verdict) → entries.IsRefused s e v → (d q : ℕ) → asker e ≡ Some (d, q) → slice_get log k ≡ Some e
+          → is_new q (latest s d) ≡ true → To (told s d q v)
+      refuses _ _ (entries.Disk_exists client seq name tuple there) d q of_it is new =
+          refused d q verdict.Exists answer.Exists (MakeDisk client seq name tuple) refl of_it is new (λ a. (ap (is_name_taken s) a ∙ there, tt))
+      refuses _ _ (entries.Snap_exists client seq disk name row found taken) d q of_it is new =
+          refused d q verdict.Exists answer.Exists (Snap client seq disk name) refl of_it is new (λ a.
+          (ap (is_name_taken s) a ∙ ap (λ o. option_map_or (is_taken s name) o false) found ∙ taken, tt))
+      refuses _ _ (entries.Snap_unknown client seq disk name none) d q of_it is new =
+          refused d q verdict.NoDisk answer.NoDisk (Snap client seq disk name) refl of_it is new (λ a. (ap (lacks_disk s) a ∙ ap is_none none, tt))
+      refuses _ _ (entries.Move_unknown client seq disk tuple none) d q of_it is new =
+          refused d q verdict.NoDisk answer.NoDisk (StartMove client seq disk tuple) refl of_it is new (λ a. (ap (lacks_disk s) a ∙ ap is_none none, tt))
+      refuses _ _ (entries.Is_moving client seq disk tuple row found busy) d q of_it is new =
+          refused d q verdict.Moving answer.Moving (StartMove client seq disk tuple) refl of_it is new (λ a.
+          (ap (is_moving s) a ∙ ap (λ o. option_map_or (λ (r : DiskRow). is_some r.moving) o false) found ∙ busy, tt))
 
-      acts : (e : Command) → slice_get log k ≡ Some e → To (act e s)
-      acts (MakeDisk d q name tuple) there acted =
-          act_make To s d q name tuple (λ old acted. unmoved)
-          (λ new taken. refused d q verdict.Exists answer.Exists (MakeDisk d q name tuple) refl refl there new (λ a. (ap (is_name_taken s) a ∙ taken, tt)))
-          (λ new none. makes d q name tuple there new none) acted
-      acts (Snap d q of name) there acted =
-          act_snap To s d q of name (λ old acted. unmoved)
-          (λ new none. refused d q verdict.NoDisk answer.NoDisk (Snap d q of name) refl refl there new (λ a. (ap (lacks_disk s) a ∙ ap is_none none, tt)))
-          (λ new row found taken. refused d q verdict.Exists answer.Exists (Snap d q of name) refl refl there new (λ a.
-          (ap (is_name_taken s) a ∙ ap (λ o. option_map_or (is_taken s name) o false) found ∙ taken, tt)))
-          (λ new row found free. queues d q of name there new row found free) acted
-      acts (Join server inc blank) there acted =
-          by_test To (may_join (slice_get s.view.members server) inc) _ s (λ may. still _ (requeued_itself s.view.queue) refl) (λ no acted. unmoved) acted
-      acts (Leave server inc) there acted =
-          by_test To (is_up_as s server inc) _ s (λ up. still _ (requeued_awaiting _ s.view.queue) refl) (λ out acted. unmoved) acted
-      acts (Caught of link holder holder_inc other other_inc) there acted =
-          act_caught To s of link holder holder_inc other other_inc (λ acts. still _ (requeued_itself s.view.queue) refl) (λ acted. unmoved) acted
-      acts (Drained server inc fence) there acted =
-          act_drained To s server inc fence (λ acted. unmoved) (λ is up. still _ (requeued_reported server s.view.queue) refl) acted
-      acts (StartMove d q of tuple) there acted =
-          act_start To s d q of tuple (λ old acted. unmoved)
-          (λ new none. refused d q verdict.NoDisk answer.NoDisk (StartMove d q of tuple) refl refl there new (λ a.
-          (ap (lacks_disk s) a ∙ ap is_none none, tt)))
-          (λ new row found busy. refused d q verdict.Moving answer.Moving (StartMove d q of tuple) refl refl there new (λ a.
-          (ap (is_moving s) a ∙ ap (λ o. option_map_or (λ (r : DiskRow). is_some r.moving) o false) found ∙ busy, tt)))
-          (λ new row found free. begins d q of tuple there new row found free) acted
-      acts (Moved of region link) there acted =
-          act_moved To servers s (plain_at servers log plain k) of region link (λ acted. unmoved) (λ n. noted_by of region link n) acted
-      acts (Witness client number turn) there acted = unmoved
+      acts : (e : Command) (t : State) → entries.Outcome servers s (plain_at servers log plain k) e t → slice_get log k ≡ Some e → To t
+      acts _ _ (entries.Unchanged entry old) there = λ acted. unmoved
+      acts _ _ (entries.Tells entry client number v asks new why) there = refuses entry v why client number asks there new
+      acts _ _ (entries.Makes client number name tuple new none proper) there = makes client number name tuple there new none
+      acts _ _ (entries.Queues client number of name new row found free) there = queues client number of name there new row found free
+      acts _ _ (entries.Begins client number of tuple new row found free proper) there = begins client number of tuple there new row found free
+      acts _ _ (entries.Leaves server inc up) there = still _ (requeued_awaiting _ s.view.queue) refl
+      acts _ _ (entries.Reports server inc fence head up) there = still _ (requeued_reported server s.view.queue) refl
+      acts _ _ (entries.Moves_on of region link n all more) there =
+          λ acted. has_next s _ p h acted (silent s _ refl) (region_queued_then _ n.row.id (region + 1))
+      acts _ _ _ there = still _ (requeued_itself s.view.queue) refl
 
     has_renumbered : (t : State) (rev : ℕ) → Has t → Has (record t { rev = rev })
     has_renumbered t rev h = record {
@@ -433,7 +425,8 @@ module _ (servers : ℕ) (log : List Command) (plain : HasProperTuples servers l
         → Goes (at k) (at (suc k)) × Stays (act e (at k)) (at (suc k))
     entered k low h e there =
         let acted = acting servers (at k) e (plain_at servers log plain k) (entry_plain servers log plain k e there) in
-        let acts_so = acts k (omega arith) h e there acted in
+        let acts_so = acts k (omega arith) h e (act e (at k))
+        (entries.outcome servers (at k) (plain_at servers log plain k) e (entry_plain servers log plain k e there)) there acted in
         let settled_so = settles (act e (at k)) acted.plain acts_so.0 in
         subst (λ (t : State). Goes (at k) t × Stays (act e (at k)) t) (sym (at_next servers log plain k e there)) (
           (

@@ -1,13 +1,7 @@
 -- That the commands of a log that carry requests out were asked for.
-use Rattle.law_answers.specs.Imports.{Command, In, Line, MakeDisk, Snap, StartMove, command_of, lines_of}
-use Rattle.std.specs.Prelude.{◌+◌, ◌≡◌, List, None, Option, Some, slice_get, ℕ}
-
--- the client of the request that the command carries out, and the request's number
-abbrev pub asker : Command → Option (ℕ × ℕ)
-asker (MakeDisk client seq name tuple) = Some (client, seq)
-asker (Snap client seq disk name) = Some (client, seq)
-asker (StartMove client seq disk tuple) = Some (client, seq)
-asker _ = None
+use Rattle.law_answers.specs.Imports.{Command, In, Line, command_of, lines_of}
+use Rattle.law_state.specs.Plain.{asker}
+use Rattle.std.specs.Prelude.{◌+◌, ◌≡◌, List, Some, slice_get, ℕ}
 
 -- the client's line of this number asks for the command. The lines of a client are its requests, counted from 1
 pub record IsAsked (lines : List Line) (client seq : ℕ) (command : Command) : Type 0 where

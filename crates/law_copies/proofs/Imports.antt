@@ -89,7 +89,7 @@ pub use Rattle.law_state.specs.Steady.{IsLinked}
 pub use Rattle.law_steps.proofs.ClientLetters.{turned_asks}
 pub use Rattle.law_steps.proofs.CopiesRest.{among_least, cell_left, in_none, on_row, same_cell}
 pub use Rattle.law_steps.proofs.CopyFrames.{of_holder}
-pub use Rattle.law_steps.proofs.FillsByJobs.{Fills, Stood, Writes, did_come}
+pub use Rattle.law_jobs.proofs.FillsByJobs.{Fills, Stood, Writes, did_come}
 pub use Rattle.law_steps.proofs.HeldBackForCaughts.{held_as_flag}
 pub use Rattle.law_steps.proofs.IdleServers.{logged_apart}
 pub use Rattle.law_steps.proofs.InvertLead.{is_copying}

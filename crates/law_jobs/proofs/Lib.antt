@@ -9,3 +9,5 @@ pub mod CountsGrow
 pub mod OperationsCome
 pub mod FilledAsTold
 pub mod JobsSay
+pub mod FillsByJobs
+pub mod EntriesReachComingCells

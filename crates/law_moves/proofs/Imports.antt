@@ -92,11 +92,11 @@ pub use Rattle.law_state.proofs.Steady.{below}
 pub use Rattle.law_state.proofs.TwinsAreOfOneDisk.{IsMoved, cells_same, goal_same, gone_twin, log_comes, log_goes, source_same, start_same, twins_later}
 pub use Rattle.law_state.specs.LaterStates.{KeepsRoles}
 pub use Rattle.law_state.specs.NotedLinks.{HasMovedIn}
-pub use Rattle.law_steps.proofs.EntriesReachComingCells.{comes_after, start_comes}
-pub use Rattle.law_steps.proofs.FillsByJobs.{IsOpenedFill, Is_next, Is_other, did_fills, is_fill}
+pub use Rattle.law_jobs.proofs.EntriesReachComingCells.{comes_after, start_comes}
+pub use Rattle.law_jobs.proofs.FillsByJobs.{IsOpenedFill, Is_next, Is_other, did_fills, is_fill}
 pub use Rattle.law_steps.proofs.LettersOfSteps.{Aside, Of_job, Was_sent, happens_sent}
 pub use Rattle.law_steps.proofs.MovesAreOfComingCells.{leaves_with, next_on, region_left}
-pub use Rattle.law_steps.specs.ComingCells.{WasComing}
+pub use Rattle.law_jobs.specs.ComingCells.{WasComing}
 pub use Rattle.law_steps.specs.DidStep.{IsSeatedOrMute}
 pub use Rattle.law_steps.specs.DidSweep.{cell_swept}
 pub use Rattle.law_steps.specs.Operations.{A_fill, A_write, IsOpenedFor, IsStaged}

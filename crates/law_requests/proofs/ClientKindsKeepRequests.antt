@@ -9,6 +9,7 @@ use Rattle.law_requests.proofs.Imports.{front_long, front_more, front_on, front_
 use Rattle.law_requests.proofs.Imports.{is_the_so, is_write, lead, length, line_by, lines_of, log_plain, log_rev, none_some, pattern_block, put_same, refl}
 use Rattle.law_requests.proofs.Imports.{refusal, same_or_apart, same_some, slice_get, some_or_none, state_after, subject_of, subst, sym, true, true_false}
 use Rattle.law_requests.proofs.Imports.{write_refusal, ℕ}
+use Rattle.law_steps.proofs.ClientStepKinds.{was_open}
 use Rattle.law_requests.specs.AskedRequests.{HasItsWay, IsWrite, IsAsked, IsOpenFrom, WasToldAt}
 use Rattle.law_requests.specs.KnownRequests.{Lives, Seen, seen, IsLate, Is_past, Had_no_lead, Had_another, IsSent, EndKnown, EndKnownAt, Known, AskingBy}
 use Rattle.law_requests.proofs.WritesAtLaterFronts.{write_stays}
@@ -148,12 +149,7 @@ module _ (setting : Setting) (w : World) (lives : Lives) (firm : Firm setting w)
           (subst (λ (r : ℕ). WasToldAt w.sent c old.seq r) (sym at) (h.old_way (sym way ∙ e)))
       by (Anew at way) e = true_false e way
 
-  -- whatever is open then was
-  was_same : (rev : ℕ) (o : Option Asked) (new : Asked) → StaysOpen rev o (Some new) → (old : Asked) × (o ≡ Some old) × IsSame rev old new
-  was_same rev None new stays = absurd stays
-  was_same rev (Some old) new stays = (old, refl, stays)
-
-  -- and its latest send is no earlier
+  -- its latest send is no earlier
   stays_open : (to : Client) (seq rev : ℕ) (old : Asked) → old.seq ≡ seq → rev ≤ old.rev → rev ≤ length to.applied → (o : Option Asked) → to.asked ≡ o
       → StaysOpen (length to.applied) (Some old) o → IsOpenFrom to seq rev
   stays_open to seq rev old same le far None is stays = absurd stays
@@ -176,7 +172,7 @@ module _ (setting : Setting) (w : World) (lives : Lives) (firm : Firm setting w)
       let to = reacted.client in
       let rev = length to.applied in
       let before : (asked : Asked) → to.asked ≡ Some asked → (old : Asked) × (open_then ≡ Some old) × IsSame rev old asked =
-      λ asked is. was_same rev open_then asked (subst (StaysOpen rev open_then) is stays) in
+      λ asked is. was_open rev open_then asked (subst (StaysOpen rev open_then) is stays) in
       let known : (asked : Asked) → to.asked ≡ Some asked → IsAsked lines c to asked =
       λ asked is. let b = before asked is in same_known to onward.0 b.0 asked (was b.0 b.1).0 b.2 seq in
       let ways : (asked : Asked) → to.asked ≡ Some asked → HasItsWay w.sent c asked =

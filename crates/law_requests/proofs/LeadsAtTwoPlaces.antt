@@ -8,10 +8,8 @@ use Rattle.law_requests.proofs.Imports.{log_below, log_plain, log_steady, lost_l
 use Rattle.law_requests.proofs.Imports.{places_from, primary_is_one, row_lead, same_numbers, same_place, same_some, secondary_is_one, so_alone, some_or_none}
 use Rattle.law_requests.proofs.Imports.{stage_at, start, state_after, subst, sym, true, true_false, ℕ}
 use Rattle.law_state.proofs.LoneHolders.{alone_not_both}
+use Rattle.law_state.proofs.TestFacts.{same_only}
 use Rattle.law_requests.specs.KnownRequests.{LedBy}
-
-pub same_only : {n m : ℕ} {one other : Bool} → Only n one ≡ Only m other → n ≡ m
-same_only e = cc
 
 -- ### One state
 

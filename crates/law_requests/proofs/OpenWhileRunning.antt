@@ -11,7 +11,8 @@ use Rattle.law_requests.specs.AskedRequests.{IsOpen}
 use Rattle.law_requests.specs.KnownRequests.{Lives, seen, IsAt, LedBy, IsLate, Is_past, Had_no_lead, Had_another, IsLedAlong, PendingFor, asked_for, AskingBy}
 use Rattle.law_requests.specs.KnownRequests.{KnowsReports}
 use Rattle.law_requests.proofs.RequestsKnownLater.{either_front, one_log}
-use Rattle.law_requests.proofs.LeadsAtTwoPlaces.{led_at_place, led_stage, one_lead, same_only, stage_by}
+use Rattle.law_requests.proofs.LeadsAtTwoPlaces.{led_at_place, led_stage, one_lead, stage_by}
+use Rattle.law_state.proofs.TestFacts.{same_only}
 
 -- by each front of what is chosen, from the server's entries on, by which the incarnation is In still, the cell has not been left
 abbrev pub IsUnleft : Setting → World → (n inc : ℕ) → Cell → Type 0

@@ -1,12 +1,12 @@
 -- What is known of requests is kept by each step.
 use Rattle.law_requests.proofs.Imports.{◌<◌, ◌≡◌, ◌≢◌, Acted, Actor, AllMayWake, Blank, Blanks, Body, Bool, Cell, Firm, Glanced, Happens, HasProperTuples}
-use Rattle.law_requests.proofs.Imports.{Heard, In, IsPrefix, Logged, Pending, Reaction, Ready, Serves, Serving, Setting, Some, State, Step, Subject}
+use Rattle.law_requests.proofs.Imports.{Heard, In, IsPrefix, Letter, Logged, Pending, Reaction, Ready, Serves, Serving, Setting, Some, State, Step, Subject}
 use Rattle.law_requests.proofs.Imports.{Turned, Turns, Wanted, World, acts, ap, arith, at, blanked, cell_cmp, client_sender, false, in_later, inl, inr}
 use Rattle.law_requests.proofs.Imports.{is_clients, is_notice, length, letters_of, log_rev, reacts, refl, server_state, serves_sent, stamped, stays}
 use Rattle.law_requests.proofs.Imports.{subject_of, subst, sym, true, true_false, was_same, ℕ}
-use Rattle.law_requests.specs.KnownRequests.{Lives, AreLives, lives_after, seen, Known, PendingFor, AskingBy, KnowsReports}
+use Rattle.law_requests.specs.KnownRequests.{Lives, AreLives, lives_after, seen, Known, KnownLetter, PendingFor, AskingBy, KnowsReports}
 use Rattle.law_requests.proofs.LeadJobsKeepRequests.{job_tells}
-use Rattle.law_requests.proofs.ServerStepsKeepRequests.{SaysOk, Scene, WasOrNew, goes_on, opened_now, says_known, step_asking, steps}
+use Rattle.law_requests.proofs.ServerStepsKeepRequests.{IsStepped, SaysOk, Scene, WasOrNew, goes_on, opened_now, says_known, step_asking, steps}
 use Rattle.law_requests.proofs.RequestsKnownLater.{Later, pending_later, tells_request, untold}
 use Rattle.law_requests.proofs.IncarnationsGoOn.{Lived, done_beside, lives_still}
 use Rattle.law_requests.proofs.ClientKindsKeepRequests.{turn_ok}
@@ -43,14 +43,28 @@ module _ (scene : Scene) (ready : Ready scene.setting scene.state scene.w) (n st
   abbrev after : Acted → World
   after acted = (acts setting w n what stamp acted).world
 
+  abbrev Keeps : Acted → Type 0
+  Keeps acted = AskingBy setting (after acted) (lives_after lives (after acted)) × GoesOn setting w (after acted) lives
+
+  keeps_by : (acted : Acted) → IsStepped scene n acted.server
+      → ((letter : Letter) → In letter (stamped stamp acted.letters) → KnownLetter setting (seen (lives_after lives (after acted)) (after acted)) letter)
+      → Keeps acted
+  keeps_by acted step says = (
+    step_asking scene n stamp what acted step says,
+    record {
+      later = goes_on scene n stamp what acted step;
+      steps = steps scene n stamp what acted step;
+      opened = opened_now scene n stamp what acted step;
+    },
+  )
+
   -- a job tells of requests what is known of them, and no other letter of a server tells of one
-  pub serves_asking : AllMayWake setting w → (acted : Acted) → Serving setting w n what acted
-      → AskingBy setting (after acted) (lives_after lives (after acted))
-  serves_asking wake acted serving =
+  serves_keeps : AllMayWake setting w → (acted : Acted) → Serving setting w n what acted → Keeps acted
+  serves_keeps wake acted serving =
       let step = serves_step scene ready n stamp what wake acted serving in
       let later = seen (lives_after lives (after acted)) (after acted) in
       let rev : length (w.servers n).log.applied ≡ (server_state setting w n).rev = sym (log_rev setting.servers (w.servers n).log.applied) in
-      step_asking scene n stamp what acted step (λ letter i. elim (serves_sent setting w n stamp what acted serving letter i) [
+      keeps_by acted step (λ letter i. elim (serves_sent setting w n stamp what acted serving letter i) [
         | inl job ↦ (
             let says = (job_tells scene n job.runs job.done job.seat job.did).says job.post job.there in
             let k = says_known scene n stamp what acted step job.runs (ap (λ (a : Acted). a.server.life.inc) job.acted_is)
@@ -63,43 +77,9 @@ module _ (scene : Scene) (ready : Ready scene.setting scene.state scene.w) (n st
         | inr apart ↦ untold setting later letter.from letter.to letter.rev letter.body (notice_untold (subject_of letter.body) apart)
       ])
 
-  -- what was known of incarnations is known later
-  pub serves_later : AllMayWake setting w → (acted : Acted) → Serving setting w n what acted
-      → GoesOn setting w (after acted) lives
-  serves_later wake acted serving =
-      let step = serves_step scene ready n stamp what wake acted serving in
-      record {
-        later = goes_on scene n stamp what acted step;
-        steps = steps scene n stamp what acted step;
-        opened = opened_now scene n stamp what acted step;
-      }
-
-  pub blanks_asking : (w.servers n).life.running ≡ false
-      → AskingBy setting (after (stays (blanked (w.servers n)))) (lives_after lives (after (stays (blanked (w.servers n)))))
+  blanks_keeps : (w.servers n).life.running ≡ false → Keeps (stays (blanked (w.servers n)))
   unfolding In
-  blanks_asking asleep = step_asking scene n stamp what (stays (blanked (w.servers n))) (blanks_step scene ready n stamp what asleep) (λ letter i. absurd i)
-
-  pub blanks_later : (w.servers n).life.running ≡ false → GoesOn setting w (after (stays (blanked (w.servers n)))) lives
-  blanks_later asleep =
-      let acted = stays (blanked (w.servers n)) in
-      record {
-        later = goes_on scene n stamp what acted (blanks_step scene ready n stamp what asleep);
-        steps = steps scene n stamp what acted (blanks_step scene ready n stamp what asleep);
-        opened = opened_now scene n stamp what acted (blanks_step scene ready n stamp what asleep);
-      }
-
-abbrev scene_at : (setting : Setting) (state : State) (w : World) (lives : Lives) → Ready setting state w → AskingBy setting w lives
-    → KnowsReports setting w lives → Scene
-scene_at setting state w lives ready asking reports = record {
-  setting = setting;
-  state = state;
-  w = w;
-  lives = lives;
-  firm = ready.firm;
-  rests = ready.rests;
-  asking = asking;
-  reports = reports;
-}
+  blanks_keeps asleep = keeps_by (stays (blanked (w.servers n))) (blanks_step scene ready n stamp what asleep) (λ letter i. absurd i)
 
 turned_ok : (setting : Setting) (w : World) (lives : Lives) (firm : Firm setting w) → AskingBy setting w lives → (c : ℕ) → c < 9 → (stamp : ℕ) (in_call : Bool)
     (reacted : Reaction) → IsPrefix (w.clients c).applied reacted.client.applied → HasProperTuples setting.servers reacted.client.applied
@@ -110,25 +90,35 @@ turned_ok setting w lives firm asking c within stamp in_call reacted grows plain
     (λ letter h. in_later letter (stamped stamp (letters_of (client_sender c reacted.client) 0 reacted.posts)) w.sent h)
     in_call reacted (grows, plain) turned
 
-pub happens_asking : (setting : Setting) (state : State) → (w v : World) (lives : Lives) → Ready setting state w → AllMayWake setting w
-    → AskingBy setting w lives → KnowsReports setting w lives → Happens setting state w v → AskingBy setting v (lives_after lives v)
-happens_asking setting state w _ lives ready wake asking reports (Serves n stamp what acted lt member unblanked serving) =
-    serves_asking (scene_at setting state w lives ready asking reports) ready n stamp what wake acted serving
-happens_asking setting state w _ lives ready wake asking reports (Blanks n stamp lt member asleep) =
-    blanks_asking (scene_at setting state w lives ready asking reports) ready n stamp Blank asleep
-happens_asking setting state w _ lives ready wake asking reports (Turns c stamp in_call reacted lt within turned onward) =
-    turn_asking (scene_at setting state w lives ready asking reports) c stamp reacted
-    (turned_ok setting w lives ready.firm asking c within stamp in_call reacted onward.grows onward.plain turned) onward
+module _ (setting : Setting) (state : State) (w v : World) (lives : Lives) (ready : Ready setting state w) (wake : AllMayWake setting w)
+    (asking : AskingBy setting w lives) (reports : KnowsReports setting w lives) (happened : Happens setting state w v) where
+  abbrev scene : Scene
+  scene = record {
+    setting = setting;
+    state = state;
+    w = w;
+    lives = lives;
+    firm = ready.firm;
+    rests = ready.rests;
+    asking = asking;
+    reports = reports;
+  }
 
-pub happens_later : (setting : Setting) (state : State) → (w v : World) (lives : Lives) → Ready setting state w → AllMayWake setting w
-    → AskingBy setting w lives → KnowsReports setting w lives → Happens setting state w v → GoesOn setting w v lives
-happens_later setting state w _ lives ready wake asking reports (Serves n stamp what acted lt member unblanked serving) =
-    serves_later (scene_at setting state w lives ready asking reports) ready n stamp what wake acted serving
-happens_later setting state w _ lives ready wake asking reports (Blanks n stamp lt member asleep) =
-    blanks_later (scene_at setting state w lives ready asking reports) ready n stamp Blank asleep
-happens_later setting state w _ lives ready wake asking reports (Turns c stamp in_call reacted lt within turned onward) = record {
-  later = turn_later (scene_at setting state w lives ready asking reports) c stamp reacted
-      (turned_ok setting w lives ready.firm asking c within stamp in_call reacted onward.grows onward.plain turned) onward;
-  steps = lives_still lives w asking.lived;
-  opened = λ n cell op is clients. inl (was_same (w.servers n).own cell op is);
-}
+  keeps_on : (u : World) → Happens setting state w u → AskingBy setting u (lives_after lives u) × GoesOn setting w u lives
+  keeps_on _ (Serves n stamp what acted lt member unblanked serving) = serves_keeps scene ready n stamp what wake acted serving
+  keeps_on _ (Blanks n stamp lt member asleep) = blanks_keeps scene ready n stamp Blank asleep
+  keeps_on _ (Turns c stamp in_call reacted lt within turned onward) =
+      let turn = turned_ok setting w lives ready.firm asking c within stamp in_call reacted onward.grows onward.plain turned in (
+        turn_asking scene c stamp reacted turn onward,
+        record {
+          later = turn_later scene c stamp reacted turn onward;
+          steps = lives_still lives w asking.lived;
+          opened = λ n cell op is clients. inl (was_same (w.servers n).own cell op is);
+        },
+      )
+
+  pub happens_asking : AskingBy setting v (lives_after lives v)
+  happens_asking = (keeps_on v happened).0
+
+  pub happens_later : GoesOn setting w v lives
+  happens_later = (keeps_on v happened).1

@@ -105,7 +105,8 @@ pub use Rattle.law_moves.specs.EntryEpochs.{AreEarly}
 pub use Rattle.law_moves.specs.Fills.{Has, IsFrozen}
 pub use Rattle.law_moves.specs.InTime.{IsTimely}
 pub use Rattle.law_requests.proofs.IncarnationsGoOn.{no_earlier, ran_now}
-pub use Rattle.law_requests.proofs.LeadsAtTwoPlaces.{leader_alone, one_lead, same_only}
+pub use Rattle.law_requests.proofs.LeadsAtTwoPlaces.{leader_alone, one_lead}
+pub use Rattle.law_state.proofs.TestFacts.{same_only}
 pub use Rattle.law_requests.proofs.OpenBesideRunning.{open_beside}
 pub use Rattle.law_requests.proofs.OpenWhileRunning.{open_at_place, open_running, pending_here}
 pub use Rattle.law_requests.proofs.OpenedAfterReport.{reports_hold}

@@ -18,16 +18,16 @@ use Rattle.law_state.proofs.EntryOutcomes.{outcome}
 use Rattle.global_tables.specs.declared.fence.Member.TheVariants as member
 
 acted : (servers : ℕ) (s : State) (p : IsSettledState servers s) (entry : Command) (t : State) → Outcome servers s p entry t → Acted servers s t
-acted servers s p _ _ (Unchanged entry) = acts_not servers s p
-acted servers s p _ _ (Tells entry client seq verdict) = untabled servers s.rev _ s s (acts_not servers s p)
+acted servers s p _ _ (Unchanged entry old) = acts_not servers s p
+acted servers s p _ _ (Tells entry client seq verdict asks new why) = untabled servers s.rev _ s s (acts_not servers s p)
 acted servers s p _ _ (Joins server inc blank may) = joining servers s p server inc blank may
 acted servers s p _ _ (Leaves server inc is) = leaving servers s p server inc is
 acted servers s p _ _ (Catches_up of link holder inc other other_inc acts) = catching (acting_caught p acts)
-acted servers s p _ _ (Makes client seq name tuple fresh proper) =
+acted servers s p _ _ (Makes client seq name tuple new fresh proper) =
     untabled servers s.rev _ s (with_disk s name tuple) (making servers s p name tuple fresh proper)
-acted servers s p _ _ (Queues client seq disk name row found free) =
+acted servers s p _ _ (Queues client seq disk name new row found free) =
     untabled servers s.rev _ s (with_fence s (Whole row.id name client seq)) (snapping servers s p client seq disk name row found free)
-acted servers s p _ _ (Begins client seq disk tuple row found still proper) =
+acted servers s p _ _ (Begins client seq disk tuple new row found still proper) =
     untabled servers s.rev _ s (with_move s tuple row.id) (begins servers s p disk tuple row found still proper)
 acted servers s p _ _ (Reports server inc fence head up) = draining servers s p server
 acted servers s p _ _ (Notes of region link h some) = noting servers s p of region link h some

@@ -92,8 +92,8 @@ module _ (servers : ℕ) (s : State) (p : IsSettledState servers s) (cell : Cell
         primary = refl;
         secondary = refl;
       })
-  act_stays _ _ (Makes client seq name tuple fresh proper) off = same_still _ (one_map_more (with_disk s name tuple) tuple s.disks.made refl refl) refl
-  act_stays _ _ (Begins client seq disk tuple at found still proper) off = same_still _ (one_map_more (with_move s tuple at.id) tuple at.id refl refl) refl
+  act_stays _ _ (Makes client seq name tuple new fresh proper) off = same_still _ (one_map_more (with_disk s name tuple) tuple s.disks.made refl refl) refl
+  act_stays _ _ (Begins client seq disk tuple new at found still proper) off = same_still _ (one_map_more (with_move s tuple at.id) tuple at.id refl refl) refl
   act_stays _ _ (Ends of region link h every last) off =
       let t = moved_state servers s p of region link h every last in
       elim (same_or_apart cell.map of) [

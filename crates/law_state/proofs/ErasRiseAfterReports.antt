@@ -343,9 +343,9 @@ module _ (which : Hold → Bool) (every : which All ≡ true) (nothing : which N
 
     comes : (entry : Command) (t : State) → Outcome servers s p entry t → Comes entry t
     comes _ _ (Leaves server last now) still = inl (left_awaited s server n inc cell still low high)
-    comes _ _ (Makes client seq name tuple fresh proper) still =
+    comes _ _ (Makes client seq name tuple new fresh proper) still =
         inl (told_still (with_disk s name tuple) client seq Verdict.Ok (made_still name tuple fresh proper))
-    comes _ _ (Queues client seq disk name row found free) still = inl (record {
+    comes _ _ (Queues client seq disk name new row found free) still = inl (record {
       awaited = λ fence e on. elim (heads_queued s.view (Whole row.id name client seq) refl refl fence e) [
         | inl old ↦ awaited fence old on
         | inr waits ↦ waits
@@ -354,7 +354,7 @@ module _ (which : Hold → Bool) (every : which All ≡ true) (nothing : which N
       low = low;
       high = high;
     })
-    comes _ _ (Begins client seq disk tuple row found quiet proper) still =
+    comes _ _ (Begins client seq disk tuple new row found quiet proper) still =
         inl (told_still (with_move s tuple row.id) client seq Verdict.Ok (begun_still disk tuple row found quiet proper))
     comes _ _ (Reports server last fence active up) still = reports server last fence active up still
     comes _ _ (Notes of region link h some) still = inl (noted_alone of region link h some)

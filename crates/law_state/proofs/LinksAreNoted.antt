@@ -454,9 +454,9 @@ module _ (servers : ℕ) (s : State) (p : IsSettledState servers s) (cell : Cell
       ]
 
   acts : (entry : Command) (t : State) → Outcome servers s p entry t → Enters entry t
-  acts _ _ (Makes client seq name tuple fresh proper) f =
+  acts _ _ (Makes client seq name tuple new fresh proper) f =
       makes (MakeDisk client seq name tuple) name tuple fresh proper (record { row = f.row; is = f.is; so = f.so })
-  acts _ _ (Begins client seq disk tuple row found still proper) f =
+  acts _ _ (Begins client seq disk tuple new row found still proper) f =
       begins_so (StartMove client seq disk tuple) disk tuple row found still proper (record { row = f.row; is = f.is; so = f.so })
   acts _ _ (Notes of region last h some) f =
       notes of region last h (noted_state servers s p of region last h) (noting servers s p of region last h some) refl refl f

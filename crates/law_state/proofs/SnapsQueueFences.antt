@@ -1,9 +1,9 @@
 -- A Snap queues a fence for a snapshot that nobody has, and that no other fence is for. A report takes its server from those for whom the
 -- active fence waits.
-use Rattle.law_state.proofs.Imports.{[], ◌&&◌, ◌+◌, ◌==◌, ◌∙◌, ◌∷◌, ◌≡◌, Bool, DiskRow, Drained, Err, Fence, List, None, Ok, Option, Region, Result, Snap}
-use Rattle.law_state.proofs.Imports.{Some, State, Verdict, Whole, act, ap, both_true, by_test, disk_at, false, first_waiting, inl, inr, is_disk, is_head}
-use Rattle.law_state.proofs.Imports.{is_new, is_some, is_taken, is_up_as, latest, list_any, named, none_some, number_itself, refl, same_name, same_numbers}
-use Rattle.law_state.proofs.Imports.{same_some, slice_get, snap_target, snapped, snapshot_named, suc, sym, takes, told, true, true_false, with_fence, zero, ℕ}
+use Rattle.law_state.proofs.Imports.{[], ◌&&◌, ◌+◌, ◌==◌, ◌∙◌, ◌∷◌, ◌≡◌, Bool, DiskRow, Fence, List, None, Option, Region}
+use Rattle.law_state.proofs.Imports.{Some, State, Whole, ap, disk_at, false, first_waiting, inl, inr, is_disk}
+use Rattle.law_state.proofs.Imports.{is_some, is_taken, list_any, named, none_some, number_itself, refl, same_name, same_numbers}
+use Rattle.law_state.proofs.Imports.{same_some, slice_get, snapshot_named, suc, sym, takes, true_false, with_fence, zero, ℕ}
 use Rattle.law_state.specs.Tables.{IsSettledState, Of_disk}
 use Rattle.law_state.proofs.Fences.{Acted, AreQueued, fence_kept, head_queued, head_reported, queued_on, requeued, requeued_reported, waits_before}
 use Rattle.law_state.proofs.Fences.{waits_present}
@@ -38,35 +38,6 @@ disk_stands rows ids disk row e =
     let at = found_at (is_disk disk) rows row e in
     let same : at.0 ≡ disk = sym (ids at.0 row at.1) ∙ same_numbers row.id disk at.2 in
     ap (slice_get rows) (sym same) ∙ at.1
-
--- ### What a Snap comes to
-
--- it is not new, or gets its verdict at once, or queues a fence for a disk that is found and has no snapshot of the name
-pub act_snap : (P : State → Type 0) (s : State) (client seq : ℕ) (disk name : List ℕ)
-    → (is_new seq (latest s client) ≡ false → P s)
-    → (is_new seq (latest s client) ≡ true → named s.disks.rows disk ≡ None → P (told s client seq Verdict.NoDisk))
-    → (is_new seq (latest s client) ≡ true → (row : DiskRow) → named s.disks.rows disk ≡ Some row → is_taken s name row ≡ true
-    → P (told s client seq Verdict.Exists))
-    → (is_new seq (latest s client) ≡ true → (row : DiskRow) → named s.disks.rows disk ≡ Some row → is_taken s name row ≡ false
-    → P (told (with_fence s (Whole row.id name client seq)) client seq Verdict.Waiting))
-    → P (act (Snap client seq disk name) s)
-act_snap P s client seq disk name old unknown taken queues =
-    by_test P (is_new seq (latest s client)) (snapped s client seq name (snap_target s name (named s.disks.rows disk))) s
-    (λ new. by new (named s.disks.rows disk) refl) old
-  where
-    by : is_new seq (latest s client) ≡ true → (o : Option DiskRow) → named s.disks.rows disk ≡ o → P (snapped s client seq name (snap_target s name o))
-    by new None is = unknown new is
-    by new (Some row) is =
-        by_test (λ (target : Result ℕ Verdict). P (snapped s client seq name target)) (is_taken s name row) (Err Verdict.Exists) (Ok row.id)
-        (λ has. taken new row is has) (λ free. queues new row is free)
-
--- a report that acts is of the active fence, by a server that is In
-pub act_drained : (P : State → Type 0) (s : State) (server inc fence : ℕ) → P s
-    → (is_head s fence ≡ true → is_up_as s server inc ≡ true → P (record s { view = view.drained s.view server }))
-    → P (act (Drained server inc fence) s)
-act_drained P s server inc fence none acts =
-    by_test P (is_head s fence && is_up_as s server inc) (record s { view = view.drained s.view server }) s
-    (λ e. let h = both_true (is_head s fence) (is_up_as s server inc) e in acts h.0 h.1) (λ e. none)
 
 -- ### The queue
 

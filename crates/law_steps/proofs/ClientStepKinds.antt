@@ -84,16 +84,11 @@ stays_on rev (Some a) None c one two = absurd one
 stays_on rev (Some a) (Some b) None one two = absurd two
 stays_on rev (Some a) (Some b) (Some c) one two = same_on rev a b c one two
 
-record StillOpen (rev : ℕ) (old : Asked) (o : Option Asked) : Type 0 where
-  now : Asked
-  is : o ≡ Some now
-  same : IsSame rev old now
-
-still_open : (rev : ℕ) (old : Asked) (o : Option Asked) → StaysOpen rev (Some old) o → StillOpen rev old o
+still_open : (rev : ℕ) (old : Asked) (o : Option Asked) → StaysOpen rev (Some old) o → (now : Asked) × (o ≡ Some now) × IsSame rev old now
 still_open rev old None h = absurd h
-still_open rev old (Some now) h = record { now = now; is = refl; same = h }
+still_open rev old (Some now) h = (now, refl, h)
 
-was_open : (rev : ℕ) (o : Option Asked) (now : Asked) → StaysOpen rev o (Some now) → (old : Asked) × (o ≡ Some old) × IsSame rev old now
+pub was_open : (rev : ℕ) (o : Option Asked) (now : Asked) → StaysOpen rev o (Some now) → (old : Asked) × (o ≡ Some old) × IsSame rev old now
 was_open rev None now h = absurd h
 was_open rev (Some old) now h = (old, refl, h)
 
@@ -238,14 +233,14 @@ module _ (servers : ℕ) (lines : List Line) (w : World) (c : ℕ) where
       let q = goes_quiet state c before new in
       let still = still_open state.rev new reacted.client.asked q.stays in
       record {
-        turned = Begins reacted line still.now is free q.seq still.is
+        turned = Begins reacted line still.0 is free q.seq still.1
             (record {
-              line_is = still.same.line;
-              seq_is = still.same.seq;
-              request_is = still.same.request;
-              rev_is = sent_rev state.rev new still.now refl still.same.sent ∙ log_rev servers client.applied;
-              untold = still.same.told;
-              new_way = still_new state.rev new still.now refl still.same.sent;
+              line_is = still.2.line;
+              seq_is = still.2.seq;
+              request_is = still.2.request;
+              rev_is = sent_rev state.rev new still.0 refl still.2.sent ∙ log_rev servers client.applied;
+              untold = still.2.told;
+              new_way = still_new state.rev new still.0 refl still.2.sent;
             })
             (only_says before (Some new) reacted q);
         grows = front_same client.applied reacted.client.applied q.applied;

@@ -1,12 +1,12 @@
 -- What a server holds back, since it has started a ballot for the Caught of the cell's link: a ballot starts for a link without pending
 -- operations alone, and an entry starts none.
-use Rattle.law_steps.proofs.Imports.{[], ◌&&◌, ◌==◌, ◌||◌, ◌∙◌, ◌∷◌, ◌≡◌, Ask, Block, Bool, Caught, Cell, Command, Equal, Greater, HasLater, JobContext, Less}
+use Rattle.law_steps.proofs.Imports.{[], ◌&&◌, ◌==◌, ◌∙◌, ◌∷◌, ◌≡◌, Ask, Block, Bool, Caught, Cell, Command, Equal, Greater, HasLater, JobContext, Less}
 use Rattle.law_steps.proofs.Imports.{LinkId, LinkRow, NextCopy, None, Nothing, Option, Ordering, PairState, Pending, Progress, Some, State, Table, Wait, ap}
-use Rattle.law_steps.proofs.Imports.{at, at-where, blocks_left, by_bool, by_test, cell_at, cell_cmp, cell_cmp_same, cell_link, cond, crossed, ends_link}
-use Rattle.law_steps.proofs.Imports.{eq_by_cmp, false, has_proposed, holds_link, id_of, is_at, is_eq, is_flagged, is_link, is_link_under_way, is_on}
-use Rattle.law_steps.proofs.Imports.{is_under_way, least, link_cmp, list_any, lookup, next_block, next_copy, none_some, not, number_itself, option_map_or}
-use Rattle.law_steps.proofs.Imports.{or_first, or_true, progress_beside, progress_on, proposed, refl, same_caught, same_id, sym, true, true_false}
-use Rattle.law_steps.proofs.Imports.{with_progress, ℕ}
+use Rattle.law_steps.proofs.Imports.{at, at-where, blocks_left, by_bool, by_test, cell_at, cell_cmp, cell_cmp_same, cell_link, cond, crossed, either_false}
+use Rattle.law_steps.proofs.Imports.{ends_link, eq_by_cmp, false, has_proposed, holds_link, id_of, is_at, is_eq, is_flagged, is_link, is_link_under_way}
+use Rattle.law_steps.proofs.Imports.{is_on, is_under_way, least, link_cmp, list_any, lookup, next_block, next_copy, none_some, not, number_itself}
+use Rattle.law_steps.proofs.Imports.{option_map_or, or_first, or_true, progress_beside, progress_on, proposed, refl, same_caught, same_id, same_some, subst}
+use Rattle.law_steps.proofs.Imports.{sym, true, true_false, with_progress, ℕ}
 use Rattle.law_steps.specs.DidStep.{IsBallotFor, Starts}
 
 pub held_as_flag : (state : State) (own : PairState) (cell : Cell) (row : LinkRow) → cell_link state cell ≡ Some row
@@ -45,15 +45,16 @@ same_order Less e = true_false e refl
 same_order Equal e = refl
 same_order Greater e = true_false e refl
 
--- an operation that stands in a table is one of its rows
-any_at : (p : Cell → Bool) (t : Table Cell Pending) (cell : Cell) (op : Pending) → at cell_cmp t cell ≡ Some op → p cell ≡ true
-    → list_any (λ (row : Cell × Pending). p row.0) t ≡ true
+-- a test that holds of what stands at the key holds of some row
+pub any_at : {K X : Type 0} (R : K → K → Ordering) (p : K × X → Bool) (t : Table K X) (k : K) (x : X) → at R t k ≡ Some x
+    → ((key : K) → R k key ≡ Equal → p (key, x) ≡ true) → list_any p t ≡ true
 unfolding at
-any_at p [] cell op e is = none_some refl e
-any_at p (row ∷ rows) cell op e is = by_bool (is_eq (cell_cmp cell row.0))
-    (λ t. or_first (p row.0) _ (ap p (sym (cell_cmp_same cell row.0 (same_order (cell_cmp cell row.0) t))) ∙ is))
-    (λ no. or_true (p row.0) _ (any_at p rows cell op
-    (sym (ap (λ b. cond b (Some row.1) (lookup (is_at (cell_cmp cell)) rows)) no) ∙ e) is))
+any_at R p [] k x is so = none_some refl is
+any_at {K} {X} R p (e ∷ es) k x is so = by_bool (is_eq (R k e.0))
+    (λ here.
+    let same : e.1 ≡ x = same_some (sym (ap (λ b. cond b (Some e.1) (lookup (is_at (R k)) es)) here) ∙ is) in
+    or_first (p e) _ (subst (λ (y : X). p (e.0, y) ≡ true) (sym same) (so e.0 (same_order (R k e.0) here))))
+    (λ later. or_true (p e) _ (any_at R p es k x (sym (ap (λ b. cond b (Some e.1) (lookup (is_at (R k)) es)) later) ∙ is) so))
 
 idle_block : (state : State) (row : LinkRow) (own : PairState) (o : Option ℕ) → next_block state row own o ≡ Nothing → is_link_under_way state row own ≡ false
 idle_block state row own None e =
@@ -70,10 +71,6 @@ idle state row own =
     (next_block state row own (least (blocks_left state row own))) Ask
     (λ t e. idle_block state row own (least (blocks_left state row own)) e) (λ f e. let g : Ask ≡ Nothing = e in absurd cc)
 
-either_so : (a b : Bool) → (a || b) ≡ false → a ≡ false
-either_so true b e = true_false refl e
-either_so false b e = refl
-
 -- of the link for which it starts no operation is pending
 beside : (here : JobContext) (own : PairState) (id : LinkId) (s : IsBallotFor here own id) (cell : Cell) (op : Pending)
     → at cell_cmp own.pairs.pending cell ≡ Some op
@@ -84,7 +81,10 @@ beside here own id s cell op there row is = by_bool (eq_by_cmp link_cmp (id_of r
     let on : is_on here.state s.row cell ≡ true =
     ap (λ o. option_map_or (is_link s.row.map s.row.link) o false) is
     ∙ (λ i. ((same i).map == s.row.map) && ((same i).link == s.row.link)) ∙ (λ i. number_itself s.row.map i && number_itself s.row.link i) in
-    true_false (any_at (is_on here.state s.row) own.pairs.pending cell op there on) (either_so _ _ (idle here.state s.row own s.nothing)))
+    true_false
+    (any_at cell_cmp (λ (held : Cell × Pending). is_on here.state s.row held.0) own.pairs.pending cell op there
+    (λ key tie. ap (is_on here.state s.row) (sym (cell_cmp_same cell key tie)) ∙ on))
+    (either_false _ _ (idle here.state s.row own s.nothing)).0)
     (λ no. no)
 
 pub ballot_unheld : (here : JobContext) (own : PairState) (o : Option Command) → Starts here own o → (cell : Cell) (op : Pending)

@@ -10,7 +10,7 @@ use Rattle.spec_rules.specs.World.{acts}
 use Rattle.law_steps.specs.DidStep.{Handled, AreQueued, Worked, By_job, By_ballot, By_entry, Serving, Goes, Ends, Stays, Wakes, Fails, served_so, stopped_so}
 use Rattle.law_steps.specs.DidStep.{shown_so, own_place, Happens, Serves, Blanks, Turns}
 use Rattle.law_steps.specs.Ready.{IsReady, IsRising, Ready, Rests, AreFirm}
-use Rattle.law_steps.proofs.Subjects.{copies_rise, unheld_stays}
+use Rattle.law_steps.proofs.Subjects.{of_did, unheld_stays}
 use Rattle.law_steps.proofs.TablesOfPuts.{rising_filter}
 use Rattle.law_steps.proofs.WhoLeads.{led_by_link, live_stage, stage_live}
 use Rattle.law_steps.specs.RestingCopies.{AreResting}
@@ -80,7 +80,7 @@ module _ (setting : Setting) (w : World) (rests : Rests setting w) (firm : Firm 
       (rests.seated n cell op runs (sym (ap (λ (p : Pairs). at cell_cmp p.pending cell) e) ∙ is))
 
   worked_copying : (n : ℕ) (log : Log) (done : JobResult) → Worked setting w n log done → IsRising cell_cmp done.own.copies.pending
-  worked_copying n _ _ (By_job log done same did seat) = copies_rise (Handled w n) (own_place setting w n) (w.servers n).own done did (rests.copying n)
+  worked_copying n _ _ (By_job log done same did seat) = (of_did (Handled w n) (own_place setting w n) (w.servers n).own done did).rises (rests.copying n)
   worked_copying n _ _ (By_ballot log started posts same starts says) =
       subst (IsRising cell_cmp) (sym (proposed_copies (server_state setting w n) (w.servers n).own started)) (rests.copying n)
   worked_copying n _ _ (By_entry log entry more front) =

@@ -11,7 +11,6 @@ pub mod InvertHolder
 pub mod InvertOther
 pub mod Inversion
 pub mod Letters
-pub mod OperationsGoOn
 pub mod TakenUpAlone
 pub mod CopyFrames
 pub mod Subjects
@@ -32,10 +31,8 @@ pub mod Records
 pub mod OneWorld
 pub mod KindsInHistories
 pub mod WorldsAreFirm
-pub mod FillsByJobs
 pub mod MovesAreOfComingCells
 pub mod LettersOfSteps
-pub mod EntriesReachComingCells
 pub mod Ties
 pub mod WakingGoesOn
 pub use Rattle.law_log.proofs.LogInHistories as LogHistories

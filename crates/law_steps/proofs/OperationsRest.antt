@@ -1,12 +1,12 @@
 -- After each job the pending operations rest: in one of the four stages, where the link is in Both.
-use Rattle.law_steps.proofs.Imports.{◌+◌, ◌∙◌, ◌≡◌, ◌≢◌, ◌≤◌, ◌⊎◌, Action, Body, Bool, Busy, Cell, Full, JobContext, JobResult, PairState, Pairs, Pending}
-use Rattle.law_steps.proofs.Imports.{Some, Stage, Stale, State, Table, Written, acts, alone_not_both, ap, at, by_test, cell_apart, cell_cmp, cell_cmp_total}
-use Rattle.law_steps.proofs.Imports.{cell_gone, cell_gone_apart, cell_of, cell_same, chain_in, false, fill_operation, gives_back, has_proposed, inl, inr}
-use Rattle.law_steps.proofs.Imports.{is_alone_on, leads_link, live, next_stage, none_some, operation, put, refl, same_or_apart, same_some, stage_at, subst}
-use Rattle.law_steps.proofs.Imports.{sym, true, true_false, version_of, with_mark_at, with_paired, with_reserved, without, without_pending, ℕ}
+use Rattle.law_steps.proofs.Imports.{◌+◌, ◌∙◌, ◌≡◌, ◌≢◌, ◌⊎◌, Action, Body, Bool, Busy, Cell, Full, JobContext, JobResult, PairState, Pairs, Pending, Some}
+use Rattle.law_steps.proofs.Imports.{Stage, Stale, State, Table, Written, acts, alone_not_both, ap, at, by_test, cell_apart, cell_cmp, cell_cmp_total}
+use Rattle.law_steps.proofs.Imports.{cell_gone, cell_gone_apart, cell_of, cell_same, chain_in, false, fill_operation, gives_back, has_proposed, in_both, inl}
+use Rattle.law_steps.proofs.Imports.{inr, is_alone_on, is_lead, live, next_stage, none_some, operation, put, refl, same_or_apart, same_some, subst, sym, true}
+use Rattle.law_steps.proofs.Imports.{true_false, version_of, with_mark_at, with_paired, with_reserved, without, without_pending, ℕ}
 use Rattle.law_steps.specs.Operations.{A_fill, A_write, IsOpenedFor, IsStaged, AtRest, Waiting, Putting, Copying, Answering}
 use Rattle.law_steps.specs.DidLead.{DidLead, Opens, Marks, Puts, Gives_up, Unmarks, Closes, Opens_alone, Marks_alone, Puts_alone, Unmarks_alone, Closes_alone}
-use Rattle.law_steps.specs.DidLead.{Opens_fill, Opens_fill_alone, Goes_on_retired, Taken}
+use Rattle.law_steps.specs.DidLead.{Opens_fill, Opens_fill_alone, Goes_on_retired, Taken, As_it_is}
 use Rattle.law_steps.specs.Did.{Did, Ignores, Refuses, By_read, By_lead, By_second, By_holder, By_other, By_filler, By_sweep}
 use Rattle.law_steps.specs.Ready.{IsReady, IsRising}
 use Rattle.law_steps.proofs.CopyFrames.{of_holder, of_other}
@@ -87,26 +87,23 @@ module _ (heard : Body → Type 0) (here : JobContext) (own : PairState)
       (λ q ne. put_put t op.cell one new q ne)
       (λ o there. subst (IsStaged here.state here.me (has_proposed here.state own) op.cell) (same_some (sym (cell_same u op.cell new) ∙ there)) staged)
 
-  gone_ready : (cell : Cell) → R (without cell_cmp t cell)
-  gone_ready cell =
-      changed_ready here.state here.me (has_proposed here.state own) t (without cell_cmp t cell) cell ready (without_rises cell_cmp t cell ready.rising)
-      (λ q ne. cell_gone_apart t cell q ne) (λ o there. none_some (cell_gone t cell) there)
-
-  -- ### At a holder that is alone
-
-  alone_staged : (cell : Cell) (op : Pending) → op.cell ≡ cell → IsOpenedFor op → cell_of op.key ≡ cell → 1 ≤ stage_at here.state cell
-      → (live here.state cell ≡ true → leads_link here.state here.me cell ≡ true) → is_alone_on here.state here.me cell ≡ true
-      → (live here.state cell ≡ true → has_proposed here.state own cell ≡ false) → IsStaged here.state here.me (has_proposed here.state own) cell op
-  alone_staged cell op mine opened keyed born leads alone unheld =
+  -- one that is opened is of a live cell that the server leads
+  opened_staged : (op : Pending) → IsOpenedFor op → cell_of op.key ≡ op.cell → is_lead here.state here.me op.cell ≡ true
+      → has_proposed here.state own op.cell ≡ false → (in_both here.state op.cell ≡ true → AtRest op.stage)
+      → IsStaged here.state here.me (has_proposed here.state own) op.cell op
+  opened_staged op opened keyed lead unheld stage =
+      let led = lead_links here.state here.me op.cell lead in
       record {
-        own = mine;
+        own = refl;
         opened = opened;
         keyed = keyed;
-        born = born;
-        leads = leads;
-        unheld = unheld;
-        stage = λ on both. true_false both (alone_not_both here.state here.me cell alone);
+        born = (live_stage here.state op.cell led.0).0;
+        leads = λ on. led.1;
+        unheld = λ on. unheld;
+        stage = λ on both. stage both;
       }
+
+  -- ### At a holder that is alone
 
   -- what is so of an operation that is taken up, in whatever stage it goes on
   taken_opened : (now : PairState) (op new : Pending) → Taken own now op → new.kind ≡ op.kind → new.client ≡ op.client → new.seq ≡ op.seq → IsOpenedFor new
@@ -126,7 +123,15 @@ module _ (heard : Body → Type 0) (here : JobContext) (own : PairState)
   taken_staged now op new taken alone cell kind client seq key =
       let k = taking own now op taken in
       let s = ready.staged op.cell k.old k.was in
-      alone_staged op.cell new cell (taken_opened now op new taken kind client seq) (taken_keyed now op new taken key) s.born s.leads alone s.unheld
+      record {
+        own = cell;
+        opened = taken_opened now op new taken kind client seq;
+        keyed = taken_keyed now op new taken key;
+        born = s.born;
+        leads = s.leads;
+        unheld = s.unheld;
+        stage = λ on both. true_false both (alone_not_both here.state here.me op.cell alone);
+      }
 
   -- an operation that was taken up is put again
   taken_put : (now : PairState) (op new : Pending) → Taken own now op → IsStaged here.state here.me (has_proposed here.state own) op.cell new
@@ -197,19 +202,10 @@ module _ (heard : Body → Type 0) (here : JobContext) (own : PairState)
 
   lead_ready : (done : JobResult) → DidLead heard here own done → R done.own.pairs.pending
   lead_ready _ (Gives_up op h is reserved put) =
-      subst R (sym (of_ending here (gives_back (without_pending own op.cell)) op op.kind Full).pending) (gone_ready op.cell)
+      subst R (sym (of_ending here (gives_back (without_pending own op.cell)) op op.kind Full).pending) (taken_gone own op (As_it_is op is))
   lead_ready _ (Opens want new both) =
       let op = operation here own.pairs.next want in
-      let led = lead_links here.state here.me want.cell new.lead in
-      put_ready op op (record {
-        own = refl;
-        opened = A_write refl;
-        keyed = refl;
-        born = (live_stage here.state want.cell led.0).0;
-        leads = λ on. led.1;
-        stage = λ on both. Waiting refl;
-        unheld = λ on. new.unheld;
-      })
+      put_ready op op (opened_staged op (A_write refl) refl new.lead new.unheld (λ both. Waiting refl))
   lead_ready _ (Marks op h is both stage) =
       put_twice_ready op (with_reserved op) _ (restaged op (with_mark_at (with_reserved op) Busy true) is refl refl refl refl refl
       (Putting (ap (λ (x : Stage). (record x { reserved = true; busy = true })) stage)))
@@ -219,13 +215,12 @@ module _ (heard : Body → Type 0) (here : JobContext) (own : PairState)
   lead_ready _ (Unmarks op h is both stage) =
       put_twice_ready op (with_paired op) _ (restaged op (with_mark_at (with_paired op) Busy false) is refl refl refl refl refl
       (Answering (ap (λ (x : Stage). (record x { paired = true; busy = false })) stage)))
-  lead_ready _ (Closes op is both stage) = subst R (sym (of_ending here (without_pending own op.cell) op op.kind Written).pending) (gone_ready op.cell)
+  lead_ready _ (Closes op is both stage) = subst R (sym (of_ending here (without_pending own op.cell) op op.kind Written).pending)
+      (taken_gone own op (As_it_is op is))
   lead_ready _ (Opens_alone want new alone) =
       let op = operation here own.pairs.next want in
-      let led = lead_links here.state here.me want.cell new.lead in
-      put_twice_ready op op (with_mark_at op Stale true)
-      (alone_staged want.cell (with_mark_at op Stale true) refl (A_write refl) refl (live_stage here.state want.cell led.0).0
-      (λ on. led.1) alone (λ on. new.unheld))
+      put_twice_ready op op (with_mark_at op Stale true) (opened_staged (with_mark_at op Stale true) (A_write refl) refl new.lead new.unheld
+      (λ both. true_false both (alone_not_both here.state here.me want.cell alone)))
   lead_ready _ (Marks_alone now op taken alone fresh) = taken_ready now op (with_mark_at op Stale true) taken alone refl refl refl refl refl
   lead_ready _ (Puts_alone now op taken alone stale put) =
       taken_ready now op (record op { version = version_of (chain_in now.store.chains op.cell) + 1; stage = record op.stage { put = true } })
@@ -235,22 +230,11 @@ module _ (heard : Body → Type 0) (here : JobContext) (own : PairState)
       subst R (sym (of_ending here (without_pending now op.cell) op op.kind Written).pending) (taken_gone now op taken)
   lead_ready _ (Opens_fill moving new room both) =
       let op = fill_operation here own.pairs.next moving in
-      let led = lead_links here.state here.me op.cell new.lead in
-      put_ready op op (record {
-        own = refl;
-        opened = A_fill refl refl refl;
-        keyed = refl;
-        born = (live_stage here.state op.cell led.0).0;
-        leads = λ on. led.1;
-        stage = λ on both. Waiting refl;
-        unheld = λ on. new.unheld;
-      })
+      put_ready op op (opened_staged op (A_fill refl refl refl) refl new.lead new.unheld (λ both. Waiting refl))
   lead_ready _ (Opens_fill_alone moving new room alone) =
       let op = fill_operation here own.pairs.next moving in
-      let led = lead_links here.state here.me op.cell new.lead in
-      put_twice_ready op op (with_mark_at op Stale true)
-      (alone_staged op.cell (with_mark_at op Stale true) refl (A_fill refl refl refl) refl (live_stage here.state op.cell led.0).0
-      (λ on. led.1) alone (λ on. new.unheld))
+      put_twice_ready op op (with_mark_at op Stale true) (opened_staged (with_mark_at op Stale true) (A_fill refl refl refl) refl new.lead new.unheld
+      (λ both. true_false both (alone_not_both here.state here.me op.cell alone)))
   lead_ready _ (Goes_on_retired now op taken off) = retired_ready now op taken off (next_stage here.state here.me op)
   lead_ready _ _ = ready
 

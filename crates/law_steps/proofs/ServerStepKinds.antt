@@ -17,7 +17,7 @@ use Rattle.law_steps.specs.DidStep.{served_so, stopped_so}
 use Rattle.law_steps.proofs.KnownServer.{KnownServer, parts_of}
 use Rattle.law_steps.proofs.Inversion.{IsHeard, did}
 use Rattle.law_steps.proofs.LogJobs.{LogFrame, letter_frame_of, start_frame_of, applied_entry, applied_none}
-use Rattle.law_steps.proofs.Subjects.{no_letters}
+use Rattle.law_steps.proofs.Subjects.{of_did}
 use Rattle.law_steps.proofs.IdleServers.{same_letter, logged_apart, leaves_silent, seated_does}
 use Rattle.petal_msg.specs.declared.letter.Actor.TheVariants as actor
 use Rattle.spec_rules.specs.declared.job.Job.TheVariants as job
@@ -110,7 +110,7 @@ module _ (it : KnownServer) where
   worked_worked what rest e =
       let d = did hears_server here own steady staged what (heard_job what rest e what refl) in
       A_job log (does here own what) (rest ++ (does here own what).jobs) refl d (seated_does here own what)
-      (queue_left what rest (does here own what).jobs e (λ letter i. absurd (no_letters hears_server here own (does here own what) d letter i)))
+      (queue_left what rest (does here own what).jobs e (λ letter i. absurd ((of_did hears_server here own (does here own what) d).no_letters letter i)))
 
   queue_more : (queue jobs : List Job) → AreQueued w n queue → ((letter : Letter) → In (job.Letter letter) jobs → ⊥) → AreQueued w n (queue ++ jobs)
   queue_more queue jobs queued none letter i =

@@ -1,12 +1,12 @@
 -- What a job of each subject leaves as it is: a law that does not speak of the subject goes by this alone.
-use Rattle.law_steps.proofs.Imports.{[], ◌∙◌, ◌≡◌, ◌⊎◌, Action, Body, Cell, Copies, Ending, Filling, FollowProgress, Full, In, Job, JobContext, JobResult}
-use Rattle.law_steps.proofs.Imports.{Letter, LinkRow, List, None, OpKind, Option, PairState, Paired, Pending, Post, Some, State, Written, acts, ap, at}
-use Rattle.law_steps.proofs.Imports.{by_test, cell_cmp, cell_link, ends, false, gives_back, has_proposed, id_of, inl, inr, link_cmp, next_stage, no_progress}
-use Rattle.law_steps.proofs.Imports.{option_map_or, progress_on, refl, subject_of, subst, sym, tells, unwrap_or, without_pending, ℕ}
+use Rattle.law_steps.proofs.Imports.{[], ◌∙◌, ◌≡◌, ◌⊎◌, Action, Body, Busy, Cell, Copies, Ending, Filling, FollowProgress, Full, In, Job, JobContext}
+use Rattle.law_steps.proofs.Imports.{JobResult, Letter, LinkRow, List, None, OpKind, Option, PairState, Paired, Pending, Post, Some, Stale, State, Written}
+use Rattle.law_steps.proofs.Imports.{acts, ap, at, by_test, cell_cmp, cell_link, ends, false, gives_back, has_proposed, id_of, inl, inr, link_cmp, next_stage}
+use Rattle.law_steps.proofs.Imports.{no_progress, option_map_or, progress_on, refl, subject_of, subst, sym, tells, unwrap_or, without_pending, ℕ}
 use Rattle.law_steps.specs.Ready.{IsRising}
 use Rattle.law_steps.specs.DidRead.{DidRead, Not_here, Shows}
 use Rattle.law_steps.specs.DidLead.{DidLead, Repeats, Marks, Puts, Gives_up, Unmarks, Closes, Opens_alone, Marks_alone, Puts_alone, Unmarks_alone}
-use Rattle.law_steps.specs.DidLead.{Closes_alone, Opens_fill_alone, Goes_on_retired}
+use Rattle.law_steps.specs.DidLead.{Closes_alone, Opens_fill_alone, Goes_on_retired, Taken}
 use Rattle.law_steps.specs.DidSecond.{DidSecond, Sets_apart, Promises, Declines, Follows}
 use Rattle.law_steps.specs.DidFiller.{DidFiller, Is_filled, Is_out_of_slots}
 use Rattle.law_steps.specs.DidSweep.{DidSweep, Sweeps}
@@ -81,6 +81,13 @@ pub record EndsFrame (own : PairState) (done : JobResult) : Type 0 where
   pub store : done.own.store ≡ own.store
   pub no_jobs : done.jobs ≡ []
 
+-- of each job: copies under way stand in the order of their cells; it starts no ballot for a Caught, and forgets none; and what follows it
+-- up is a stage, and no letter
+pub record DidFrame (own : PairState) (done : JobResult) : Type 0 where
+  pub rises : IsRising cell_cmp own.copies.pending → IsRising cell_cmp done.own.copies.pending
+  pub caught : (row : LinkRow) → (progress_on done.own row).caught ≡ (progress_on own row).caught
+  pub no_letters : (letter : Letter) → In (job.Letter letter) done.jobs → ⊥
+
 pub of_ending : (here : JobContext) (own : PairState) (op : Pending) (of : OpKind) (how : Ending) → EndsFrame own (ends here own op of how)
 of_ending here own op kind.Write how = record { pending = refl; last = refl; next = refl; copies = refl; filled = refl; store = refl; no_jobs = refl }
 of_ending here own op kind.Fill how = record { pending = refl; last = refl; next = refl; copies = refl; filled = refl; store = refl; no_jobs = refl }
@@ -136,6 +143,10 @@ module _ (heard : Body → Type 0) (here : JobContext) (own : PairState) where
     says = λ post i. inr (record { seq = seq; is = (one_post _ _ post i).1 });
   }
 
+  taken_frame : (now : PairState) (op : Pending) → Taken own now op → (next : Action) → LeadFrame own (acts here now op next)
+  taken_frame now op taken next =
+      frame_on own now (acts here now op next) (taking own now op taken).last (taking own now op taken).copies (acts_frame here now op next)
+
   pub of_lead : (done : JobResult) → DidLead heard here own done → LeadFrame own done
   unfolding In
   of_lead _ (Repeats want last h lead is e) = record { last = refl; copies = refl; no_letters = λ letter i. i }
@@ -147,31 +158,13 @@ module _ (heard : Body → Type 0) (here : JobContext) (own : PairState) where
   of_lead _ (Closes op is both stage) =
       frame_on own (without_pending own op.cell) _ refl refl (ends_frame here (without_pending own op.cell) op op.kind Written)
   of_lead _ (Opens_alone want new alone) = record { last = refl; copies = refl; no_letters = λ letter i. elim i [ inl e ↦ cc | inr none ↦ none ] }
-  of_lead _ (Marks_alone now op taken alone fresh) =
-      record {
-        last = (taking own now op taken).last;
-        copies = (taking own now op taken).copies;
-        no_letters = λ letter i. elim i [ inl e ↦ cc | inr none ↦ none ];
-      }
-  of_lead _ (Puts_alone now op taken alone stale put) =
-      record {
-        last = (taking own now op taken).last;
-        copies = (taking own now op taken).copies;
-        no_letters = λ letter i. elim i [ inl e ↦ cc | inr none ↦ none ];
-      }
-  of_lead _ (Unmarks_alone now op taken alone stale put busy) =
-      record {
-        last = (taking own now op taken).last;
-        copies = (taking own now op taken).copies;
-        no_letters = λ letter i. elim i [ inl e ↦ cc | inr none ↦ none ];
-      }
-  of_lead _ (Closes_alone now op taken alone stale put free) =
-      frame_on own (without_pending now op.cell) _ (taking own now op taken).last (taking own now op taken).copies
-      (ends_frame here (without_pending now op.cell) op op.kind Written)
+  of_lead _ (Marks_alone now op taken alone fresh) = taken_frame now op taken (action.Mark Stale)
+  of_lead _ (Puts_alone now op taken alone stale put) = taken_frame now op taken action.Put
+  of_lead _ (Unmarks_alone now op taken alone stale put busy) = taken_frame now op taken (action.Unmark Busy)
+  of_lead _ (Closes_alone now op taken alone stale put free) = taken_frame now op taken action.Answer
   of_lead _ (Opens_fill_alone moving new room alone) =
       record { last = refl; copies = refl; no_letters = λ letter i. elim i [ inl e ↦ cc | inr none ↦ none ] }
-  of_lead _ (Goes_on_retired now op taken off) =
-      frame_on own now _ (taking own now op taken).last (taking own now op taken).copies (acts_frame here now op (next_stage here.state here.me op))
+  of_lead _ (Goes_on_retired now op taken off) = taken_frame now op taken (next_stage here.state here.me op)
   of_lead _ _ = record { last = refl; copies = refl; no_letters = λ letter i. i }
 
   -- what a second server tells the lead
@@ -212,54 +205,35 @@ module _ (heard : Body → Type 0) (here : JobContext) (own : PairState) where
     silent = λ post i. i;
   }
 
-  same_copies : (done : JobResult) → done.own.copies ≡ own.copies → (state : State) (cell : Cell)
-      → has_proposed state done.own cell ≡ has_proposed state own cell
-  same_copies done e state cell =
-      ap (λ (c : Copies). option_map_or (λ (row : LinkRow). (unwrap_or (at link_cmp c.progress (id_of row)) no_progress).caught) (cell_link state cell) false) e
+  same_copies : (done : JobResult) → done.own.copies ≡ own.copies → ((letter : Letter) → In (job.Letter letter) done.jobs → ⊥) → DidFrame own done
+  same_copies done same none = record {
+    rises = λ h. subst (λ (c : Copies). IsRising cell_cmp c.pending) (sym same) h;
+    caught = λ row. ap (λ (c : Copies). (unwrap_or (at link_cmp c.progress (id_of row)) no_progress).caught) same;
+    no_letters = none;
+  }
 
-  same_caught : (done : JobResult) → ((row : LinkRow) → (progress_on done.own row).caught ≡ (progress_on own row).caught) → (state : State) (cell : Cell)
-      → has_proposed state done.own cell ≡ has_proposed state own cell
-  same_caught done e state cell = by (cell_link state cell)
+  pub of_did : (done : JobResult) → Did heard here own done → DidFrame own done
+  unfolding In
+  of_did _ Ignores = same_copies _ refl (λ letter i. i)
+  of_did _ (Refuses to said is busy held) = same_copies _ refl (λ letter i. i)
+  of_did _ (By_read done d) = let f = of_read done d in same_copies done (ap (λ (o : PairState). o.copies) f.same) (no_ending done f.no_jobs)
+  of_did _ (By_lead done d) = let f = of_lead done d in same_copies done f.copies f.no_letters
+  of_did _ (By_second done d) = let f = of_second done d in same_copies done f.copies (no_ending done f.no_jobs)
+  of_did _ (By_holder done d) = let f = of_holder heard here own done d in record { rises = f.rises; caught = f.caught; no_letters = f.no_letters }
+  of_did _ (By_other done d) = let f = of_other heard here own done d in record { rises = f.rises; caught = f.caught; no_letters = f.no_letters }
+  of_did _ (By_filler done d) =
+      let f = of_filler done d in
+      record {
+        rises = λ h. subst (IsRising cell_cmp) (sym f.pending) h;
+        caught = λ row. ap (λ t. (unwrap_or (at link_cmp t (id_of row)) no_progress).caught) f.progress;
+        no_letters = no_ending done f.no_jobs;
+      }
+  of_did _ (By_sweep done d) = let f = of_sweep done d in same_copies done f.copies f.no_letters
+
+  pub unheld_stays : (done : JobResult) → Did heard here own done → (state : State) (cell : Cell) → has_proposed state own cell ≡ false
+      → has_proposed state done.own cell ≡ false
+  unheld_stays done did state cell e = by (cell_link state cell) ∙ e
     where
       by : (o : Option LinkRow) → option_map_or (λ row. (progress_on done.own row).caught) o false ≡ option_map_or (λ row. (progress_on own row).caught) o false
       by None = refl
-      by (Some row) = e row
-
-  -- copies under way stand in the order of their cells
-  pub copies_rise : (done : JobResult) → Did heard here own done → IsRising cell_cmp own.copies.pending → IsRising cell_cmp done.own.copies.pending
-  copies_rise _ Ignores h = h
-  copies_rise _ (Refuses to said is busy held) h = h
-  copies_rise _ (By_read done d) h = subst (λ (o : PairState). IsRising cell_cmp o.copies.pending) (sym (of_read done d).same) h
-  copies_rise _ (By_lead done d) h = subst (λ (c : Copies). IsRising cell_cmp c.pending) (sym (of_lead done d).copies) h
-  copies_rise _ (By_second done d) h = subst (λ (c : Copies). IsRising cell_cmp c.pending) (sym (of_second done d).copies) h
-  copies_rise _ (By_holder done d) h = (of_holder heard here own done d).rises h
-  copies_rise _ (By_other done d) h = (of_other heard here own done d).rises h
-  copies_rise _ (By_filler done d) h = subst (IsRising cell_cmp) (sym (of_filler done d).pending) h
-  copies_rise _ (By_sweep done d) h = subst (λ (c : Copies). IsRising cell_cmp c.pending) (sym (of_sweep done d).copies) h
-
-  -- no job starts a ballot for a Caught
-  pub unheld_stays : (done : JobResult) → Did heard here own done → (state : State) (cell : Cell) → has_proposed state own cell ≡ false
-      → has_proposed state done.own cell ≡ false
-  unheld_stays _ Ignores state cell e = e
-  unheld_stays _ (Refuses to said is busy held) state cell e = e
-  unheld_stays _ (By_read done d) state cell e = ap (λ (o : PairState). has_proposed state o cell) (of_read done d).same ∙ e
-  unheld_stays _ (By_lead done d) state cell e = same_copies done (of_lead done d).copies state cell ∙ e
-  unheld_stays _ (By_second done d) state cell e = same_copies done (of_second done d).copies state cell ∙ e
-  unheld_stays _ (By_holder done d) state cell e = same_caught done (of_holder heard here own done d).caught state cell ∙ e
-  unheld_stays _ (By_other done d) state cell e = same_caught done (of_other heard here own done d).caught state cell ∙ e
-  unheld_stays _ (By_filler done d) state cell e =
-      same_caught done (λ row. ap (λ t. (unwrap_or (at link_cmp t (id_of row)) no_progress).caught) (of_filler done d).progress) state cell ∙ e
-  unheld_stays _ (By_sweep done d) state cell e = same_copies done (of_sweep done d).copies state cell ∙ e
-
-  -- what follows a job up is a stage, and no letter
-  pub no_letters : (done : JobResult) → Did heard here own done → (letter : Letter) → In (job.Letter letter) done.jobs → ⊥
-  unfolding In
-  no_letters _ Ignores letter i = i
-  no_letters _ (Refuses to said is busy held) letter i = i
-  no_letters _ (By_read done d) letter i = subst (λ (jobs : List Job). In (job.Letter letter) jobs) (of_read done d).no_jobs i
-  no_letters _ (By_lead done d) letter i = (of_lead done d).no_letters letter i
-  no_letters _ (By_second done d) letter i = subst (λ (jobs : List Job). In (job.Letter letter) jobs) (of_second done d).no_jobs i
-  no_letters _ (By_holder done d) letter i = (of_holder heard here own done d).no_letters letter i
-  no_letters _ (By_other done d) letter i = (of_other heard here own done d).no_letters letter i
-  no_letters _ (By_filler done d) letter i = subst (λ (jobs : List Job). In (job.Letter letter) jobs) (of_filler done d).no_jobs i
-  no_letters _ (By_sweep done d) letter i = (of_sweep done d).no_letters letter i
+      by (Some row) = (of_did done did).caught row

@@ -2,10 +2,10 @@
 use Rattle.law_steps.proofs.Imports.{[], ◌++◌, ◌∷◌, ◌≡◌, Action, Ask, Cell, Copy, In, LinkRow, List, MarkKind, NextCopy, None, Option, Pending, Post, Some}
 use Rattle.law_steps.proofs.Imports.{Stage, Stored, alone_action, ask_posts, awaited, ballot_posts, both_action, by_bool, by_test, cell_cmp, cell_cmp_total}
 use Rattle.law_steps.proofs.Imports.{chain_in, copies_again, copy_awaited, copy_posts, copy_stage, copying_on, epochs_of, false, fill_posts, fills_row}
-use Rattle.law_steps.proofs.Imports.{flat_map, has_proposed, in-append, in_both, inl, inr, is_in, key_at, leads_link, length, live, mark_left, nat_lt}
-use Rattle.law_steps.proofs.Imports.{next_copy, next_stage, not, not_true, only, option_map_or, other_in, page_asked, page_for, page_posts, pending_on}
-use Rattle.law_steps.proofs.Imports.{post_to, refl, second, sends_entry, sent_again, slice_get, subject_of, subst, sym, tick_posts, true, true_false}
-use Rattle.law_steps.proofs.Imports.{voter_of, was_true, ℕ}
+use Rattle.law_steps.proofs.Imports.{flat_map, has_proposed, in-append, in_both, inl, inr, is_in, is_logged, key_at, leads_link, length, live, mark_left}
+use Rattle.law_steps.proofs.Imports.{nat_lt, next_copy, next_stage, not, not_true, only, option_map_or, other_in, page_asked, page_for, page_posts}
+use Rattle.law_steps.proofs.Imports.{pending_on, post_to, refl, second, sends_entry, sent_again, slice_get, subject_of, subst, sym, tick_posts, true}
+use Rattle.law_steps.proofs.Imports.{true_false, voter_of, was_true, ℕ}
 use Rattle.law_steps.specs.Operations.{IsStaged, Waiting, Putting, Copying, Answering, waiting, putting, copying, answering}
 use Rattle.law_steps.specs.DidLead.{Asks, A_trim, A_copied_entry, A_page, An_entry_to_move, Of_the_log, other_on}
 use Rattle.law_steps.specs.DidStep.{IsSeatedOrMute, is_between}
@@ -75,7 +75,10 @@ module _ (it : KnownServer) where
           → In post (awaited here own op (both_action stage))
       sent both stage e lead = subst (λ a. In post (awaited here own op a)) (both_next hears_server here own steady staged op stage lead both e) h
 
-  pending_asks : (post : Post) → In post (flat_map (λ (row : Cell × Pending). sent_again here own row.1) own.pairs.pending) → A post
+  abbrev pairs : List Post
+  pairs = flat_map (λ (row : Cell × Pending). sent_again here own row.1) own.pairs.pending
+
+  pending_asks : (post : Post) → In post pairs → A post
   pending_asks post h =
       let found = in_flat_map (λ (row : Cell × Pending). sent_again here own row.1) own.pairs.pending post h in
       let row = found.0 in
@@ -159,45 +162,38 @@ module _ (it : KnownServer) where
       ])
       (λ t i. no_post post i) h
 
-  pub tick_asks : (post : Post) → In post (tick_posts here server) → A post
-  tick_asks post h =
+  -- what a tick sends is of the log, of an operation, or of copies, pages and entries that move
+  tick_parts : (P : Post → Type 0) → ((post : Post) → is_logged (subject_of post.body) ≡ true → P post) → ((post : Post) → In post pairs → P post)
+      → ((post : Post) → In post (copies_again here own) → P post) → (post : Post) → In post (tick_posts here server) → P post
+  tick_parts P of_log of_pairs of_copies post h =
       let ballots = ballot_posts (voter_of here) log.phase in
-      let pairs = flat_map (λ (row : Cell × Pending). sent_again here own row.1) own.pairs.pending in
       elim (in-append post (ballots ++ pairs ++ copies_again here own) (ask_posts (voter_of here) log) h) [
-        | inr asks ↦ Of_the_log post (ask_logged (voter_of here) log post asks)
+        | inr asks ↦ of_log post (ask_logged (voter_of here) log post asks)
         | inl former ↦ elim (in-append post (ballots ++ pairs) (copies_again here own) former) [
-          | inr again ↦ again_asks post again
+          | inr again ↦ of_copies post again
           | inl earlier ↦ elim (in-append post ballots pairs earlier) [
-            | inl ballot ↦ Of_the_log post (ballot_logged (voter_of here) log.phase post ballot)
-            | inr pair ↦ pending_asks post pair
+            | inl ballot ↦ of_log post (ballot_logged (voter_of here) log.phase post ballot)
+            | inr pair ↦ of_pairs post pair
           ]
         ]
       ]
+
+  pub tick_asks : (post : Post) → In post (tick_posts here server) → A post
+  tick_asks = tick_parts A Of_the_log pending_asks again_asks
 
   -- a tick of a server that is not In as itself: nothing is pending there, and of copies nothing is sent
   tick_mute : server.life.running ≡ true → is_in here.state here.me here.inc ≡ false → (post : Post) → In post (tick_posts here server)
       → is_between (subject_of post.body) ≡ false
   unfolding In
-  tick_mute runs out post h =
-      let ballots = ballot_posts (voter_of here) log.phase in
-      let pairs = flat_map (λ (row : Cell × Pending). sent_again here own row.1) own.pairs.pending in
-      elim (in-append post (ballots ++ pairs ++ copies_again here own) (ask_posts (voter_of here) log) h) [
-        | inr asks ↦ logged_apart (subject_of post.body) (ask_logged (voter_of here) log post asks)
-        | inl former ↦ elim (in-append post (ballots ++ pairs) (copies_again here own) former) [
-          | inr again ↦ no_copy again
-          | inl earlier ↦ elim (in-append post ballots pairs earlier) [
-            | inl ballot ↦ logged_apart (subject_of post.body) (ballot_logged (voter_of here) log.phase post ballot)
-            | inr pair ↦ no_pair pair
-          ]
-        ]
-      ]
+  tick_mute runs out =
+      tick_parts (λ post. is_between (subject_of post.body) ≡ false) (λ post logged. logged_apart (subject_of post.body) logged) no_pair no_copy
     where
-      no_copy : In post (copies_again here own) → is_between (subject_of post.body) ≡ false
-      no_copy = by_test (λ (xs : List Post). In post xs → is_between (subject_of post.body) ≡ false) (is_in here.state here.me here.inc) _ _
+      no_copy : (post : Post) → In post (copies_again here own) → is_between (subject_of post.body) ≡ false
+      no_copy post = by_test (λ (xs : List Post). In post xs → is_between (subject_of post.body) ≡ false) (is_in here.state here.me here.inc) _ _
           (λ t. true_false t out) (λ t i. absurd i)
 
-      no_pair : In post (flat_map (λ (row : Cell × Pending). sent_again here own row.1) own.pairs.pending) → is_between (subject_of post.body) ≡ false
-      no_pair i =
+      no_pair : (post : Post) → In post pairs → is_between (subject_of post.body) ≡ false
+      no_pair post i =
           let found = in_flat_map (λ (row : Cell × Pending). sent_again here own row.1) own.pairs.pending post i in
           let row = found.0 in
           true_false (rests.seated n row.0 row.1 runs (at_row cell_cmp_total own.pairs.pending row (rests.pending n).rising found.1)) out

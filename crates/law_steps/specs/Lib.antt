@@ -14,5 +14,4 @@ pub mod RestingCopies
 pub mod Ready
 pub mod Ties
 pub mod WakingServers
-pub mod ComingCells
 pub use Rattle.law_log.specs.ProposedCommands

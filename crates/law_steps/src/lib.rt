@@ -20,7 +20,6 @@ ghost use Rattle.law_state.specs.Histories.{server_state, setting_of, start, wor
 ghost use Rattle.law_state.specs.LaterStates.{IsBelow};
 ghost use Rattle.law_state.specs.Homes.{stage_at};
 ghost use Rattle.law_state.specs.Steady.{IsSteady};
-ghost use Rattle.law_steps.specs.ComingCells.{AreComing};
 ghost use Rattle.law_steps.specs.DidStep.{Happens};
 ghost use Rattle.law_steps.specs.Ready.{IsReady, Rests};
 ghost use Rattle.law_steps.specs.Ties.{StaysAloneOrCaught, StaysInBoth};
@@ -46,13 +45,6 @@ pub fn operations_rest_in_four_stages()
         ((world_after (setting_of script) (start (setting_of script)) records).servers n).own.pairs.pending }
     ensures own { (script : Script) (records : List Record) → IsSound script → AreSteps script records
         → Rests (setting_of script) (world_after (setting_of script) (start (setting_of script)) records) }
-{}
-
-/// After every legal history, each entry that was ever sent so that it moves is of a cell whose region was on its way at the letter's
-/// revision, and so is each operation that was opened for one, at the revision at which it was.
-pub fn entries_move_to_cells_on_their_way()
-    ensures { (script : Script) (records : List Record) → IsSound script → AreSteps script records
-        → AreComing (setting_of script) (world_after (setting_of script) (start (setting_of script)) records) }
 {}
 
 /// The step that each record of a legal history tells of is of one of the kinds that the relation names, at every state from

@@ -1,18 +1,17 @@
 -- Each step keeps it that entries move to cells whose region is on its way.
-use Rattle.law_steps.proofs.Imports.{[], ◌∙◌, ◌∷◌, ◌≡◌, Acted, AreStepsFrom, Body, Cell, Command, Filling, Firm, In, IsPrefix, JobResult}
-use Rattle.law_steps.proofs.Imports.{Key, Letter, List, Log, PairState, Pairs, Pending, Post, Record, Script, Server, Setting, Some, State, Step}
-use Rattle.law_steps.proofs.Imports.{Subject, World, all_put, ap, at, at-empty, below_itself, blanked, cell_cmp, cell_of, chosen_log, chosen_state, coming}
-use Rattle.law_steps.proofs.Imports.{crossed, false, front_on, is_clients, length}
-use Rattle.law_steps.proofs.Imports.{log_rev, none_some, refl, setting_of, settling, start, state_after}
-use Rattle.law_steps.proofs.Imports.{stepped, subject_of, subst, sym, true, true_false, world_after, ℕ}
-use Rattle.law_steps.specs.ComingCells.{AreComing, WasComing}
+use Rattle.law_steps.proofs.Imports.{[], ◌∙◌, ◌∷◌, ◌≡◌, Acted, AreStepsFrom, Body, Cell, Command, Filling, Firm, In, IsPrefix, JobResult, Key, Letter, List}
+use Rattle.law_steps.proofs.Imports.{Log, PairState, Pairs, Pending, Post, Record, Script, Server, Setting, Some, State, Step, Subject, World, all_put, ap}
+use Rattle.law_steps.proofs.Imports.{at, at-empty, below_itself, blanked, cell_cmp, cell_of, chosen_log, chosen_state, coming, crossed, false, front_on}
+use Rattle.law_steps.proofs.Imports.{is_clients, length, log_rev, none_some, refl, setting_of, settling, start, state_after, stepped, subject_of, subst, sym}
+use Rattle.law_steps.proofs.Imports.{true, true_false, world_after, ℕ}
+use Rattle.law_jobs.specs.ComingCells.{AreComing, WasComing}
 use Rattle.law_steps.specs.DidLead.{IsNextFill}
 use Rattle.law_steps.specs.DidStep.{Handled, Happens, Serves, Blanks, Turns, Worked, By_job, By_ballot, By_entry, Serving, Goes, Ends, Stays, Wakes, Fails}
 use Rattle.law_steps.specs.DidStep.{own_place}
 use Rattle.law_steps.specs.Ready.{AreFirm, Rests}
 use Rattle.law_steps.proofs.MovesAreOfComingCells.{next_comes}
-use Rattle.law_steps.proofs.FillsByJobs.{Stood, Writes, Fills, Is_other, Is_next, did_come, did_fills, is_fill, is_filling}
-use Rattle.law_steps.proofs.FillsByJobs.{other_subject}
+use Rattle.law_jobs.proofs.FillsByJobs.{Stood, Writes, Fills, Is_other, Is_next, did_come, did_fills, is_fill, is_filling}
+use Rattle.law_jobs.proofs.FillsByJobs.{other_subject}
 use Rattle.law_steps.proofs.KindsInHistories.{firm_now, happens, own_plain, proposed_pairs, rests_next}
 use Rattle.law_steps.proofs.LettersOfSteps.{Aside, IsOfJob, Of_job, Was_sent, happens_sent, is_aside}
 use Rattle.petal_msg.specs.declared.body.Body.TheVariants as body
