@@ -292,17 +292,9 @@ module _ (it : AtNext) where
             (a.stays alive own (ap (λ p. good.visits holder p cell) (sym same) ∙ visit) (λ p lt. beyond p (let e = same in omega arith)));
         unfilled = λ alive all_of. elim (a.unfilled alive all_of) [
           | inl empty ↦ inl (ap (λ (s : Store). chain_in s.chains cell) two ∙ empty)
-          | inr h ↦ inr (record {
-            more = h.more;
-            within = h.within;
-            row = h.row;
-            linked = h.linked;
-            joins = h.joins
-                ∙ sym (joins_at setting next all next top cell now now other (front_itself next) (front_more top entry) end is (other_is_one now holder)
-                (other_is_one now holder) same);
-            own = h.own;
-            visited = h.visited;
-          })
+          | inr h ↦ inr (has_filled_on h h.within
+              (sym (joins_at setting next all next top cell now now other (front_itself next) (front_more top entry) end is (other_is_one now holder)
+              (other_is_one now holder) same)) h.own h.visited)
         ];
       }
 

@@ -83,14 +83,16 @@ module _ {links : ℕ} {row : LinkRow} {cell : Cell} {vh : Option PairState} {ow
         (λ h copy last met is fresh there op. was_heard h copy last met is fresh (sym k.last ∙ there) op) kept_last
 
     pub kept_onward : GoesOnward own to cell
-    kept_onward last is = inl (record {
+    kept_onward last is = record {
       now = last;
       is = k.last ∙ is;
-      op_is = refl;
-      epochs_are = refl;
-      onward = omega arith;
-      trimmed = λ none. same_beyond own to cell last.epochs k.chain ∙ none;
-    })
+      up = omega arith;
+      same = λ e. record {
+        epochs_are = refl;
+        onward = omega arith;
+        trimmed = λ none. same_beyond own to cell last.epochs k.chain ∙ none;
+      };
+    }
 
     pub kept_told : StaysTold row cell vh (Some own) vh (Some to)
     kept_told = stays_told own to cell kept_onward row vh
@@ -127,7 +129,9 @@ module _ {links : ℕ} {row : LinkRow} {cell : Cell} {vh : Option PairState} {ow
         record { by = h; met = met; below = omega arith; trimmed = inr (subst (IsTrimming h cell) (sym op) t) })
 
     pub begun_onward : GoesOnward own now cell
-    begun_onward last is = inr (record { now = first_last number epochs; is = now_last; newer = newer last is })
+    begun_onward last is =
+        let lt = newer last is in
+        record { now = first_last number epochs; is = now_last; up = omega arith; same = λ (e : number ≡ last.op). absurd (omega arith) }
 
   -- #### The last copy drops an entry
 
@@ -156,14 +160,16 @@ module _ {links : ℕ} {row : LinkRow} {cell : Cell} {vh : Option PairState} {ow
         (λ h copy l met there fresh at_cell op. was_heard h copy l met there fresh at_cell op) dropped_last
 
     pub dropped_onward : GoesOnward own dropped cell
-    dropped_onward l there = inl (record {
+    dropped_onward l there = record {
       now = l;
       is = there;
-      op_is = refl;
-      epochs_are = refl;
-      onward = omega arith;
-      trimmed = λ none. not_trimmed (ap (λ (x : LastCopy). epochs_beyond own cell x.epochs) (same_some (sym is ∙ there)) ∙ none);
-    })
+      up = omega arith;
+      same = λ e. record {
+        epochs_are = refl;
+        onward = omega arith;
+        trimmed = λ none. not_trimmed (ap (λ (x : LastCopy). epochs_beyond own cell x.epochs) (same_some (sym is ∙ there)) ∙ none);
+      };
+    }
 
     pub dropped_by : IsLeftBy row vh cell
     dropped_by =
@@ -276,9 +282,12 @@ module _ (it : CopiedEntry) where
       (record { by = o.by; met = o.met; below = o.below; trimmed = inl put_trimmed }))
 
   pub put_onward : GoesOnward own to q
-  put_onward l there =
-      inl (subst (GoesOn own to q) (same_some (sym is ∙ there))
-      (record { now = next; is = put_last; op_is = refl; epochs_are = refl; onward = omega arith; trimmed = λ none. put_trimmed }))
+  put_onward l there = subst (GoesOn own to q) (same_some (sym is ∙ there)) (record {
+    now = next;
+    is = put_last;
+    up = omega arith;
+    same = λ e. record { epochs_are = refl; onward = omega arith; trimmed = λ none. put_trimmed };
+  })
 
   pub put_by : IsLeftBy row vh q
   put_by = record { by = of_this.own; met = of_this.met; left = of_this.left index_is }
