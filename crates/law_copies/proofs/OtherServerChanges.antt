@@ -1,13 +1,15 @@
 -- What a job of the other server of a link that one server holds alone keeps of one of the link's cells.
-use Rattle.law_copies.proofs.Imports.{[], ◌+◌, ◌<◌, ◌∙◌, ◌∷◌, ◌≡◌, ◌≤◌, Cell, Chain, Copying, Entry, IsRising, LastCopy, LinkRow, List, Option, PairState}
-use Rattle.law_copies.proofs.Imports.{Some, Stored, ap, arith, at, at_apart, at_same, cell_of, cell_same, chain_in, chain_put, copying_on, epochs_beyond}
-use Rattle.law_copies.proofs.Imports.{epochs_of, false, first_last, inl, inr, key_at, last_copy, nat_cmp, nat_cmp_total, put, put_rises, puts_entry, refl}
-use Rattle.law_copies.proofs.Imports.{same_or_apart, same_some, slice_get, subst, sym, true, true_false, with_last_copy, without_entry, ℕ}
+use Rattle.law_copies.proofs.Imports.{[], ◌+◌, ◌<◌, ◌∙◌, ◌∷◌, ◌≡◌, ◌≤◌, Body, Cell, Chain, Copying, Entry, IsOfCopy, IsRising, JobContext, LastCopy, LinkRow}
+use Rattle.law_copies.proofs.Imports.{List, Option, PairState, Some, Stored, ap, arith, at, at_apart, at_same, cell_of, cell_same, chain_in, chain_put}
+use Rattle.law_copies.proofs.Imports.{copying_on, epochs_beyond, epochs_of, false, first_last, inl, inr, key_at, last_copy, nat_cmp, nat_cmp_total, put}
+use Rattle.law_copies.proofs.Imports.{put_rises, puts_entry, refl, same_or_apart, same_some, slice_get, subst, sym, true, true_false, with_last_copy}
+use Rattle.law_copies.proofs.Imports.{without_entry, ℕ}
 use Rattle.law_copies.specs.CopyProgress.{AreCopying, HasSent, IsFollowed, IsLastCopy, IsOfLast, IsSent, IsTrimming, number_above}
-use Rattle.law_copies.specs.LoneSteps.{IsLeftBy, KeepsRest, StaysTold}
+use Rattle.law_copies.specs.LoneSteps.{IsLeftBy, KeepsRest, StaysTold, IsFollowing}
 use Rattle.law_copies.proofs.CopyEpochs.{IsWithin, among, beyond, same_beyond, within, within_put}
 use Rattle.law_copies.proofs.LastCopies.{GoesOn, GoesOnward, of_last, stays_told, trimmed_of}
 use Rattle.law_copies.proofs.ChainsRise.{row_at}
+use Rattle.petal_msg.specs.declared.body.Body.TheVariants as body
 
 -- ### What is to show of the last copy
 
@@ -180,23 +182,14 @@ module _ {links : ℕ} {row : LinkRow} {cell : Cell} {vh : Option PairState} {ow
 -- ### An entry is put
 
 -- the next entry of a copy, at the server to which it was sent
-pub record CopiedEntry : Type 0 where
-  pub links : ℕ
-  pub row : LinkRow
-  pub vh : Option PairState
-  pub own : PairState
-  pub entry : Entry
-  pub holder : ℕ
-  pub last : LastCopy
-  pub old : AreCopying links row (cell_of entry.key) vh (Some own)
-  pub rises : IsRising nat_cmp (chain_in own.store.chains (cell_of entry.key))
-  pub is : last_copy own (cell_of entry.key) ≡ Some last
-  pub op_is : entry.op ≡ last.op
-  pub index_is : entry.index ≡ last.index
-  pub said : HasSent row vh (Some own) (cell_of entry.key) entry.op entry.index (entry.key.epoch, entry.stored)
+module _ {heard : Body → Type 0} {here : JobContext} {links : ℕ} {row : LinkRow} {vh : Option PairState} {own : PairState} (entry : Entry) (holder : ℕ)
+    (last : LastCopy) (f : IsFollowing heard here links row (cell_of entry.key) vh own) (of : IsOfCopy heard here own entry holder last)
+    (index_is : entry.index ≡ last.index) where
+  open f use {old}
+  open of use {last_is as is, op_is}
 
-module _ (it : CopiedEntry) where
-  open it use {links, row, vh, own, entry, holder, last, old, rises, is, op_is, index_is, said}
+  said : HasSent row vh (Some own) (cell_of entry.key) entry.op entry.index (entry.key.epoch, entry.stored)
+  said = f.told (body.Sync entry.op entry.key entry.stored.version entry.index entry.stored.bytes) of.said refl
 
   abbrev q : Cell
   q = cell_of entry.key
@@ -218,7 +211,7 @@ module _ (it : CopiedEntry) where
 
   put_rising : IsRising nat_cmp (chain_in to.store.chains q)
   put_rising = subst (IsRising nat_cmp) (sym put_chain)
-      (put_rises nat_cmp_total (chain_in own.store.chains q) entry.key.epoch entry.stored rises)
+      (put_rises nat_cmp_total (chain_in own.store.chains q) entry.key.epoch entry.stored (f.fit.rising q))
 
   put_trimmed : epochs_beyond to q last.epochs ≡ []
   put_trimmed = beyond to q last.epochs put_rising (subst (λ chain. IsWithin chain last.epochs) (sym put_chain)
