@@ -7,6 +7,7 @@ use Rattle.law_copies.specs.CopyProgress.{AreAlike, AreCopying, AreInOrder, HasP
 use Rattle.law_copies.specs.CopyProgress.{IsLastCopy, IsLeft, IsPast, IsSent, IsTold, IsTrimming, Is_equal, Is_marked_here, Is_marked_there, Is_to_be_copied}
 use Rattle.law_copies.specs.CopyProgress.{NotCopied, number_above}
 use Rattle.law_copies.specs.LoneSteps.{IsStill, PagesOf, StaysTold}
+use Rattle.law_copies.proofs.LastCopies.{told_by}
 use Rattle.law_copies.proofs.AllPut.{all_put, none_left_to_put}
 use Rattle.petal_msg.specs.declared.body.Body.TheVariants as body
 
@@ -99,17 +100,7 @@ module _ (links : ℕ) (row : LinkRow) (cell : Cell) (vo : Option PairState) (to
     }
 
     pub holder_told : StaysTold row cell (Some own) vo (Some to) vo
-    holder_told (body.Trim number c epochs) e =
-        subst (λ (q : Cell). IsTold row (Some own) vo (body.Trim number q epochs) → IsTold row (Some to) vo (body.Trim number q epochs))
-        (sym (same_some e))
-        (told_trim number epochs)
-    holder_told (body.Trimmed number c) e = λ t. t
-    holder_told (body.Sync number key version index bytes) e =
-        subst (λ (q : Cell). HasSent row (Some own) vo q number index (key.epoch, record { version = version; bytes = bytes })
-        → HasSent row (Some to) vo q number index (key.epoch, record { version = version; bytes = bytes })) (sym (same_some e))
-        (told_sync number index (key.epoch, record { version = version; bytes = bytes }))
-    holder_told (body.Synced number c index) e = λ t. t
-    holder_told _ e = λ t. tt
+    holder_told = told_by row cell (Some own) vo (Some to) vo told_trim (λ number t. t) told_sync (λ number index t. t)
 
 -- ### Of the two copies
 

@@ -1,10 +1,29 @@
 -- The last copy of a cell at the other server, and what letters tell of it: what was known stays known while the copy goes on, and once a
 -- newer one has come.
-use Rattle.law_copies.proofs.Imports.{[], ◌<◌, ◌∙◌, ◌≡◌, ◌≤◌, Cell, LastCopy, LinkRow, Option, PairState, Some, Stored, ap, arith, epochs_beyond, inl}
+use Rattle.law_copies.proofs.Imports.{[], ◌<◌, ◌∙◌, ◌≡◌, ◌≤◌, Cell, LastCopy, LinkRow, List, Option, PairState, Some, Stored, ap, arith, epochs_beyond, inl}
 use Rattle.law_copies.proofs.Imports.{inr, last_copy, refl, same_some, slice_get, subst, sym, ℕ}
 use Rattle.law_copies.specs.CopyProgress.{HasPut, HasSent, HasTrimmed, IsOfLast, IsPast, IsTold}
 use Rattle.law_copies.specs.LoneSteps.{StaysTold}
 use Rattle.petal_msg.specs.declared.body.Body.TheVariants as body
+
+-- what is known of each kind of letter stays known
+pub told_by : (row : LinkRow) (cell : Cell) (holder other holder' other' : Option PairState)
+    → ((number : ℕ) (epochs : List ℕ) → IsTold row holder other (body.Trim number cell epochs) → IsTold row holder' other' (body.Trim number cell epochs))
+    → ((number : ℕ) → HasTrimmed other cell number → HasTrimmed other' cell number)
+    → ((number index : ℕ) (entry : ℕ × Stored) → HasSent row holder other cell number index entry → HasSent row holder' other' cell number index entry)
+    → ((number index : ℕ) → HasPut other cell number index → HasPut other' cell number index) → StaysTold row cell holder other holder' other'
+told_by row cell holder other holder' other' trim trimmed sent put (body.Trim number c epochs) e =
+    subst (λ (q : Cell). IsTold row holder other (body.Trim number q epochs) → IsTold row holder' other' (body.Trim number q epochs)) (sym (same_some e))
+    (trim number epochs)
+told_by row cell holder other holder' other' trim trimmed sent put (body.Trimmed number c) e =
+    subst (λ (q : Cell). HasTrimmed other q number → HasTrimmed other' q number) (sym (same_some e)) (trimmed number)
+told_by row cell holder other holder' other' trim trimmed sent put (body.Sync number key version index bytes) e =
+    let entry : ℕ × Stored = (key.epoch, record { version = version; bytes = bytes }) in
+    subst (λ (q : Cell). HasSent row holder other q number index entry → HasSent row holder' other' q number index entry) (sym (same_some e))
+    (sent number index entry)
+told_by row cell holder other holder' other' trim trimmed sent put (body.Synced number c index) e =
+    subst (λ (q : Cell). HasPut other q number index → HasPut other' q number index) (sym (same_some e)) (put number index)
+told_by row cell holder other holder' other' trim trimmed sent put _ e = λ told. tt
 
 -- ### Letters, by the last copy
 
@@ -128,20 +147,6 @@ module _ (own to : PairState) (cell : Cell) (onward : GoesOnward own to cell) wh
 
   -- what was known of letters of the cell is known later
   pub stays_told : (row : LinkRow) (holder : Option PairState) → StaysTold row cell holder (Some own) holder (Some to)
-  stays_told row holder (body.Trim number c epochs) e =
-      subst (λ (q : Cell). IsTold row holder (Some own) (body.Trim number q epochs) → IsTold row holder (Some to) (body.Trim number q epochs))
-      (sym (same_some e))
-      (λ told. elim told [ inl past ↦ inl (past_onward number past) | inr asked ↦ inr asked ])
-  stays_told row holder (body.Trimmed number c) e =
-      subst (λ (q : Cell). IsTold row holder (Some own) (body.Trimmed number q) → IsTold row holder (Some to) (body.Trimmed number q))
-      (sym (same_some e))
-      (trimmed_onward number)
-  stays_told row holder (body.Sync number key version index bytes) e =
-      subst (λ (q : Cell). HasSent row holder (Some own) q number index (key.epoch, record { version = version; bytes = bytes })
-      → HasSent row holder (Some to) q number index (key.epoch, record { version = version; bytes = bytes })) (sym (same_some e))
-      (sent_onward row holder number index (key.epoch, record { version = version; bytes = bytes }))
-  stays_told row holder (body.Synced number c index) e =
-      subst (λ (q : Cell). IsTold row holder (Some own) (body.Synced number q index) → IsTold row holder (Some to) (body.Synced number q index))
-      (sym (same_some e))
-      (put_onward number index)
-  stays_told row holder _ e = λ told. tt
+  stays_told row holder = told_by row cell holder (Some own) holder (Some to)
+      (λ number epochs told. elim told [ inl past ↦ inl (past_onward number past) | inr asked ↦ inr asked ])
+      trimmed_onward (sent_onward row holder) put_onward
