@@ -5,9 +5,9 @@ use Rattle.law_copies.proofs.Imports.{id_of, inl, inr, is_some, link_cmp, link_n
 use Rattle.law_copies.proofs.Imports.{subst, sym, true, true_false, with_progress, ℕ}
 use Rattle.law_copies.specs.CopyProgress.{AreCopying, HasPage, IsCovered, IsLeft, IsTrimming, Is_equal, Is_marked_here, Is_marked_there, Is_to_be_copied}
 use Rattle.law_copies.specs.CopyProgress.{NotCopied}
-use Rattle.law_copies.specs.LoneSteps.{BallotKeeps, KeepsCell}
+use Rattle.law_copies.specs.LoneSteps.{HolderStep, BallotKeeps, KeepsCell}
 use Rattle.law_copies.proofs.OwnPartFrames.{keeps_alike}
-use Rattle.law_copies.proofs.HolderChanges.{HolderStep, alike_by, alike_still, below, holder_copying, holder_told, trimmed_or}
+use Rattle.law_copies.proofs.HolderChanges.{alike_by, alike_still, below, holder_copying, holder_told, trimmed_or}
 use Rattle.law_copies.proofs.LeftToCopy.{HasAny, IsDone, nothing_left}
 use Rattle.law_copies.proofs.CopiesGoOn.{onward_by}
 use Rattle.law_copies.proofs.HolderPace.{IsPaced, paced_beside, progress_itself}

@@ -6,10 +6,10 @@ use Rattle.law_copies.proofs.Imports.{last_copy, length, nat_cmp, none_some, pen
 use Rattle.law_copies.proofs.Imports.{some_or_none, subst, sym, true, true_false, with_copying, without_mark_on, ℕ}
 use Rattle.law_copies.specs.CopyProgress.{AreCopying, AreInOrder, HasPut, HasSent, HasTrimmed, IsCopied, IsCopying, IsFollowed, IsLastCopy, IsLeft, IsPast}
 use Rattle.law_copies.specs.CopyProgress.{IsSent, IsTold, IsTrimming, Is_equal, number_above}
-use Rattle.law_copies.specs.LoneSteps.{StaysTold}
+use Rattle.law_copies.specs.LoneSteps.{HolderStep, StaysTold}
 use Rattle.law_copies.proofs.AllPut.{all_put, copied_now, none_left_to_put}
 use Rattle.law_copies.proofs.CopyEpochs.{epoch_at}
-use Rattle.law_copies.proofs.HolderChanges.{HolderStep, alike_by, alike_still, below, followed_on, holder_copying, holder_told, to_be_copied, trimmed_or}
+use Rattle.law_copies.proofs.HolderChanges.{alike_by, alike_still, below, followed_on, holder_copying, holder_told, to_be_copied, trimmed_or}
 use Rattle.petal_msg.specs.declared.body.Body.TheVariants as body
 
 module _ (heard : Body → Type 0) {links : ℕ} {row : LinkRow} {cell : Cell} {vo : Option PairState} {own : PairState}

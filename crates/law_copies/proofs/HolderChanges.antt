@@ -6,23 +6,12 @@ use Rattle.law_copies.proofs.Imports.{slice_get, subst, sym, true, ℕ}
 use Rattle.law_copies.specs.CopyProgress.{AreAlike, AreCopying, AreInOrder, HasPage, HasSent, IsCaught, IsCopied, IsCopying, IsCovered, IsFollowed}
 use Rattle.law_copies.specs.CopyProgress.{IsLastCopy, IsLeft, IsPast, IsSent, IsTold, IsTrimming, Is_equal, Is_marked_here, Is_marked_there, Is_to_be_copied}
 use Rattle.law_copies.specs.CopyProgress.{NotCopied, number_above}
-use Rattle.law_copies.specs.LoneSteps.{IsStill, PagesOf, StaysTold}
+use Rattle.law_copies.specs.LoneSteps.{HolderStep, IsStill, PagesOf, StaysTold}
 use Rattle.law_copies.proofs.LastCopies.{told_by}
 use Rattle.law_copies.proofs.AllPut.{all_put, none_left_to_put}
 use Rattle.petal_msg.specs.declared.body.Body.TheVariants as body
 
 -- ### What is to show
-
--- what a change keeps
-pub record HolderStep (heard : Body → Type 0) (links : ℕ) (row : LinkRow) (cell : Cell) (vo : Option PairState) (own to : PairState) : Type 0 where
-  pub copying : AreCopying links row cell (Some to) vo
-  pub told : StaysTold row cell (Some own) vo (Some to) vo
-  pub marks : IsMarked own.store cell → IsMarked to.store cell ⊎ (is_some vo ≡ true)
-  pub stored : chain_in own.store.chains cell ≢ [] → chain_in to.store.chains cell ≢ []
-  pub alike : (now : Store) → IsStill cell vo now → PagesOf heard row cell now vo → IsRising nat_cmp (chain_in now.chains cell)
-      → AreAlike row cell own.store now (Some own) → AreAlike row cell to.store now (Some to)
-  pub caught : is_flagged own (id_of row) ≡ true
-      → (chain_in to.store.chains cell ≡ chain_in own.store.chains cell) × (IsMarked to.store cell → ⊥) × (is_flagged to (id_of row) ≡ true)
 
 -- two changes
 pub step_on : (heard : Body → Type 0) (links : ℕ) (row : LinkRow) (cell : Cell) (vo : Option PairState) (own now to : PairState)

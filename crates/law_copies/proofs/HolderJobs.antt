@@ -7,16 +7,16 @@ use Rattle.law_copies.proofs.Imports.{PairState, Pairs, Post, Progress, Says, Se
 use Rattle.law_copies.proofs.Imports.{about, above, ap, arith, at, begins_copy, by_bool, cell_at, cell_cmp, cell_gone, cell_gone_apart, cell_holder}
 use Rattle.law_copies.proofs.Imports.{cell_link, cell_same, chain_in, closed_pairs, closed_store, closes, copying_on, did_count, eq_by_cmp, false, first_copy}
 use Rattle.law_copies.proofs.Imports.{first_last, held_as_flag, holder_cell, id_of, in_both, inl, inr, is_alone, is_flagged, lead_cell, length}
-use Rattle.law_copies.proofs.Imports.{letters_of_job, link_cmp, link_named, link_of, none_some, of_filler, of_holder, of_lead, of_read, of_second}
-use Rattle.law_copies.proofs.Imports.{of_sweep, page_cell, progress_beside, progress_on, refl, same_block, same_cell_or_apart, same_id, same_some, silent}
-use Rattle.law_copies.proofs.Imports.{some_or_none, stage_live, subst, sym, true, true_false, turned, with_copied, with_copying, with_full, with_last_copy}
-use Rattle.law_copies.proofs.Imports.{with_mark_on, with_page, without_copying, worked, ℕ}
+use Rattle.law_copies.proofs.Imports.{letters_of_job, link_cmp, link_named, link_of, none_some, of_filler, of_holder, of_lead, of_read, of_second, of_sweep}
+use Rattle.law_copies.proofs.Imports.{page_cell, progress_beside, progress_on, refl, same_block, same_cell_or_apart, same_id, same_some, silent, some_or_none}
+use Rattle.law_copies.proofs.Imports.{stage_live, subst, sym, true, true_false, turned, with_copied, with_copying, with_full, with_last_copy, with_mark_on}
+use Rattle.law_copies.proofs.Imports.{with_page, without_copying, worked, ℕ}
 use Rattle.law_copies.specs.CopyProgress.{AreCopying, IsLeft, IsTold}
-use Rattle.law_copies.specs.LoneSteps.{HolderKeeps, IsHolding, KeepsCell}
+use Rattle.law_copies.specs.LoneSteps.{HolderStep, HolderKeeps, IsHolding, KeepsCell}
 use Rattle.law_copies.proofs.BlocksOnLinks.{on_block}
 use Rattle.law_copies.proofs.EmptyCellsHaveNoChain.{has_entry}
 use Rattle.law_copies.proofs.OwnPartFrames.{copied_alike, copying_beside, keeps_between, keeps_itself}
-use Rattle.law_copies.proofs.HolderChanges.{HolderStep, step_on}
+use Rattle.law_copies.proofs.HolderChanges.{step_on}
 use Rattle.law_copies.proofs.LeftToCopy.{IsNext, next_is}
 use Rattle.law_copies.proofs.CopiesGoOn.{IsOnward, begun_onward, closed_onward, copied_itself, ended_onward, going_onward, onward_by, onward_tables}
 use Rattle.law_copies.proofs.HolderPace.{IsPaced, link_itself, paced_beside, paced_copied, paced_table}
@@ -394,12 +394,4 @@ module _ (heard : Body → Type 0) (here : JobContext) (links : ℕ) (row : Link
     pub holds : (done : JobResult) → Did heard here own done → HolderKeeps heard links row cell own vo done
     holds done d =
         let s = did_step done d in
-        record {
-          copying = s.copying;
-          told = s.told;
-          says = λ post i e. says_told done.own s.copying post (letters_of_job heard here own done d post i) e;
-          marks = s.marks;
-          stored = s.stored;
-          alike = s.alike;
-          caught = s.caught;
-        }
+        record { step = s; says = λ post i e. says_told done.own s.copying post (letters_of_job heard here own done d post i) e }

@@ -2,8 +2,8 @@
 use Rattle.law_copies.proofs.Imports.{[], ◌∙◌, ◌≡◌, Both, Caught, Cell, Command, Did, Handled, In, IsSettledState, JobContext, JobResult, LinkId, LinkRow}
 use Rattle.law_copies.proofs.Imports.{List, None, Option, PairState, Post, Some, Starts, ap, arith, both, cell_link, chosen_log, did_count, eq_by_cmp, false}
 use Rattle.law_copies.proofs.Imports.{front_plain, holder_of, holds_link, id_of, inl, is_between, is_logged, link_cmp, link_named, log_plain, logged_apart}
-use Rattle.law_copies.proofs.Imports.{own_place, progress_beside, progress_on, proposed, refl, server_state, so_both, stage_live, subject_of, subst}
-use Rattle.law_copies.proofs.Imports.{sym, true, true_false, ℕ}
+use Rattle.law_copies.proofs.Imports.{own_place, progress_beside, progress_on, proposed, refl, server_state, so_both, stage_live, subject_of, subst, sym}
+use Rattle.law_copies.proofs.Imports.{true, true_false, ℕ}
 use Rattle.law_copies.specs.Visits.{AliveIn}
 use Rattle.law_copies.specs.CopyProgress.{links_of}
 use Rattle.law_copies.specs.Pair.{pair_of}
@@ -144,13 +144,15 @@ module _ (it : AtSeat) where
         let b = subst (BallotKeeps (links_at cell) row cell own other) (sym same)
         (ballot_keeps here (links_at cell) row cell other own f.old f.is (kept_lives (Handled w k) here own f.fit cell f.alive) started starts) in
         record {
-          copying = b.copying;
-          told = b.told;
+          step = record {
+            copying = b.copying;
+            told = b.told;
+            marks = λ m. inl m;
+            stored = λ some. some;
+            alike = λ now still pages rising a. b.alike now a;
+            caught = λ flagged. (refl, (f.old.caught own refl flagged).unmarked, b.flagged flagged);
+          };
           says = λ post i of. told_mute row (Some to) other post.body (mute post i);
-          marks = λ m. inl m;
-          stored = λ some. some;
-          alike = λ now still pages rising a. b.alike now a;
-          caught = λ flagged. (refl, (f.old.caught own refl flagged).unmarked, b.flagged flagged);
         }
 
     other_keeps : (cell : Cell) (row : LinkRow) (holder : Option PairState) → IsFollowing (Handled w k) here (links_at cell) row cell holder own
@@ -159,10 +161,10 @@ module _ (it : AtSeat) where
       here = record {
         copying = kept_copying f.old to (keeps cell).rest;
         told = kept_told f.old to (keeps cell).rest;
-        says = λ post i of. told_mute row holder (Some to) post.body (mute post i);
         marks = λ kind. refl;
         changes = inl refl;
       };
+      says = λ post i of. told_mute row holder (Some to) post.body (mute post i);
       pages = λ post i after block e. no_page post.body (mute post i) row.map row.link after block e;
       rising = seated.rising it cell;
     }

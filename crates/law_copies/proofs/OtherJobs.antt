@@ -1,11 +1,11 @@
 -- Each job of the other server of a link that one server holds alone keeps a cell of it.
-use Rattle.law_copies.proofs.Imports.{◌<◌, ◌∙◌, ◌≡◌, ◌⊎◌, Begins, Body, By_holder, By_lead, By_other, By_second, Cell, Copying, Did, DidOther, Drops_entry}
-use Rattle.law_copies.proofs.Imports.{Entry, Goes_on, Goes_on_trimming, In, IsCopying, IsIdle, IsMarked, IsOfCopy, Is_copied_to, Is_trimmed, JobContext}
-use Rattle.law_copies.proofs.Imports.{JobResult, LastCopy, LinkRow, List, MarkKind, Option, PairState, Post, Puts_entry, Says, Some, Store, TrimStep, about}
-use Rattle.law_copies.proofs.Imports.{above, ap, arith, cell_of, chain_in, filter, first_last, inl, inr, is_alone, is_marked, is_on, last_copy}
-use Rattle.law_copies.proofs.Imports.{letters_of_job, marked_blocks, other_cell, other_of, puts_entry, refl, same_some, subst, sym, true, with_last_copy, ℕ}
+use Rattle.law_copies.proofs.Imports.{◌<◌, ◌∙◌, ◌≡◌, Begins, Body, By_holder, By_lead, By_other, By_second, Cell, Copying, Did, DidOther, Drops_entry, Entry}
+use Rattle.law_copies.proofs.Imports.{Goes_on, Goes_on_trimming, In, IsCopying, IsIdle, IsMarked, IsOfCopy, Is_copied_to, Is_trimmed, JobContext, JobResult}
+use Rattle.law_copies.proofs.Imports.{LastCopy, LinkRow, List, Option, PairState, Post, Puts_entry, Says, Some, Store, TrimStep, about, above, ap, arith}
+use Rattle.law_copies.proofs.Imports.{cell_of, chain_in, filter, first_last, inl, inr, is_alone, is_marked, is_on, last_copy, letters_of_job, marked_blocks}
+use Rattle.law_copies.proofs.Imports.{other_cell, other_of, puts_entry, refl, same_some, subst, sym, true, with_last_copy, ℕ}
 use Rattle.law_copies.specs.CopyProgress.{AreCopying, IsPage, IsTold, IsUpTo}
-use Rattle.law_copies.specs.LoneSteps.{IsFollowing, KeepsCell, OtherKeeps, StaysTold, IsLeftBy}
+use Rattle.law_copies.specs.LoneSteps.{IsFollowing, KeepsCell, OtherKeeps, StaysHere, StaysTold}
 use Rattle.law_copies.proofs.LastCopies.{past_last, past_of, stays_told, to_put, to_trimmed}
 use Rattle.law_copies.proofs.LeftToCopy.{among_marked, least_below, on_itself}
 use Rattle.law_copies.proofs.EpochsRise.{did_rising}
@@ -17,13 +17,6 @@ use Rattle.law_copies.proofs.RolesOfWorkers.{taken_held, worked_or_apart}
 use Rattle.law_copies.proofs.WorkedCell.{cell_apart_from}
 use Rattle.petal_msg.specs.declared.body.Body.TheVariants as body
 use Rattle.law_copies.proofs.OtherServerChanges as following
-
--- what is kept of the cell, but for what is said
-record StaysHere (links : ℕ) (row : LinkRow) (cell : Cell) (vh : Option PairState) (own new : PairState) : Type 0 where
-  copying : AreCopying links row cell vh (Some new)
-  told : StaysTold row cell vh (Some own) vh (Some new)
-  marks : (kind : MarkKind) → is_marked new.store kind cell ≡ is_marked own.store kind cell
-  changes : (chain_in new.store.chains cell ≡ chain_in own.store.chains cell) ⊎ IsLeftBy row vh cell
 
 -- the last copy does its next step, where it was remembered in this job or before
 trims_here : (links : ℕ) (row : LinkRow) (cell : Cell) (vh : Option PairState) (own now : PairState) → now.store ≡ own.store
@@ -172,16 +165,9 @@ module _ {heard : Body → Type 0} {here : JobContext} {links : ℕ} {row : Link
 
     -- what is kept
     pub follows : (done : JobResult) → Did heard here own done → OtherKeeps links row cell vh own done
-    follows done d =
-        let kept = here_by done d in
-        record {
-          here = record {
-            copying = kept.copying;
-            told = kept.told;
-            says = λ post i e. says_told done.own post (letters_of_job heard here own done d post i) e;
-            marks = kept.marks;
-            changes = kept.changes;
-          };
-          pages = page_is done d;
-          rising = did_rising heard here own f.fit.rising done d cell;
-        }
+    follows done d = record {
+      here = here_by done d;
+      says = λ post i e. says_told done.own post (letters_of_job heard here own done d post i) e;
+      pages = page_is done d;
+      rising = did_rising heard here own f.fit.rising done d cell;
+    }
