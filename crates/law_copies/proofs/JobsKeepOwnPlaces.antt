@@ -137,23 +137,25 @@ module _ (it : AtJob) where
     both_first lives both leads =
         let m = row.secondary in
         let ne : m ≢ k = λ f. apart (leads ∙ sym f) in
+        let has = primary_is_one row k leads in
+        let at = seated.first_at (seat_at it) cell row is alive leads in
         let keeps = job.keeping.lead cell row (beside m) is alive both leads
-        (seated.first_ok (seat_at it) cell row is alive lives both leads)
-        (seated.first_known (seat_at it) cell row is alive lives both leads) in
-        both_so (pair_of own (beside m) cell) (pair_of done.own (beside m) cell) (seated.first_at (seat_at it) cell row is alive lives both leads)
+        (seated.pair_ok (seat_at it) cell row is alive lives both has at) (seated.pair_known (seat_at it) cell row is alive lives both has at) in
+        both_so (pair_of own (beside m) cell) (pair_of done.own (beside m) cell) at
         ((λ i. pair_of (own_half i) (beside_now m ne i) cell) ∙ (λ i. pair_at news visits place cell (sym leads i) m))
-        (seated.twins_here (seat_at it) cell row is alive lives both (primary_is_one row k leads))
+        (seated.twins_here (seat_at it) cell row is alive lives both has)
         keeps.keeps keeps.lacks keeps.says (subst (λ a. AreRecalled a cell) (mine_now row.primary leads) keeps.recalled)
 
     both_second : IsAliveLast → row.state ≡ Both → row.secondary ≡ k → BothNow
     both_second lives both follows =
         let n = row.primary in
         let ne : n ≢ k = λ f. apart (f ∙ sym follows) in
+        let has = secondary_is_one row k follows in
+        let at = seated.second_at (seat_at it) cell row is alive follows in
         let keeps = job.keeping.second cell row (beside n) is alive both follows
-        (seated.second_ok (seat_at it) cell row is alive lives both follows)
-        (seated.second_known (seat_at it) cell row is alive lives both follows) in
-        let twins = seated.twins_here (seat_at it) cell row is alive lives both (secondary_is_one row k follows) in
-        both_so (pair_of (beside n) own cell) (pair_of (beside n) done.own cell) (seated.second_at (seat_at it) cell row is alive lives both follows)
+        (seated.pair_ok (seat_at it) cell row is alive lives both has at) (seated.pair_known (seat_at it) cell row is alive lives both has at) in
+        let twins = seated.twins_here (seat_at it) cell row is alive lives both has in
+        both_so (pair_of (beside n) own cell) (pair_of (beside n) done.own cell) at
         ((λ i. pair_of (beside_now n ne i) (own_half i) cell) ∙ (λ i. pair_at news visits place cell n (sym follows i))) twins
         keeps.keeps keeps.lacks keeps.says
         (subst (λ a. AreRecalled a cell) (beside_now n ne) (twins_recalled olds good.visits place cell n row.secondary twins))
