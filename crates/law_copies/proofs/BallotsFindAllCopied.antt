@@ -1,14 +1,13 @@
 -- What a ballot that a server starts keeps of a cell: of one whose link it holds alone, nothing is left to copy once it starts.
-use Rattle.law_copies.proofs.Imports.{◌∙◌, ◌≡◌, Body, Caught, Cell, Command, Copying, Drained, IsBallotFor, JobContext, Join, Leave, LinkId, LinkRow}
-use Rattle.law_copies.proofs.Imports.{MakeDisk, Moved, None, Option, PairState, Pairs, Progress, Snap, Some, StartMove, Starts, State, Store, Table, Witness}
-use Rattle.law_copies.proofs.Imports.{above, ap, arith, at, by_bool, cell_at, cell_cmp, cell_link, chain_in, eq_by_cmp, flag_put, holds_link, id_of, inl, inr}
-use Rattle.law_copies.proofs.Imports.{is_some, link_cmp, link_named, live, none_some, progress_beside, progress_on, proposed, refl, same_id, subst, sym, true}
-use Rattle.law_copies.proofs.Imports.{true_false, with_progress, ℕ}
-use Rattle.law_copies.specs.CopyProgress.{AreCopying, HasPage, IsCovered, Is_equal, Is_marked_here, Is_marked_there, Is_to_be_copied, IsLeft, IsTrimming}
+use Rattle.law_copies.proofs.Imports.{◌∙◌, ◌≡◌, Body, Caught, Cell, Command, IsBallotFor, JobContext, LinkId, LinkRow, None, Option, PairState, Progress}
+use Rattle.law_copies.proofs.Imports.{Some, Starts, State, Store, Table, above, ap, arith, by_bool, cell_link, chain_in, eq_by_cmp, flag_put, holds_link}
+use Rattle.law_copies.proofs.Imports.{id_of, inl, inr, is_some, link_cmp, link_named, live, none_some, progress_beside, progress_on, proposed, refl, same_id}
+use Rattle.law_copies.proofs.Imports.{subst, sym, true, true_false, with_progress, ℕ}
+use Rattle.law_copies.specs.CopyProgress.{AreCopying, HasPage, IsCovered, IsLeft, IsTrimming, Is_equal, Is_marked_here, Is_marked_there, Is_to_be_copied}
 use Rattle.law_copies.specs.CopyProgress.{NotCopied}
-use Rattle.law_copies.specs.LoneSteps.{BallotKeeps}
-use Rattle.law_copies.proofs.OwnPartFrames.{IsAlikeOwn, keeps_alike}
-use Rattle.law_copies.proofs.HolderChanges.{HolderStep, alike_by, alike_still, below, holder_copying, holder_told, trimmed_or}
+use Rattle.law_copies.specs.LoneSteps.{HolderStep, BallotKeeps, KeepsCell}
+use Rattle.law_copies.proofs.OwnPartFrames.{keeps_alike}
+use Rattle.law_copies.proofs.HolderChanges.{alike_by, alike_still, below, holder_copying, holder_told, trimmed_or}
 use Rattle.law_copies.proofs.LeftToCopy.{HasAny, IsDone, nothing_left}
 use Rattle.law_copies.proofs.CopiesGoOn.{onward_by}
 use Rattle.law_copies.proofs.HolderPace.{IsPaced, paced_beside, progress_itself}
@@ -18,6 +17,14 @@ use Rattle.law_copies.proofs.HolderSteps as steps
 -- the link has a ballot in mind, and nothing else is changed
 abbrev pub flagged_on : PairState → LinkRow → PairState
 flagged_on own row = with_progress own row (record (progress_on own row) { caught = true })
+
+-- how far links are changes, and nothing else
+abbrev pub with_pages : PairState → Table LinkId Progress → PairState
+with_pages own progress = record own { copies = record own.copies { progress = progress } }
+
+pub pages_keep : (cell : Cell) (own : PairState) (progress : Table LinkId Progress) → KeepsCell cell own (with_pages own progress)
+pages_keep cell own progress =
+    keeps_alike cell own (with_pages own progress) (record { pending = refl; followed = refl; copying = refl; last = refl; chains = refl; marks = refl })
 
 -- ### Of the ballot's own link
 
@@ -80,28 +87,24 @@ module _ {links : ℕ} {row : LinkRow} {cell : Cell} {vo : Option PairState} {ow
 
   -- ### Of another link
 
-  apart_keeps : (to : PairState) → IsAlikeOwn own to → to.pairs ≡ own.pairs → to.store ≡ own.store → IsPaced row own to
-      → (progress_on to row).copied ≡ (progress_on own row).copied → BallotKeeps links row cell own vo to
-  apart_keeps to same pairs store paced copied =
+  apart_keeps : (progress : Table LinkId Progress) → IsPaced row own (with_pages own progress)
+      → (progress_on (with_pages own progress) row).copied ≡ (progress_on own row).copied → BallotKeeps links row cell own vo (with_pages own progress)
+  apart_keeps progress paced copied =
+      let to = with_pages own progress in
       let step : HolderStep (λ b. Unit {0}) links row cell vo own to = steps.kept_step (λ b. Unit {0}) old to
-      (keeps_alike cell own to same)
-      (let e = ap (λ (p : Pairs). p.next) pairs in omega arith) paced
-      (onward_by links row cell own to paced copied
-      (λ later copy lt on is. inl (copy, ap (λ (t : Table Cell Copying). at cell_cmp t (cell_at row later)) (sym same.copying) ∙ is))) in
+      (pages_keep cell own progress) (omega arith) paced (onward_by links row cell own to paced copied (λ later copy lt on is. inl (copy, is))) in
       record {
         copying = step.copying;
         told = step.told;
-        store = store;
-        alike = alike_still row cell own to store paced.paged paced.after copied paced.flag;
+        store = refl;
+        alike = alike_still row cell own to refl paced.paged paced.after copied paced.flag;
         flagged = λ flag. paced.flag ∙ flag;
       }
 
 module _ (here : JobContext) (links : ℕ) (row : LinkRow) (cell : Cell) (vo : Option PairState) (own : PairState) (old : AreCopying links row cell (Some own) vo)
     (is : cell_link here.state cell ≡ Some row) (lives : HasAny own cell → live here.state cell ≡ true) where
   same_keeps : BallotKeeps links row cell own vo own
-  same_keeps = apart_keeps old own
-      (record { pending = refl; followed = refl; copying = refl; last = refl; chains = refl; marks = refl }) refl refl
-      (record { paged = refl; after = refl; flag = refl }) refl
+  same_keeps = apart_keeps old own.copies.progress (record { paged = refl; after = refl; flag = refl }) refl
 
   held_keeps : (id : LinkId) → IsBallotFor here own id → BallotKeeps links row cell own vo (holds_link own (link_named here.state id))
   held_keeps id b = subst (λ o. BallotKeeps links row cell own vo (holds_link own o)) (sym b.held.is)
@@ -113,8 +116,7 @@ module _ (here : JobContext) (links : ℕ) (row : LinkRow) (cell : Cell) (vo : O
       (flagged_keeps old here.state
       (subst (λ (r : LinkRow). IsDone here.state r own cell) (sym same)
       (nothing_left here.state id b.row own b.held.is cell (is ∙ ap Some same) lives b.nothing))))
-      (λ no. apart_keeps old (flagged_on own b.row)
-      (record { pending = refl; followed = refl; copying = refl; last = refl; chains = refl; marks = refl }) refl refl
+      (λ no. apart_keeps old (flagged_on own b.row).copies.progress
       (paced_beside own b.row (record (progress_on own b.row) { caught = true }) row no)
       (ap (λ (p : Progress). p.copied) (progress_beside own b.row (record (progress_on own b.row) { caught = true }) row no))))
 
@@ -122,32 +124,15 @@ module _ (here : JobContext) (links : ℕ) (row : LinkRow) (cell : Cell) (vo : O
   pub ballot_keeps : (started : Option Command) → Starts here own started → BallotKeeps links row cell own vo (proposed here.state own started)
   ballot_keeps None starts = same_keeps
   ballot_keeps (Some (Caught of link holder inc other other_inc)) starts = held_keeps (record { map = of; link = link }) starts
-  ballot_keeps (Some (Join server inc blank)) starts = same_keeps
-  ballot_keeps (Some (Leave server inc)) starts = same_keeps
-  ballot_keeps (Some (MakeDisk client seq name tuple)) starts = same_keeps
-  ballot_keeps (Some (Snap client seq disk name)) starts = same_keeps
-  ballot_keeps (Some (StartMove client seq disk tuple)) starts = same_keeps
-  ballot_keeps (Some (Drained server inc fence)) starts = same_keeps
-  ballot_keeps (Some (Moved of region link)) starts = same_keeps
-  ballot_keeps (Some (Witness client seq turn)) starts = same_keeps
+  ballot_keeps (Some _) starts = same_keeps
 
--- of any cell but how far a link is, it keeps all
-abbrev pub IsBallot : PairState → PairState → Type 0
-IsBallot own to = IsAlikeOwn own to × (to.pairs ≡ own.pairs) × (to.store ≡ own.store)
+held_alike : (own : PairState) (o : Option LinkRow) → with_pages own (holds_link own o).copies.progress ≡ holds_link own o
+held_alike own None = refl
+held_alike own (Some row) = refl
 
-held_alike : (own : PairState) (o : Option LinkRow) → IsBallot own (holds_link own o)
-held_alike own None = (record { pending = refl; followed = refl; copying = refl; last = refl; chains = refl; marks = refl }, refl, refl)
-held_alike own (Some row) = (record { pending = refl; followed = refl; copying = refl; last = refl; chains = refl; marks = refl }, refl, refl)
-
-pub ballot_alike : (state : State) (own : PairState) (started : Option Command) → IsBallot own (proposed state own started)
-ballot_alike state own None = held_alike own None
-ballot_alike state own (Some (Caught of link holder inc other other_inc)) = held_alike own
-    (link_named state (record { map = of; link = link }))
-ballot_alike state own (Some (Join server inc blank)) = held_alike own None
-ballot_alike state own (Some (Leave server inc)) = held_alike own None
-ballot_alike state own (Some (MakeDisk client seq name tuple)) = held_alike own None
-ballot_alike state own (Some (Snap client seq disk name)) = held_alike own None
-ballot_alike state own (Some (StartMove client seq disk tuple)) = held_alike own None
-ballot_alike state own (Some (Drained server inc fence)) = held_alike own None
-ballot_alike state own (Some (Moved of region link)) = held_alike own None
-ballot_alike state own (Some (Witness client seq turn)) = held_alike own None
+-- only how far links are is changed
+pub ballot_alike : (state : State) (own : PairState) (started : Option Command)
+    → with_pages own (proposed state own started).copies.progress ≡ proposed state own started
+ballot_alike state own None = refl
+ballot_alike state own (Some (Caught of link holder inc other other_inc)) = held_alike own (link_named state (record { map = of; link = link }))
+ballot_alike state own (Some _) = refl

@@ -14,6 +14,7 @@ use Rattle.law_copies.proofs.FramesKeepFronts.{store_itself}
 use Rattle.law_copies.proofs.KeptEntryByEntry.{IsFurther, grow}
 use Rattle.law_copies.proofs.AtNext.{IsAfter}
 use Rattle.law_copies.proofs.MuteLettersTellNothing.{asked_mute}
+use Rattle.law_copies.proofs.StepsKeepCopies.{IsMarkedOne, sound_part}
 use Rattle.law_copies.proofs.StepsLeaveCopies.{posts_mute}
 use Rattle.law_copies.proofs.VisitsAfterSteps.{at_by, counted as reached_then, later, seen, stored}
 use Rattle.law_copies.proofs.CopiesKnownOfWorlds.{OneMore, before_of, in_begun, known_after}
@@ -56,17 +57,10 @@ module _ (it : OneMore) where
       (quiet.same_visits (at_step good step) refl refl refl)
       (λ cell alive. store_itself (before.servers k).own.store cell)
       own (then_so it then_world then_is)
-      (record {
-        unheard = good.unheard k;
-        copied = good.copied k;
-        rising = good.rising k;
-        counts = good.counts k;
-        filled = good.filled k;
-        marks = λ when. elim when [
-          | inl runs ↦ true_false runs asleep
-          | inr none ↦ none_some none (put_same w.before_blank k (Some mine))
-        ];
-      })
+      (sound_part {marked = IsMarkedOne v k (before.servers k)} good k (λ when. elim when [
+        | inl runs ↦ true_false runs asleep
+        | inr none ↦ none_some none (put_same w.before_blank k (Some mine))
+      ]))
       (λ letter i. inl i)
 
   -- ### A turn of a client
@@ -89,14 +83,7 @@ module _ (it : OneMore) where
       (quiet.same_visits (at_step good step) refl refl refl)
       (λ cell alive. store_itself (before.servers 0).own.store cell)
       own (then_so it then_world then_is)
-      (record {
-        unheard = good.unheard 0;
-        copied = good.copied 0;
-        rising = good.rising 0;
-        counts = good.counts 0;
-        filled = good.filled 0;
-        marks = good.marks 0;
-      })
+      (sound_part {marked = IsMarkedOne v 0 (before.servers 0)} good 0 (λ when. when))
       (λ letter i. elim (in-append letter (stamped stamp (letters_of (client_sender c reacted.client) 0 reacted.posts)) w.sent i) [
         | inl new ↦ inr (posts_mute setting top (stored (at_step good step))
             (later (at_step good step)) (reached_then (at_step good step))

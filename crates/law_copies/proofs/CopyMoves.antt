@@ -4,26 +4,13 @@ use Rattle.law_copies.proofs.Imports.{MarkKind, None, Option, PairState, Pairs, 
 use Rattle.law_copies.proofs.Imports.{cell_same, chain_in, copying_on, epochs_beyond, epochs_of, false, first_copy, id_of, inl, inr, is_flagged, is_some}
 use Rattle.law_copies.proofs.Imports.{last_copy, length, nat_cmp, none_some, pending_on, progress_on, refl, same_some, slice_get, slice_get_within}
 use Rattle.law_copies.proofs.Imports.{some_or_none, subst, sym, true, true_false, with_copying, without_mark_on, ℕ}
-use Rattle.law_copies.specs.CopyProgress.{AreCopying, AreInOrder, HasPut, HasSent, HasTrimmed, IsCopied, IsCopying, Is_equal, IsFollowed, IsLastCopy, IsLeft}
-use Rattle.law_copies.specs.CopyProgress.{IsPast, IsSent, IsTold, IsTrimming, number_above}
-use Rattle.law_copies.specs.LoneSteps.{StaysTold}
+use Rattle.law_copies.specs.CopyProgress.{AreCopying, AreInOrder, HasPut, HasSent, HasTrimmed, IsCopied, IsCopying, IsFollowed, IsLastCopy, IsLeft, IsPast}
+use Rattle.law_copies.specs.CopyProgress.{IsSent, IsTold, IsTrimming, Is_equal, number_above}
+use Rattle.law_copies.specs.LoneSteps.{HolderStep, StaysTold}
 use Rattle.law_copies.proofs.AllPut.{all_put, copied_now, none_left_to_put}
 use Rattle.law_copies.proofs.CopyEpochs.{epoch_at}
-use Rattle.law_copies.proofs.HolderChanges.{HolderStep, alike_by, alike_still, below, holder_copying, holder_told, to_be_copied, trimmed_or}
+use Rattle.law_copies.proofs.HolderChanges.{alike_by, alike_still, below, followed_on, holder_copying, holder_told, to_be_copied, trimmed_or}
 use Rattle.petal_msg.specs.declared.body.Body.TheVariants as body
-
--- the last copy follows where the holder's entries stay, and no more of them is counted as put
-followed_on : (holder to other : PairState) (cell : Cell) (copy next : Copying) (g : IsFollowed holder other cell copy)
-    → chain_in to.store.chains cell ≡ chain_in holder.store.chains cell → next.op ≡ copy.op → next.index ≤ g.last.index → IsFollowed to other cell next
-followed_on holder to other cell copy next g chain op past = record {
-  last = g.last;
-  is = g.is;
-  op_is = g.op_is ∙ sym op;
-  epochs_are = g.epochs_are ∙ ap epochs_of (sym chain);
-  past = past;
-  trimmed = g.trimmed;
-  put = λ i row lt there. g.put i row lt (ap (λ c. slice_get c i) (sym chain) ∙ there);
-}
 
 module _ (heard : Body → Type 0) {links : ℕ} {row : LinkRow} {cell : Cell} {vo : Option PairState} {own : PairState}
     (old : AreCopying links row cell (Some own) vo) where
@@ -247,6 +234,16 @@ module _ (heard : Body → Type 0) {links : ℕ} {row : LinkRow} {cell : Cell} {
         | inr t ↦ waits_not last.op done t
       ]
 
+      -- each last copy is one of the holder's then
+      kept_lasts : (to : PairState) (new : Option Copying) → copying_on to cell ≡ new → copy.op < number_above new to.pairs.next
+          → (o : PairState) (last : LastCopy) → vo ≡ Some o → last_copy o cell ≡ Some last → IsLastCopy (Some to) o cell last
+      kept_lasts to new is_new lt o last met there = record {
+        by = to;
+        met = refl;
+        below = subst (λ x. last.op < number_above x to.pairs.next) (sym is_new) (let le = up_to o last met there in omega arith);
+        trimmed = inl (trimmed_last o last met there);
+      }
+
       -- #### The other server has put an entry
 
       module _ (lt : copy.index < length chain) (said : HasPut vo cell copy.op copy.index) where
@@ -280,13 +277,7 @@ module _ (heard : Body → Type 0) {links : ℕ} {row : LinkRow} {cell : Cell} {
         pub synced_step : Step to_synced
         synced_step = record {
           copying = holder_copying links row cell vo to_synced (old.risen own refl) synced_copying
-              (λ o last met there. record {
-                by = to_synced;
-                met = refl;
-                below = subst (λ x. last.op < number_above x to_synced.pairs.next) (sym synced_is)
-                    (let le = up_to o last met there in omega arith);
-                trimmed = inl (trimmed_last o last met there);
-              })
+              (kept_lasts to_synced (Some synced) synced_is (omega arith))
               (λ flag. not_flagged copy is flag) (λ page. old.met own refl page)
               (still_ordered to_synced refl refl refl (put_apart synced) (not_put (inr lt)));
           told = holder_told links row cell vo to_synced own (λ number t. waits_not number done t)
@@ -334,12 +325,7 @@ module _ (heard : Body → Type 0) {links : ℕ} {row : LinkRow} {cell : Cell} {
           pub unmarked_step : Step unmarked
           unmarked_step = record {
             copying = holder_copying links row cell vo unmarked (old.risen own refl) unmarked_copying
-                (λ o last met there. record {
-                  by = unmarked;
-                  met = refl;
-                  below = below heard old o last met there;
-                  trimmed = inl (trimmed_last o last met there);
-                })
+                (kept_lasts unmarked (Some copy) is (omega arith))
                 (λ flag. not_flagged copy is flag) (λ page. old.met own refl page)
                 (λ paged later other lt on at_later all ahead. inr (record { copy = copy; is = is; trimmed = done; past = past }));
             told = holder_told links row cell vo unmarked own (λ number t. waits_not number done t)
@@ -367,13 +353,7 @@ module _ (heard : Body → Type 0) {links : ℕ} {row : LinkRow} {cell : Cell} {
         ended_copying ordered = holder_copying links row cell vo to
             (subst (λ (s : Store). IsRising nat_cmp (chain_in s.chains cell)) (sym store) (old.risen own refl))
             (λ x there. none_some gone there)
-            (λ o last met there. record {
-              by = to;
-              met = refl;
-              below = subst (λ x. last.op < number_above x to.pairs.next) (sym gone) (subst (λ (p : Pairs). last.op < p.next) (sym pairs)
-                  (let le = up_to o last met there in let lt = c.below in omega arith));
-              trimmed = inl (trimmed_last o last met there);
-            })
+            (kept_lasts to None gone (subst (λ (p : Pairs). copy.op < p.next) (sym pairs) c.below))
             (λ flag. not_flagged copy is (sym flag_is ∙ flag))
             (λ page. ap is_some c.met) ordered
 

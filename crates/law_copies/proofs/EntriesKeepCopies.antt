@@ -1,5 +1,5 @@
 -- What is kept after an entry that a server applies.
-use Rattle.law_copies.proofs.Imports.{[], ◌++◌, ◌+◌, ◌<◌, ◌==◌, ◌∙◌, ◌∷◌, ◌≡◌, ◌≢◌, ◌≤◌, ◌⊎◌, Body, Bool, Both, Cell, Command, In, IsMarked, IsPrefix}
+use Rattle.law_copies.proofs.Imports.{[], ◌++◌, ◌<◌, ◌==◌, ◌∙◌, ◌∷◌, ◌≡◌, ◌≢◌, ◌≤◌, ◌⊎◌, Body, Bool, Both, Cell, Command, In, IsMarked, IsPrefix}
 use Rattle.law_copies.proofs.Imports.{IsRising, IsToBeCopied, Letter, LinkRow, List, None, Only, Option, PairState, Pairs, Pending, Progress, Record, Some}
 use Rattle.law_copies.proofs.Imports.{StaysSo, Store, World, about, ap, arith, at, cell_cmp, chain_in, chosen_log, false, front_plain, has_mark, has_server}
 use Rattle.law_copies.proofs.Imports.{id_of, inc_of, inl, inr, is_flagged, is_in, is_some, length, log_steady, mark_on, nat_cmp, none_some, option_map_or}
@@ -14,7 +14,7 @@ use Rattle.law_copies.proofs.VisitsAfterSteps.{then_of, IsAt, IsThen, KeepsFlags
 use Rattle.law_copies.proofs.AtEntry.{AtEntry, step_of}
 use Rattle.law_copies.proofs.BlankJoinsMakePlaces.{joins_at}
 use Rattle.law_copies.proofs.LeftByEntry.{KeepsAll}
-use Rattle.law_copies.proofs.FramesKeepFronts.{LeavesStore, alike_same, filled_framed, marked_back, marked_on, other_is_one, recalled_on, to_copy_on}
+use Rattle.law_copies.proofs.FramesKeepFronts.{LeavesStore, alike_same, filled_framed, left_on, marked_back, other_is_one, pair_same, recalled_on}
 use Rattle.law_copies.proofs.NewcomersRememberNothing.{IsFresh, fresh_alike, fresh_first, fresh_first_known, fresh_holder, fresh_holder_told, fresh_other}
 use Rattle.law_copies.proofs.NewcomersRememberNothing.{fresh_other_told, fresh_second}
 use Rattle.law_copies.proofs.NewPlaces.{twins_lacking, twins_of, twins_recalled}
@@ -64,11 +64,23 @@ module _ (it : AtEntry) where
 
   -- ### The server's visit of a place
 
-  data Arriving (n place : ℕ) (cell : Cell) (row : LinkRow) : Type 0 where
-    Is_as_it_was : visits n place cell ≡ good.visits n place cell → Arriving n place cell row
-    Has_come : good.visits n place cell ≡ None → visits n place cell ≡ Some new → IsFresh new row cell → (row.state ≡ Both → pending_on new cell ≡ None)
-        → Arriving n place cell row
-    Has_stayed : good.visits n place cell ≡ Some old → visits n place cell ≡ Some new → KeepsAll old new row cell → Arriving n place cell row
+  -- what it was there, and what it is then
+  data Arriving (row : LinkRow) (cell : Cell) : Option PairState → Option PairState → Type 0 where
+    Is_as_it_was : (visit : Option PairState) → Arriving row cell visit visit
+    Has_come : IsFresh new row cell → (row.state ≡ Both → pending_on new cell ≡ None) → Arriving row cell None (Some new)
+    Has_stayed : KeepsAll old new row cell → Arriving row cell (Some old) (Some new)
+
+  abbrev Arrives : (n place : ℕ) → Cell → LinkRow → Type 0
+  Arrives n place cell row = Arriving row cell (good.visits n place cell) (visits n place cell)
+
+  arriving_by : (n place : ℕ) (cell : Cell) (row : LinkRow) (was now : Option PairState) → good.visits n place cell ≡ was → visits n place cell ≡ now
+      → Arriving row cell was now → Arrives n place cell row
+  arriving_by n place cell row was now e f arriving =
+      subst (λ o. Arriving row cell o (visits n place cell)) (sym e) (subst (Arriving row cell was) (sym f) arriving)
+
+  stands_there : (n place : ℕ) (cell : Cell) (row : LinkRow) → visits n place cell ≡ good.visits n place cell → Arrives n place cell row
+  stands_there n place cell row same =
+      let visit = good.visits n place cell in arriving_by n place cell row visit visit refl same (Is_as_it_was visit)
 
   alive_there : (cell : Cell) → AliveIn (state_in setting.servers server.log) cell → AliveIn (server_state setting w k) cell
   alive_there = entering.alive_before it
@@ -101,99 +113,89 @@ module _ (it : AtEntry) where
       ∙ counts there.seat)
 
   arriving_here : (front : List Command) (cell : Cell) (row : LinkRow) → IsPrefix front top → IsLinked setting front cell row → has_server k row ≡ true
-      → Arriving k (place_by setting front row) cell row
+      → Arrives k (place_by setting front row) cell row
   arriving_here front cell row prefix is has = elim (visited_by (step_of it) k (place_by setting front row) cell) [
-    | inl same ↦ Is_as_it_was same
+    | inl same ↦ stands_there k (place_by setting front row) cell row same
     | inr now ↦ (
         let there = now.there in
         let one = same_row front cell row prefix is there in
         let end = subst (IsLinked setting server.log.applied cell) one there.linked in
         let place : place_by setting front row ≡ place_by setting server.log.applied row = there.at ∙ ap (place_by setting server.log.applied) one in
-        let visit : visits k (place_by setting front row) cell ≡ Some new = now.is in
         elim (entering.comes_or_stays it cell row end there.alive) [
-          | inl c ↦ Has_come (ap (λ p. good.visits k p cell) place ∙ c.unseen) visit c.fresh
-              (λ both. ap (λ (p : Pairs). at cell_cmp p.pending cell) left.pairs ∙ c.free both)
+          | inl c ↦ arriving_by k (place_by setting front row) cell row None (Some new) (ap (λ p. good.visits k p cell) place ∙ c.unseen) now.is
+              (Has_come c.fresh (λ both. ap (λ (p : Pairs). at cell_cmp p.pending cell) left.pairs ∙ c.free both))
           | inr s ↦ (
               let h = good.here k cell row s.linked (seat_before row cell has s.so there.seat) (alive_there cell there.alive) in
-              Has_stayed (ap (λ p. good.visits k p cell) (place ∙ s.place) ∙ h.is ∙ ap Some h.same) visit s.keeps)
+              arriving_by k (place_by setting front row) cell row (Some old) (Some new)
+              (ap (λ p. good.visits k p cell) (place ∙ s.place) ∙ h.is ∙ ap Some h.same) now.is (Has_stayed s.keeps))
         ])
   ]
 
   arriving : (front : List Command) (cell : Cell) (row : LinkRow) → IsPrefix front top → IsLinked setting front cell row → (n : ℕ)
-      → has_server n row ≡ true → Arriving n (place_by setting front row) cell row
+      → has_server n row ≡ true → Arrives n (place_by setting front row) cell row
   arriving front cell row prefix is n has = elim (same_or_apart n k) [
-    | inl e ↦ subst (λ m. Arriving m (place_by setting front row) cell row) (sym e)
+    | inl e ↦ subst (λ m. Arrives m (place_by setting front row) cell row) (sym e)
         (arriving_here front cell row prefix is (subst (λ m. has_server m row ≡ true) e has))
-    | inr ne ↦ Is_as_it_was (apart_visit n (place_by setting front row) cell ne)
+    | inr ne ↦ stands_there n (place_by setting front row) cell row (apart_visit n (place_by setting front row) cell ne)
   ]
 
   -- ### In Both
 
-  module _ (front : List Command) (n place : ℕ) (cell : Cell) (row : LinkRow) where
-    abbrev was : PairState
-    was = half (good.visits n place cell) (olds front n)
-
-    abbrev now : PairState
-    now = half (visits n place cell) (news front n)
-
-    chain_is : chain_in (news front n).chains cell ≡ chain_in (olds front n).chains cell
-    chain_is = (leaves front n cell).chain
-
-    -- the server is the first one, and was and is this in mind
-    first_by : (second : PairState) (one one' : Option PairState) → good.visits n place cell ≡ one → visits n place cell ≡ one'
-        → PairGoes (pair_of (half one (olds front n)) second cell) (pair_of (half one' (olds front n)) second cell)
-        → PairGoes (pair_of was second cell) (pair_of now second cell)
-    first_by second one one' e e' g =
-        subst (λ p. PairGoes p (pair_of now second cell)) (λ i. pair_of (half (sym e i) (olds front n)) second cell)
-        (subst (PairGoes (pair_of (half one (olds front n)) second cell))
-        (λ i. record (pair_of (half (sym e' i) (news front n)) second cell) { first = sym chain_is i }) g)
-
-    first_goes : (second : PairState) → row.state ≡ Both → Arriving n place cell row → PairGoes (pair_of was second cell) (pair_of now second cell)
-    first_goes second both (Is_as_it_was same) = first_by second (good.visits n place cell) (good.visits n place cell) refl same (goes_same _ _ refl)
-    first_goes second both (Has_come none is fresh free) = first_by second None (Some new) none is (record {
-      ok = fresh_first new row cell fresh (olds front n) second counts_on (free both);
-      known = λ said. fresh_first_known new row cell fresh (olds front n) second said counts_on (free both);
+  module _ (cell : Cell) (row : LinkRow) (both : row.state ≡ Both) (store : Store) (beside : PairState) where
+    -- the server is the first one
+    first_goes : (one one' : Option PairState) → Arriving row cell one one'
+        → PairGoes (pair_of (half one store) beside cell) (pair_of (half one' store) beside cell)
+    first_goes _ _ (Is_as_it_was visit) = goes_same _ _ refl
+    first_goes _ _ (Has_come fresh free) = record {
+      ok = fresh_first new row cell fresh store beside counts_on (free both);
+      known = λ said. fresh_first_known new row cell fresh store beside said counts_on (free both);
       lacks = λ h op there. none_some (free both) there;
-    })
-    first_goes second both (Has_stayed before is keeps) = first_by second (Some old) (Some new) before is (goes_same _ _
-        (λ i. record (pair_of (half (Some new) (olds front n)) second cell) { pending = sym keeps.keeps.rest.pending i; next = sym keeps.next i }))
+    }
+    first_goes _ _ (Has_stayed keeps) = goes_same _ _
+        (λ i. record (pair_of (half (Some new) store) beside cell) { pending = sym keeps.keeps.rest.pending i; next = sym keeps.next i })
 
     -- it is the second one
-    second_by : (first : PairState) (one one' : Option PairState) → good.visits n place cell ≡ one → visits n place cell ≡ one'
-        → pair_of first (half one (olds front n)) cell ≡ pair_of first (half one' (olds front n)) cell
-        → PairGoes (pair_of first was cell) (pair_of first now cell)
-    second_by first one one' e e' same = goes_same _ _
-        ((λ i. pair_of first (half (e i) (olds front n)) cell) ∙ same
-        ∙ (λ i. record (pair_of first (half (sym e' i) (news front n)) cell) { second = sym chain_is i }))
-
-    second_goes : (first : PairState) → Arriving n place cell row → PairGoes (pair_of first was cell) (pair_of first now cell)
-    second_goes first (Is_as_it_was same) = second_by first (good.visits n place cell) (good.visits n place cell) refl same refl
-    second_goes first (Has_come none is fresh free) = second_by first None (Some new) none is (fresh_second new row cell fresh (olds front n) first)
-    second_goes first (Has_stayed before is keeps) = second_by first (Some old) (Some new) before is
-        (λ i. record (pair_of first (half (Some new) (olds front n)) cell) { last = sym keeps.keeps.rest.followed i })
+    second_goes : (two two' : Option PairState) → Arriving row cell two two'
+        → pair_of beside (half two store) cell ≡ pair_of beside (half two' store) cell
+    second_goes _ _ (Is_as_it_was visit) = refl
+    second_goes _ _ (Has_come fresh free) = fresh_second new row cell fresh store beside
+    second_goes _ _ (Has_stayed keeps) = λ i. record (pair_of beside (half (Some new) store) cell) { last = sym keeps.keeps.rest.followed i }
 
     -- what is pending there was so before
-    recalled_then : row.state ≡ Both → Arriving n place cell row → AreRecalled was cell → AreRecalled now cell
-    recalled_then both arrived recalled op there =
-        recalled_on (olds front n) (news front n) cell op (leaves front n cell) (recalled op (by arrived))
-      where
-        pending : Option PairState → Option Pending
-        pending visit = at cell_cmp (half visit (olds front n)).pairs.pending cell
+    was_pending : (one one' : Option PairState) → Arriving row cell one one' → (op : Pending)
+        → at cell_cmp (half one' store).pairs.pending cell ≡ Some op → at cell_cmp (half one store).pairs.pending cell ≡ Some op
+    was_pending _ _ (Is_as_it_was visit) op there = there
+    was_pending _ _ (Has_come fresh free) op there = none_some (free both) there
+    was_pending _ _ (Has_stayed keeps) op there = sym keeps.keeps.rest.pending ∙ there
 
-        by : Arriving n place cell row → pending (good.visits n place cell) ≡ Some op
-        by (Is_as_it_was same) = ap pending (sym same) ∙ there
-        by (Has_come none is fresh free) = none_some (free both) (sym (ap pending is) ∙ there)
-        by (Has_stayed before is keeps) = ap pending before ∙ sym keeps.keeps.rest.pending ∙ sym (ap pending is) ∙ there
+  module _ (front : List Command) (cell : Cell) (row : LinkRow) (prefix : IsPrefix front top) (is : IsLinked setting front cell row)
+      (both : row.state ≡ Both) where
+    abbrev at_place : ℕ
+    at_place = place_by setting front row
 
-  pair_goes : (front : List Command) (cell : Cell) (row : LinkRow) → IsPrefix front top → IsLinked setting front cell row → row.state ≡ Both
-      → PairGoes (pair_at (olds front) good.visits (place_by setting front row) cell row.primary row.secondary)
-      (pair_at (news front) visits (place_by setting front row) cell row.primary row.secondary)
-  pair_goes front cell row prefix is both =
-      let place = place_by setting front row in
-      goes_on (first_goes front row.primary place cell row (was front row.secondary place cell row) both
-      (arriving front cell row prefix is row.primary (primary_is_one row row.primary refl)))
-      (second_goes front row.secondary place cell row (now front row.primary place cell row)
-      (arriving front cell row prefix is row.secondary (secondary_is_one row row.secondary refl)))
+    first_arrives : Arrives row.primary at_place cell row
+    first_arrives = arriving front cell row prefix is row.primary (primary_is_one row row.primary refl)
+
+    pair_goes : PairGoes (pair_at (olds front) good.visits at_place cell row.primary row.secondary)
+        (pair_at (news front) visits at_place cell row.primary row.secondary)
+    pair_goes =
+        let one = olds front row.primary in
+        let two = olds front row.secondary in
+        let first = visits row.primary at_place cell in
+        let was = good.visits row.secondary at_place cell in
+        let second = visits row.secondary at_place cell in
+        goes_on (first_goes cell row both one (half was two) (good.visits row.primary at_place cell) first first_arrives)
+        (goes_same _ _ (second_goes cell row both two (half first one) was second
+        (arriving front cell row prefix is row.secondary (secondary_is_one row row.secondary refl))
+        ∙ pair_same first second one two (news front row.primary) (news front row.secondary) cell (leaves front row.primary cell).chain
+        (leaves front row.secondary cell).chain))
+
+    first_recalled : AreRecalled (half (good.visits row.primary at_place cell) (olds front row.primary)) cell
+        → AreRecalled (half (visits row.primary at_place cell) (news front row.primary)) cell
+    first_recalled recalled op there =
+        let was = was_pending cell row both (olds front row.primary) new (good.visits row.primary at_place cell) (visits row.primary at_place cell)
+        first_arrives op there in
+        recalled_on (olds front row.primary) (news front row.primary) cell op (leaves front row.primary cell) (recalled op was)
 
   pub both_entered : (front : List Command) (cell : Cell) (row : LinkRow) → IsPrefix front top → IsLinked setting front cell row → row.state ≡ Both
       → BothOk setting top next_stores visits reached front cell row
@@ -203,8 +205,7 @@ module _ (it : AtEntry) where
         let twins = (good.both front cell row prefix is both).twins lives (let more = up cell in omega arith) in
         let goes = pair_goes front cell row prefix is both in
         twins_of (news front) visits place cell row.primary row.secondary (goes.ok twins.pair)
-        (recalled_then front row.primary place cell row both (arriving front cell row prefix is row.primary (primary_is_one row row.primary refl))
-        (twins_recalled (olds front) good.visits place cell row.primary row.secondary twins))
+        (first_recalled front cell row prefix is both (twins_recalled (olds front) good.visits place cell row.primary row.secondary twins))
         (goes.lacks (twins_lacking (olds front) good.visits place cell row.primary row.secondary twins));
   }
 
@@ -216,48 +217,34 @@ module _ (it : AtEntry) where
     told : AreCopying links row cell one two → (said : Body) → (about said).cell ≡ Some cell → IsTold row one two said → IsTold row one' two' said
     alike : (a b : Store) → AreAlike row cell a b one → AreAlike row cell a b one'
 
-  module _ (links n place : ℕ) (cell : Cell) (row : LinkRow) (beside : Option PairState) where
+  module _ (links : ℕ) (cell : Cell) (row : LinkRow) (beside : Option PairState) where
     -- of the holder
-    holder_by : (one one' : Option PairState) → good.visits n place cell ≡ one → visits n place cell ≡ one' → AloneGoes links cell row one beside one' beside
-        → AloneGoes links cell row (good.visits n place cell) beside (visits n place cell) beside
-    holder_by one one' e e' g =
-        subst (λ x. AloneGoes links cell row x beside (visits n place cell) beside) (sym e)
-        (subst (λ x. AloneGoes links cell row one beside x beside) (sym e') g)
-
-    holder_goes : Arriving n place cell row → AloneGoes links cell row (good.visits n place cell) beside (visits n place cell) beside
-    holder_goes (Is_as_it_was same) = holder_by (good.visits n place cell) (good.visits n place cell) refl same
-        (record { copying = λ h. h; told = λ h said of t. t; alike = λ a b h. h })
-    holder_goes (Has_come none is fresh free) = holder_by None (Some new) none is (record {
+    holder_goes : (one one' : Option PairState) → Arriving row cell one one' → AloneGoes links cell row one beside one' beside
+    holder_goes _ _ (Is_as_it_was visit) = record { copying = λ h. h; told = λ h said of t. t; alike = λ a b h. h }
+    holder_goes _ _ (Has_come fresh free) = record {
       copying = fresh_holder new row cell fresh links beside (rising_on cell);
       told = λ h said of. fresh_holder_told new row cell fresh beside said of;
       alike = fresh_alike new row cell fresh;
-    })
-    holder_goes (Has_stayed before is keeps) = holder_by (Some old) (Some new) before is (record {
+    }
+    holder_goes _ _ (Has_stayed keeps) = record {
       copying = λ h. (holder_stays links old new row cell beside keeps h).0;
       told = λ h said of. (holder_stays links old new row cell beside keeps h).1 said of;
       alike = λ a b. stays_alike old new row cell a b keeps.pages;
-    })
+    }
 
     -- of the other server
-    other_by : (two two' : Option PairState) → good.visits n place cell ≡ two → visits n place cell ≡ two' → AloneGoes links cell row beside two beside two'
-        → AloneGoes links cell row beside (good.visits n place cell) beside (visits n place cell)
-    other_by two two' e e' g =
-        subst (λ x. AloneGoes links cell row beside x beside (visits n place cell)) (sym e)
-        (subst (AloneGoes links cell row beside two beside) (sym e') g)
-
-    other_goes : Arriving n place cell row → AloneGoes links cell row beside (good.visits n place cell) beside (visits n place cell)
-    other_goes (Is_as_it_was same) = other_by (good.visits n place cell) (good.visits n place cell) refl same
-        (record { copying = λ h. h; told = λ h said of t. t; alike = λ a b h. h })
-    other_goes (Has_come none is fresh free) = other_by None (Some new) none is (record {
+    other_goes : (two two' : Option PairState) → Arriving row cell two two' → AloneGoes links cell row beside two beside two'
+    other_goes _ _ (Is_as_it_was visit) = record { copying = λ h. h; told = λ h said of t. t; alike = λ a b h. h }
+    other_goes _ _ (Has_come fresh free) = record {
       copying = fresh_other new row cell fresh links beside;
       told = λ h said of. fresh_other_told new row cell fresh beside said;
       alike = λ a b h. h;
-    })
-    other_goes (Has_stayed before is keeps) = other_by (Some old) (Some new) before is (record {
+    }
+    other_goes _ _ (Has_stayed keeps) = record {
       copying = λ h. (other_stays links old new row cell beside keeps h).0;
       told = λ h said of. (other_stays links old new row cell beside keeps h).1 said of;
       alike = λ a b h. h;
-    })
+    }
 
   module _ (front : List Command) (cell : Cell) (row : LinkRow) (holder : ℕ) (whole : Bool) (prefix : IsPrefix front top)
       (is : IsLinked setting front cell row) (alone : row.state ≡ Only holder whole) where
@@ -276,8 +263,9 @@ module _ (it : AtEntry) where
 
     alone_goes : AloneGoes links cell row (good.visits holder place cell) (good.visits other place cell) (visits holder place cell) (visits other place cell)
     alone_goes =
-        let one = holder_goes links holder place cell row (good.visits other place cell) (arriving front cell row prefix is holder holds) in
-        let two = other_goes links other place cell row (visits holder place cell)
+        let one = holder_goes links cell row (good.visits other place cell) (good.visits holder place cell) (visits holder place cell)
+        (arriving front cell row prefix is holder holds) in
+        let two = other_goes links cell row (visits holder place cell) (good.visits other place cell) (visits other place cell)
         (arriving front cell row prefix is other (other_is_one row holder)) in
         record {
           copying = λ h. two.copying (one.copying h);
@@ -298,12 +286,10 @@ module _ (it : AtEntry) where
         ((p : ℕ) → place < p → visits other p cell ≡ None)
         → StaysLeft row cell own (news front holder)
     keeps_left lives own e beyond = elim (visit_so holder own holds e) [
-      | inl was ↦ (
-          let still = (good.alone front cell row holder whole prefix is alone).stays lives own was
-          (λ p lt. none_before (step_of it) other p cell (beyond p lt)) in (
-            λ marked. marked_on (olds front holder) (news front holder) cell (leaves front holder cell) (still.0 marked),
-            λ all copied. to_copy_on row (olds front holder) (news front holder) cell (leaves front holder cell).chain (still.1 all copied),
-          ))
+      | inl was ↦
+          left_on row cell own (olds front holder) (news front holder) (leaves front holder cell)
+          ((good.alone front cell row holder whole prefix is alone).stays lives own was
+          (λ p lt. none_before (step_of it) other p cell (beyond p lt)))
       | inr now ↦ (λ marked. subst (λ a. IsMarked a cell) now marked, λ all copied. subst (λ a. IsToBeCopied row a cell) now all)
     ]
 
@@ -373,7 +359,7 @@ module _ (it : AtEntry) where
 
   -- ### All of it
 
-  own_sound : IsSoundOwn setting top v k server
+  own_sound : IsSoundOwn setting v k server
   own_sound = record {
     unheard = entering.still_unheard it;
     copied = entering.still_copied it;

@@ -1,11 +1,12 @@
 -- A job leaves a cell whose link the server is not of, or that has no link.
-use Rattle.law_copies.proofs.Imports.{◌<◌, ◌∙◌, ◌≡◌, ◌⊎◌, Body, Both, ByBoth, ByNone, ByOne, By_holder, By_lead, By_other, By_second, Cell, Did, IsBothRow}
-use Rattle.law_copies.proofs.Imports.{IsHeld, IsInBoth, IsLinked, IsSteady, JobContext, JobResult, LinkRow, Lost, None, PairState, Some, ap, arith, by_bool}
-use Rattle.law_copies.proofs.Imports.{cell_holder, cell_link, false, has_server, holder_of, inl, inr, is_alone, is_second, is_the_one, leads_link}
-use Rattle.law_copies.proofs.Imports.{link_led_by, live, live_stage, none_some, option_and_then, other_of, primary_is_one, retired_second, row_lead}
-use Rattle.law_copies.proofs.Imports.{same_some, second, second_by, secondary_is_one, stage_at, sym, true, true_false, ℕ}
+use Rattle.law_copies.proofs.Imports.{◌<◌, ◌∙◌, ◌≡◌, ◌≢◌, Body, Both, ByBoth, ByNone, ByOne, By_holder, By_lead, By_other, By_second, Cell, Did, IsBothRow}
+use Rattle.law_copies.proofs.Imports.{IsInBoth, IsSteady, JobContext, JobResult, LinkRow, Lost, None, PairState, Some, ap, arith, by_bool, cell_holder}
+use Rattle.law_copies.proofs.Imports.{cell_link, has_server, inl, inr, is_alone, is_second, is_the_one, leads_link, link_led_by, live, live_stage, none_some}
+use Rattle.law_copies.proofs.Imports.{option_and_then, other_of, primary_is_one, retired_second, row_lead, same_some, second, second_by, secondary_is_one}
+use Rattle.law_copies.proofs.Imports.{stage_at, sym, true, true_false, ℕ}
 use Rattle.law_copies.specs.LoneSteps.{IsBare, IsFit, IsNotOf, KeepsCell}
-use Rattle.law_copies.proofs.RolesOfWorkers.{IsHeldHere, RoleIn, alone_both, idle_both, led_alive, not_both, only_alone, other_alone, other_row, role_keeps}
+use Rattle.law_copies.proofs.OtherIsNotHolder.{held_by}
+use Rattle.law_copies.proofs.RolesOfWorkers.{IsHeldHere, RoleIn, alone_both, idle_both, led_alive, not_both, only_alone, other_alone, role_keeps}
 
 -- a cell with a second server is live
 pub second_live : (here : JobContext) (cell : Cell) → is_second here.state here.me cell ≡ true → live here.state cell ≡ true
@@ -57,84 +58,74 @@ module _ (heard : Body → Type 0) (here : JobContext) (own : PairState) (fit : 
 
 -- ### Who is idle at a cell
 
-module _ (here : JobContext) (steady : IsSteady here.state) (cell : Cell) where
-  -- who leads the link
-  led_of : leads_link here.state here.me cell ≡ true → ((b : IsInBoth here.state cell) × (b.row.primary ≡ here.me)) ⊎ IsHeld here.state cell here.me
-  led_of e = link_led_by here.state steady cell here.me (is_the_one (option_and_then (row_lead here.state) (cell_link here.state cell)) here.me e)
+-- the cell's link, where the server has to do with it: it is one of its two servers, and the link is not Lost
+record WorksOn (here : JobContext) (cell : Cell) : Type 0 where
+  row : LinkRow
+  is : cell_link here.state cell ≡ Some row
+  mine : has_server here.me row ≡ true
+  kept : row.state ≢ Lost
 
-  unlinked_idle : cell_link here.state cell ≡ None → IsIdleAt here cell
-  unlinked_idle none = record {
-    no_lead = λ e. elim (led_of e) [
-      | inl b ↦ none_some none b.0.is
-      | inr held ↦ none_some none held.is
-    ];
-    no_second = λ e. none_some none (second_by here.state steady cell here.me (is_the_one (second here.state cell) here.me e)).0.is;
-    no_holder = λ held. none_some none held.is;
-    no_other = λ holder held. none_some (ap (option_and_then (holder_of here.me)) none) held;
+module _ (here : JobContext) (steady : IsSteady here.state) (cell : Cell) where
+  both_works : (b : IsInBoth here.state cell) → has_server here.me b.row ≡ true → WorksOn here cell
+  both_works b mine =
+      record { row = b.row; is = b.is; mine = mine; kept = λ lost. let f : Lost ≡ Both = sym lost ∙ b.so in absurd cc }
+
+  alone_works : (row : LinkRow) → cell_link here.state cell ≡ Some row → is_alone here.me row.state ≡ true → WorksOn here cell
+  alone_works row is alone =
+      record { row = row; is = is; mine = mine; kept = λ lost. true_false alone (ap (is_alone here.me) lost) }
+    where
+      mine : has_server here.me row ≡ true
+      mine = elim (steady.linked cell row is).served [
+        | ByBoth so one other ↦ not_both here.me row alone so
+        | ByNone one other so pair out ↦ true_false alone (ap (is_alone here.me) so)
+        | ByOne holder other whole so pair out ↦
+            let same : holder ≡ here.me = alone_both holder here.me row.state (only_alone holder row whole so) alone in
+            elim pair [
+              | inl first ↦ primary_is_one row here.me (first.0 ∙ same)
+              | inr second ↦ secondary_is_one row here.me (second.1 ∙ same)
+            ]
+      ]
+
+  lead_works : leads_link here.state here.me cell ≡ true → WorksOn here cell
+  lead_works e =
+      elim (link_led_by here.state steady cell here.me (is_the_one (option_and_then (row_lead here.state) (cell_link here.state cell)) here.me e)) [
+        | inl b ↦ both_works b.0 (primary_is_one b.0.row here.me b.1)
+        | inr held ↦ alone_works held.row held.is (only_alone here.me held.row held.whole held.so)
+      ]
+
+  second_works : is_second here.state here.me cell ≡ true → WorksOn here cell
+  second_works e =
+      let b = second_by here.state steady cell here.me (is_the_one (second here.state cell) here.me e) in
+      both_works b.0 (secondary_is_one b.0.row here.me b.1)
+
+  other_works : (holder : ℕ) → cell_holder here cell ≡ Some holder → WorksOn here cell
+  other_works holder held =
+      let h = held_by here cell holder held in
+      record {
+        row = h.0;
+        is = h.1.is;
+        mine = h.1.one_of;
+        kept = λ lost. true_false h.1.alone (ap (is_alone (other_of here.me h.0)) lost);
+      }
+
+  idle_by : (WorksOn here cell → ⊥) → IsIdleAt here cell
+  idle_by none = record {
+    no_lead = λ e. none (lead_works e);
+    no_second = λ e. none (second_works e);
+    no_holder = λ held. none (alone_works held.row held.is (other_alone here.state here.me held.other held.row held.other_is));
+    no_other = λ holder held. none (other_works holder held);
   }
 
-  -- a link that is Lost has nobody who works on it
-  module _ (row : LinkRow) (is : cell_link here.state cell ≡ Some row) (lost : row.state ≡ Lost) where
-    lost_state : (other : LinkRow) → cell_link here.state cell ≡ Some other → other.state ≡ Lost
-    lost_state other so = ap (λ (r : LinkRow). r.state) (same_some (sym so ∙ is)) ∙ lost
+  unlinked_idle : cell_link here.state cell ≡ None → IsIdleAt here cell
+  unlinked_idle none = idle_by (λ w. none_some none w.is)
 
-    lost_alone : {B : Type 0} (n : ℕ) (other : LinkRow) → cell_link here.state cell ≡ Some other → is_alone n other.state ≡ true → B
-    lost_alone n other so alone = true_false alone (ap (is_alone n) (lost_state other so))
-
-    pub lost_not_row : IsBothRow here.state cell → ⊥
-    lost_not_row b = let f : Lost ≡ Both = sym (lost_state b.row b.is) ∙ b.both in absurd cc
-
-    pub lost_idle : IsIdleAt here cell
-    lost_idle = record {
-      no_lead = λ e. elim (led_of e) [
-        | inl b ↦ (let f : Lost ≡ Both = sym (lost_state b.0.row b.0.is) ∙ b.0.so in absurd cc)
-        | inr held ↦ lost_alone here.me held.row held.is (only_alone here.me held.row held.whole held.so)
-      ];
-      no_second = λ e.
-          let b = second_by here.state steady cell here.me (is_the_one (second here.state cell) here.me e) in
-          let f : Lost ≡ Both = sym (lost_state b.0.row b.0.is) ∙ b.0.so in
-          absurd cc;
-      no_holder = λ held. lost_alone here.me held.row held.is (other_alone here.state here.me held.other held.row held.other_is);
-      no_other = λ holder held.
-          lost_alone (other_of here.me row) row is (other_row here.me row holder (sym (ap (option_and_then (holder_of here.me)) is) ∙ held)).alone;
-    }
-
-  -- who serves a link alone is one of its servers
-  alone_server : (n : ℕ) (row : LinkRow) → IsLinked here.state cell row → is_alone n row.state ≡ true → has_server n row ≡ true
-  alone_server n row linked alone = elim linked.served [
-    | ByBoth so one other ↦ not_both n row alone so
-    | ByNone one other so pair out ↦ true_false alone (ap (is_alone n) so)
-    | ByOne holder other whole so pair out ↦
-        let same : holder ≡ n = alone_both holder n row.state (only_alone holder row whole so) alone in
-        elim pair [
-          | inl is ↦ primary_is_one row n (is.0 ∙ same)
-          | inr is ↦ secondary_is_one row n (is.1 ∙ same)
-        ]
-  ]
-
-  module _ (row : LinkRow) (is : cell_link here.state cell ≡ Some row) (no_server : has_server here.me row ≡ false) where
-    not_a_server : (other : LinkRow) → cell_link here.state cell ≡ Some other → has_server here.me other ≡ true → ⊥
-    not_a_server other so mine = true_false (ap (has_server here.me) (same_some (sym is ∙ so)) ∙ mine) no_server
-
-    stranger_idle : IsIdleAt here cell
-    stranger_idle = record {
-      no_lead = λ e. elim (led_of e) [
-        | inl b ↦ not_a_server b.0.row b.0.is (primary_is_one b.0.row here.me b.1)
-        | inr held ↦ not_a_server held.row held.is (alone_server here.me held.row held.linked (only_alone here.me held.row held.whole held.so))
-      ];
-      no_second = λ e.
-          let b = second_by here.state steady cell here.me (is_the_one (second here.state cell) here.me e) in
-          not_a_server b.0.row b.0.is (secondary_is_one b.0.row here.me b.1);
-      no_holder = λ held. not_a_server held.row held.is
-          (alone_server here.me held.row (steady.linked cell held.row held.is)
-          (other_alone here.state here.me held.other held.row held.other_is));
-      no_other = λ holder held. not_a_server row is
-          (other_row here.me row holder (sym (ap (option_and_then (holder_of here.me)) is) ∙ held)).one_of;
-    }
+  lost_idle : (row : LinkRow) → cell_link here.state cell ≡ Some row → row.state ≡ Lost → IsIdleAt here cell
+  lost_idle row is lost = idle_by (λ w. w.kept (ap (λ (r : LinkRow). r.state) (same_some (sym w.is ∙ is)) ∙ lost))
 
   pub not_of_idle : IsNotOf here cell → IsIdleAt here cell
   not_of_idle (inl none) = unlinked_idle none
-  not_of_idle (inr stranger) = stranger_idle stranger.0 stranger.1 stranger.2
+  not_of_idle (inr stranger) =
+      idle_by (λ w. true_false w.mine (ap (has_server here.me) (same_some (sym w.is ∙ stranger.1)) ∙ stranger.2))
 
 module _ (heard : Body → Type 0) (here : JobContext) (own : PairState) (fit : IsFit heard here own) (cell : Cell) (alive : stage_at here.state cell < 4)
     (done : JobResult) (did : Did heard here own done) where
@@ -142,5 +133,5 @@ module _ (heard : Body → Type 0) (here : JobContext) (own : PairState) (fit : 
   unlinked_keeps none = did_keeps heard here own fit cell (unlinked_idle here fit.steady cell none) alive done did (λ both. none_some none both.is)
 
   pub lost_keeps : (row : LinkRow) → cell_link here.state cell ≡ Some row → row.state ≡ Lost → KeepsCell cell own done.own
-  lost_keeps row is lost =
-      did_keeps heard here own fit cell (lost_idle here fit.steady cell row is lost) alive done did (lost_not_row here fit.steady cell row is lost)
+  lost_keeps row is lost = did_keeps heard here own fit cell (lost_idle here fit.steady cell row is lost) alive done did
+      (λ b. let f : Lost ≡ Both = sym lost ∙ ap (λ (r : LinkRow). r.state) (same_some (sym is ∙ b.is)) ∙ b.both in absurd cc)

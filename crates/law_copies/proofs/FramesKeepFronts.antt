@@ -4,9 +4,9 @@ use Rattle.law_copies.proofs.Imports.{[], ◌+◌, ◌==◌, ◌∙◌, ◌≡�
 use Rattle.law_copies.proofs.Imports.{Only, Option, PairState, Pending, Some, Stale, Store, ap, arith, at, by_test, chain_in, has_server, inl, inr, is_marked}
 use Rattle.law_copies.proofs.Imports.{is_some, nat_cmp, none_some, other_of, primary_is_one, refl, secondary_is_one, some_or_none, state_after, subst, sym}
 use Rattle.law_copies.proofs.Imports.{true, ℕ}
-use Rattle.law_copies.specs.CopyProgress.{AreAlike, AreCopying, IsCovered, IsPage, IsTold, links_of, Is_equal, Is_marked_here, Is_marked_there}
-use Rattle.law_copies.specs.CopyProgress.{Is_to_be_copied}
-use Rattle.law_copies.specs.GoodCopies.{AloneOk, AreBeside, AreTwins, BothOk, SaidOk, pair_at}
+use Rattle.law_copies.specs.CopyProgress.{AreAlike, AreCopying, IsCovered, IsPage, IsTold, Is_equal, Is_marked_here, Is_marked_there, Is_to_be_copied}
+use Rattle.law_copies.specs.CopyProgress.{links_of}
+use Rattle.law_copies.specs.GoodCopies.{AloneOk, AreBeside, AreTwins, BothOk, SaidOk, pair_at, StaysLeft}
 use Rattle.law_copies.specs.Pair.{IsRecalled, Known, PairOk, far, pair_of}
 use Rattle.law_copies.specs.Visits.{AliveIn, HasFilled, Visits, half, place_by}
 use Rattle.law_copies.proofs.PlacesByFronts.{has_filled_on}
@@ -63,6 +63,12 @@ pub to_copy_on : (row : LinkRow) (old new : Store) (cell : Cell) → chain_in ne
     → IsToBeCopied row new cell
 to_copy_on row old new cell same all = record { whole = all.whole; stored = λ none. all.stored (sym same ∙ none) }
 
+-- and what was left to copy is
+pub left_on : (row : LinkRow) (cell : Cell) (own : PairState) (old new : Store) → LeavesStore old new cell → StaysLeft row cell own old
+    → StaysLeft row cell own new
+left_on row cell own old new same left =
+    (λ marked. marked_on old new cell same (left.0 marked), λ all copied. to_copy_on row old new cell same.chain (left.1 all copied))
+
 pub covered_same : (row : LinkRow) (cell : Cell) (a b a' b' : Store) (visit : Option PairState) → LeavesStore a a' cell → LeavesStore b b' cell
     → IsCovered row cell a b visit → IsCovered row cell a' b' visit
 covered_same row cell a b a' b' visit one two (Is_equal same) = Is_equal (one.chain ∙ same ∙ sym two.chain)
@@ -81,6 +87,10 @@ alike_same row cell a b a' b' visit one two alike = record {
 pub other_is_one : (row : LinkRow) (n : ℕ) → has_server (other_of n row) row ≡ true
 other_is_one row n = by_test (λ m. has_server m row ≡ true) (row.primary == n) row.secondary row.primary
     (λ e. secondary_is_one row row.secondary refl) (λ e. primary_is_one row row.primary refl)
+
+-- what is so of two visits is so of the same ones by other names
+pub both_same : {a b a' b' : Option PairState} (P : Option PairState → Option PairState → Type 0) → a' ≡ a → b' ≡ b → P a b → P a' b'
+both_same {b = b} {a' = a'} P e f h = subst (λ y. P a' y) (sym f) (subst (λ x. P x b) (sym e) h)
 
 -- ### At a place, by the stores and visits before and then
 
@@ -173,23 +183,6 @@ module _ (it : AtStep) where
         (ok.twins alive (last_before cell place last));
   }
 
-  -- what is so of the visits alone
-  pub copying_framed : (links place : ℕ) (cell : Cell) (row : LinkRow) (holder : ℕ) → later holder place cell ≡ visits holder place cell
-      → later (other_of holder row) place cell ≡ visits (other_of holder row) place cell
-      → AreCopying links row cell (visits holder place cell) (visits (other_of holder row) place cell)
-      → AreCopying links row cell (later holder place cell) (later (other_of holder row) place cell)
-  copying_framed links place cell row holder one two old =
-      subst (λ o. AreCopying links row cell o (later (other_of holder row) place cell)) (sym one)
-      (subst (AreCopying links row cell (visits holder place cell)) (sym two) old)
-
-  pub told_framed : (place : ℕ) (cell : Cell) (row : LinkRow) (holder : ℕ) (said : Body) → later holder place cell ≡ visits holder place cell
-      → later (other_of holder row) place cell ≡ visits (other_of holder row) place cell
-      → IsTold row (visits holder place cell) (visits (other_of holder row) place cell) said
-      → IsTold row (later holder place cell) (later (other_of holder row) place cell) said
-  told_framed place cell row holder said one two old =
-      subst (λ o. IsTold row o (later (other_of holder row) place cell) said) (sym one)
-      (subst (λ o. IsTold row (visits holder place cell) o said) (sym two) old)
-
   pub alone_framed : (front : List Command) (cell : Cell) (row : LinkRow) (holder : ℕ) → has_server holder row ≡ true
       → LeavesBoth front (place_by setting front row) cell row → AloneOk setting top good.stores visits good.reached front cell row holder
       → AloneOk setting top next later reached front cell row holder
@@ -199,14 +192,12 @@ module _ (it : AtStep) where
       let one = leaves holder has in
       let two = leaves other (other_is_one row holder) in
       record {
-        copying = copying_framed (links_of (state_after setting.servers front) cell.map) place cell row holder one.visit two.visit ok.copying;
+        copying = both_same (λ a b. AreCopying (links_of (state_after setting.servers front) cell.map) row cell a b) one.visit two.visit ok.copying;
         beside = λ alive last. beside_stays (olds front) (news front) visits later place cell holder other (stays front holder place cell alive one)
             (stays front other place cell alive two) row (ok.beside alive (last_before cell place last));
         stays = λ alive own is beyond.
-            let was = ok.stays alive own (sym one.visit ∙ is) (λ p lt. none_before it other p cell (beyond p lt)) in (
-              λ marked. marked_on (olds front holder) (news front holder) cell (one.store alive) (was.0 marked),
-              λ all copied. to_copy_on row (olds front holder) (news front holder) cell (one.store alive).chain (was.1 all copied),
-            );
+            left_on row cell own (olds front holder) (news front holder) (one.store alive)
+            (ok.stays alive own (sym one.visit ∙ is) (λ p lt. none_before it other p cell (beyond p lt)));
         unfilled = λ alive whole. filled_framed front cell holder other (two.store alive).chain (ok.unfilled alive whole);
       }
 
@@ -223,7 +214,7 @@ module _ (it : AtStep) where
             (stays front row.secondary place cell alive (leaves row.secondary (secondary_is_one row row.secondary refl))))
             (ok.both alive both (last_before cell place last) of);
         alone = λ holder whole alone of.
-            told_framed place cell row holder said (leaves holder (has holder whole alone)).visit
+            both_same (λ a b. IsTold row a b said) (leaves holder (has holder whole alone)).visit
             (leaves (other_of holder row) (other_is_one row holder)).visit
             (ok.alone holder whole alone of);
         page = λ alive holder whole after block alone is last.

@@ -3,25 +3,15 @@ use Rattle.law_copies.proofs.Imports.{[], ◌+◌, ◌<◌, ◌∙◌, ◌≡◌
 use Rattle.law_copies.proofs.Imports.{List, None, Option, PairState, Some, Store, Stored, above, ap, arith, chain_in, copying_on, epochs_beyond, epochs_of}
 use Rattle.law_copies.proofs.Imports.{false, id_of, inl, inr, is_flagged, is_some, last_copy, length, nat_cmp, pending_on, progress_on, refl, same_some}
 use Rattle.law_copies.proofs.Imports.{slice_get, subst, sym, true, ℕ}
-use Rattle.law_copies.specs.CopyProgress.{AreAlike, AreCopying, AreInOrder, HasPage, HasSent, IsCaught, IsCopied, IsCopying, IsCovered, Is_equal}
-use Rattle.law_copies.specs.CopyProgress.{Is_marked_here, Is_marked_there, Is_to_be_copied, IsLastCopy, IsLeft, IsPast, IsSent, IsTold, IsTrimming, NotCopied}
-use Rattle.law_copies.specs.CopyProgress.{number_above}
-use Rattle.law_copies.specs.LoneSteps.{IsStill, PagesOf, StaysTold}
+use Rattle.law_copies.specs.CopyProgress.{AreAlike, AreCopying, AreInOrder, HasPage, HasSent, IsCaught, IsCopied, IsCopying, IsCovered, IsFollowed}
+use Rattle.law_copies.specs.CopyProgress.{IsLastCopy, IsLeft, IsPast, IsSent, IsTold, IsTrimming, Is_equal, Is_marked_here, Is_marked_there, Is_to_be_copied}
+use Rattle.law_copies.specs.CopyProgress.{NotCopied, number_above}
+use Rattle.law_copies.specs.LoneSteps.{HolderStep, IsStill, PagesOf, StaysTold}
+use Rattle.law_copies.proofs.LastCopies.{told_by}
 use Rattle.law_copies.proofs.AllPut.{all_put, none_left_to_put}
 use Rattle.petal_msg.specs.declared.body.Body.TheVariants as body
 
 -- ### What is to show
-
--- what a change keeps
-pub record HolderStep (heard : Body → Type 0) (links : ℕ) (row : LinkRow) (cell : Cell) (vo : Option PairState) (own to : PairState) : Type 0 where
-  pub copying : AreCopying links row cell (Some to) vo
-  pub told : StaysTold row cell (Some own) vo (Some to) vo
-  pub marks : IsMarked own.store cell → IsMarked to.store cell ⊎ (is_some vo ≡ true)
-  pub stored : chain_in own.store.chains cell ≢ [] → chain_in to.store.chains cell ≢ []
-  pub alike : (now : Store) → IsStill cell vo now → PagesOf heard row cell now vo → IsRising nat_cmp (chain_in now.chains cell)
-      → AreAlike row cell own.store now (Some own) → AreAlike row cell to.store now (Some to)
-  pub caught : is_flagged own (id_of row) ≡ true
-      → (chain_in to.store.chains cell ≡ chain_in own.store.chains cell) × (IsMarked to.store cell → ⊥) × (is_flagged to (id_of row) ≡ true)
 
 -- two changes
 pub step_on : (heard : Body → Type 0) (links : ℕ) (row : LinkRow) (cell : Cell) (vo : Option PairState) (own now to : PairState)
@@ -99,17 +89,7 @@ module _ (links : ℕ) (row : LinkRow) (cell : Cell) (vo : Option PairState) (to
     }
 
     pub holder_told : StaysTold row cell (Some own) vo (Some to) vo
-    holder_told (body.Trim number c epochs) e =
-        subst (λ (q : Cell). IsTold row (Some own) vo (body.Trim number q epochs) → IsTold row (Some to) vo (body.Trim number q epochs))
-        (sym (same_some e))
-        (told_trim number epochs)
-    holder_told (body.Trimmed number c) e = λ t. t
-    holder_told (body.Sync number key version index bytes) e =
-        subst (λ (q : Cell). HasSent row (Some own) vo q number index (key.epoch, record { version = version; bytes = bytes })
-        → HasSent row (Some to) vo q number index (key.epoch, record { version = version; bytes = bytes })) (sym (same_some e))
-        (told_sync number index (key.epoch, record { version = version; bytes = bytes }))
-    holder_told (body.Synced number c index) e = λ t. t
-    holder_told _ e = λ t. tt
+    holder_told = told_by row cell (Some own) vo (Some to) vo told_trim (λ number t. t) told_sync (λ number index t. t)
 
 -- ### Of the two copies
 
@@ -177,6 +157,19 @@ pub record LeavesCopy (links : ℕ) (row : LinkRow) (cell : Cell) (own to : Pair
   pub left : IsLeft own row cell → IsLeft to row cell ⊎ IsCopied own cell
   pub ordered : AreInOrder links row cell to
 
+-- the last copy follows where the holder's entries stay, and no more of them is counted as put
+pub followed_on : (holder to other : PairState) (cell : Cell) (copy next : Copying) (g : IsFollowed holder other cell copy)
+    → chain_in to.store.chains cell ≡ chain_in holder.store.chains cell → next.op ≡ copy.op → next.index ≤ g.last.index → IsFollowed to other cell next
+followed_on holder to other cell copy next g chain op past = record {
+  last = g.last;
+  is = g.is;
+  op_is = g.op_is ∙ sym op;
+  epochs_are = g.epochs_are ∙ ap epochs_of (sym chain);
+  past = past;
+  trimmed = g.trimmed;
+  put = λ i row lt there. g.put i row lt (ap (λ c. slice_get c i) (sym chain) ∙ there);
+}
+
 module _ (heard : Body → Type 0) {links : ℕ} {row : LinkRow} {cell : Cell} {vo : Option PairState} {own : PairState}
     (old : AreCopying links row cell (Some own) vo) where
   -- the last copy's number is below
@@ -217,16 +210,7 @@ module _ (heard : Body → Type 0) {links : ℕ} {row : LinkRow} {cell : Cell} {
           beside = c.beside;
           met = c.met;
           followed = λ t.
-              let g = c.followed t in
-              record {
-                last = g.last;
-                is = g.is;
-                op_is = g.op_is;
-                epochs_are = g.epochs_are ∙ ap epochs_of (sym same.chain);
-                past = g.past;
-                trimmed = g.trimmed;
-                put = λ i r lt there. g.put i r lt (ap (λ chain. slice_get chain i) (sym same.chain) ∙ there);
-              };
+              let g = c.followed t in followed_on own to c.beside cell copy copy g same.chain refl g.past;
           heard = λ last fresh there op. let h = c.heard last fresh there op in (h.0 ∙ ap epochs_of (sym same.chain), h.1);
         }
 

@@ -1,157 +1,36 @@
 -- Each job of the holder of a link keeps a cell of it.
-use Rattle.law_copies.proofs.Imports.{[], ◌+◌, ◌<◌, ◌∙◌, ◌≡◌, ◌≢◌, ◌≤◌, ◌⊎◌, Asks_page, Asks_to_trim, Begins, Begins_copy, Body, Busy, By_filler, By_holder}
-use Rattle.law_copies.proofs.Imports.{By_lead, By_other, By_read, By_second, By_sweep, Cell, Closes, Closes_alone, Closes_copy, Copies, CopyStep, Copy_as_is}
-use Rattle.law_copies.proofs.Imports.{Copy_synced, Copy_trimmed, Copying, Did, DidHolder, DidLead, DidOther, Drops_entry, Finds_it_full, Gives_up, Goes_on}
-use Rattle.law_copies.proofs.Imports.{Goes_on_copying, Goes_on_retired, Goes_on_trimming, IsCopying, IsHeldWith, IsIdle, IsMarked, IsRising, IsTaken}
-use Rattle.law_copies.proofs.Imports.{Is_copied_to, Is_trimmed, JobContext, JobResult, LastCopy, LinkId, LinkRow, Marks, Marks_alone, None, Opens}
-use Rattle.law_copies.proofs.Imports.{Opens_alone, Opens_fill, Opens_fill_alone, Option, PairState, Pairs, Pending, Post, Progress, Puts, Puts_alone, Says}
-use Rattle.law_copies.proofs.Imports.{Sends, Some, Stale, Store, Taken, TakenCopy, Tidies, TrimStep, Turns_page, Unmarks, Unmarks_alone, Unmarks_copied}
+use Rattle.law_copies.proofs.Imports.{◌+◌, ◌<◌, ◌∙◌, ◌≡◌, ◌≢◌, ◌≤◌, Asks_page, Asks_to_trim, Begins, Begins_copy, Body, By_filler, By_holder, By_lead}
+use Rattle.law_copies.proofs.Imports.{By_other, By_read, By_second, By_sweep, Cell, Closes_copy, Copies, CopyStep, Copy_as_is, Copy_synced, Copy_trimmed}
+use Rattle.law_copies.proofs.Imports.{Copying, Did, DidHolder, DidLead, DidOther, Drops_entry, Finds_it_full, Goes_on, Goes_on_copying, Goes_on_trimming}
+use Rattle.law_copies.proofs.Imports.{IsCopying, IsHeldWith, IsIdle, Is_copied_to, Is_trimmed, JobContext, JobResult, LastCopy, LinkId, LinkRow, None, Option}
+use Rattle.law_copies.proofs.Imports.{PairState, Pairs, Post, Progress, Says, Sends, Some, Stale, TakenCopy, Tidies, TrimStep, Turns_page, Unmarks_copied}
 use Rattle.law_copies.proofs.Imports.{about, above, ap, arith, at, begins_copy, by_bool, cell_at, cell_cmp, cell_gone, cell_gone_apart, cell_holder}
-use Rattle.law_copies.proofs.Imports.{cell_link, cell_of, cell_same, chain_in, chain_put, closed_pairs, closed_store, closes, copying_on, did_count, ends}
-use Rattle.law_copies.proofs.Imports.{eq_by_cmp, false, fill_operation, first_copy, first_last, gives_back, has_proposed, held_as_flag, holder_cell, id_of}
-use Rattle.law_copies.proofs.Imports.{in_both, inl, inr, is_alone, is_flagged, is_marked, lead_cell, length, letters_of_job, link_cmp, link_named, link_of}
-use Rattle.law_copies.proofs.Imports.{live, mark_kept, marks, nat_cmp, none_some, of_ending, of_filler, of_holder, of_lead, of_read, of_second, of_sweep}
-use Rattle.law_copies.proofs.Imports.{operation, page_cell, pending_on, progress_beside, progress_on, puts, refl, same_block, same_cell_or_apart, same_id}
-use Rattle.law_copies.proofs.Imports.{same_some, silent, some_or_none, stage_live, stale_kept, subst, sym, taking, true, true_false, turned, unmarks}
-use Rattle.law_copies.proofs.Imports.{version_of, with_copied, with_copying, with_full, with_last_copy, with_mark_on, with_opened, with_page, with_ticket}
-use Rattle.law_copies.proofs.Imports.{without_copying, without_pending, worked, ℕ}
+use Rattle.law_copies.proofs.Imports.{cell_link, cell_same, chain_in, closed_pairs, closed_store, closes, copying_on, did_count, eq_by_cmp, false, first_copy}
+use Rattle.law_copies.proofs.Imports.{first_last, held_as_flag, holder_cell, id_of, in_both, inl, inr, is_alone, is_flagged, lead_cell, length}
+use Rattle.law_copies.proofs.Imports.{letters_of_job, link_cmp, link_named, link_of, none_some, of_filler, of_holder, of_lead, of_read, of_second, of_sweep}
+use Rattle.law_copies.proofs.Imports.{page_cell, progress_beside, progress_on, refl, same_block, same_cell_or_apart, same_id, same_some, silent, some_or_none}
+use Rattle.law_copies.proofs.Imports.{stage_live, subst, sym, true, true_false, turned, with_copied, with_copying, with_full, with_last_copy, with_mark_on}
+use Rattle.law_copies.proofs.Imports.{with_page, without_copying, worked, ℕ}
 use Rattle.law_copies.specs.CopyProgress.{AreCopying, IsLeft, IsTold}
-use Rattle.law_copies.specs.LoneSteps.{HolderKeeps, IsHolding, KeepsCell}
+use Rattle.law_copies.specs.LoneSteps.{HolderStep, HolderKeeps, IsHolding, KeepsCell}
 use Rattle.law_copies.proofs.BlocksOnLinks.{on_block}
-use Rattle.law_copies.proofs.EmptyCellsHaveNoChain.{has_entry, no_entries}
+use Rattle.law_copies.proofs.EmptyCellsHaveNoChain.{has_entry}
 use Rattle.law_copies.proofs.OwnPartFrames.{copied_alike, copying_beside, keeps_between, keeps_itself}
-use Rattle.law_copies.proofs.HolderChanges.{HolderStep, step_on}
+use Rattle.law_copies.proofs.HolderChanges.{step_on}
 use Rattle.law_copies.proofs.LeftToCopy.{IsNext, next_is}
 use Rattle.law_copies.proofs.CopiesGoOn.{IsOnward, begun_onward, closed_onward, copied_itself, ended_onward, going_onward, onward_by, onward_tables}
 use Rattle.law_copies.proofs.HolderPace.{IsPaced, link_itself, paced_beside, paced_copied, paced_table}
 use Rattle.law_copies.proofs.CopyLetters.{telling}
-use Rattle.law_copies.proofs.RolesOfWorkers.{IsSo, RoleIn, alone_not_in_both, alone_not_row, alone_not_second, cell_map, holder_not_other, idle_both}
-use Rattle.law_copies.proofs.RolesOfWorkers.{kept_lives, named_id, one_named, only_alone, page_on, role_keeps, so_or_apart, was_copying}
+use Rattle.law_copies.proofs.RolesOfWorkers.{RoleIn, alone_not_in_both, alone_not_row, alone_not_second, cell_map, holder_not_other, idle_both, kept_lives}
+use Rattle.law_copies.proofs.RolesOfWorkers.{named_id, one_named, only_alone, page_on, role, role_keeps, so_at, was_copying, worked_or_apart}
 use Rattle.law_copies.proofs.WorkedCell.{cell_apart_from}
+use Rattle.law_copies.proofs.LeadsFindMarks.{LeadLeaves, LedHere, lead_marked}
 use Rattle.law_copies.proofs.EpochsRise.{did_rising}
 use Rattle.petal_msg.specs.declared.body.Body.TheVariants as body
 use Rattle.law_copies.proofs.CopyMoves as moves
 use Rattle.law_copies.proofs.HolderSteps as steps
-use Rattle.petal_msg.specs.declared.operation.Ending.TheVariants as ending
 
 module _ (heard : Body → Type 0) (here : JobContext) (links : ℕ) (row : LinkRow) (vo : Option PairState) (own : PairState) where
-  -- ### A write on the cell
-
-  module _ (now : PairState) (op : Pending) (taken : Taken own now op) (f : IsHolding heard here links row op.cell own vo) where
-    abbrev k : IsTaken own now op
-    k = taking own now op taken
-
-    abbrev unflagged : is_flagged own (id_of row) ≡ false
-    unflagged = steps.pending_unflagged heard f.old k.old k.was
-
-    keyed : cell_of op.key ≡ op.cell
-    keyed = ap (λ (o : Pending). cell_of o.key) k.is ∙ (f.fit.ready.staged op.cell k.old k.was).keyed
-
-    taken_marks : IsMarked own.store op.cell → IsMarked now.store op.cell
-    taken_marks m = subst (λ (s : Store). IsMarked s op.cell) (sym k.store) m
-
-    -- an operation of a cell that is not retired is of a live one
-    lives : live here.state op.cell ≡ true
-    lives = stage_live here.state op.cell (f.fit.ready.staged op.cell k.old k.was).born f.alive
-
-    -- the block is marked stale, where the stage says so
-    stale_there : op.stage.stale ≡ true → is_marked now.store Stale op.cell ≡ true
-    stale_there stale =
-        let old_stale : k.old.stage.stale ≡ true = sym (ap (λ (o : Pending). o.stage.stale) k.is) ∙ stale in
-        ap (λ (s : Store). is_marked s Stale op.cell) k.store ∙ (f.fit.marks op.cell k.old lives k.was).stale old_stale
-
-    taken_chain : chain_in now.store.chains op.cell ≡ chain_in own.store.chains op.cell
-    taken_chain = ap (λ (s : Store). chain_in s.chains op.cell) k.store
-
-    taken_step : (to : PairState) → to.copies ≡ now.copies → to.pairs.next ≡ now.pairs.next
-        → (IsMarked now.store op.cell → IsMarked to.store op.cell)
-        → (chain_in to.store.chains op.cell ≡ chain_in now.store.chains op.cell) ⊎ IsMarked to.store op.cell
-        → (chain_in now.store.chains op.cell ≢ [] → chain_in to.store.chains op.cell ≢ [])
-        → IsRising nat_cmp (chain_in to.store.chains op.cell) → HolderStep heard links row op.cell vo own to
-    taken_step to copies next marks chain stored rises =
-        steps.write_step heard f.old (steps.pending_idle heard f.old k.old k.was) unflagged to (copies ∙ k.copies)
-        (let e = next in let e' = k.next in omega arith)
-        (λ m. marks (taken_marks m)) (elim chain [ inl same ↦ inl (same ∙ taken_chain) | inr m ↦ inr m ])
-        (λ some. stored (λ none. some (sym taken_chain ∙ none))) rises
-
-    marks_at : IsRising nat_cmp (chain_in (marks now op Stale).own.store.chains op.cell)
-        → HolderStep heard links row op.cell vo own (marks now op Stale).own
-    marks_at rises = taken_step (marks now op Stale).own refl refl
-        (λ m. elim m [
-          | inl busy ↦ inl (mark_kept now.store Stale Busy op.cell op.cell busy)
-          | inr stale ↦ inr (mark_kept now.store Stale Stale op.cell op.cell stale)
-        ]) (inl refl) (λ some. some) rises
-
-    -- the cell has an entry once it is put
-    put_some : chain_in (puts now op).own.store.chains op.cell ≢ []
-    put_some none = no_entries (chain_in now.store.chains (cell_of op.key)) op.key.epoch
-        (record { version = version_of (chain_in now.store.chains op.cell) + 1; bytes = op.bytes })
-        (sym (chain_put now.store.chains (cell_of op.key) _) ∙ ap (chain_in (puts now op).own.store.chains) keyed ∙ none)
-
-    puts_at : op.stage.stale ≡ true → IsRising nat_cmp (chain_in (puts now op).own.store.chains op.cell)
-        → HolderStep heard links row op.cell vo own (puts now op).own
-    puts_at stale rises = taken_step (puts now op).own refl refl (λ m. m) (inr (inr (stale_there stale))) (λ some. put_some) rises
-
-    unmarks_at : op.stage.stale ≡ true → IsRising nat_cmp (chain_in (unmarks now op Busy).own.store.chains op.cell)
-        → HolderStep heard links row op.cell vo own (unmarks now op Busy).own
-    unmarks_at stale rises = taken_step (unmarks now op Busy).own refl refl
-        (λ m. inr (stale_kept now.store op.cell op.cell ∙ stale_there stale)) (inl refl) (λ some. some) rises
-
-    closes_at : IsRising nat_cmp (chain_in (ends here (without_pending now op.cell) op op.kind ending.Written).own.store.chains op.cell)
-        → HolderStep heard links row op.cell vo own (ends here (without_pending now op.cell) op op.kind ending.Written).own
-    closes_at rises =
-        let e = of_ending here (without_pending now op.cell) op op.kind ending.Written in
-        taken_step (ends here (without_pending now op.cell) op op.kind ending.Written).own e.copies e.next
-        (λ m. subst (λ (s : Store). IsMarked s op.cell) (sym e.store) m) (inl (ap (λ (s : Store). chain_in s.chains op.cell) e.store))
-        (λ some none. some (ap (λ (s : Store). chain_in s.chains op.cell) (sym e.store) ∙ none)) rises
-
-  gives_up_at : (op : Pending) → pending_on own op.cell ≡ Some op → (f : IsHolding heard here links row op.cell own vo)
-      → HolderStep heard links row op.cell vo own (ends here (gives_back (without_pending own op.cell)) op op.kind ending.Full).own
-  gives_up_at op is f =
-      let e = of_ending here (gives_back (without_pending own op.cell)) op op.kind ending.Full in
-      let chain : chain_in (ends here
-      (gives_back (without_pending own op.cell)) op op.kind ending.Full).own.store.chains op.cell ≡ chain_in own.store.chains op.cell =
-      ap (λ (s : Store). chain_in s.chains op.cell) e.store in
-      steps.write_step heard f.old (steps.pending_idle heard f.old op is)
-      (steps.pending_unflagged heard f.old op is) _ e.copies (let n = e.next in omega arith)
-      (λ m. subst (λ (s : Store). IsMarked s op.cell) (sym e.store) m) (inl chain) (λ some none. some (sym chain ∙ none))
-      (subst (IsRising nat_cmp) (sym chain) (f.fit.rising op.cell))
-
-  opens_at : (op : Pending) → copying_on own op.cell ≡ None → has_proposed here.state own op.cell ≡ false
-      → (f : IsHolding heard here links row op.cell own vo)
-      → HolderStep heard links row op.cell vo own (marks (with_opened own op) op Stale).own
-  opens_at op uncopied unheld f = steps.write_step heard f.old uncopied
-      (sym (held_as_flag here.state own op.cell row f.is) ∙ unheld) _ refl (omega arith)
-      (λ m. elim m [
-        | inl busy ↦ inl (mark_kept (with_ticket own.store) Stale Busy op.cell op.cell busy)
-        | inr stale ↦ inr (mark_kept (with_ticket own.store) Stale Stale op.cell op.cell stale)
-      ]) (inl refl) (λ some. some) (f.fit.rising op.cell)
-
-  -- the cell, which the server holds alone, isn't in Both
-  not_shared : {A : Type 0} (c : Cell) → IsHolding heard here links row c own vo → in_both here.state c ≡ true → A
-  not_shared c g both = alone_not_in_both here g.fit.steady c row g.is here.me (only_alone here.me row g.whole g.held) both
-
-  abbrev Here : PairState → Cell → Type 0
-  Here new c = IsHolding heard here links row c own vo → IsRising nat_cmp (chain_in new.store.chains c) → HolderStep heard links row c vo own new
-
-  lead_here : (done : JobResult) (d : DidLead heard here own done) → IsSo (Here done.own) (lead_cell heard here own done d)
-  lead_here _ (Gives_up op h is reserved put) = λ g rises. gives_up_at op is g
-  lead_here _ (Opens want new both) = λ g. not_shared want.cell g both
-  lead_here _ (Marks op h is both stage) = λ g. not_shared op.cell g both
-  lead_here _ (Puts op is both stage) = λ g. not_shared op.cell g both
-  lead_here _ (Unmarks op h is both stage) = λ g. not_shared op.cell g both
-  lead_here _ (Closes op is both stage) = λ g. not_shared op.cell g both
-  lead_here _ (Opens_alone want new alone) = λ g rises. opens_at (operation here own.pairs.next want) new.uncopied new.unheld g
-  lead_here _ (Marks_alone now op taken alone fresh) = marks_at now op taken
-  lead_here _ (Puts_alone now op taken alone stale put) = λ g. puts_at now op taken g stale
-  lead_here _ (Unmarks_alone now op taken alone stale put busy) = λ g. unmarks_at now op taken g stale
-  lead_here _ (Closes_alone now op taken alone stale put free) = closes_at now op taken
-  lead_here _ (Opens_fill moving new room both) = λ g. not_shared (cell_of moving.key) g both
-  lead_here _ (Opens_fill_alone moving new room alone) =
-      λ g rises. opens_at (fill_operation here own.pairs.next moving) new.uncopied new.unheld g
-  lead_here _ (Goes_on_retired now op taken off) = λ g. true_false (lives now op taken g) off
-  lead_here _ _ = tt
-
   -- ### A copy of the cell
 
   module _ (cell : Cell) where
@@ -263,9 +142,28 @@ module _ (heard : Body → Type 0) (here : JobContext) (links : ℕ) (row : Link
         let paced = same_paced done.own (ap (λ (c : Copies). c.progress) copies) (ap (λ (c : Copies). c.pending) copies) in
         kept done (beside done (By_lead done d) ne) (did_count heard here own done (By_lead done d)) paced.0 paced.1
 
+    alone : in_both here.state cell ≡ false
+    alone = by_bool (in_both here.state cell) (λ both. alone_not_in_both here f.fit.steady cell row f.is here.me mine both) (λ no. no)
+
+    -- no copy of the cell is under way then, and no ballot was started
+    write_here : (done : JobResult) (d : DidLead heard here own done) → LeadLeaves heard here own f.fit done.own cell → Step done
+    write_here done d k =
+        let quiet : (copying_on own cell ≡ None) × (is_flagged own (id_of row) ≡ false) =
+        elim k.before [
+          | inl op ↦ (steps.pending_idle heard f.old op.0 op.1, steps.pending_unflagged heard f.old op.0 op.1)
+          | inr none ↦ (none.0, sym (held_as_flag here.state own cell row f.is) ∙ none.1)
+        ] in
+        steps.write_step heard f.old quiet.0 quiet.1 done.own (of_lead heard here own done d).copies (did_count heard here own done (By_lead done d))
+        (k.kept alone) (elim k.chain [ inl same ↦ inl same | inr marked ↦ inr (k.kept alone marked) ]) k.stored
+        (did_rising heard here own f.fit.rising done (By_lead done d) cell)
+
     lead_step : (done : JobResult) → DidLead heard here own done → Step done
-    lead_step done d = elim (so_or_apart (Here done.own) (lead_cell heard here own done d) (lead_here done d) cell) [
-      | inl step ↦ step f (did_rising heard here own f.fit.rising done (By_lead done d) cell)
+    lead_step done d = elim (worked_or_apart (lead_cell heard here own done d) cell) [
+      | inl e ↦
+          let led = role heard here own f.fit done (By_lead done d) cell e in
+          write_here done d
+          (so_at (LedHere heard here own f.fit done.own) (lead_cell heard here own done d) (lead_marked heard here own f.fit done d) cell e
+          (stage_live here.state cell led.born f.alive))
       | inr ne ↦ lead_apart done d ne
     ]
 
@@ -496,12 +394,4 @@ module _ (heard : Body → Type 0) (here : JobContext) (links : ℕ) (row : Link
     pub holds : (done : JobResult) → Did heard here own done → HolderKeeps heard links row cell own vo done
     holds done d =
         let s = did_step done d in
-        record {
-          copying = s.copying;
-          told = s.told;
-          says = λ post i e. says_told done.own s.copying post (letters_of_job heard here own done d post i) e;
-          marks = s.marks;
-          stored = s.stored;
-          alike = s.alike;
-          caught = s.caught;
-        }
+        record { step = s; says = λ post i e. says_told done.own s.copying post (letters_of_job heard here own done d post i) e }

@@ -1,9 +1,9 @@
 -- How far a holder is with a link: what stays so, and what a page changes.
-use Rattle.law_copies.proofs.Imports.{◌∙◌, ◌≡◌, Busy, Cell, IsMarked, LinkId, LinkRow, None, Option, PairState, Progress, Some, Stale, Table, above, ap, at}
-use Rattle.law_copies.proofs.Imports.{by_bool, by_test, cell_at, eq_by_cmp, false, id_of, inl, inr, is_eq, is_flagged, link_cmp, mark_kept, nat_cmp}
-use Rattle.law_copies.proofs.Imports.{nat_cmp_total, no_progress, option_map_or, ordering_then, progress_beside, progress_here, progress_on, refl, same_block}
-use Rattle.law_copies.proofs.Imports.{same_caught, same_id, same_numbers, sym, tied_itself, true, true_false, unwrap_or, with_copied, with_mark_on, with_page}
-use Rattle.law_copies.proofs.Imports.{with_progress, ℕ}
+use Rattle.law_copies.proofs.Imports.{◌∙◌, ◌≡◌, Busy, Cell, IsMarked, LinkId, LinkRow, MarkKind, None, Option, PairState, Progress, Some, Stale, Store, Table}
+use Rattle.law_copies.proofs.Imports.{above, ap, at, by_bool, by_test, cell_at, eq_by_cmp, false, id_of, inl, inr, is_eq, is_flagged, link_cmp, mark_kept}
+use Rattle.law_copies.proofs.Imports.{nat_cmp, nat_cmp_total, no_progress, option_map_or, ordering_then, progress_beside, progress_here, progress_on, refl}
+use Rattle.law_copies.proofs.Imports.{same_block, same_caught, same_id, same_numbers, sym, tied_itself, true, true_false, unwrap_or, with_copied}
+use Rattle.law_copies.proofs.Imports.{with_mark_on, with_page, with_progress, ℕ}
 
 -- pages and the ballot are as they were
 pub record IsPaced (row : LinkRow) (own to : PairState) : Type 0 where
@@ -81,12 +81,15 @@ page_flag own row (Some block) = same_caught (with_page own row (progress_on own
     (record (progress_on own row) { after = Some block }))
     ∙ sym (same_caught own row)
 
--- and each mark
+-- and each mark of a block stays where another one is set
+pub still_marked : (store : Store) (which : MarkKind) (of cell : Cell) → IsMarked store cell → IsMarked (with_mark_on store which of) cell
+still_marked store which of cell (inl busy) = inl (mark_kept store which Busy of cell busy)
+still_marked store which of cell (inr stale) = inr (mark_kept store which Stale of cell stale)
+
 pub page_marks : (own : PairState) (row : LinkRow) (block : Option ℕ) (cell : Cell) → IsMarked own.store cell
     → IsMarked (with_page own row (progress_on own row) block).store cell
 page_marks own row None cell m = m
-page_marks own row (Some block) cell (inl busy) = inl (mark_kept own.store Stale Busy (cell_at row block) cell busy)
-page_marks own row (Some block) cell (inr stale) = inr (mark_kept own.store Stale Stale (cell_at row block) cell stale)
+page_marks own row (Some block) cell m = still_marked own.store Stale (cell_at row block) cell m
 
 -- the answer is the one that is waited for
 pub same_block_is : (a b : Option ℕ) → same_block a b ≡ true → a ≡ b

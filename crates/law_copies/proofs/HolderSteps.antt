@@ -4,11 +4,11 @@ use Rattle.law_copies.proofs.Imports.{PairState, Pending, Progress, Some, Stale,
 use Rattle.law_copies.proofs.Imports.{copying_on, false, id_of, inl, inr, is_flagged, is_marked, is_some, length, link_cmp, link_of, mark_there, nat_cmp}
 use Rattle.law_copies.proofs.Imports.{nat_lt, nat_tests, no_progress, none_some, page_chains, pending_on, progress_on, refl, same_block, same_or_apart}
 use Rattle.law_copies.proofs.Imports.{some_or_none, subst, sym, true, true_false, unwrap_or, with_mark_on, with_page, ℕ}
-use Rattle.law_copies.specs.CopyProgress.{AreCopying, AreInOrder, IsCopied, IsCovered, Is_equal, Is_marked_here, Is_marked_there, Is_to_be_copied, IsLeft}
-use Rattle.law_copies.specs.CopyProgress.{IsPage, NotCopied}
-use Rattle.law_copies.specs.LoneSteps.{IsStill, KeepsCell}
+use Rattle.law_copies.specs.CopyProgress.{AreCopying, AreInOrder, IsCopied, IsCovered, IsLeft, IsPage, Is_equal, Is_marked_here, Is_marked_there}
+use Rattle.law_copies.specs.CopyProgress.{Is_to_be_copied, NotCopied}
+use Rattle.law_copies.specs.LoneSteps.{HolderStep, IsStill, KeepsCell}
 use Rattle.law_copies.proofs.AllPut.{copied_now}
-use Rattle.law_copies.proofs.HolderChanges.{HolderStep, IsUntouched, calm_step, covers, to_be_copied}
+use Rattle.law_copies.proofs.HolderChanges.{IsUntouched, calm_step, covers, to_be_copied}
 use Rattle.law_copies.proofs.CopiesGoOn.{IsOnward, onward_tables}
 use Rattle.law_copies.proofs.HolderPace.{IsPaced, paced_table, page_flag, page_marks, progress_itself, same_block_is}
 use Rattle.petal_msg.specs.declared.body.Body.TheVariants as body

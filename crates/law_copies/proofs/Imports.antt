@@ -39,10 +39,10 @@ pub use Rattle.law_jobs.specs.Imports.{Begins_copy, By_holder, By_lead, By_other
 pub use Rattle.law_jobs.specs.Imports.{DidSecond, Finds_it_full, Follows, Gives_up, Goes_on_copying, Goes_on_retired, Goes_on_trimming, IsHeldWith, IsOfCopy}
 pub use Rattle.law_jobs.specs.Imports.{Is_copied_to, Marks, Marks_alone, Opens, Opens_alone, Opens_fill, Opens_fill_alone, Puts, Puts_alone, Puts_entry}
 pub use Rattle.law_jobs.specs.Imports.{Sets_apart, Taken, TakenCopy, Turns_page, Unmarks, Unmarks_alone, first_copy, first_last, progress}
-pub use Rattle.law_jobs.proofs.Imports.{Asks_page, Asks_to_trim, By_filler, By_read, By_sweep, Closes_copy, CopyStep, Copy_as_is, Copy_synced, Copy_trimmed}
-pub use Rattle.law_jobs.proofs.Imports.{Declines, Drops_entry, Handled, Happens, Is_trimmed, Promises, Refuses, Replies, Rests, Sends, Tidies, TrimStep}
-pub use Rattle.law_jobs.proofs.Imports.{Unmarks_copied, always_firm, at_apart, at_same, chains_at, is_mark, is_marked, last_happens, mark_on, of_read}
-pub use Rattle.law_jobs.proofs.Imports.{of_sweep, own_place, rests_after, row_named, same_cell_or_apart, same_mark, start_rests, taking}
+pub use Rattle.law_jobs.proofs.Imports.{As_it_is, As_told, Asks_page, Asks_to_trim, By_filler, By_read, By_sweep, Closes_copy, CopyStep, Copy_as_is}
+pub use Rattle.law_jobs.proofs.Imports.{Copy_synced, Copy_trimmed, Declines, Drops_entry, Handled, Happens, Is_trimmed, Promises, Refuses, Replies, Rests}
+pub use Rattle.law_jobs.proofs.Imports.{Sends, Tidies, TrimStep, Unmarks_copied, always_firm, at_apart, at_same, chains_at, is_mark, is_marked, last_happens}
+pub use Rattle.law_jobs.proofs.Imports.{mark_on, of_read, of_sweep, own_place, rests_after, row_named, same_cell_or_apart, same_mark, start_rests, taking}
 pub use Rattle.law_copies.specs.Imports.{AtRest, IsMarked, IsReady, IsRising, IsToBeCopied, WasStarted, blank_joins_in, is_between, kept_store, no_pairs}
 pub use Rattle.law_copies.specs.Imports.{one_put_ahead, with_store}
 pub use Rattle.std.proofs.lemmas.Bool.{cases_lt}
@@ -58,8 +58,8 @@ pub use Rattle.law_jobs.proofs.JobsSay.{letters_of_job}
 pub use Rattle.law_jobs.proofs.MarksApart.{mark_beside, mark_kept, mark_there, stale_kept, unmark_beside, unmark_none}
 pub use Rattle.law_jobs.proofs.Runs.{At, OneMore, Run, before_part, by_run, firm_in, grown_in, happened_in, longer, more_of, rests_in, run_of, setting_in}
 pub use Rattle.law_jobs.proofs.Runs.{since, stepped_in}
-pub use Rattle.law_jobs.specs.Effects.{Counts, Drops, Effect, Ends_copy, Idle, IsAt, IsCopiedFor, IsIdle, IsPutAt, Is_begun, Is_copied, Is_further, May}
-pub use Rattle.law_jobs.specs.Effects.{Of_key, Of_operation, Sets, applied}
+pub use Rattle.law_jobs.specs.Effects.{Counts, Drops, Effect, Ends_copy, For_a_fill, For_a_write, Idle, IsAt, IsCopiedFor, IsIdle, IsOpening, IsPutAt}
+pub use Rattle.law_jobs.specs.Effects.{Is_begun, Is_copied, Is_further, May, Of_key, Of_operation, Sets, applied}
 pub use Rattle.law_jobs.specs.Sayings.{Asks_copy, Asks_slot, Begins, Ends_fill, Goes_on, Has_copy, Has_slot, IsCopying, Is_sync_full, Is_synced, Moves}
 pub use Rattle.law_jobs.specs.Sayings.{Moves_on, Says, Syncs, Tells_page, Trims}
 pub use Rattle.law_jobs.specs.Worked.{holder_cell, lead_cell, other_cell, page_cell, second_cell, worked}

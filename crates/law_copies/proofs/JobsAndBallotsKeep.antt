@@ -1,21 +1,19 @@
 -- What a job, and a ballot that is started, keeps by itself.
-use Rattle.law_copies.proofs.Imports.{[], ◌+◌, ◌∙◌, ◌≡◌, ◌≢◌, ◌≤◌, Both, Caught, Cell, Command, Did, Handled, In, IsMarked, IsRising, IsSettledState}
-use Rattle.law_copies.proofs.Imports.{JobContext, JobResult, LinkId, LinkRow, List, None, Option, PairState, Pairs, Post, Some, Starts, Store, ap, arith, at}
-use Rattle.law_copies.proofs.Imports.{both, cell_cmp, cell_link, chain_in, chosen_log, did_count, eq_by_cmp, false, front_plain, holder_of, holds_link, id_of}
-use Rattle.law_copies.proofs.Imports.{inl, is_between, is_logged, is_marked, link_cmp, link_named, log_plain, logged_apart, nat_cmp, own_place, progress}
-use Rattle.law_copies.proofs.Imports.{progress_beside, progress_on, proposed, refl, server_state, so_both, stage_live, subject_of, subst, sym, true}
-use Rattle.law_copies.proofs.Imports.{true_false, ℕ}
+use Rattle.law_copies.proofs.Imports.{[], ◌∙◌, ◌≡◌, Both, Caught, Cell, Command, Did, Handled, In, IsSettledState, JobContext, JobResult, LinkId, LinkRow}
+use Rattle.law_copies.proofs.Imports.{List, None, Option, PairState, Post, Some, Starts, ap, arith, both, cell_link, chosen_log, did_count, eq_by_cmp, false}
+use Rattle.law_copies.proofs.Imports.{front_plain, holder_of, holds_link, id_of, inl, is_between, is_logged, link_cmp, link_named, log_plain, logged_apart}
+use Rattle.law_copies.proofs.Imports.{own_place, progress_beside, progress_on, proposed, refl, server_state, so_both, stage_live, subject_of, subst, sym}
+use Rattle.law_copies.proofs.Imports.{true, true_false, ℕ}
 use Rattle.law_copies.specs.Visits.{AliveIn}
 use Rattle.law_copies.specs.CopyProgress.{links_of}
-use Rattle.law_copies.specs.Pair.{HaveMarks, IsRecalled, pair_of}
-use Rattle.law_copies.specs.LoneSteps.{AreFilled, HolderKeeps, IsFollowing, IsHolding, OtherKeeps}
+use Rattle.law_copies.specs.Pair.{pair_of}
+use Rattle.law_copies.specs.LoneSteps.{HolderKeeps, IsFollowing, IsHolding, OtherKeeps, BallotKeeps, KeepsCell}
 use Rattle.law_copies.proofs.CellInBoth.{CellInBoth}
 use Rattle.law_copies.proofs.AtSeat.{AtSeat}
 use Rattle.law_copies.proofs.ForeignCellsStay.{lost_keeps, not_of_idle, unborn_bare, unborn_keeps, unlinked_keeps}
-use Rattle.law_copies.proofs.BallotsFindAllCopied.{IsBallot, ballot_alike, ballot_keeps}
+use Rattle.law_copies.proofs.BallotsFindAllCopied.{ballot_alike, ballot_keeps, pages_keep, with_pages}
 use Rattle.law_copies.proofs.EmptyCellsHaveNoChain.{did_filled}
 use Rattle.law_copies.proofs.OtherServerChanges.{kept_copying, kept_told}
-use Rattle.law_copies.proofs.OwnPartFrames.{keeps_alike}
 use Rattle.law_copies.proofs.LeadsFindMarks.{job_marked}
 use Rattle.law_copies.proofs.MuteLettersTellNothing.{known_mute, no_page, told_mute}
 use Rattle.law_copies.proofs.EpochsRise.{did_rising}
@@ -106,29 +104,24 @@ module _ (it : AtSeat) where
 
   module _ (started : Option Command) (posts : List Post) (starts : Starts here own started)
       (logged : (post : Post) → In post posts → is_logged (subject_of post.body) ≡ true) where
+    abbrev proposes : PairState
+    proposes = proposed (server_state setting w k) own started
+
+    -- what the server has then, by which only how far links are is new
     abbrev to : PairState
-    to = proposed (server_state setting w k) own started
+    to = with_pages own proposes.copies.progress
+
+    same : to ≡ proposes
+    same = ballot_alike (server_state setting w k) own started
 
     abbrev begun : JobResult
     begun = record { own = to; posts = posts; jobs = [] }
 
-    alike : IsBallot own to
-    alike = ballot_alike (server_state setting w k) own started
+    keeps : (cell : Cell) → KeepsCell cell own to
+    keeps cell = pages_keep cell own proposes.copies.progress
 
     mute : (post : Post) → In post posts → is_between (subject_of post.body) ≡ false
     mute post i = logged_apart (subject_of post.body) (logged post i)
-
-    store_same : to.store ≡ own.store
-    store_same = alike.2
-
-    pairs_same : to.pairs ≡ own.pairs
-    pairs_same = alike.1
-
-    marked : (cell : Cell) → IsMarked to.store cell → IsMarked own.store cell
-    marked cell m = subst (λ (s : Store). IsMarked s cell) store_same m
-
-    rises : (cell : Cell) → IsRising nat_cmp (chain_in own.store.chains cell) → IsRising nat_cmp (chain_in to.store.chains cell)
-    rises cell r = subst (λ (s : Store). IsRising nat_cmp (chain_in s.chains cell)) (sym store_same) r
 
     -- of a link that the server's state has not it has nothing in mind
     held_pages : (row : LinkRow)
@@ -148,84 +141,69 @@ module _ (it : AtSeat) where
     holder_keeps : (cell : Cell) (row : LinkRow) (other : Option PairState) → IsHolding (Handled w k) here (links_at cell) row cell own other
         → HolderKeeps (Handled w k) (links_at cell) row cell own other begun
     holder_keeps cell row other f =
-        let b = ballot_keeps here (links_at cell) row cell other own f.old f.is (kept_lives (Handled w k) here own f.fit cell f.alive) started starts in
+        let b = subst (BallotKeeps (links_at cell) row cell own other) (sym same)
+        (ballot_keeps here (links_at cell) row cell other own f.old f.is (kept_lives (Handled w k) here own f.fit cell f.alive) started starts) in
         record {
-          copying = b.copying;
-          told = b.told;
+          step = record {
+            copying = b.copying;
+            told = b.told;
+            marks = λ m. inl m;
+            stored = λ some. some;
+            alike = λ now still pages rising a. b.alike now a;
+            caught = λ flagged. (refl, (f.old.caught own refl flagged).unmarked, b.flagged flagged);
+          };
           says = λ post i of. told_mute row (Some to) other post.body (mute post i);
-          marks = λ m. inl (subst (λ (s : Store). IsMarked s cell) (sym store_same) m);
-          stored = λ some. subst (λ (s : Store). chain_in s.chains cell ≢ []) (sym store_same) some;
-          alike = λ now still pages rising a. b.alike now a;
-          caught = λ flagged.
-              (ap (λ (s : Store). chain_in s.chains cell) store_same, λ m. (f.old.caught own refl flagged).unmarked (marked cell m), b.flagged flagged);
         }
 
     other_keeps : (cell : Cell) (row : LinkRow) (holder : Option PairState) → IsFollowing (Handled w k) here (links_at cell) row cell holder own
         → OtherKeeps (links_at cell) row cell holder own begun
-    other_keeps cell row holder f =
-        let keeps = keeps_alike cell own to alike.0 in
-        record {
-          here = record {
-            copying = kept_copying f.old to keeps.rest;
-            told = kept_told f.old to keeps.rest;
-            says = λ post i of. told_mute row holder (Some to) post.body (mute post i);
-            marks = keeps.marks;
-            changes = inl keeps.rest.chain;
-          };
-          pages = λ post i after block e. no_page post.body (mute post i) row.map row.link after block e;
-          rising = rises cell (seated.rising it cell);
-        }
+    other_keeps cell row holder f = record {
+      here = record {
+        copying = kept_copying f.old to (keeps cell).rest;
+        told = kept_told f.old to (keeps cell).rest;
+        marks = λ kind. refl;
+        changes = inl refl;
+      };
+      says = λ post i of. told_mute row holder (Some to) post.body (mute post i);
+      pages = λ post i after block e. no_page post.body (mute post i) row.map row.link after block e;
+      rising = seated.rising it cell;
+    }
 
-    pub ballot_keeping : IsKeeping setting w k begun
-    ballot_keeping = record {
+    pub ballot_keeping : IsKeeping setting w k (record { own = proposes; posts = posts; jobs = [] })
+    ballot_keeping = subst (λ (o : PairState). IsKeeping setting w k (record { own = o; posts = posts; jobs = [] })) same (record {
       lead = λ cell row second is alive both leads ok known. record {
-        keeps = moves.first_stays own to second cell (ap (λ (s : Store). chain_in s.chains cell) store_same)
-            (ap (λ (p : Pairs). at cell_cmp p.pending cell) pairs_same) (let e = ap (λ (p : Pairs). p.next) pairs_same in omega arith) ok;
-        recalled = λ op there.
-            let was = ap (λ (p : Pairs). at cell_cmp p.pending cell) (sym pairs_same) ∙ there in
+        keeps = moves.first_stays own to second cell refl refl (omega arith) ok;
+        recalled = λ op was.
             let staged = (rests.pending k).staged cell op was in
             let on = stage_live (server_state setting w k) cell staged.born alive in
-            let marks = seated.marks it cell op on was in
-            subst (λ (s : Store). IsRecalled op s cell) (sym store_same)
-            (record { rests = staged.stage on (so_both (server_state setting w k) cell row is both); marks = marks });
-        lacks = λ old op there fill le. old op (ap (λ (p : Pairs). at cell_cmp p.pending cell) (sym pairs_same) ∙ there) fill le;
+            record { rests = staged.stage on (so_both (server_state setting w k) cell row is both); marks = seated.marks it cell op on was };
+        lacks = λ old. old;
         says = λ post i of. known_mute (pair_of to second cell) post.body (mute post i);
-        rising = rises cell;
+        rising = λ rises. rises;
       };
       second = λ cell row first is alive both follows ok known. record {
-        keeps = moves.second_stays first own to cell (ap (λ (s : Store). chain_in s.chains cell) store_same)
-            (ap (λ (p : Pairs). at cell_cmp p.last cell) pairs_same) ok;
-        lacks = λ old op there fill le. ap (λ (s : Store). at nat_cmp (chain_in s.chains cell) op.key.epoch) store_same
-            ∙ old op there fill (subst (λ (p : Pairs). progress (at cell_cmp p.last cell) ≤ op.op + op.op) pairs_same le);
+        keeps = moves.second_stays first own to cell refl refl ok;
+        lacks = λ old. old;
         says = λ post i of. known_mute (pair_of first to cell) post.body (mute post i);
-        rising = rises cell;
+        rising = λ rises. rises;
       };
       holder = holder_keeps;
       other = other_keeps;
-      unlinked = λ cell none alive. keeps_alike cell own to alike.0;
-      lost = λ cell row is alive lost. keeps_alike cell own to alike.0;
+      unlinked = λ cell none alive. keeps cell;
+      lost = λ cell row is alive lost. keeps cell;
       silent = λ cell not_of post i of. mute post i;
       lives = λ post i between cell of. true_false between (mute post i);
-      copied = λ cell last is. (seated.fit it).copied cell last
-          (ap (λ t. at cell_cmp t cell) (sym alike.0.last) ∙ is);
+      copied = (seated.fit it).copied;
       paged = λ cell row is post i after block e. no_page post.body (mute post i) row.map row.link after block e;
       pages = λ post i map link block after e. no_page post.body (mute post i) map link after (Some block) e;
-      rising = λ cell. rises cell (seated.rising it cell);
-      filled = subst (λ (s : Store). AreFilled s.chains) (sym store_same) (seated.filled it);
-      counts = (let e = ap (λ (p : Pairs). p.next) pairs_same in omega arith);
-      marks = subst (λ (s : Store). HaveMarks (server_state setting w k) to.pairs.pending s) (sym store_same)
-          (subst (λ (p : Pairs). HaveMarks (server_state setting w k) p.pending own.store) (sym pairs_same)
-          (seated.marks it));
+      rising = seated.rising it;
+      filled = seated.filled it;
+      counts = omega arith;
+      marks = seated.marks it;
       unheard = λ cell unborn unheard. record {
-        bare = record {
-          chain = ap (λ (s : Store). chain_in s.chains cell) store_same ∙ unheard.bare.chain;
-          marks = λ kind. ap (λ (s : Store). is_marked s kind cell) store_same ∙ unheard.bare.marks kind;
-        };
-        last = alike_last cell ∙ unheard.last;
+        bare = record { chain = unheard.bare.chain; marks = unheard.bare.marks };
+        last = unheard.last;
         pages = λ none row map_is. ballot_pages row (unlinked_apart setting.servers (server_state setting w k) plain_here cell none row map_is) started
             ∙ unheard.pages none row map_is;
       };
-    }
-      where
-        alike_last : (cell : Cell) → at cell_cmp to.pairs.last cell ≡ at cell_cmp own.pairs.last cell
-        alike_last cell = ap (λ (p : Pairs). at cell_cmp p.last cell) pairs_same
+    })

@@ -11,8 +11,8 @@ use Rattle.law_copies.specs.Visits.{AliveIn, HasBeen, HasFilled, IsLinked, place
 use Rattle.law_copies.proofs.VisitsAfterSteps.{counted_up, none_before, then_of, IsAt, stored_frozen, visited_beside}
 use Rattle.law_copies.proofs.AtJob.{AtJob, step_at}
 use Rattle.law_copies.proofs.BlankJoinsMakePlaces.{joins_at}
-use Rattle.law_copies.proofs.FramesKeepFronts.{LeavesAt, LeavesBoth, LeavesStore, alone_framed, both_framed, filled_framed, filled_on, marked_on, marks_back}
-use Rattle.law_copies.proofs.FramesKeepFronts.{StaysAt, beside_stays, other_is_one, same_stays, store_same, to_copy_on, twins_stay}
+use Rattle.law_copies.proofs.FramesKeepFronts.{LeavesAt, LeavesBoth, LeavesStore, StaysAt, alone_framed, beside_stays, both_framed, both_same, filled_framed}
+use Rattle.law_copies.proofs.FramesKeepFronts.{filled_on, left_on, marks_back, other_is_one, same_stays, store_same, twins_stay}
 use Rattle.law_copies.proofs.ServedAtLaterFronts.{IsCaughtUp, alone_not_lost, alone_or_flagged, alone_since, both_since, holder_is_one, holds_since}
 use Rattle.law_copies.proofs.ServedAtLaterFronts.{same_only}
 use Rattle.law_copies.proofs.OtherIsNotHolder.{other_apart}
@@ -246,23 +246,19 @@ module _ (it : AtJob) where
 
     copying_else : IsElsewhere there cell → AreCopying links row cell (visits holder there cell) (visits other_one there cell)
     copying_else away =
-        subst (λ o. AreCopying links row cell o (visits other_one there cell)) (sym (visits_else holder there cell away))
-        (subst (AreCopying links row cell (good.visits holder there cell)) (sym (visits_else other_one there cell away)) ok.copying)
+        both_same (λ a b. AreCopying links row cell a b) (visits_else holder there cell away) (visits_else other_one there cell away) ok.copying
 
     -- what was left to copy at the holder is so still
-    abbrev KeepsLeft : PairState → Store → Store → Type 0
-    KeepsLeft o before now = (IsMarked o.store cell → IsMarked before cell → IsMarked now cell)
-        × (IsToBeCopied row o.store cell → NotCopied (Some o) row cell.block → IsToBeCopied row before cell → IsToBeCopied row now cell)
-
     stays_mine : AliveIn (state_after setting.servers top) cell → holder ≡ k → IsElsewhere there cell → (o : PairState) → good.visits k there cell ≡ Some o
-        → ((p : ℕ) → there < p → good.visits other_one p cell ≡ None) → KeepsLeft o (olds f k) (news f k)
-    stays_mine lives e away o visit beyond = elim (same_or_apart (blank_joins_in setting f k) (blank_joins_in setting top k)) [
-      | inr ne ↦ (
-          let same = stored_frozen (step_at it) k (blank_joins_in setting f k) ne in
-          (λ was marked. subst (λ s. IsMarked s cell) (sym same) marked, λ was copied all. subst (λ s. IsToBeCopied row s cell) (sym same) all))
+        → ((p : ℕ) → there < p → good.visits other_one p cell ≡ None) → StaysLeft row cell o (olds f k) → StaysLeft row cell o (news f k)
+    stays_mine lives e away o visit beyond left = elim (same_or_apart (blank_joins_in setting f k) (blank_joins_in setting top k)) [
+      | inr ne ↦ still (store_same (olds f k) (news f k) cell (stored_frozen (step_at it) k (blank_joins_in setting f k) ne))
       | inl now ↦ by now
     ]
       where
+        still : LeavesStore (olds f k) (news f k) cell → StaysLeft row cell o (news f k)
+        still same = left_on row cell o (olds f k) (news f k) same left
+
         b : HasBeen setting w k there cell
         b = let h = good.been k there cell o visit in record { front = h.front; within = h.within; placed = h.placed }
 
@@ -278,45 +274,44 @@ module _ (it : AtJob) where
             let at = b.at in
             below (omega arith) (away mine.0 mine.1 alive)
 
-        by : IsNow f → KeepsLeft o (olds f k) (news f k)
+        by : IsNow f → StaysLeft row cell o (news f k)
         by now = elim (fronts_meet f front top prefix (firm.servers k)) [
           | inr p ↦ (let le = places_up setting top firm.plain front f cell mine.0 row p prefix mine.1 is in absurd (omega (arith, past)))
           | inl p ↦ elim (alone_or_flagged setting records w stores firm good started f front cell row mine.0 k whole p (firm.servers k) is
               (alone ∙ ap (λ n. Only n whole) e) mine.1 alive
               (λ q lt. ap (λ n. good.visits (other_of n row) q cell) (sym e) ∙ beyond q lt)) [
                 | inl so ↦ held now p so.0 so.1
-                | inr (inl lost) ↦ (
+                | inr (inl lost) ↦
                     let keeps = job.keeping.lost cell mine.0 mine.1 alive lost in
-                    let same = leaving.left_so it f cell now (record { chain = keeps.rest.chain; marks = keeps.marks }) in (
-                      λ was marked. marked_on (olds f k) (news f k) cell same marked,
-                      λ was copied all. to_copy_on row (olds f k) (news f k) cell same.chain all,
-                    ))
+                    still (leaving.left_so it f cell now (record { chain = keeps.rest.chain; marks = keeps.marks }))
                 | inr (inr c) ↦ (
                     let visit_h : good.visits holder there cell ≡ Some c.0 = ap (λ n. good.visits n there cell) e ∙ c.1 in
                     let caught = ok.copying.caught c.0 visit_h c.2 in
                     let same : o ≡ c.0 = same_some (sym visit ∙ c.1) in (
-                      λ was marked. absurd (caught.unmarked (subst (λ (x : PairState). IsMarked x.store cell) same was)),
+                      λ was. absurd (caught.unmarked (subst (λ (x : PairState). IsMarked x.store cell) same was)),
                       λ was copied. absurd (caught.copied (subst (λ (x : PairState). IsToBeCopied row x.store cell) same was)
                           (subst (λ (x : PairState). NotCopied (Some x) row cell.block) same copied)),
                     ))
               ]
         ]
           where
-            held : IsNow f → IsPrefix f front → (kept : Bool) → mine.0.state ≡ Only k kept → KeepsLeft o (olds f k) (news f k)
+            held : IsNow f → IsPrefix f front → (kept : Bool) → mine.0.state ≡ Only k kept → StaysLeft row cell o (news f k)
             held now p kept so =
                 let later = rows_later setting top firm.plain f front cell row mine.0 p (firm.servers k) is mine.1 in
                 let keeps = worked.keeps_holder it cell mine.0 mine.1 alive kept so in (
-                  λ was marked. elim (keeps.marks (subst (λ s. IsMarked s cell) (leaving.store_was it f now) marked)) [
-                    | inl still ↦ subst (λ s. IsMarked s cell) (sym (leaving.store_now it f now)) still
+                  λ was. elim (keeps.marks (subst (λ s. IsMarked s cell) (leaving.store_was it f now) (left.0 was))) [
+                    | inl marked ↦ subst (λ s. IsMarked s cell) (sym (leaving.store_now it f now)) marked
                     | inr met ↦ true_false met
                         (ap is_some (ap (λ n. good.visits n (place_by setting front mine.0) cell)
                         (other_later row mine.0 k later ∙ ap (λ n. other_of n row) (sym e)) ∙ beyond (place_by setting front mine.0) past))
                   ],
-                  λ was copied all. record {
-                    whole = all.whole;
-                    stored = λ none. keeps.stored (λ empty. all.stored (ap (λ (s : Store). chain_in s.chains cell) (leaving.store_was it f now) ∙ empty))
-                        (ap (λ (s : Store). chain_in s.chains cell) (sym (leaving.store_now it f now)) ∙ none);
-                  },
+                  λ was copied.
+                      let all = left.1 was copied in
+                      record {
+                        whole = all.whole;
+                        stored = λ none. keeps.stored (λ empty. all.stored (ap (λ (s : Store). chain_in s.chains cell) (leaving.store_was it f now) ∙ empty))
+                            (ap (λ (s : Store). chain_in s.chains cell) (sym (leaving.store_now it f now)) ∙ none);
+                      },
                 )
 
     stays_else : AliveIn (state_after setting.servers top) cell → IsElsewhere there cell → (o : PairState) → visits holder there cell ≡ Some o →
@@ -327,16 +322,10 @@ module _ (it : AtJob) where
         let unseen : (p : ℕ) → there < p → good.visits other_one p cell ≡ None = λ p lt. none_before (step_at it) other_one p cell (beyond p lt) in
         let now = ok.stays lives o was unseen in
         elim (same_or_apart holder k) [
-          | inl e ↦ (
-              let mine = stays_mine lives e away o (ap (λ n. good.visits n there cell) (sym e) ∙ was) unseen in (
-                λ marked. subst (λ n. IsMarked (news f n) cell) (sym e) (mine.0 marked (subst (λ n. IsMarked (olds f n) cell) e (now.0 marked))),
-                λ all copied. subst (λ n. IsToBeCopied row (news f n) cell) (sym e)
-                    (mine.1 all copied (subst (λ n. IsToBeCopied row (olds f n) cell) e (now.1 all copied))),
-              ))
-          | inr ne ↦ (
-            λ marked. subst (λ s. IsMarked s cell) (sym (leaving.store_apart it f holder ne)) (now.0 marked),
-            λ all copied. subst (λ s. IsToBeCopied row s cell) (sym (leaving.store_apart it f holder ne)) (now.1 all copied),
-          )
+          | inl e ↦ subst (λ n. StaysLeft row cell o (news f n)) (sym e)
+              (stays_mine lives e away o (ap (λ n. good.visits n there cell) (sym e) ∙ was) unseen (subst (λ n. StaysLeft row cell o (olds f n)) e now))
+          | inr ne ↦ left_on row cell o (olds f holder) (news f holder)
+              (store_same (olds f holder) (news f holder) cell (leaving.store_apart it f holder ne)) now
         ]
 
     -- marks of the other server are those that it had

@@ -1,19 +1,18 @@
 -- What a job of a server that is In as itself keeps at each front, and of what it sends.
-use Rattle.law_copies.proofs.Imports.{[], ◌++◌, ◌∙◌, ◌∷◌, ◌≡◌, ◌≢◌, ◌≤◌, ◌⊎◌, Body, Both, Cell, Command, In, IsPrefix, IsRising, Letter, LinkRow, List}
-use Rattle.law_copies.proofs.Imports.{Option, PairState, Post, Record, Some, State, about, alone_not_both, ap, arith, by_bool, chain_in, chosen_log, false}
-use Rattle.law_copies.proofs.Imports.{front_long, has_server, id_of, inr, is_between, is_flagged, is_some, last_copy, length, letters_of, live, lost_not_both}
-use Rattle.law_copies.proofs.Imports.{nat_cmp, one_front, other_of, own_place, primary_is_one, refl, rev_after, said, same_some, secondary_is_one, sender}
-use Rattle.law_copies.proofs.Imports.{server_state, stage_at, stamped, state_after, state_in, subject_of, subst, sym, true, true_false, ℕ}
+use Rattle.law_copies.proofs.Imports.{[], ◌++◌, ◌∙◌, ◌∷◌, ◌≡◌, ◌≢◌, ◌≤◌, ◌⊎◌, Body, Both, Cell, Command, In, IsPrefix, Letter, LinkRow, List}
+use Rattle.law_copies.proofs.Imports.{Option, PairState, Post, Record, Some, about, alone_not_both, ap, arith, by_bool, chosen_log, false}
+use Rattle.law_copies.proofs.Imports.{front_long, has_server, id_of, inr, is_between, is_flagged, is_some, length, letters_of, live, lost_not_both}
+use Rattle.law_copies.proofs.Imports.{one_front, other_of, own_place, primary_is_one, refl, rev_after, said, same_some, secondary_is_one, sender}
+use Rattle.law_copies.proofs.Imports.{server_state, stamped, state_after, subject_of, subst, sym, true, true_false, ℕ}
 use Rattle.law_copies.specs.CopyProgress.{IsOfLink, IsTold}
 use Rattle.law_copies.specs.GoodCopies.{IsUnheard, SaidOk, pair_at}
-use Rattle.law_copies.specs.Pair.{HaveMarks, Known, pair_of}
-use Rattle.law_copies.specs.LoneSteps.{AreFilled}
+use Rattle.law_copies.specs.Pair.{Known, pair_of}
 use Rattle.law_copies.specs.Visits.{AliveIn, IsLinked, half, place_by, with_stores}
 use Rattle.law_copies.proofs.AtJob.{AtJob, seat_at, step_at}
 use Rattle.law_copies.proofs.FramesKeepFronts.{said_framed}
 use Rattle.law_copies.proofs.MuteLettersTellNothing.{known_mute, told_mute}
 use Rattle.law_copies.proofs.RolesOfWorkers.{other_row}
-use Rattle.law_copies.proofs.StepsKeepCopies.{GoesOn, IsSoundOwn, IsTrue, good_after}
+use Rattle.law_copies.proofs.StepsKeepCopies.{GoesOn, IsSoundOwn, IsTrue, good_after, sound_at}
 use Rattle.law_copies.proofs.VisitsAfterSteps.{then_of, IsThen, KeepsFlags}
 use Rattle.law_copies.proofs.JobsLeaveOtherFronts.{Same_store, Covers, Gone, Left_by}
 use Rattle.law_copies.proofs.JobsAtEachFront.{at_or_else, else_leaves, last_old, left_else, stranger_leaves, visits_else, both_kept, holds, news_here}
@@ -177,26 +176,17 @@ module _ (it : AtJob) where
       let keeps = worked.keeps_holder it cell row mine mine_alive whole alone in
       ap (λ (o : PairState). is_flagged o (id_of row)) job.own_is ∙ (keeps.caught (ap (λ (o : PairState). is_flagged o (id_of row)) (sym same) ∙ flagged)).2
 
-  -- what holds it by the server's state before holds it by that then, which is the same
-  state_then : (P : State → Type 0) → P (server_state setting w k) → P (state_in setting.servers server.log)
-  state_then P p = subst (λ f. P (state_after setting.servers f)) (sym job.applied) p
-
-  job_sound : IsSoundOwn setting top v k server
-  job_sound = record {
-    unheard = λ cell none.
-        let mine = ap (λ f. stage_at (state_after setting.servers f) cell) (sym job.applied) ∙ none in
-        let was = subst (λ (o : PairState). IsUnheard (server_state setting w k) o cell) (λ i. record (w.servers k).own { store = job.works.real i })
-        (good.unheard k cell mine) in
-        state_then (λ s. IsUnheard s server.own cell)
-        (subst (λ (o : PairState). IsUnheard (server_state setting w k) o cell) (sym job.own_is) (job.keeping.unheard cell mine was));
-    copied = λ cell last there. state_then (λ s. live s cell ≡ true)
-        (job.keeping.copied cell last (ap (λ (o : PairState). last_copy o cell) (sym job.own_is) ∙ there));
-    rising = λ cell. subst (λ (o : PairState). IsRising nat_cmp (chain_in o.store.chains cell)) (sym job.own_is) (job.keeping.rising cell);
-    counts = subst (λ (o : PairState). 1 ≤ o.pairs.next) (sym job.own_is) (let one = good.counts k in let more = job.keeping.counts in omega arith);
-    filled = subst (λ (o : PairState). AreFilled o.store.chains) (sym job.own_is) job.keeping.filled;
-    marks = λ when. state_then (λ s. HaveMarks s server.own.pairs.pending server.own.store)
-        (subst (λ (o : PairState). HaveMarks (server_state setting w k) o.pairs.pending o.store) (sym job.own_is) job.keeping.marks);
-  }
+  job_sound : IsSoundOwn setting v k server
+  job_sound = sound_at setting.servers front server.log.applied done.own server.own job.applied job.own_is (record {
+    unheard = λ cell none. job.keeping.unheard cell none
+        (subst (λ (o : PairState). IsUnheard (server_state setting w k) o cell) (λ i. record (w.servers k).own { store = job.works.real i })
+        (good.unheard k cell none));
+    copied = job.keeping.copied;
+    rising = job.keeping.rising;
+    counts = (let one = good.counts k in let more = job.keeping.counts in omega arith);
+    filled = job.keeping.filled;
+    marks = λ when. job.keeping.marks;
+  })
 
   pub job_good : (own : Record) → IsThen setting (records ++ own ∷ []) v
       → ((letter : Letter) → In letter v.sent → In letter w.sent ⊎ IsTrue setting top next visits reached letter)

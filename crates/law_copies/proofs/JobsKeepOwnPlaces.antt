@@ -3,17 +3,17 @@ use Rattle.law_copies.proofs.Imports.{[], ◌<◌, ◌∙◌, ◌≡◌, ◌≢�
 use Rattle.law_copies.proofs.Imports.{None, Only, Option, PairState, Post, Some, Store, about, ap, blank_joins_in, chain_in, chosen_log, has_server, id_of}
 use Rattle.law_copies.proofs.Imports.{inl, inr, is_alone, is_flagged, is_in, is_some, needs_full_copy, other_between, other_of, primary_is_one, refl}
 use Rattle.law_copies.proofs.Imports.{same_numbers, same_or_apart, same_some, secondary_is_one, server_state, state_after, state_in, subst, sym, true, ℕ}
-use Rattle.law_copies.specs.BothSteps.{LacksFill}
+use Rattle.law_copies.specs.BothSteps.{IsLacking, SaysKnown}
 use Rattle.law_copies.specs.CopyProgress.{AreAlike, AreCopying, IsCovered, IsLeft, IsPage, IsTold, Is_marked_here, Is_to_be_copied, NotCopied, links_of}
 use Rattle.law_copies.specs.GoodCopies.{AreBeside, AreTwins, StaysLeft, pair_at}
-use Rattle.law_copies.specs.Pair.{Known, PairOk, pair_of}
+use Rattle.law_copies.specs.Pair.{Keeps, Known, PairOk, pair_of, Pair}
 use Rattle.law_copies.specs.LoneSteps.{HolderKeeps, IsLeftBy, OtherKeeps}
 use Rattle.law_copies.specs.Visits.{AliveIn, HasFilled, IsLinked, Visits, half, place_by, store_by}
 use Rattle.law_copies.proofs.PlacesByFronts.{has_filled_on}
 use Rattle.law_copies.proofs.AtJob.{AtJob, seat_at, step_at}
 use Rattle.law_copies.proofs.NewPlaces.{twins_lacking, twins_of, twins_recalled}
 use Rattle.law_copies.proofs.UnequalIsMarked.{AreRecalled}
-use Rattle.law_copies.proofs.FramesKeepFronts.{LeavesStore, alike_same, marks_back, store_same}
+use Rattle.law_copies.proofs.FramesKeepFronts.{LeavesStore, alike_same, both_same, left_on, marks_back, store_same}
 use Rattle.law_copies.proofs.ServedAtLaterFronts.{holder_is_one, unseen_beyond}
 use Rattle.law_copies.proofs.CellChangesKeepCopies.{known_later}
 use Rattle.law_copies.proofs.OtherIsNotHolder.{other_apart}
@@ -118,59 +118,47 @@ module _ (it : AtJob) where
     was_here = seated.here_visit (seat_at it) cell row is alive
 
     -- as one of the two servers
-    mine_was : (n : ℕ) → n ≡ k → beside n ≡ own
-    mine_was n e = ap beside e ∙ (λ i. half (was_here i) (store_was i))
-
     mine_now : (n : ℕ) → n ≡ k → done.own ≡ half (visits n place cell) (news n)
     mine_now n e = own_half ∙ (λ i. half (visits (sym e i) place cell) (news (sym e i)))
+
+    -- where the two are this pair
+    both_so : (old new : Pair) → pair_at olds good.visits place cell row.primary row.secondary ≡ old
+        → new ≡ pair_at news visits place cell row.primary row.secondary → AreTwins olds good.visits place cell row.primary row.secondary
+        → Keeps old new → (IsLacking old → IsLacking new) → SaysKnown done.posts cell new
+        → AreRecalled (half (visits row.primary place cell) (news row.primary)) cell → BothNow
+    both_so old new old_at new_at twins keeps lacks says recalled = record {
+      twins = twins_of news visits place cell row.primary row.secondary (subst PairOk new_at keeps.ok) recalled
+          (subst IsLacking new_at (lacks (subst IsLacking old_at (twins_lacking olds good.visits place cell row.primary row.secondary twins))));
+      known = λ said h. subst (λ p. Known p said) new_at (known_later old new keeps.grows said (subst (λ p. Known p said) old_at h));
+      says = λ post i of. subst (λ p. Known p post.body) new_at (says post i of);
+    }
 
     both_first : IsAliveLast → row.state ≡ Both → row.primary ≡ k → BothNow
     both_first lives both leads =
         let m = row.secondary in
         let ne : m ≢ k = λ f. apart (leads ∙ sym f) in
+        let has = primary_is_one row k leads in
+        let at = seated.first_at (seat_at it) cell row is alive leads in
         let keeps = job.keeping.lead cell row (beside m) is alive both leads
-        (seated.first_ok (seat_at it) cell row is alive lives both leads)
-        (seated.first_known (seat_at it) cell row is alive lives both leads) in
-        let old_at = seated.first_at (seat_at it) cell row is alive lives both leads in
-        let old_twins = seated.twins_here (seat_at it) cell row is alive lives both
-        (primary_is_one row k leads) in
-        let new_at : pair_of done.own (beside m) cell ≡ pair_at news visits place cell row.primary m =
-        (λ i. pair_of (own_half i) (beside_now m ne i) cell) ∙ (λ i. pair_at news visits place cell (sym leads i) m) in
-        record {
-          twins = twins_of news visits place cell row.primary m (subst PairOk new_at keeps.keeps.ok)
-              (subst (λ a. AreRecalled a cell) (mine_now row.primary leads) keeps.recalled)
-              (subst (λ b. LacksFill (half (visits row.primary place cell) (news row.primary)) b cell) (beside_now m ne)
-              (subst (λ a. LacksFill a (beside m) cell) (mine_now row.primary leads)
-              (keeps.lacks (subst (λ a. LacksFill a (beside m) cell) (mine_was row.primary leads)
-              (twins_lacking olds good.visits place cell row.primary m old_twins)))));
-          known = λ said h. subst (λ p. Known p said) new_at
-              (known_later (pair_of own (beside m) cell) (pair_of done.own (beside m) cell) keeps.keeps.grows said (subst (λ p. Known p said) old_at h));
-          says = λ post i of. subst (λ p. Known p post.body) new_at (keeps.says post i of);
-        }
+        (seated.pair_ok (seat_at it) cell row is alive lives both has at) (seated.pair_known (seat_at it) cell row is alive lives both has at) in
+        both_so (pair_of own (beside m) cell) (pair_of done.own (beside m) cell) at
+        ((λ i. pair_of (own_half i) (beside_now m ne i) cell) ∙ (λ i. pair_at news visits place cell (sym leads i) m))
+        (seated.twins_here (seat_at it) cell row is alive lives both has)
+        keeps.keeps keeps.lacks keeps.says (subst (λ a. AreRecalled a cell) (mine_now row.primary leads) keeps.recalled)
 
     both_second : IsAliveLast → row.state ≡ Both → row.secondary ≡ k → BothNow
     both_second lives both follows =
         let n = row.primary in
         let ne : n ≢ k = λ f. apart (f ∙ sym follows) in
+        let has = secondary_is_one row k follows in
+        let at = seated.second_at (seat_at it) cell row is alive follows in
         let keeps = job.keeping.second cell row (beside n) is alive both follows
-        (seated.second_ok (seat_at it) cell row is alive lives both follows)
-        (seated.second_known (seat_at it) cell row is alive lives both follows) in
-        let old_at = seated.second_at (seat_at it) cell row is alive lives both follows in
-        let new_at : pair_of (beside n) done.own cell ≡ pair_at news visits place cell n row.secondary =
-        (λ i. pair_of (beside_now n ne i) (own_half i) cell) ∙ (λ i. pair_at news visits place cell n (sym follows i)) in
-        let twins = seated.twins_here (seat_at it) cell row is alive lives both
-        (secondary_is_one row k follows) in
-        record {
-          twins = twins_of news visits place cell n row.secondary (subst PairOk new_at keeps.keeps.ok)
-              (subst (λ a. AreRecalled a cell) (beside_now n ne) (twins_recalled olds good.visits place cell n row.secondary twins))
-              (subst (λ a. LacksFill a (half (visits row.secondary place cell) (news row.secondary)) cell) (beside_now n ne)
-              (subst (λ b. LacksFill (beside n) b cell) (mine_now row.secondary follows)
-              (keeps.lacks (subst (λ b. LacksFill (beside n) b cell) (mine_was row.secondary follows)
-              (twins_lacking olds good.visits place cell n row.secondary twins)))));
-          known = λ said h. subst (λ p. Known p said) new_at
-              (known_later (pair_of (beside n) own cell) (pair_of (beside n) done.own cell) keeps.keeps.grows said (subst (λ p. Known p said) old_at h));
-          says = λ post i of. subst (λ p. Known p post.body) new_at (keeps.says post i of);
-        }
+        (seated.pair_ok (seat_at it) cell row is alive lives both has at) (seated.pair_known (seat_at it) cell row is alive lives both has at) in
+        let twins = seated.twins_here (seat_at it) cell row is alive lives both has in
+        both_so (pair_of (beside n) own cell) (pair_of (beside n) done.own cell) at
+        ((λ i. pair_of (beside_now n ne i) (own_half i) cell) ∙ (λ i. pair_at news visits place cell n (sym follows i))) twins
+        keeps.keeps keeps.lacks keeps.says
+        (subst (λ a. AreRecalled a cell) (beside_now n ne) (twins_recalled olds good.visits place cell n row.secondary twins))
 
     pub both_now : IsAliveLast → row.state ≡ Both → has_server k row ≡ true → BothNow
     both_now lives both has = elim (other_between row k has) [ inl p ↦ both_second lives both p.1 | inr p ↦ both_first lives both p.0 ]
@@ -202,6 +190,10 @@ module _ (it : AtJob) where
     is_now : visits k place cell ≡ Some done.own
     is_now = visit_now cell row is alive
 
+    filled_here : (h other : ℕ) (o : PairState) → visits h place cell ≡ Some o → HasFilled setting top visits front cell h other
+    filled_here h other o visit =
+        record { more = front; within = firm.servers k; row = row; linked = is; joins = refl; own = o; visited = visit }
+
     module _ (whole : Bool) (alone : row.state ≡ Only k whole) where
       abbrev o : ℕ
       o = other_of k row
@@ -217,10 +209,6 @@ module _ (it : AtJob) where
 
       pub keeps_holder : HolderKeeps (Handled w k) links row cell own vo done
       keeps_holder = job.keeping.holder cell row vo (seated.holding (seat_at it) cell row is alive whole alone)
-
-      -- the two visits then
-      then_holder : (P : Option PairState → Option PairState → Type 0) → P (Some done.own) vo → P (visits k place cell) (visits o place cell)
-      then_holder P h = subst (λ x. P x (visits o place cell)) (sym is_now) (subst (P (Some done.own)) (sym o_visit) h)
 
       holder_beside : IsAliveLast → good.reached cell ≤ place → AreBeside news visits place row cell k o
       holder_beside lives last =
@@ -246,24 +234,16 @@ module _ (it : AtJob) where
 
       holder_now : AloneNow k o
       holder_now = record {
-        copying = then_holder (λ x y. AreCopying links row cell x y) keeps_holder.copying;
-        told = λ said of h. then_holder (λ x y. IsTold row x y said) (keeps_holder.told said of (subst (λ x. IsTold row x vo said) was_here h));
-        says = λ post i of. then_holder (λ x y. IsTold row x y post.body) (keeps_holder.says post i of);
+        copying = both_same (λ x y. AreCopying links row cell x y) is_now o_visit keeps_holder.copying;
+        told = λ said of h. both_same (λ x y. IsTold row x y said) is_now o_visit (keeps_holder.told said of (subst (λ x. IsTold row x vo said) was_here h));
+        says = λ post i of. both_same (λ x y. IsTold row x y post.body) is_now o_visit (keeps_holder.says post i of);
         beside = holder_beside;
         stays = λ lives by e beyond. (
           (λ marked. subst (λ a. IsMarked a cell) (sym store_now) (subst (λ (x : PairState). IsMarked x.store cell) (same_some (sym e ∙ is_now)) marked)),
           (λ all copied. subst (λ a. IsToBeCopied row a cell) (sym store_now)
               (subst (λ (x : PairState). IsToBeCopied row x.store cell) (same_some (sym e ∙ is_now)) all)),
         );
-        unfilled = λ lives all. inr (record {
-          more = front;
-          within = firm.servers k;
-          row = row;
-          linked = is;
-          joins = refl;
-          own = done.own;
-          visited = is_now;
-        });
+        unfilled = λ lives all. inr (filled_here k o done.own is_now);
         page = λ lives after block page. subst (λ x. IsPage cell (news o) x after block) (sym o_visit)
             (subst (λ b. IsPage cell b vo after block) (sym (store_apart o o_apart)) page);
         pages = λ post i after block e. no_page post i after block e;
@@ -289,9 +269,6 @@ module _ (it : AtJob) where
       pub keeps_other : OtherKeeps links row cell vh own done
       keeps_other = job.keeping.other cell row vh
           (seated.following (seat_at it) cell row is alive h whole alone other has back)
-
-      then_other : (P : Option PairState → Option PairState → Type 0) → P vh (Some done.own) → P (visits h place cell) (visits k place cell)
-      then_other P x = subst (λ a. P a (visits k place cell)) (sym h_visit) (subst (P vh) (sym is_now) x)
 
       -- the block that the holder had left to copy is so still
       pub left_still : IsAliveLast → (m : IsLeftBy row vh cell) → IsMarked (olds h) cell
@@ -339,33 +316,22 @@ module _ (it : AtJob) where
       unfilled_now (inl empty) = elim keeps_other.changes [
         | inl chain ↦ inl (ap (λ (a : Store). chain_in a.chains cell) store_now ∙ chain
             ∙ ap (λ (a : Store). chain_in a.chains cell) (sym store_was) ∙ empty)
-        | inr m ↦ inr (record {
-          more = front;
-          within = firm.servers k;
-          row = row;
-          linked = is;
-          joins = refl;
-          own = m.by;
-          visited = h_visit ∙ m.met;
-        })
+        | inr m ↦ inr (filled_here h k m.by (h_visit ∙ m.met))
       ]
 
       other_now : AloneNow h k
       other_now = record {
-        copying = then_other (λ x y. AreCopying links row cell x y) keeps_other.copying;
-        told = λ said of t. then_other (λ x y. IsTold row x y said) (keeps_other.told said of (subst (λ y. IsTold row vh y said) was_here t));
-        says = λ post i of. then_other (λ x y. IsTold row x y post.body) (keeps_other.says post i of);
+        copying = both_same (λ x y. AreCopying links row cell x y) h_visit is_now keeps_other.copying;
+        told = λ said of t. both_same (λ x y. IsTold row x y said) h_visit is_now (keeps_other.told said of (subst (λ y. IsTold row vh y said) was_here t));
+        says = λ post i of. both_same (λ x y. IsTold row x y post.body) h_visit is_now (keeps_other.says post i of);
         beside = λ lives last. record {
           alike = subst (AreAlike row cell (news h) (news k)) (sym h_visit) (other_alike lives last);
           still = λ by e. ap (λ (x : PairState). chain_in x.store.chains cell) (same_some (sym e ∙ is_now))
               ∙ ap (λ (a : Store). chain_in a.chains cell) (sym store_now);
         };
-        stays = λ lives by e beyond.
-            let stays = (seated.alone_here (seat_at it) cell row is alive h whole alone).stays lives by
-            (sym h_visit ∙ e) (λ p lt. ap (λ n. good.visits n p cell) other ∙ nones k p cell (beyond p lt)) in (
-              (λ marked. subst (λ a. IsMarked a cell) (sym (store_apart h h_apart)) (stays.0 marked)),
-              (λ all copied. subst (λ a. IsToBeCopied row a cell) (sym (store_apart h h_apart)) (stays.1 all copied)),
-            );
+        stays = λ lives by e beyond. left_on row cell by (olds h) (news h) (leaves_apart h cell h_apart)
+            ((seated.alone_here (seat_at it) cell row is alive h whole alone).stays lives by (sym h_visit ∙ e)
+            (λ p lt. ap (λ n. good.visits n p cell) other ∙ nones k p cell (beyond p lt)));
         unfilled = λ lives all. unfilled_now
             (subst (λ n. (chain_in (olds n).chains cell ≡ []) ⊎ HasFilled setting top good.visits front cell h n) other
             ((seated.alone_here (seat_at it) cell row is alive h whole alone).unfilled lives all));

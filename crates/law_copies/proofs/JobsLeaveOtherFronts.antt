@@ -12,8 +12,8 @@ use Rattle.law_copies.proofs.AtJob.{AtJob, seat_at, step_at}
 use Rattle.law_copies.proofs.JoinsBetweenFronts.{held_same, to_fill}
 use Rattle.law_copies.proofs.FramesKeepFronts.{LeavesStore}
 use Rattle.law_copies.proofs.NewPlaces.{both_cover, cover_again}
-use Rattle.law_copies.proofs.ServedAtLaterFronts.{alone_last, alone_or_flagged, both_since, holder_is_one, holds_since, not_reached, not_serving, serves_its}
-use Rattle.law_copies.proofs.ServedAtLaterFronts.{unseen_beyond}
+use Rattle.law_copies.proofs.ServedAtLaterFronts.{IsSince, alone_last, alone_or_flagged, both_since, both_still, held_still, holder_is_one, holds_since}
+use Rattle.law_copies.proofs.ServedAtLaterFronts.{not_reached, not_serving, serves_its, unseen_beyond}
 use Rattle.law_copies.proofs.OtherIsNotHolder.{other_apart}
 use Rattle.law_copies.proofs.PlacesByFronts.{alive_on, at_most_or_above, fronts_meet, other_later, places_up, rows_later}
 use Rattle.law_copies.proofs.BlankJoinsRenewLinks.{filled_cover}
@@ -177,9 +177,8 @@ module _ (it : AtJob) where
             (subst (λ b. IsCovered row cell (news front k) b None) (ap (next beside_k) joins) covered)))
 
         -- where it came back with nothing since, it has nothing of the cell, and all is to be copied
-        fresh_covers : {B : Type 0} → ((more : List Command) (other : LinkRow) → IsPrefix front more → IsPrefix more top → IsLinked setting more cell other
-            → AliveIn (state_after setting.servers more) cell → (place_by setting more other ≡ place) ⊎ ((whole : Bool) × (other.state ≡ Only k whole)) ⊎ B)
-            → (whole : Bool) → row.state ≡ Only k whole → blank_joins_in setting front beside_k < blank_joins_in setting f beside_k
+        fresh_covers : {B : Type 0} → IsSince setting records w stores firm good k job.works.runs job.works.seat cell mine is B → (whole : Bool)
+            → row.state ≡ Only k whole → blank_joins_in setting front beside_k < blank_joins_in setting f beside_k
             → IsLeftAt f (place_by setting f row) cell row ⊎ B
         fresh_covers since whole so lt =
             elim (to_fill setting records w stores firm good started k cell mine is has since f row whole on prefix end lives so lt) [
@@ -199,22 +198,10 @@ module _ (it : AtJob) where
                     let twins = (worked.both_now it cell mine is alive lives both has).twins in
                     same_covers alone.0 alone.1 (let up = joins_grow setting.servers front f beside_k on in omega arith)
                     (both_cover (news front) visits place mine row cell twins k has))
-                | inr lt ↦ without (fresh_covers since alone.0 alone.1 lt)
+                | inr lt ↦ elim (fresh_covers (both_still setting records w stores firm good k job.works.runs job.works.seat cell mine is both has)
+                    alone.0 alone.1 lt) [ inl left ↦ left | inr never ↦ absurd never ]
               ]
             ]
-          where
-            since : (more : List Command) (other : LinkRow) → IsPrefix front more → IsPrefix more top → IsLinked setting more cell other
-                → AliveIn (state_after setting.servers more) cell → (place_by setting more other ≡ place) ⊎ ((whole : Bool) × (other.state ≡ Only k whole)) ⊎ ⊥
-            since more other one two linked alive_more =
-                elim (both_since setting records w stores firm good k job.works.runs job.works.seat cell mine is both has more
-                other one two linked alive_more) [
-                  | inl same ↦ inl same
-                  | inr alone ↦ inr (inl alone)
-                ]
-
-            without : {A : Type 0} → A ⊎ ⊥ → A
-            without (inl a) = a
-            without (inr never) = absurd never
 
         -- it holds it alone
         holder_leaves : (whole : Bool) → mine.state ≡ Only k whole → IsLeftAt f (place_by setting f row) cell row
@@ -231,23 +218,14 @@ module _ (it : AtJob) where
                       (λ all. ap needs_full_copy so.1 ∙ so.2 (sym (ap needs_full_copy alone) ∙ all)) beside.alike.covered))
                   | inr flagged ↦ Same_store (left_so f cell now (flagged_leaves whole alone flagged))
                 ]
-                | inr lt ↦ elim (fresh_covers since so.0 so.1 lt) [
-                  | inl left ↦ left
-                  | inr flagged ↦ Same_store (left_so f cell now (flagged_leaves whole alone flagged))
-                ]
+                | inr lt ↦ elim (fresh_covers
+                    (held_still setting records w stores firm good k job.works.runs job.works.seat cell mine is started whole alone) so.0 so.1 lt) [
+                      | inl left ↦ left
+                      | inr flagged ↦ Same_store (left_so f cell now (flagged_leaves whole alone flagged))
+                    ]
               ]
               | inr flagged ↦ Same_store (left_so f cell now (flagged_leaves whole alone flagged))
             ]
-          where
-            since : (more : List Command) (other : LinkRow) → IsPrefix front more → IsPrefix more top → IsLinked setting more cell other
-                → AliveIn (state_after setting.servers more) cell → (place_by setting more other ≡ place) ⊎
-                ((kept : Bool) × (other.state ≡ Only k kept)) ⊎ (is_flagged (w.servers k).own (id_of mine) ≡ true)
-            since more other one two linked alive_more =
-                elim (holds_since setting records w stores firm good k job.works.runs job.works.seat cell mine is started whole alone more
-                other one two linked alive_more) [
-                  | inl still ↦ inr (inl (still.0, still.1))
-                  | inr flagged ↦ inr (inr flagged)
-                ]
 
         -- the other server holds it
         other_left : (h : ℕ) (whole : Bool) → mine.state ≡ Only h whole → h ≢ k → IsLeftAt f (place_by setting f row) cell row
@@ -264,7 +242,7 @@ module _ (it : AtJob) where
                       | inr c ↦ worked.not_caught it cell mine is alive h whole alone
                           (other h whole alone ne) has m c.0 c.1 c.2
                     ]
-                | inr (inl lost) ↦ lost_at m lost
+                | inr (inl lost) ↦ Gone lost
                 | inr (inr c) ↦ worked.not_caught it cell mine is alive h whole alone
                     (other h whole alone ne) has m c.0 c.1 c.2
               ]
@@ -293,10 +271,6 @@ module _ (it : AtJob) where
                     nothing_copied last_whole so,
                   )
                 ]
-
-            -- nothing is said of a link that is Lost
-            lost_at : IsLeftBy mine (good.visits h place cell) cell → row.state ≡ Lost → IsLeftAt f (place_by setting f row) cell row
-            lost_at m lost = Gone lost
 
       pub linked_left : IsLeftAt f (place_by setting f row) cell row
       linked_left = elim (fronts_meet f front top prefix (firm.servers k)) [

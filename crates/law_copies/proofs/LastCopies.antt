@@ -1,10 +1,29 @@
 -- The last copy of a cell at the other server, and what letters tell of it: what was known stays known while the copy goes on, and once a
 -- newer one has come.
-use Rattle.law_copies.proofs.Imports.{[], ◌<◌, ◌∙◌, ◌≡◌, ◌≤◌, ◌⊎◌, Cell, LastCopy, LinkRow, Option, PairState, Some, Stored, ap, arith, epochs_beyond, inl}
+use Rattle.law_copies.proofs.Imports.{[], ◌<◌, ◌∙◌, ◌≡◌, ◌≤◌, Cell, LastCopy, LinkRow, List, Option, PairState, Some, Stored, ap, arith, epochs_beyond, inl}
 use Rattle.law_copies.proofs.Imports.{inr, last_copy, refl, same_some, slice_get, subst, sym, ℕ}
 use Rattle.law_copies.specs.CopyProgress.{HasPut, HasSent, HasTrimmed, IsOfLast, IsPast, IsTold}
 use Rattle.law_copies.specs.LoneSteps.{StaysTold}
 use Rattle.petal_msg.specs.declared.body.Body.TheVariants as body
+
+-- what is known of each kind of letter stays known
+pub told_by : (row : LinkRow) (cell : Cell) (holder other holder' other' : Option PairState)
+    → ((number : ℕ) (epochs : List ℕ) → IsTold row holder other (body.Trim number cell epochs) → IsTold row holder' other' (body.Trim number cell epochs))
+    → ((number : ℕ) → HasTrimmed other cell number → HasTrimmed other' cell number)
+    → ((number index : ℕ) (entry : ℕ × Stored) → HasSent row holder other cell number index entry → HasSent row holder' other' cell number index entry)
+    → ((number index : ℕ) → HasPut other cell number index → HasPut other' cell number index) → StaysTold row cell holder other holder' other'
+told_by row cell holder other holder' other' trim trimmed sent put (body.Trim number c epochs) e =
+    subst (λ (q : Cell). IsTold row holder other (body.Trim number q epochs) → IsTold row holder' other' (body.Trim number q epochs)) (sym (same_some e))
+    (trim number epochs)
+told_by row cell holder other holder' other' trim trimmed sent put (body.Trimmed number c) e =
+    subst (λ (q : Cell). HasTrimmed other q number → HasTrimmed other' q number) (sym (same_some e)) (trimmed number)
+told_by row cell holder other holder' other' trim trimmed sent put (body.Sync number key version index bytes) e =
+    let entry : ℕ × Stored = (key.epoch, record { version = version; bytes = bytes }) in
+    subst (λ (q : Cell). HasSent row holder other q number index entry → HasSent row holder' other' q number index entry) (sym (same_some e))
+    (sent number index entry)
+told_by row cell holder other holder' other' trim trimmed sent put (body.Synced number c index) e =
+    subst (λ (q : Cell). HasPut other q number index → HasPut other' q number index) (sym (same_some e)) (put number index)
+told_by row cell holder other holder' other' trim trimmed sent put _ e = λ told. tt
 
 -- ### Letters, by the last copy
 
@@ -54,58 +73,55 @@ module _ (own : PairState) (cell : Cell) (last : LastCopy) (is : last_copy own c
 -- ### Onward
 
 -- the last copy goes on
-pub record GoesOn (own to : PairState) (cell : Cell) (last : LastCopy) : Type 0 where
-  pub now : LastCopy
-  pub is : last_copy to cell ≡ Some now
-  pub op_is : now.op ≡ last.op
+pub record IsSameCopy (own to : PairState) (cell : Cell) (last now : LastCopy) : Type 0 where
   pub epochs_are : now.epochs ≡ last.epochs
   pub onward : last.index ≤ now.index
   pub trimmed : epochs_beyond own cell last.epochs ≡ [] → epochs_beyond to cell now.epochs ≡ []
 
--- a newer one has come
-pub record HasNewer (to : PairState) (cell : Cell) (last : LastCopy) : Type 0 where
+-- or a newer one has come
+pub record GoesOn (own to : PairState) (cell : Cell) (last : LastCopy) : Type 0 where
   pub now : LastCopy
   pub is : last_copy to cell ≡ Some now
-  pub newer : last.op < now.op
+  pub up : last.op ≤ now.op
+  pub same : now.op ≡ last.op → IsSameCopy own to cell last now
 
 abbrev pub GoesOnward : PairState → PairState → Cell → Type 0
-GoesOnward own to cell = (last : LastCopy) → last_copy own cell ≡ Some last → GoesOn own to cell last ⊎ HasNewer to cell last
+GoesOnward own to cell = (last : LastCopy) → last_copy own cell ≡ Some last → GoesOn own to cell last
 
 module _ (own to : PairState) (cell : Cell) (onward : GoesOnward own to cell) where
   past_onward : (number : ℕ) → IsPast (Some own) cell number → IsPast (Some to) cell number
   past_onward number p =
       let last = past_last own cell number p in
       let le = past_of own cell last.0 last.1 number p in
-      elim (onward last.0 last.1) [
-        | inl g ↦ (let e = g.op_is in to_past to cell g.now g.is number (omega arith))
-        | inr n ↦ (let lt = n.newer in to_past to cell n.now n.is number (omega arith))
-      ]
+      let g = onward last.0 last.1 in
+      let up = g.up in
+      to_past to cell g.now g.is number (omega arith)
 
   trimmed_onward : (number : ℕ) → HasTrimmed (Some own) cell number → HasTrimmed (Some to) cell number
   trimmed_onward number h =
       let last = past_last own cell number h.past in
       let le = past_of own cell last.0 last.1 number h.past in
-      elim (onward last.0 last.1) [
-        | inl g ↦ (let e = g.op_is in to_trimmed to cell g.now g.is number (omega arith)
-            (λ same. g.trimmed (trimmed_of own cell last.0 last.1 number h (same ∙ e))))
-        | inr n ↦ (let lt = n.newer in to_trimmed to cell n.now n.is number (omega arith) (λ same. absurd (omega arith)))
-      ]
+      let g = onward last.0 last.1 in
+      let up = g.up in
+      to_trimmed to cell g.now g.is number (omega arith)
+      (λ same. (g.same (omega arith)).trimmed (trimmed_of own cell last.0 last.1 number h (omega arith)))
 
   put_onward : (number index : ℕ) → HasPut (Some own) cell number index → HasPut (Some to) cell number index
   put_onward number index h =
       let last = past_last own cell number h.past in
       let le = past_of own cell last.0 last.1 number h.past in
-      elim (onward last.0 last.1) [
-        | inl g ↦ (let e = g.op_is in let more = g.onward in to_put to cell g.now g.is number index (omega arith)
-            (λ same. let lt = put_of own cell last.0 last.1 number index h (same ∙ e) in omega arith))
-        | inr n ↦ (let lt = n.newer in to_put to cell n.now n.is number index (omega arith) (λ same. absurd (omega arith)))
-      ]
+      let g = onward last.0 last.1 in
+      let up = g.up in
+      to_put to cell g.now g.is number index (omega arith)
+      (λ same.
+      let more = (g.same (omega arith)).onward in
+      let lt = put_of own cell last.0 last.1 number index h (omega arith) in
+      omega arith)
 
   -- an entry is of the copy as before
-  same_entry : (row : LinkRow) (holder : Option PairState) (epoch index : ℕ) (last : LastCopy) (g : GoesOn own to cell last)
-      → IsOfLast row holder cell last epoch index
-      → IsOfLast row holder cell g.now epoch index
-  same_entry row holder epoch index last g o = record {
+  same_entry : (row : LinkRow) (holder : Option PairState) (epoch index : ℕ) (last now : LastCopy) → IsSameCopy own to cell last now
+      → IsOfLast row holder cell last epoch index → IsOfLast row holder cell now epoch index
+  same_entry row holder epoch index last now g o = record {
     epoch_is = ap (λ epochs. slice_get epochs index) g.epochs_are ∙ o.epoch_is;
     near = (let near = o.near in let more = g.onward in omega arith);
     own = o.own;
@@ -119,37 +135,18 @@ module _ (own to : PairState) (cell : Cell) (onward : GoesOnward own to cell) wh
   sent_onward row holder number index entry h =
       let last = past_last own cell number h.trimmed.past in
       let le = past_of own cell last.0 last.1 number h.trimmed.past in
-      elim (onward last.0 last.1) [
-        | inl g ↦ (let e = g.op_is in record {
-          trimmed = to_trimmed to cell g.now g.is number (omega arith)
-              (λ same. g.trimmed (trimmed_of own cell last.0 last.1 number h.trimmed (same ∙ e)));
-          of_last = λ same. same_entry row holder entry.0 index last.0 g
-              (of_last own cell last.0 last.1 row holder number index entry h (same ∙ e));
-          sent = h.sent;
-        })
-        | inr n ↦ (let lt = n.newer in record {
-          trimmed = to_trimmed to cell n.now n.is number (omega arith) (λ same. absurd (omega arith));
-          of_last = λ same. absurd (omega arith);
-          sent = h.sent;
-        })
-      ]
+      let g = onward last.0 last.1 in
+      let up = g.up in
+      record {
+        trimmed = to_trimmed to cell g.now g.is number (omega arith)
+            (λ same. (g.same (omega arith)).trimmed (trimmed_of own cell last.0 last.1 number h.trimmed (omega arith)));
+        of_last = λ same. same_entry row holder entry.0 index last.0 g.now (g.same (omega arith))
+            (of_last own cell last.0 last.1 row holder number index entry h (omega arith));
+        sent = h.sent;
+      }
 
   -- what was known of letters of the cell is known later
   pub stays_told : (row : LinkRow) (holder : Option PairState) → StaysTold row cell holder (Some own) holder (Some to)
-  stays_told row holder (body.Trim number c epochs) e =
-      subst (λ (q : Cell). IsTold row holder (Some own) (body.Trim number q epochs) → IsTold row holder (Some to) (body.Trim number q epochs))
-      (sym (same_some e))
-      (λ told. elim told [ inl past ↦ inl (past_onward number past) | inr asked ↦ inr asked ])
-  stays_told row holder (body.Trimmed number c) e =
-      subst (λ (q : Cell). IsTold row holder (Some own) (body.Trimmed number q) → IsTold row holder (Some to) (body.Trimmed number q))
-      (sym (same_some e))
-      (trimmed_onward number)
-  stays_told row holder (body.Sync number key version index bytes) e =
-      subst (λ (q : Cell). HasSent row holder (Some own) q number index (key.epoch, record { version = version; bytes = bytes })
-      → HasSent row holder (Some to) q number index (key.epoch, record { version = version; bytes = bytes })) (sym (same_some e))
-      (sent_onward row holder number index (key.epoch, record { version = version; bytes = bytes }))
-  stays_told row holder (body.Synced number c index) e =
-      subst (λ (q : Cell). IsTold row holder (Some own) (body.Synced number q index) → IsTold row holder (Some to) (body.Synced number q index))
-      (sym (same_some e))
-      (put_onward number index)
-  stays_told row holder _ e = λ told. tt
+  stays_told row holder = told_by row cell holder (Some own) holder (Some to)
+      (λ number epochs told. elim told [ inl past ↦ inl (past_onward number past) | inr asked ↦ inr asked ])
+      trimmed_onward (sent_onward row holder) put_onward

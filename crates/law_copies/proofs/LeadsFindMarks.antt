@@ -1,23 +1,25 @@
--- A lead puts only on a block that is marked on its device, and its operations find the marks that their stages tell of.
-use Rattle.law_copies.proofs.Imports.{◌+◌, ◌<◌, ◌||◌, ◌∙◌, ◌≡◌, ◌≢◌, ◌⊎◌, Begins_copy, Body, Busy, By_holder, By_lead, By_other, By_second, Cell, Closes}
-use Rattle.law_copies.proofs.Imports.{Closes_alone, Copying, Did, DidHolder, DidLead, Ending, Finds_it_full, Gives_up, Goes_on_copying, Goes_on_retired}
-use Rattle.law_copies.proofs.Imports.{Idle, IsIdle, IsMarked, JobContext, JobResult, MarkKind, Marks, Marks_alone, None, Opens, Opens_alone, Opens_fill}
-use Rattle.law_copies.proofs.Imports.{Opens_fill_alone, PairState, Pending, Puts, Puts_alone, Some, Stage, Stale, Store, Taken, Turns_page, Unmarks}
-use Rattle.law_copies.proofs.Imports.{Unmarks_alone, among_least, ap, at, cell_at, cell_cmp, cell_gone, cell_same, chain_in, copying_on, did_ready, ends}
-use Rattle.law_copies.proofs.Imports.{false, fill_operation, gives_back, holder_cell, inl, inr, is_clients, is_some, is_under_way, lead_cell, leads_link}
-use Rattle.law_copies.proofs.Imports.{led_by_link, live, live_stage, mark_kept, mark_there, marked_blocks, marks, nat_cmp, none_some, not, not_true}
-use Rattle.law_copies.proofs.Imports.{of_ending, of_holder, operation, pending_on, puts, refl, same_some, some_or_none}
-use Rattle.law_copies.proofs.Imports.{stage_at, stale_kept, subst, sym, taking, true, true_false, unmarks, version_of, with_mark_at, with_mark_on}
-use Rattle.law_copies.proofs.Imports.{with_opened, with_paired, with_pending, with_reserved, without_pending, worked}
+-- A lead puts only on a block that is marked on its device, and its operations find the marks that their stages tell of; what else its jobs leave of
+-- the cell on which they work.
+use Rattle.law_copies.proofs.Imports.{[], ◌+◌, ◌<◌, ◌||◌, ◌∙◌, ◌≡◌, ◌≢◌, ◌⊎◌, As_it_is, As_told, Begins_copy, Body, Busy, By_holder, By_lead, By_other}
+use Rattle.law_copies.proofs.Imports.{By_second, Cell, Closes, Closes_alone, Copying, Did, DidHolder, DidLead, Ending, Finds_it_full, For_a_fill, For_a_write}
+use Rattle.law_copies.proofs.Imports.{Gives_up, Goes_on_copying, Goes_on_retired, Idle, IsIdle, IsMarked, IsOpening, JobContext, JobResult, MarkKind, Marks}
+use Rattle.law_copies.proofs.Imports.{Marks_alone, None, Opens, Opens_alone, Opens_fill, Opens_fill_alone, PairState, Pending, Puts, Puts_alone, Some, Stage}
+use Rattle.law_copies.proofs.Imports.{Stale, Store, Taken, Turns_page, Unmarks, Unmarks_alone, among_least, ap, at, cell_at, cell_cmp, cell_gone, cell_of}
+use Rattle.law_copies.proofs.Imports.{cell_same, chain_in, chain_put, copying_on, did_ready, ends, false, fill_operation, gives_back, has_proposed}
+use Rattle.law_copies.proofs.Imports.{holder_cell, in_both, inl, inr, is_some, is_under_way, lead_cell, leads_link, led_by_link, live, live_stage, mark_kept}
+use Rattle.law_copies.proofs.Imports.{mark_there, marked_blocks, marks, nat_cmp, none_some, not, not_true, of_ending, of_holder, operation, pending_on, puts}
+use Rattle.law_copies.proofs.Imports.{refl, same_some, some_or_none, stage_at, stale_kept, subst, sym, taking, true, true_false, unmarks, version_of}
+use Rattle.law_copies.proofs.Imports.{with_mark_at, with_mark_on, with_opened, with_paired, with_pending, with_reserved, without_pending, worked}
 use Rattle.law_copies.specs.Pair.{HasMarks, HaveMarks}
 use Rattle.law_copies.specs.LoneSteps.{IsFit}
 use Rattle.law_copies.proofs.ChainsRise.{in_left}
+use Rattle.law_copies.proofs.EmptyCellsHaveNoChain.{no_entries}
+use Rattle.law_copies.proofs.HolderPace.{still_marked}
 use Rattle.law_copies.proofs.LeftToCopy.{next_is}
 use Rattle.law_copies.proofs.OtherIsNotHolder.{held_not_leading}
-use Rattle.law_copies.proofs.RolesOfWorkers.{IsSo, RoleIn, holder_chains, leads_not_second, role, so_or_apart, was_copying}
+use Rattle.law_copies.proofs.RolesOfWorkers.{IsSo, RoleIn, holder_chains, leads_not_second, role, so_at, was_copying, worked_or_apart}
 use Rattle.law_copies.proofs.WorkedCell.{marks_apart, rest_apart}
 use Rattle.petal_msg.specs.declared.operation.Ending.TheVariants as ending
-use Rattle.petal_msg.specs.declared.operation.OpKind.TheVariants as kind
 
 -- operations find their marks, and a copy of a live cell whose link the server leads changed only where the block was marked
 pub record KeepsMarks (here : JobContext) (old new : PairState) : Type 0 where
@@ -25,29 +27,181 @@ pub record KeepsMarks (here : JobContext) (old new : PairState) : Type 0 where
   pub first : (cell : Cell) → live here.state cell ≡ true → leads_link here.state here.me cell ≡ true
       → chain_in new.store.chains cell ≢ chain_in old.store.chains cell → IsMarked old.store cell
 
+module _ (heard : Body → Type 0) (here : JobContext) (own : PairState) (fit : IsFit heard here own) where
+  -- an operation was pending on the cell, or no copy of it was under way and no Caught wanted
+  abbrev Before : Cell → Type 0
+  Before cell = ((op : Pending) × (pending_on own cell ≡ Some op)) ⊎ ((copying_on own cell ≡ None) × (has_proposed here.state own cell ≡ false))
+
+  -- what a lead's job leaves of the cell on which it works: entries change only under a mark, some entry stays, and some mark where the cell isn't in
+  -- Both
+  pub record LeadLeaves (new : PairState) (cell : Cell) : Type 0 where
+    pub marks : (op : Pending) → pending_on new cell ≡ Some op → HasMarks op new.store cell
+    pub chain : (chain_in new.store.chains cell ≡ chain_in own.store.chains cell) ⊎ IsMarked own.store cell
+    pub kept : in_both here.state cell ≡ false → IsMarked own.store cell → IsMarked new.store cell
+    pub stored : chain_in own.store.chains cell ≢ [] → chain_in new.store.chains cell ≢ []
+    pub before : Before cell
+
+  -- where the cell is live
+  abbrev pub LedHere : PairState → Cell → Type 0
+  LedHere new cell = live here.state cell ≡ true → LeadLeaves new cell
+
+  -- the entries stay
+  stays : (new : PairState) (cell : Cell) → ((op : Pending) → pending_on new cell ≡ Some op → HasMarks op new.store cell)
+      → chain_in new.store.chains cell ≡ chain_in own.store.chains cell
+      → (in_both here.state cell ≡ false → IsMarked own.store cell → IsMarked new.store cell) → Before cell → LeadLeaves new cell
+  stays new cell marks same kept before =
+      record { marks = marks; chain = inl same; kept = kept; stored = λ some none. some (sym same ∙ none); before = before }
+
+  -- one operation is pending
+  one : (new : PairState) (cell : Cell) (op : Pending) → pending_on new cell ≡ Some op → HasMarks op new.store cell
+      → (other : Pending) → pending_on new cell ≡ Some other → HasMarks other new.store cell
+  one new cell op there has other is = subst (λ (o : Pending). HasMarks o new.store cell) (same_some (sym there ∙ is)) has
+
+  -- ### An operation and its marks
+
+  -- as it is opened or taken up it finds them
+  record Finds (now : PairState) (op : Pending) : Type 0 where
+    has : HasMarks op now.store op.cell
+    same : chain_in now.store.chains op.cell ≡ chain_in own.store.chains op.cell
+    kept : IsMarked own.store op.cell → IsMarked now.store op.cell
+    before : Before op.cell
+
+  taken_finds : (now : PairState) (op : Pending) → Taken own now op → live here.state op.cell ≡ true → Finds now op
+  taken_finds now op taken on =
+      let t = taking own now op taken in
+      let old = fit.marks op.cell t.old on t.was in
+      let has : HasMarks op own.store op.cell = subst (λ (o : Pending). HasMarks o own.store op.cell) (sym t.is)
+      (record { busy = old.busy; stale = old.stale; lacks = old.lacks }) in
+      record {
+        has = subst (λ (s : Store). HasMarks op s op.cell) (sym t.store) has;
+        same = ap (λ (s : Store). chain_in s.chains op.cell) t.store;
+        kept = subst (λ (s : Store). IsMarked s op.cell) (sym t.store);
+        before = inl (t.old, t.was);
+      }
+
+  opened_finds : (op : Pending) → IsOpening heard here own op → Finds (with_opened own op) op
+  opened_finds _ (For_a_write want new) = record {
+    has = record { busy = λ e. true_false e refl; stale = λ e. true_false e refl; lacks = λ fill unput. true_false refl fill };
+    same = refl;
+    kept = λ marked. marked;
+    before = inr (new.uncopied, new.unheld);
+  }
+  opened_finds _ (For_a_fill moving new) = record {
+    has = record { busy = λ e. true_false e refl; stale = λ e. true_false e refl; lacks = λ fill unput. new.lacks };
+    same = refl;
+    kept = λ marked. marked;
+    before = inr (new.uncopied, new.unheld);
+  }
+
+  opens : (op : Pending) → IsOpening heard here own op → LeadLeaves (with_opened own op) op.cell
+  opens op opening =
+      let f = opened_finds op opening in
+      stays (with_opened own op) op.cell (one (with_opened own op) op.cell op (cell_same own.pairs.pending op.cell op) f.has) refl (λ alone. f.kept) f.before
+
+  flagged : (store : Store) (op : Pending) (which : MarkKind) → HasMarks op store op.cell
+      → HasMarks (with_mark_at op which true) (with_mark_on store which op.cell) op.cell
+  flagged store op Busy has = record {
+    busy = λ e. mark_there store Busy op.cell;
+    stale = λ e. mark_kept store Busy Stale op.cell op.cell (has.stale e);
+    lacks = has.lacks;
+  }
+  flagged store op Stale has = record {
+    busy = λ e. mark_kept store Stale Busy op.cell op.cell (has.busy e);
+    stale = λ e. mark_there store Stale op.cell;
+    lacks = has.lacks;
+  }
+
+  -- the block is marked, and the operation's stage says so
+  marking : (now : PairState) (op : Pending) → Finds now op → (which : MarkKind) → LeadLeaves (marks now op which).own op.cell
+  marking now op f which =
+      let there = cell_same now.pairs.pending op.cell (with_mark_at op which true) in
+      stays (marks now op which).own op.cell
+      (one (marks now op which).own op.cell (with_mark_at op which true) there (flagged now.store op which f.has)) f.same
+      (λ alone marked. still_marked now.store which op.cell op.cell (f.kept marked)) f.before
+
+  -- the busy mark goes, and the operation's stage says so
+  unmarking : (now : PairState) (op : Pending) → Finds now op → (in_both here.state op.cell ≡ false → op.stage.stale ≡ true)
+      → LeadLeaves (unmarks now op Busy).own op.cell
+  unmarking now op f stale =
+      let has = f.has in
+      let there = cell_same now.pairs.pending op.cell (with_mark_at op Busy false) in
+      stays (unmarks now op Busy).own op.cell (one (unmarks now op Busy).own op.cell (with_mark_at op Busy false) there
+      (record { busy = λ e. true_false e refl; stale = λ e. stale_kept now.store op.cell op.cell ∙ has.stale e; lacks = has.lacks })) f.same
+      (λ alone marked. inr (stale_kept now.store op.cell op.cell ∙ has.stale (stale alone))) f.before
+
+  -- the entry is put on a marked block
+  putting : (now : PairState) (op : Pending) → Taken own now op → live here.state op.cell ≡ true
+      → (op.stage.busy ≡ true) ⊎ (op.stage.stale ≡ true) → LeadLeaves (puts now op).own op.cell
+  putting now op taken on flags =
+      let t = taking own now op taken in
+      let f = taken_finds now op taken on in
+      let has = f.has in
+      let version = version_of (chain_in now.store.chains op.cell) + 1 in
+      let put : Pending = record op { version = version; stage = record op.stage { put = true } } in
+      let keyed : cell_of op.key ≡ op.cell = ap (λ (o : Pending). cell_of o.key) t.is ∙ (fit.ready.staged op.cell t.old t.was).keyed in
+      let marked : IsMarked now.store op.cell = elim flags [ inl busy ↦ inl (has.busy busy) | inr stale ↦ inr (has.stale stale) ] in
+      record {
+        marks = one (puts now op).own op.cell put (cell_same now.pairs.pending op.cell put)
+            (record { busy = has.busy; stale = has.stale; lacks = λ fill unput. true_false refl unput });
+        chain = inr (subst (λ (s : Store). IsMarked s op.cell) t.store marked);
+        kept = λ alone. f.kept;
+        stored = λ some none. no_entries (chain_in now.store.chains (cell_of op.key)) op.key.epoch (record { version = version; bytes = op.bytes })
+            (sym (chain_put now.store.chains (cell_of op.key) _) ∙ ap (chain_in (puts now op).own.store.chains) keyed ∙ none);
+        before = f.before;
+      }
+
+  -- it ends
+  ending_at : (base : PairState) (op : Pending) (how : Ending) → pending_on base op.cell ≡ None
+      → chain_in base.store.chains op.cell ≡ chain_in own.store.chains op.cell → (IsMarked own.store op.cell → IsMarked base.store op.cell)
+      → Before op.cell → LeadLeaves (ends here base op op.kind how).own op.cell
+  ending_at base op how none same kept before =
+      let f = of_ending here base op op.kind how in
+      stays (ends here base op op.kind how).own op.cell (λ other is. none_some (ap (λ t. at cell_cmp t op.cell) f.pending ∙ none) is)
+      (ap (λ (s : Store). chain_in s.chains op.cell) f.store ∙ same)
+      (λ alone marked. subst (λ (s : Store). IsMarked s op.cell) (sym f.store) (kept marked)) before
+
+  closing : (now : PairState) (op : Pending) → Taken own now op → live here.state op.cell ≡ true
+      → LeadLeaves (ends here (without_pending now op.cell) op op.kind ending.Written).own op.cell
+  closing now op taken on =
+      let f = taken_finds now op taken on in
+      ending_at (without_pending now op.cell) op ending.Written (cell_gone now.pairs.pending op.cell) f.same f.kept f.before
+
+  pub lead_marked : (done : JobResult) (d : DidLead heard here own done) → IsSo (LedHere done.own) (lead_cell heard here own done d)
+  lead_marked _ (Gives_up op h is reserved put) = λ on.
+      ending_at (gives_back (without_pending own op.cell)) op ending.Full (cell_gone own.pairs.pending op.cell) refl (λ marked. marked) (inl (op, is))
+  lead_marked _ (Opens want new both) = λ on. opens (operation here own.pairs.next want) (For_a_write want new)
+  lead_marked _ (Marks op h is both stage) =
+      let told = with_reserved op in
+      let now = with_pending own told in
+      λ on. marking now told (taken_finds now told (As_told op true op.stage.paired is) on) Busy
+  lead_marked _ (Puts op is both stage) = λ on. putting own op (As_it_is op is) on (inl (ap (λ (s : Stage). s.busy) stage))
+  lead_marked _ (Unmarks op h is both stage) =
+      let told = with_paired op in
+      let now = with_pending own told in
+      λ on. unmarking now told (taken_finds now told (As_told op op.stage.reserved true is) on) (λ alone. true_false both alone)
+  lead_marked _ (Closes op is both stage) = λ on. closing own op (As_it_is op is) on
+  lead_marked _ (Opens_alone want new alone) =
+      let op = operation here own.pairs.next want in λ on. marking (with_opened own op) op (opened_finds op (For_a_write want new)) Stale
+  lead_marked _ (Marks_alone now op taken alone fresh) = λ on. marking now op (taken_finds now op taken on) Stale
+  lead_marked _ (Puts_alone now op taken alone stale put) = λ on. putting now op taken on (inr stale)
+  lead_marked _ (Unmarks_alone now op taken alone stale put busy) = λ on. unmarking now op (taken_finds now op taken on) (λ alone. stale)
+  lead_marked _ (Closes_alone now op taken alone stale put free) = λ on. closing now op taken on
+  lead_marked _ (Opens_fill moving new room both) = λ on. opens (fill_operation here own.pairs.next moving) (For_a_fill moving new)
+  lead_marked _ (Opens_fill_alone moving new room alone) =
+      let op = fill_operation here own.pairs.next moving in λ on. marking (with_opened own op) op (opened_finds op (For_a_fill moving new)) Stale
+  lead_marked _ (Goes_on_retired now op taken off) = λ on. true_false on off
+  lead_marked _ _ = tt
+
 module _ (heard : Body → Type 0) (here : JobContext) (own : PairState) (fit : IsFit heard here own)
     (idle : (cell : Cell) (copy : Copying) → copying_on own cell ≡ Some copy → pending_on own cell ≡ None) where
   -- so it is at one of these cells
   record KeepsAt (new : PairState) (cell : Cell) : Type 0 where
     marks : (op : Pending) → pending_on new cell ≡ Some op → HasMarks op new.store cell
-    first : chain_in new.store.chains cell ≢ chain_in own.store.chains cell → IsMarked own.store cell
+    chain : (chain_in new.store.chains cell ≡ chain_in own.store.chains cell) ⊎ IsMarked own.store cell
 
   -- where the cell is live
   abbrev Here : PairState → Cell → Type 0
   Here new cell = live here.state cell ≡ true → KeepsAt new cell
-
-  -- one operation is pending there
-  one_at : (new : PairState) (cell : Cell) (op : Pending) → pending_on new cell ≡ Some op → HasMarks op new.store cell
-      → (chain_in new.store.chains cell ≡ chain_in own.store.chains cell) ⊎ IsMarked own.store cell → KeepsAt new cell
-  one_at new cell op there has chain = record {
-    marks = λ other is. subst (λ (o : Pending). HasMarks o new.store cell) (same_some (sym there ∙ is)) has;
-    first = λ changed. elim chain [ inl same ↦ absurd (changed same) | inr marked ↦ marked ];
-  }
-
-  -- or none is
-  none_at : (new : PairState) (cell : Cell) → pending_on new cell ≡ None → chain_in new.store.chains cell ≡ chain_in own.store.chains cell
-      → KeepsAt new cell
-  none_at new cell none same = record { marks = λ op is. none_some none is; first = λ changed. absurd (changed same) }
 
   -- ### A cell on which the job doesn't work
 
@@ -78,129 +232,20 @@ module _ (heard : Body → Type 0) (here : JobContext) (own : PairState) (fit : 
                 stale = λ e. same Stale ∙ old.stale e;
                 lacks = λ fill unput. ap (λ c. at nat_cmp c op.key.epoch) rest.chain ∙ old.lacks fill unput;
               };
-          first = λ changed. absurd (changed rest.chain);
+          chain = inl rest.chain;
         }
 
     unworked : (done : JobResult) (did : Did heard here own done) → (RoleIn heard here own fit done did q → ⊥) → KeepsAt done.own q
     unworked done did no_role = beside done did (λ e. no_role (role heard here own fit done did q e))
 
-    -- the job works on this cell, or beside it
-    at_work : (done : JobResult) (did : Did heard here own done) → IsSo (Here done.own) (worked heard here own done did) → KeepsAt done.own q
-    at_work done did so = elim (so_or_apart (Here done.own) (worked heard here own done did) so q) [
-      | inl here_it ↦ here_it on
-      | inr ne ↦ beside done did ne
-    ]
-
-  -- ### The lead's operation
-
-  -- it stands in a part whose chains are as they were
-  module _ (now : PairState) (op : Pending) (same : now.store.chains ≡ own.store.chains) (has : HasMarks op now.store op.cell) where
-    chain_same : chain_in now.store.chains op.cell ≡ chain_in own.store.chains op.cell
-    chain_same = ap (λ t. chain_in t op.cell) same
-
-    -- the block is marked, and the operation's stage says so
-    marking : (which : MarkKind) → KeepsAt (marks now op which).own op.cell
-    marking which = one_at (marks now op which).own op.cell (with_mark_at op which true) (cell_same now.pairs.pending op.cell (with_mark_at op which true))
-        (flagged which) (inl chain_same)
-      where
-        flagged : (which : MarkKind) → HasMarks (with_mark_at op which true) (with_mark_on now.store which op.cell) op.cell
-        flagged Busy = record {
-          busy = λ e. mark_there now.store Busy op.cell;
-          stale = λ e. mark_kept now.store Busy Stale op.cell op.cell (has.stale e);
-          lacks = has.lacks;
-        }
-        flagged Stale = record {
-          busy = λ e. mark_kept now.store Stale Busy op.cell op.cell (has.busy e);
-          stale = λ e. mark_there now.store Stale op.cell;
-          lacks = has.lacks;
-        }
-
-    -- the busy mark goes, and the operation's stage says so
-    unmarking : KeepsAt (unmarks now op Busy).own op.cell
-    unmarking = one_at (unmarks now op Busy).own op.cell (with_mark_at op Busy false) (cell_same now.pairs.pending op.cell (with_mark_at op Busy false))
-        (record { busy = λ e. true_false e refl; stale = λ e. stale_kept now.store op.cell op.cell ∙ has.stale e; lacks = has.lacks }) (inl chain_same)
-
-    putting : IsMarked own.store op.cell → KeepsAt (puts now op).own op.cell
-    putting marked =
-        let two : Pending = record op { version = version_of (chain_in now.store.chains op.cell) + 1; stage = record op.stage { put = true } } in
-        one_at (puts now op).own op.cell two (cell_same now.pairs.pending op.cell two)
-        (record { busy = has.busy; stale = has.stale; lacks = λ fill unput. true_false refl unput }) (inr marked)
-
-  -- one that is opened has no flags
-  fresh_marks : (op : Pending) → op.stage.busy ≡ false → op.stage.stale ≡ false
-      → (is_clients op.kind ≡ false → at nat_cmp (chain_in own.store.chains op.cell) op.key.epoch ≡ None) → HasMarks op own.store op.cell
-  fresh_marks op busy stale lacks = record { busy = λ e. true_false e busy; stale = λ e. true_false e stale; lacks = λ fill unput. lacks fill }
-
-  opening : (op : Pending) → HasMarks op own.store op.cell → KeepsAt (with_opened own op) op.cell
-  opening op had = one_at (with_opened own op) op.cell op (cell_same own.pairs.pending op.cell op)
-      (record { busy = had.busy; stale = had.stale; lacks = had.lacks }) (inl refl)
-
-  opening_alone : (op : Pending) → HasMarks op own.store op.cell → KeepsAt (marks (with_opened own op) op Stale).own op.cell
-  opening_alone op had =
-      marking (with_opened own op) op refl (record { busy = had.busy; stale = had.stale; lacks = had.lacks }) Stale
-
-  -- a write is none that moves
-  written : {A : Type 0} → is_clients kind.Write ≡ false → A
-  written e = true_false refl e
-
-  -- an operation that is taken up finds them, in a store that is as it was
-  taken_marks : (now : PairState) (op : Pending) → Taken own now op → live here.state op.cell ≡ true
-      → HasMarks op now.store op.cell × (now.store ≡ own.store)
-  taken_marks now op taken on =
-      let t = taking own now op taken in
-      let old = fit.marks op.cell t.old on t.was in
-      let has : HasMarks op own.store op.cell = subst (λ (o : Pending). HasMarks o own.store op.cell) (sym t.is)
-      (record { busy = old.busy; stale = old.stale; lacks = old.lacks }) in
-      (subst (λ (s : Store). HasMarks op s op.cell) (sym t.store) has, t.store)
-
-  ending_at : (now : PairState) (op : Pending) (how : Ending) → pending_on now op.cell ≡ None → now.store.chains ≡ own.store.chains
-      → KeepsAt (ends here now op op.kind how).own op.cell
-  ending_at now op how none chains =
-      let f = of_ending here now op op.kind how in
-      none_at (ends here now op op.kind how).own op.cell (ap (λ t. at cell_cmp t op.cell) f.pending ∙ none)
-      (ap (λ (s : Store). chain_in s.chains op.cell) f.store ∙ ap (λ t. chain_in t op.cell) chains)
-
-  lead_marked : (done : JobResult) (d : DidLead heard here own done) → IsSo (Here done.own) (lead_cell heard here own done d)
-  lead_marked _ (Gives_up op h is reserved put) =
-      λ on. ending_at (gives_back (without_pending own op.cell)) op ending.Full (cell_gone own.pairs.pending op.cell) refl
-  lead_marked _ (Opens want new both) =
-      λ on. opening (operation here own.pairs.next want) (fresh_marks (operation here own.pairs.next want) refl refl (λ fill. written fill))
-  lead_marked _ (Marks op h is both stage) = λ on.
-      let old = fit.marks op.cell op on is in
-      marking (with_pending own (with_reserved op)) (with_reserved op) refl (record { busy = old.busy; stale = old.stale; lacks = old.lacks }) Busy
-  lead_marked _ (Puts op is both stage) = λ on.
-      let old = fit.marks op.cell op on is in putting own op refl old (inl (old.busy (ap (λ (s : Stage). s.busy) stage)))
-  lead_marked _ (Unmarks op h is both stage) = λ on.
-      let old = fit.marks op.cell op on is in
-      unmarking (with_pending own (with_paired op)) (with_paired op) refl (record { busy = old.busy; stale = old.stale; lacks = old.lacks })
-  lead_marked _ (Closes op is both stage) =
-      λ on. ending_at (without_pending own op.cell) op ending.Written (cell_gone own.pairs.pending op.cell) refl
-  lead_marked _ (Opens_alone want new alone) =
-      λ on. opening_alone (operation here own.pairs.next want) (fresh_marks (operation here own.pairs.next want) refl refl (λ fill. written fill))
-  lead_marked _ (Marks_alone now op taken alone fresh) = λ on.
-      let t = taken_marks now op taken on in marking now op (ap (λ (s : Store). s.chains) t.1) t.0 Stale
-  lead_marked _ (Puts_alone now op taken alone stale put) = λ on.
-      let t = taken_marks now op taken on in
-      putting now op (ap (λ (s : Store). s.chains) t.1) t.0 (subst (λ (s : Store). IsMarked s op.cell) t.1 (inr (t.0.stale stale)))
-  lead_marked _ (Unmarks_alone now op taken alone stale put busy) = λ on.
-      let t = taken_marks now op taken on in unmarking now op (ap (λ (s : Store). s.chains) t.1) t.0
-  lead_marked _ (Closes_alone now op taken alone stale put free) =
-      λ on. ending_at (without_pending now op.cell) op ending.Written (cell_gone now.pairs.pending op.cell)
-      (ap (λ (s : Store). s.chains) (taking own now op taken).store)
-  lead_marked _ (Opens_fill moving new room both) =
-      let op = fill_operation here own.pairs.next moving in λ on. opening op (fresh_marks op refl refl (λ fill. new.lacks))
-  lead_marked _ (Opens_fill_alone moving new room alone) =
-      let op = fill_operation here own.pairs.next moving in λ on. opening_alone op (fresh_marks op refl refl (λ fill. new.lacks))
-  lead_marked _ (Goes_on_retired now op taken off) = λ on. true_false on off
-  lead_marked _ _ = tt
-
   -- ### Copies
 
   -- of a cell that is copied no operation is pending
   copied_at : (cell : Cell) (done : JobResult) → DidHolder heard here own done → pending_on own cell ≡ None → KeepsAt done.own cell
-  copied_at cell done d none =
-      none_at done.own cell (ap (λ t. at cell_cmp t cell) (of_holder heard here own done d).pending ∙ none)
-      (ap (λ t. chain_in t cell) (holder_chains heard here own done d))
+  copied_at cell done d none = record {
+    marks = λ op is. none_some (ap (λ t. at cell_cmp t cell) (of_holder heard here own done d).pending ∙ none) is;
+    chain = inl (ap (λ t. chain_in t cell) (holder_chains heard here own done d));
+  }
 
   holder_marked : (done : JobResult) (d : DidHolder heard here own done) → IsSo (Here done.own) (holder_cell heard here own done d)
   holder_marked _ (Turns_page id row other after (Some block) h held fresh at) = λ on.
@@ -213,7 +258,7 @@ module _ (heard : Body → Type 0) (here : JobContext) (own : PairState) (fit : 
               stale = λ e. mark_kept own.store Stale Stale cell cell (old.stale e);
               lacks = old.lacks;
             };
-        first = λ changed. absurd (changed refl);
+        chain = inl refl;
       }
   holder_marked _ (Turns_page id row other after None h held fresh at) = tt
   holder_marked done (Begins_copy id row other cell _ held next step) =
@@ -229,15 +274,23 @@ module _ (heard : Body → Type 0) (here : JobContext) (own : PairState) (fit : 
 
   module _ (q : Cell) (on : live here.state q ≡ true) where
     marked : leads_link here.state here.me q ≡ true → (done : JobResult) → Did heard here own done → KeepsAt done.own q
-    marked leads _ (By_lead done d) = at_work q on done (By_lead done d) (lead_marked done d)
+    marked leads _ (By_lead done d) = elim (worked_or_apart (lead_cell heard here own done d) q) [
+      | inl e ↦
+          let k = so_at (LedHere heard here own fit done.own) (lead_cell heard here own done d) (lead_marked heard here own fit done d) q e on in
+          record { marks = k.marks; chain = k.chain }
+      | inr ne ↦ beside q on done (By_lead done d) ne
+    ]
     marked leads _ (By_second done d) = unworked q on done (By_second done d)
         (λ so. let b = led_by_link here.state here.me q leads in leads_not_second here fit.steady q b.0 b.1 leads so)
-    marked leads _ (By_holder done d) = at_work q on done (By_holder done d) (holder_marked done d)
+    marked leads _ (By_holder done d) = elim (worked_or_apart (holder_cell heard here own done d) q) [
+      | inl e ↦ so_at (Here done.own) (holder_cell heard here own done d) (holder_marked done d) q e on
+      | inr ne ↦ beside q on done (By_holder done d) ne
+    ]
     marked leads _ (By_other done d) = unworked q on done (By_other done d) (λ by. held_not_leading here fit.steady q by.holder by.held leads)
     marked leads done did = unworked q on done did (λ none. none)
 
   pub job_marked : (done : JobResult) → Did heard here own done → KeepsMarks here own done.own
   job_marked done did = record {
     marks = λ q op on is. (marked q on (((did_ready heard here own fit.ready done did).staged q op is).leads on) done did).marks op is;
-    first = λ q on leads. (marked q on leads done did).first;
+    first = λ q on leads changed. elim (marked q on leads done did).chain [ inl same ↦ absurd (changed same) | inr there ↦ there ];
   }

@@ -1,7 +1,7 @@
 -- In every legal history each put of a lead fell on a block that was marked on its device.
 use Rattle.law_copies.proofs.Imports.{[], ◌++◌, ◌∙◌, ◌∷◌, ◌≡◌, ◌≢◌, Acted, AreSteps, Blanks, By_ballot, By_entry, By_job, Cell, Ends, Goes, Handled, Happens}
 use Rattle.law_copies.proofs.Imports.{IsMarked, IsSound, JobResult, List, Log, MarksFirst, PairState, Record, Run, Script, Server, Serves, Serving, Setting}
-use Rattle.law_copies.proofs.Imports.{State, Step, Store, Turns, Worked, World, all_put_apart, ap, append_assoc, before_part, below_itself, blanked, chain_in}
+use Rattle.law_copies.proofs.Imports.{State, Step, Turns, Worked, World, all_put_apart, ap, append_assoc, before_part, below_itself, blanked, chain_in}
 use Rattle.law_copies.proofs.Imports.{chosen_state, crossed, firm_in, happened_in, inl, inr, is_in, kept, leads_link, live, longer, more_of, own_place}
 use Rattle.law_copies.proofs.Imports.{proposed, refl, rests_in, server_state, setting_in, settled_by, settling, stepped_in, subst, sym, true, true_false, ℕ}
 use Rattle.law_jobs.proofs.Runs.{after}
@@ -54,7 +54,7 @@ module _ (run : Run) (cell : Cell) where
   worked_first k _ _ (By_job log done same did (inr apart)) = same_first k done.own (ap (λ (o : PairState). o.store.chains) apart.same)
   worked_first k _ _ (By_ballot log started posts same starts logged) =
       same_first k (proposed (server_state setting w k) (w.servers k).own started)
-      (ap (λ (s : Store). s.chains) (ballot_alike (server_state setting w k) (w.servers k).own started).2)
+      (ap (λ (o : PairState). o.store.chains) (sym (ballot_alike (server_state setting w k) (w.servers k).own started)))
   worked_first k _ _ (By_entry log entry more front) =
       let own = crossed (server_state setting w k) entry (w.servers k).own in
       same_first k (settled_by (own_place setting w k) entry own) (settling (own_place setting w k) entry own).chains

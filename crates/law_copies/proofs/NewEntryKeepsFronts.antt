@@ -120,33 +120,70 @@ module _ (it : AtNext) where
 
   -- ### Alone
 
-  cover_same : (now : LinkRow) (cell : Cell) (n m : ℕ) → new n ≡ old n → new m ≡ old m → IsCovered now cell (old n) (old m) None
-      → IsCovered now cell (new n) (new m) None
-  cover_same now cell n m one two covered =
-      subst (λ a. IsCovered now cell a (new m) None) (sym one) (subst (λ b. IsCovered now cell (old n) b None) (sym two) covered)
+  -- what the other server has, where all is to be copied to it
+  filled_on : (f : List Command) (cell : Cell) (holder other : ℕ) → HasFilled setting top good.visits f cell holder other
+      → HasFilled setting next good.visits f cell holder other
+  filled_on f cell holder other h = has_filled_on h (front_on h.more top next h.within (front_more top entry)) refl h.own h.visited
 
-  -- a link that one server held alone, and holds so still
-  alone_cover : (cell : Cell) (row now : LinkRow) (holder : ℕ) (whole : Bool) → IsLinked setting top cell row → IsLinked setting next cell now
-      → AliveIn here cell → row.state ≡ Only holder whole → now.state ≡ Only holder whole → IsCovered now cell (old holder) (old (other_of holder now)) None
-  alone_cover cell row now holder whole is end alive alone still =
+  -- after as many of its Joins with an empty store
+  filled_next : (cell : Cell) (holder other : ℕ) → blank_joins_in setting next other ≡ blank_joins_in setting top other
+      → HasFilled setting top good.visits top cell holder other → HasFilled setting next good.visits next cell holder other
+  filled_next cell holder other same h = has_filled_on h (front_on h.more top next h.within (front_more top entry)) (sym same) h.own h.visited
+
+  abbrev IsUnfilled : Cell → LinkRow → ℕ → Type 0
+  IsUnfilled cell now holder =
+      (chain_in (new (other_of holder now)).chains cell ≡ []) ⊎ HasFilled setting next good.visits next cell holder (other_of holder now)
+
+  -- the copies at the new place of a link that one server holds alone then
+  record MovesAlone (cell : Cell) (now : LinkRow) (holder : ℕ) (whole : Bool) : Type 0 where
+    covered : IsCovered now cell (new holder) (new (other_of holder now)) None
+    unfilled : whole ≡ true → IsUnfilled cell now holder
+
+  cover_same : (now : LinkRow) (cell : Cell) (n m : ℕ) → ((k : ℕ) → new k ≡ old k) → IsCovered now cell (old n) (old m) None
+      → IsCovered now cell (new n) (new m) None
+  cover_same now cell n m same covered =
+      subst (λ a. IsCovered now cell a (new m) None) (sym (same n)) (subst (λ b. IsCovered now cell (old n) b None) (sym (same m)) covered)
+
+  -- one that it held alone before, and holds so still
+  still_alone : (cell : Cell) (row now : LinkRow) (holder : ℕ) (whole : Bool) → IsLinked setting top cell row → IsLinked setting next cell now
+      → AliveIn here cell → row.state ≡ Only holder whole → now.state ≡ Only holder whole → ((k : ℕ) → new k ≡ old k)
+      → joins_blank here entry (other_of holder row) ≡ false → MovesAlone cell now holder whole
+  still_alone cell row now holder whole is end alive alone still same off =
+      let other = other_of holder row in
       let beside = beside_top cell row holder whole is alive alone in
-      subst (λ m. IsCovered now cell (old holder) (old m) None) (sym (other_later row now holder (later_then it cell row now is end)))
-      (cover_again row now cell (old holder) (old (other_of holder row)) (good.visits holder (place_by setting top row) cell)
-      (λ all. ap needs_full_copy (still ∙ sym alone) ∙ all) beside.alike.covered)
+      let later = sym (other_later row now holder (later_then it cell row now is end)) in
+      record {
+        covered = cover_same now cell holder (other_of holder now) same (subst (λ m. IsCovered now cell (old holder) (old m) None) later
+            (cover_again row now cell (old holder) (old other) (good.visits holder (place_by setting top row) cell)
+            (λ all. ap needs_full_copy (still ∙ sym alone) ∙ all) beside.alike.covered));
+        unfilled = λ all_of. subst (λ m. (chain_in (new m).chains cell ≡ []) ⊎ HasFilled setting next good.visits next cell holder m) later
+            (elim ((good.alone top cell row holder whole (front_itself top) is alone).unfilled alive (ap needs_full_copy alone ∙ all_of)) [
+              | inl empty ↦ inl (ap (λ (s : Store). chain_in s.chains cell) (recounts.same other off ∙ sym (good.now other)) ∙ empty)
+              | inr h ↦ inr (filled_next cell holder other (counts_same setting top entry other off) h)
+            ]);
+      }
 
   -- one of its two servers has left
-  left_cover : (cell : Cell) (row now : LinkRow) (holder server : ℕ) (whole : Bool) → IsLinked setting top cell row → IsLinked setting next cell now
-      → AliveIn here cell → has_server server row ≡ true → row_left server row ≡ now → now.state ≡ Only holder whole
-      → IsCovered now cell (old holder) (old (other_of holder now)) None
-  left_cover cell row now holder server whole is end alive has same alone = elim ((steady_top it).linked cell row is).served [
+  left_moved : (cell : Cell) (row now : LinkRow) (holder server inc : ℕ) (whole : Bool) → IsLinked setting top cell row → IsLinked setting next cell now
+      → AliveIn here cell → entry ≡ Leave server inc → has_server server row ≡ true → row_left server row ≡ now → now.state ≡ Only holder whole
+      → MovesAlone cell now holder whole
+  left_moved cell row now holder server inc whole is end alive entry_is has same alone = elim ((steady_top it).linked cell row is).served [
     | ByBoth so one other ↦ (
         let later = later_then it cell row now is end in
         let has_holder : has_server holder row ≡ true = sym (one_before row now holder later)
         ∙ holder_is_one then_state (log_steady setting.servers next all) holder cell now end alone in
-        subst (λ m. IsCovered now cell (old holder) (old m) None) (sym (other_later row now holder later))
-        (both_cover old good.visits (place_by setting top row) row now cell (twins_top cell row is alive so) holder has_holder))
+        record {
+          covered = cover_same now cell holder (other_of holder now) (no_leave it server inc entry_is)
+              (subst (λ m. IsCovered now cell (old holder) (old m) None) (sym (other_later row now holder later))
+              (both_cover old good.visits (place_by setting top row) row now cell (twins_top cell row is alive so) holder has_holder));
+          unfilled = λ all_of. true_false all_of
+              (sym (ap needs_full_copy alone) ∙ ap (λ (r : LinkRow). needs_full_copy r.state) (sym same) ∙ ap needs_full_copy (left_row row server has)
+              ∙ ap (λ x. needs_full_copy (left_state (other_of server row) x)) so);
+        })
     | ByOne h other kept so pair out ↦
-        alone_cover cell row now holder whole is end alive (ap (λ (r : LinkRow). r.state) (sym (stays_row row server h has so) ∙ same) ∙ alone) alone
+        still_alone cell row now holder whole is end alive (ap (λ (r : LinkRow). r.state) (sym (stays_row row server h has so) ∙ same) ∙ alone) alone
+        (no_leave it server inc entry_is)
+        (no_blank_join here entry (λ s i e. let f : Leave server inc ≡ Join s i true = sym entry_is ∙ e in absurd cc) (other_of holder row))
     | ByNone one other so pair out ↦ alone_not_lost now holder alone
         (ap (λ (r : LinkRow). r.state) (sym same) ∙ left_row row server has ∙ ap (left_state (other_of server row)) so)
   ]
@@ -170,88 +207,29 @@ module _ (it : AtNext) where
       (filled_cover now cell (new holder) (new server) (ap needs_full_copy alone ∙ kept.1) (no_chains (new server) cell (recounts.renewed server on).chains))
 
   alone_moved : (cell : Cell) (row now : LinkRow) (holder : ℕ) (whole : Bool) → IsLinked setting top cell row → IsLinked setting next cell now
-      → touches here entry row ≡ true → AliveIn here cell → now.state ≡ Only holder whole → IsCovered now cell (new holder) (new (other_of holder now)) None
+      → touches here entry row ≡ true → AliveIn here cell → now.state ≡ Only holder whole → MovesAlone cell now holder whole
   alone_moved cell row now holder whole is end on alive alone = elim (log_touched setting.servers top entry cell row (plain_top it) (plain_entry it) is on) [
-    | By_leave left there seats ↦
-        cover_same now cell holder (other_of holder now) (no_leave it left.server left.inc left.is holder)
-        (no_leave it left.server left.inc left.is (other_of holder now))
-        (left_cover cell row now holder left.server whole is end alive left.one_of (same_some (sym there ∙ row_then it cell now end)) alone)
+    | By_leave left there seats ↦ left_moved cell row now holder left.server left.inc whole is end alive left.is left.one_of
+        (same_some (sym there ∙ row_then it cell now end)) alone
     | By_join joined there apart seats ↦ joins joined.server joined.inc joined.blank joined.is joined.may joined.one_of there apart
     | By_caught acts stays ↦ alone_not_both now holder alone (ap (λ (r : LinkRow). r.state) (same_some (sym (row_then it cell now end) ∙ stays.same)))
   ]
     where
       joins : (server inc : ℕ) (blank : Bool) → entry ≡ Join server inc blank → may_join (slice_get here.view.members server) inc ≡ true
           → has_server server row ≡ true → cell_link (after here entry) cell ≡ Some (row_joined server blank row) → row.state ≢ Both
-          → IsCovered now cell (new holder) (new (other_of holder now)) None
+          → MovesAlone cell now holder whole
       joins server inc false e may has there apart =
-          cover_same now cell holder (other_of holder now) (no_blank it server inc e holder) (no_blank it server inc e (other_of holder now))
-          (alone_cover cell row now holder whole is end alive (ap (λ (r : LinkRow). r.state) (same_some (sym there ∙ row_then it cell now end)) ∙ alone) alone)
+          still_alone cell row now holder whole is end alive (ap (λ (r : LinkRow). r.state) (same_some (sym there ∙ row_then it cell now end)) ∙ alone) alone
+          (no_blank it server inc e)
+          (no_blank_join here entry (λ s i f. let g : Join server inc false ≡ Join s i true = sym e ∙ f in absurd cc) (other_of holder row))
       joins server inc true e may has there apart =
-          blank_cover cell row now holder server whole is end has (same_some (sym there ∙ row_then it cell now end)) apart
-          (ap (λ (c : Command). joins_blank here c server) e ∙ joins_so here server inc may) alone
-
-  -- ### What the other server has, where all is to be copied to it
-
-  filled_on : (f : List Command) (cell : Cell) (holder other : ℕ) → HasFilled setting top good.visits f cell holder other
-      → HasFilled setting next good.visits f cell holder other
-  filled_on f cell holder other h = has_filled_on h (front_on h.more top next h.within (front_more top entry)) refl h.own h.visited
-
-  -- after as many of its Joins with an empty store
-  filled_next : (cell : Cell) (holder other : ℕ) → blank_joins_in setting next other ≡ blank_joins_in setting top other
-      → HasFilled setting top good.visits top cell holder other → HasFilled setting next good.visits next cell holder other
-  filled_next cell holder other same h = has_filled_on h (front_on h.more top next h.within (front_more top entry)) (sym same) h.own h.visited
-
-  abbrev IsUnfilled : Cell → LinkRow → ℕ → Type 0
-  IsUnfilled cell now holder =
-      (chain_in (new (other_of holder now)).chains cell ≡ []) ⊎ HasFilled setting next good.visits next cell holder (other_of holder now)
-
-  still_unfilled : (cell : Cell) (row now : LinkRow) (holder : ℕ) (whole : Bool) → IsLinked setting top cell row → IsLinked setting next cell now
-      → AliveIn here cell → row.state ≡ Only holder whole → joins_blank here entry (other_of holder row) ≡ false → whole ≡ true → IsUnfilled cell now holder
-  still_unfilled cell row now holder whole is end alive alone off all_of =
-      let other = other_of holder row in
-      subst (λ m. (chain_in (new m).chains cell ≡ []) ⊎ HasFilled setting next good.visits next cell holder m)
-      (sym (other_later row now holder (later_then it cell row now is end)))
-      (elim ((good.alone top cell row holder whole (front_itself top) is alone).unfilled alive (ap needs_full_copy alone ∙ all_of)) [
-        | inl empty ↦ inl (ap (λ (s : Store). chain_in s.chains cell) (recounts.same other off ∙ sym (good.now other)) ∙ empty)
-        | inr h ↦ inr (filled_next cell holder other (counts_same setting top entry other off) h)
-      ])
-
-  -- one of the link's two servers has left
-  left_unfilled : (cell : Cell) (row now : LinkRow) (holder server inc : ℕ) (whole : Bool) → IsLinked setting top cell row → IsLinked setting next cell now
-      → AliveIn here cell → entry ≡ Leave server inc → has_server server row ≡ true → row_left server row ≡ now → now.state ≡ Only holder whole
-      → whole ≡ true → IsUnfilled cell now holder
-  left_unfilled cell row now holder server inc whole is end alive entry_is has same alone all_of = elim ((steady_top it).linked cell row is).served [
-    | ByBoth so one other ↦ true_false all_of
-        (sym (ap needs_full_copy alone) ∙ ap (λ (r : LinkRow). needs_full_copy r.state) (sym same) ∙ ap needs_full_copy (left_row row server has)
-        ∙ ap (λ x. needs_full_copy (left_state (other_of server row) x)) so)
-    | ByOne h other kept so pair out ↦
-        still_unfilled cell row now holder whole is end alive (ap (λ (r : LinkRow). r.state) (sym (stays_row row server h has so) ∙ same) ∙ alone)
-        (no_blank_join here entry (λ s i e. let f : Leave server inc ≡ Join s i true = sym entry_is ∙ e in absurd cc) (other_of holder row)) all_of
-    | ByNone one other so pair out ↦ alone_not_lost now holder alone
-        (ap (λ (r : LinkRow). r.state) (sym same) ∙ left_row row server has ∙ ap (left_state (other_of server row)) so)
-  ]
-
-  unfilled_moved : (cell : Cell) (row now : LinkRow) (holder : ℕ) (whole : Bool) → IsLinked setting top cell row → IsLinked setting next cell now
-      → touches here entry row ≡ true → AliveIn here cell → now.state ≡ Only holder whole → whole ≡ true → IsUnfilled cell now holder
-  unfilled_moved cell row now holder whole is end on alive alone all_of =
-      elim (log_touched setting.servers top entry cell row (plain_top it) (plain_entry it) is on) [
-        | By_leave left there seats ↦
-            left_unfilled cell row now holder left.server left.inc whole is end alive left.is left.one_of
-            (same_some (sym there ∙ row_then it cell now end)) alone all_of
-        | By_join joined there apart seats ↦ joins joined.server joined.inc joined.blank joined.is joined.may joined.one_of there apart
-        | By_caught acts stays ↦ alone_not_both now holder alone (ap (λ (r : LinkRow). r.state) (same_some (sym (row_then it cell now end) ∙ stays.same)))
-      ]
-    where
-      joins : (server inc : ℕ) (blank : Bool) → entry ≡ Join server inc blank → may_join (slice_get here.view.members server) inc ≡ true
-          → has_server server row ≡ true → cell_link (after here entry) cell ≡ Some (row_joined server blank row) → row.state ≢ Both
-          → IsUnfilled cell now holder
-      joins server inc false e may has there apart =
-          still_unfilled cell row now holder whole is end alive (ap (λ (r : LinkRow). r.state) (same_some (sym there ∙ row_then it cell now end)) ∙ alone)
-          (no_blank_join here entry (λ s i f. let g : Join server inc false ≡ Join s i true = sym e ∙ f in absurd cc) (other_of holder row)) all_of
-      joins server inc true e may has there apart =
-          let other = blank_other cell row now holder server whole is end has (same_some (sym there ∙ row_then it cell now end)) apart alone in
-          inl (ap (λ n. chain_in (new n).chains cell) other ∙ no_chains (new server) cell
-          (recounts.renewed server (ap (λ (c : Command). joins_blank here c server) e ∙ joins_so here server inc may)).chains)
+          let same = same_some (sym there ∙ row_then it cell now end) in
+          let on = ap (λ (c : Command). joins_blank here c server) e ∙ joins_so here server inc may in
+          let other = blank_other cell row now holder server whole is end has same apart alone in
+          record {
+            covered = blank_cover cell row now holder server whole is end has same apart on alone;
+            unfilled = λ all_of. inl (ap (λ n. chain_in (new n).chains cell) other ∙ no_chains (new server) cell (recounts.renewed server on).chains);
+          }
 
   alone_on : (f : List Command) (cell : Cell) (row : LinkRow) (holder : ℕ) → IsPrefix f top
       → AloneOk setting top good.stores good.visits good.reached f cell row holder
@@ -292,17 +270,9 @@ module _ (it : AtNext) where
             (a.stays alive own (ap (λ p. good.visits holder p cell) (sym same) ∙ visit) (λ p lt. beyond p (let e = same in omega arith)));
         unfilled = λ alive all_of. elim (a.unfilled alive all_of) [
           | inl empty ↦ inl (ap (λ (s : Store). chain_in s.chains cell) two ∙ empty)
-          | inr h ↦ inr (record {
-            more = h.more;
-            within = h.within;
-            row = h.row;
-            linked = h.linked;
-            joins = h.joins
-                ∙ sym (joins_at setting next all next top cell now now other (front_itself next) (front_more top entry) end is (other_is_one now holder)
-                (other_is_one now holder) same);
-            own = h.own;
-            visited = h.visited;
-          })
+          | inr h ↦ inr (has_filled_on h h.within
+              (sym (joins_at setting next all next top cell now now other (front_itself next) (front_more top entry) end is (other_is_one now holder)
+              (other_is_one now holder) same)) h.own h.visited)
         ];
       }
 
@@ -323,8 +293,8 @@ module _ (it : AtNext) where
   alone_next cell now holder whole end alone = by_next it cell now end
       (λ is same. same_alone cell now holder whole is end alone same
       (alone_on top cell now holder (front_itself top) (good.alone top cell now holder whole (front_itself top) is alone)))
-      (λ row is on unseen. made_alone cell now holder unseen (λ alive. alone_moved cell row now holder whole is end on alive alone)
-      (λ alive all_of. unfilled_moved cell row now holder whole is end on alive alone (sym (ap needs_full_copy alone) ∙ all_of)))
+      (λ row is on unseen. made_alone cell now holder unseen (λ alive. (alone_moved cell row now holder whole is end on alive alone).covered)
+      (λ alive all_of. (alone_moved cell row now holder whole is end on alive alone).unfilled (sym (ap needs_full_copy alone) ∙ all_of)))
       (λ none unseen. made_alone cell now holder unseen (λ alive. Is_equal (still_empty it cell none holder (other_of holder now)))
       (λ alive all_of. inl (born_then it cell none (other_of holder now))))
 

@@ -1,12 +1,14 @@
 -- A server that comes to a place with nothing in memory of the cell: what was so where it had not been there is so then.
-use Rattle.law_copies.proofs.Imports.{◌∙◌, ◌≡◌, ◌≤◌, Body, Cell, IsRising, LinkRow, None, Option, PairState, Progress, Some, Store, Stored, about, above, ap}
-use Rattle.law_copies.proofs.Imports.{arith, at, cell_cmp, chain_in, copying_on, false, id_of, inl, inr, is_flagged, is_some, last_copy, nat_cmp, no_progress}
+use Rattle.law_copies.proofs.Imports.{◌∙◌, ◌≡◌, ◌≤◌, Body, Cell, IsRising, LinkRow, None, Option, PairState, Progress, Some, Store, Stored, above, ap, arith}
+use Rattle.law_copies.proofs.Imports.{at, cell_cmp, chain_in, copying_on, false, id_of, inl, inr, is_flagged, is_some, last_copy, nat_cmp, no_progress}
 use Rattle.law_copies.proofs.Imports.{none_some, progress_on, refl, same_caught, same_some, subst, sym, true_false, ℕ}
 use Rattle.law_copies.specs.CopyProgress.{AreAlike, AreCopying, HasPage, HasSent, IsCovered, IsTold, Is_equal, Is_marked_here, Is_marked_there}
 use Rattle.law_copies.specs.CopyProgress.{Is_to_be_copied}
 use Rattle.law_copies.specs.Pair.{Grows, Known, PairOk, pair_of}
 use Rattle.law_copies.specs.Visits.{half}
 use Rattle.law_copies.proofs.CellChangesKeepCopies.{known_later}
+use Rattle.law_copies.specs.LoneSteps.{StaysTold}
+use Rattle.law_copies.proofs.LastCopies.{told_by}
 use Rattle.petal_msg.specs.declared.body.Body.TheVariants as body
 
 -- nothing that others asked for, and nothing of copies, is in memory of the cell and its link
@@ -50,17 +52,9 @@ module _ (own : PairState) (row : LinkRow) (cell : Cell) (fresh : IsFresh own ro
     sent = λ by copy is there op. none_some (ap (λ (o : PairState). copying_on o cell) (sym (same_some is)) ∙ fresh.copying) there;
   }
 
-  pub fresh_holder_told : (other : Option PairState) (said : Body) → (about said).cell ≡ Some cell → IsTold row None other said
-      → IsTold row (Some own) other said
-  fresh_holder_told other (body.Trim number q epochs) e (inl past) = inl past
-  fresh_holder_told other (body.Trim number q epochs) e (inr asked) = no_own asked.met
-  fresh_holder_told other (body.Trimmed number q) e told = told
-  fresh_holder_told other (body.Sync number key version index bytes) e told =
-      let entry : ℕ × Stored = (key.epoch, record { version = version; bytes = bytes }) in
-      subst (λ (q : Cell). HasSent row None other q number index entry → HasSent row (Some own) other q number index entry) (sym (same_some e))
-      (sent_on other number index entry) told
-  fresh_holder_told other (body.Synced number q index) e told = told
-  fresh_holder_told other _ e told = tt
+  pub fresh_holder_told : (other : Option PairState) → StaysTold row cell None other (Some own) other
+  fresh_holder_told other = told_by row cell None other (Some own) other
+      (λ number epochs told. elim told [ inl past ↦ inl past | inr asked ↦ no_own asked.met ]) (λ number t. t) (sent_on other) (λ number index t. t)
 
   fresh_covered : (a b : Store) → IsCovered row cell a b None → IsCovered row cell a b (Some own)
   fresh_covered a b (Is_equal same) = Is_equal same

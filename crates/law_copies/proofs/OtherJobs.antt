@@ -1,31 +1,22 @@
 -- Each job of the other server of a link that one server holds alone keeps a cell of it.
-use Rattle.law_copies.proofs.Imports.{◌<◌, ◌∙◌, ◌≡◌, ◌≢◌, ◌⊎◌, Begins, Body, By_holder, By_lead, By_other, By_second, Cell, Copying, Did, DidOther}
-use Rattle.law_copies.proofs.Imports.{Drops_entry, Entry, Goes_on, Goes_on_trimming, In, IsCopying, IsIdle, IsMarked, IsOfCopy, Is_copied_to, Is_trimmed}
-use Rattle.law_copies.proofs.Imports.{JobContext, JobResult, LastCopy, LinkRow, List, MarkKind, Option, PairState, Post, Puts_entry, Replies, Says, Some}
-use Rattle.law_copies.proofs.Imports.{Store, TrimStep, about, above, ap, arith, cell_of, chain_in, filter, first_last, inl, inr, is_alone, is_marked, is_on}
-use Rattle.law_copies.proofs.Imports.{last_copy, letters_of_job, marked_blocks, other_cell, other_of, puts_entry, refl, same_cell_or_apart, same_some, subst}
-use Rattle.law_copies.proofs.Imports.{sym, true, with_last_copy, ℕ}
+use Rattle.law_copies.proofs.Imports.{◌<◌, ◌∙◌, ◌≡◌, Begins, Body, By_holder, By_lead, By_other, By_second, Cell, Copying, Did, DidOther, Drops_entry, Entry}
+use Rattle.law_copies.proofs.Imports.{Goes_on, Goes_on_trimming, In, IsCopying, IsIdle, IsMarked, IsOfCopy, Is_copied_to, Is_trimmed, JobContext, JobResult}
+use Rattle.law_copies.proofs.Imports.{LastCopy, LinkRow, List, Option, PairState, Post, Puts_entry, Says, Some, Store, TrimStep, about, above, ap, arith}
+use Rattle.law_copies.proofs.Imports.{cell_of, chain_in, filter, first_last, inl, inr, is_alone, is_marked, is_on, last_copy, letters_of_job, marked_blocks}
+use Rattle.law_copies.proofs.Imports.{other_cell, other_of, puts_entry, refl, same_some, subst, sym, true, with_last_copy, ℕ}
 use Rattle.law_copies.specs.CopyProgress.{AreCopying, IsPage, IsTold, IsUpTo}
-use Rattle.law_copies.specs.LoneSteps.{IsFollowing, KeepsCell, OtherKeeps, StaysTold, IsLeftBy}
-use Rattle.law_copies.proofs.OtherServerChanges.{CopiedEntry}
-use Rattle.law_copies.proofs.OwnPartFrames.{keeps_itself}
+use Rattle.law_copies.specs.LoneSteps.{IsFollowing, KeepsCell, OtherKeeps, StaysHere, StaysTold}
 use Rattle.law_copies.proofs.LastCopies.{past_last, past_of, stays_told, to_put, to_trimmed}
 use Rattle.law_copies.proofs.LeftToCopy.{among_marked, least_below, on_itself}
 use Rattle.law_copies.proofs.EpochsRise.{did_rising}
 use Rattle.law_copies.proofs.ChainsRise.{in_kept}
 use Rattle.law_copies.proofs.CopyLetters.{page_after, page_block, page_link, page_map, page_sent, telling}
-use Rattle.law_copies.proofs.RolesOfWorkers.{IsHeldHere, IsOtherOf, RoleIn, alone_not_row, alone_not_second, begun_held, idle_both, kept_lives, led_alive}
-use Rattle.law_copies.proofs.RolesOfWorkers.{named_id, one_named, other_alone, other_not_alone, other_not_leading, other_row, role_keeps, taken_held}
+use Rattle.law_copies.proofs.RolesOfWorkers.{IsHeldHere, IsOtherOf, IsSo, RoleIn, alone_not_row, alone_not_second, begun_held, idle_both, kept_lives}
+use Rattle.law_copies.proofs.RolesOfWorkers.{led_alive, named_id, one_named, other_alone, other_not_alone, other_not_leading, other_row, role_keeps, so_at}
+use Rattle.law_copies.proofs.RolesOfWorkers.{taken_held, worked_or_apart}
 use Rattle.law_copies.proofs.WorkedCell.{cell_apart_from}
 use Rattle.petal_msg.specs.declared.body.Body.TheVariants as body
 use Rattle.law_copies.proofs.OtherServerChanges as following
-
--- what is kept of the cell, but for what is said
-record StaysHere (links : ℕ) (row : LinkRow) (cell : Cell) (vh : Option PairState) (own new : PairState) : Type 0 where
-  copying : AreCopying links row cell vh (Some new)
-  told : StaysTold row cell vh (Some own) vh (Some new)
-  marks : (kind : MarkKind) → is_marked new.store kind cell ≡ is_marked own.store kind cell
-  changes : (chain_in new.store.chains cell ≡ chain_in own.store.chains cell) ⊎ IsLeftBy row vh cell
 
 -- the last copy does its next step, where it was remembered in this job or before
 trims_here : (links : ℕ) (row : LinkRow) (cell : Cell) (vh : Option PairState) (own now : PairState) → now.store ≡ own.store
@@ -73,28 +64,12 @@ module _ {heard : Body → Type 0} {here : JobContext} {links : ℕ} {row : Link
   puts_here : (entry : Entry) (holder : ℕ) (last : LastCopy) (f : IsFollowing heard here links row (cell_of entry.key) vh own)
       → IsOfCopy heard here own entry holder last → entry.index ≡ last.index
       → StaysHere links row (cell_of entry.key) vh own (puts_entry own entry last holder true).own
-  puts_here entry holder last f of at =
-      let put : CopiedEntry = record {
-        links = links;
-        row = row;
-        vh = vh;
-        own = own;
-        entry = entry;
-        holder = holder;
-        last = last;
-        old = f.old;
-        rises = f.fit.rising (cell_of entry.key);
-        is = of.last_is;
-        op_is = of.op_is;
-        index_is = at;
-        said = f.told (body.Sync entry.op entry.key entry.stored.version entry.index entry.stored.bytes) of.said refl;
-      } in
-      record {
-        copying = following.put_copying put;
-        told = stays_told own _ (cell_of entry.key) (following.put_onward put) row vh;
-        marks = λ kind. refl;
-        changes = inr (following.put_by put);
-      }
+  puts_here entry holder last f of at = record {
+    copying = following.put_copying entry holder last f of at;
+    told = stays_told own _ (cell_of entry.key) (following.put_onward entry holder last f of at) row vh;
+    marks = λ kind. refl;
+    changes = inr (following.put_by entry holder last f of at);
+  }
 
   -- ### All jobs
 
@@ -121,30 +96,22 @@ module _ {heard : Body → Type 0} {here : JobContext} {links : ℕ} {row : Link
       changes = inl k.rest.chain;
     }
 
-    -- where the last copy is of another cell
-    other_apart : (done : JobResult) (d : DidOther heard here own done) → other_cell heard here own done d ≢ Some cell → Stays done.own
-    other_apart done d ne =
-        stays done.own (cell_apart_from heard here own f.fit.ready cell f.alive (f.fit.bare cell) done (By_other done d) ne no_idle)
+    -- the last copy is of this cell
+    abbrev At : JobResult → Cell → Type 0
+    At done c = IsFollowing heard here links row c vh own → StaysHere links row c vh own done.own
 
+    other_at : (done : JobResult) (d : DidOther heard here own done) → IsSo (At done) (other_cell heard here own done d)
+    other_at done (Is_copied_to number c epochs holder _ h held newer step) = λ g. copied_to c g number epochs holder done h newer step
+    other_at done (Goes_on_trimming c holder last _ held is step) =
+        λ g. trims_here links row c vh own own refl g.old (λ said told t. t) last is holder done step
+    other_at _ (Puts_entry entry holder last of at room) = λ g. puts_here entry holder last g of at
+    other_at _ _ = tt
+
+    -- or of another one
     other_here : (done : JobResult) → DidOther heard here own done → Stays done.own
-    other_here _ (Replies to said reply) = stays own (keeps_itself cell own)
-    other_here done (Is_copied_to number c epochs holder _ h held newer step) = elim (same_cell_or_apart cell c) [
-      | inl e ↦ copied_to cell f number epochs holder done (subst (λ (x : Cell). heard (body.Trim number x epochs)) (sym e) h)
-          (λ last is. newer last (subst (λ (x : Cell). last_copy own x ≡ Some last) e is))
-          (subst (λ (x : Cell). TrimStep (with_last_copy own x (first_last number epochs)) x (first_last number epochs) holder done)
-          (sym e) step)
-      | inr ne ↦ other_apart done (Is_copied_to number c epochs holder _ h held newer step) (λ e. ne (sym (same_some e)))
-    ]
-    other_here done (Goes_on_trimming c holder last _ held is step) = elim (same_cell_or_apart cell c) [
-      | inl e ↦ trims_here links row cell vh own own refl f.old (λ said told t. t) last (subst (λ (x : Cell). last_copy own x ≡ Some last) (sym e) is)
-          holder done (subst (λ (x : Cell). TrimStep own x last holder done) (sym e) step)
-      | inr ne ↦ other_apart done (Goes_on_trimming c holder last _ held is step) (λ e. ne (sym (same_some e)))
-    ]
-    other_here _ (Puts_entry entry holder last of at room) = elim (same_cell_or_apart cell (cell_of entry.key)) [
-      | inl e ↦ subst (λ (x : Cell). IsFollowing heard here links row x vh own
-          → StaysHere links row x vh own (puts_entry own entry last holder true).own) (sym e)
-          (λ g. puts_here entry holder last g of at) f
-      | inr ne ↦ other_apart _ (Puts_entry entry holder last of at room) (λ e. ne (sym (same_some e)))
+    other_here done d = elim (worked_or_apart (other_cell heard here own done d) cell) [
+      | inl e ↦ so_at (At done) (other_cell heard here own done d) (other_at done d) cell e f
+      | inr ne ↦ stays done.own (cell_apart_from heard here own f.fit.ready cell f.alive (f.fit.bare cell) done (By_other done d) ne no_idle)
     ]
 
     unworked : (done : JobResult) (did : Did heard here own done) → (RoleIn heard here own f.fit done did cell → ⊥) → Stays done.own
@@ -198,16 +165,9 @@ module _ {heard : Body → Type 0} {here : JobContext} {links : ℕ} {row : Link
 
     -- what is kept
     pub follows : (done : JobResult) → Did heard here own done → OtherKeeps links row cell vh own done
-    follows done d =
-        let kept = here_by done d in
-        record {
-          here = record {
-            copying = kept.copying;
-            told = kept.told;
-            says = λ post i e. says_told done.own post (letters_of_job heard here own done d post i) e;
-            marks = kept.marks;
-            changes = kept.changes;
-          };
-          pages = page_is done d;
-          rising = did_rising heard here own f.fit.rising done d cell;
-        }
+    follows done d = record {
+      here = here_by done d;
+      says = λ post i e. says_told done.own post (letters_of_job heard here own done d post i) e;
+      pages = page_is done d;
+      rising = did_rising heard here own f.fit.rising done d cell;
+    }

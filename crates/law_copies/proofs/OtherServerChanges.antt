@@ -1,13 +1,15 @@
 -- What a job of the other server of a link that one server holds alone keeps of one of the link's cells.
-use Rattle.law_copies.proofs.Imports.{[], ◌+◌, ◌<◌, ◌∙◌, ◌∷◌, ◌≡◌, ◌≤◌, Cell, Chain, Copying, Entry, IsRising, LastCopy, LinkRow, List, Option, PairState}
-use Rattle.law_copies.proofs.Imports.{Some, Stored, ap, arith, at, at_apart, at_same, cell_of, cell_same, chain_in, chain_put, copying_on, epochs_beyond}
-use Rattle.law_copies.proofs.Imports.{epochs_of, false, first_last, inl, inr, key_at, last_copy, nat_cmp, nat_cmp_total, put, put_rises, puts_entry, refl}
-use Rattle.law_copies.proofs.Imports.{same_or_apart, same_some, slice_get, subst, sym, true, true_false, with_last_copy, without_entry, ℕ}
+use Rattle.law_copies.proofs.Imports.{[], ◌+◌, ◌<◌, ◌∙◌, ◌∷◌, ◌≡◌, ◌≤◌, Body, Cell, Chain, Copying, Entry, IsOfCopy, IsRising, JobContext, LastCopy, LinkRow}
+use Rattle.law_copies.proofs.Imports.{List, Option, PairState, Some, Stored, ap, arith, at, at_apart, at_same, cell_of, cell_same, chain_in, chain_put}
+use Rattle.law_copies.proofs.Imports.{copying_on, epochs_beyond, epochs_of, false, first_last, inl, inr, key_at, last_copy, nat_cmp, nat_cmp_total, put}
+use Rattle.law_copies.proofs.Imports.{put_rises, puts_entry, refl, same_or_apart, same_some, slice_get, subst, sym, true, true_false, with_last_copy}
+use Rattle.law_copies.proofs.Imports.{without_entry, ℕ}
 use Rattle.law_copies.specs.CopyProgress.{AreCopying, HasSent, IsFollowed, IsLastCopy, IsOfLast, IsSent, IsTrimming, number_above}
-use Rattle.law_copies.specs.LoneSteps.{IsLeftBy, KeepsRest, StaysTold}
+use Rattle.law_copies.specs.LoneSteps.{IsLeftBy, KeepsRest, StaysTold, IsFollowing}
 use Rattle.law_copies.proofs.CopyEpochs.{IsWithin, among, beyond, same_beyond, within, within_put}
 use Rattle.law_copies.proofs.LastCopies.{GoesOn, GoesOnward, of_last, stays_told, trimmed_of}
 use Rattle.law_copies.proofs.ChainsRise.{row_at}
+use Rattle.petal_msg.specs.declared.body.Body.TheVariants as body
 
 -- ### What is to show of the last copy
 
@@ -83,14 +85,16 @@ module _ {links : ℕ} {row : LinkRow} {cell : Cell} {vh : Option PairState} {ow
         (λ h copy last met is fresh there op. was_heard h copy last met is fresh (sym k.last ∙ there) op) kept_last
 
     pub kept_onward : GoesOnward own to cell
-    kept_onward last is = inl (record {
+    kept_onward last is = record {
       now = last;
       is = k.last ∙ is;
-      op_is = refl;
-      epochs_are = refl;
-      onward = omega arith;
-      trimmed = λ none. same_beyond own to cell last.epochs k.chain ∙ none;
-    })
+      up = omega arith;
+      same = λ e. record {
+        epochs_are = refl;
+        onward = omega arith;
+        trimmed = λ none. same_beyond own to cell last.epochs k.chain ∙ none;
+      };
+    }
 
     pub kept_told : StaysTold row cell vh (Some own) vh (Some to)
     kept_told = stays_told own to cell kept_onward row vh
@@ -127,7 +131,9 @@ module _ {links : ℕ} {row : LinkRow} {cell : Cell} {vh : Option PairState} {ow
         record { by = h; met = met; below = omega arith; trimmed = inr (subst (IsTrimming h cell) (sym op) t) })
 
     pub begun_onward : GoesOnward own now cell
-    begun_onward last is = inr (record { now = first_last number epochs; is = now_last; newer = newer last is })
+    begun_onward last is =
+        let lt = newer last is in
+        record { now = first_last number epochs; is = now_last; up = omega arith; same = λ (e : number ≡ last.op). absurd (omega arith) }
 
   -- #### The last copy drops an entry
 
@@ -156,14 +162,16 @@ module _ {links : ℕ} {row : LinkRow} {cell : Cell} {vh : Option PairState} {ow
         (λ h copy l met there fresh at_cell op. was_heard h copy l met there fresh at_cell op) dropped_last
 
     pub dropped_onward : GoesOnward own dropped cell
-    dropped_onward l there = inl (record {
+    dropped_onward l there = record {
       now = l;
       is = there;
-      op_is = refl;
-      epochs_are = refl;
-      onward = omega arith;
-      trimmed = λ none. not_trimmed (ap (λ (x : LastCopy). epochs_beyond own cell x.epochs) (same_some (sym is ∙ there)) ∙ none);
-    })
+      up = omega arith;
+      same = λ e. record {
+        epochs_are = refl;
+        onward = omega arith;
+        trimmed = λ none. not_trimmed (ap (λ (x : LastCopy). epochs_beyond own cell x.epochs) (same_some (sym is ∙ there)) ∙ none);
+      };
+    }
 
     pub dropped_by : IsLeftBy row vh cell
     dropped_by =
@@ -174,23 +182,14 @@ module _ {links : ℕ} {row : LinkRow} {cell : Cell} {vh : Option PairState} {ow
 -- ### An entry is put
 
 -- the next entry of a copy, at the server to which it was sent
-pub record CopiedEntry : Type 0 where
-  pub links : ℕ
-  pub row : LinkRow
-  pub vh : Option PairState
-  pub own : PairState
-  pub entry : Entry
-  pub holder : ℕ
-  pub last : LastCopy
-  pub old : AreCopying links row (cell_of entry.key) vh (Some own)
-  pub rises : IsRising nat_cmp (chain_in own.store.chains (cell_of entry.key))
-  pub is : last_copy own (cell_of entry.key) ≡ Some last
-  pub op_is : entry.op ≡ last.op
-  pub index_is : entry.index ≡ last.index
-  pub said : HasSent row vh (Some own) (cell_of entry.key) entry.op entry.index (entry.key.epoch, entry.stored)
+module _ {heard : Body → Type 0} {here : JobContext} {links : ℕ} {row : LinkRow} {vh : Option PairState} {own : PairState} (entry : Entry) (holder : ℕ)
+    (last : LastCopy) (f : IsFollowing heard here links row (cell_of entry.key) vh own) (of : IsOfCopy heard here own entry holder last)
+    (index_is : entry.index ≡ last.index) where
+  open f use {old}
+  open of use {last_is as is, op_is}
 
-module _ (it : CopiedEntry) where
-  open it use {links, row, vh, own, entry, holder, last, old, rises, is, op_is, index_is, said}
+  said : HasSent row vh (Some own) (cell_of entry.key) entry.op entry.index (entry.key.epoch, entry.stored)
+  said = f.told (body.Sync entry.op entry.key entry.stored.version entry.index entry.stored.bytes) of.said refl
 
   abbrev q : Cell
   q = cell_of entry.key
@@ -212,7 +211,7 @@ module _ (it : CopiedEntry) where
 
   put_rising : IsRising nat_cmp (chain_in to.store.chains q)
   put_rising = subst (IsRising nat_cmp) (sym put_chain)
-      (put_rises nat_cmp_total (chain_in own.store.chains q) entry.key.epoch entry.stored rises)
+      (put_rises nat_cmp_total (chain_in own.store.chains q) entry.key.epoch entry.stored (f.fit.rising q))
 
   put_trimmed : epochs_beyond to q last.epochs ≡ []
   put_trimmed = beyond to q last.epochs put_rising (subst (λ chain. IsWithin chain last.epochs) (sym put_chain)
@@ -276,9 +275,12 @@ module _ (it : CopiedEntry) where
       (record { by = o.by; met = o.met; below = o.below; trimmed = inl put_trimmed }))
 
   pub put_onward : GoesOnward own to q
-  put_onward l there =
-      inl (subst (GoesOn own to q) (same_some (sym is ∙ there))
-      (record { now = next; is = put_last; op_is = refl; epochs_are = refl; onward = omega arith; trimmed = λ none. put_trimmed }))
+  put_onward l there = subst (GoesOn own to q) (same_some (sym is ∙ there)) (record {
+    now = next;
+    is = put_last;
+    up = omega arith;
+    same = λ e. record { epochs_are = refl; onward = omega arith; trimmed = λ none. put_trimmed };
+  })
 
   pub put_by : IsLeftBy row vh q
   put_by = record { by = of_this.own; met = of_this.met; left = of_this.left index_is }

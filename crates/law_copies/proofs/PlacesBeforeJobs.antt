@@ -2,11 +2,11 @@
 use Rattle.law_copies.proofs.Imports.{if◌then◌else◌, ◌&&◌, ◌∙◌, ◌≡◌, ◌≢◌, ◌≤◌, Body, Bool, Both, ByBoth, ByNone, ByOne, Cell, Command, Copying, Handled}
 use Rattle.law_copies.proofs.Imports.{IsRising, IsSteady, JobContext, LinkRow, List, None, Only, Option, PairState, Some, Store, about, ap, chain_in}
 use Rattle.law_copies.proofs.Imports.{chosen_log, copying_on, front_plain, has_server, holder_of, inl, inr, is_alone, is_between, live_stage, log_steady}
-use Rattle.law_copies.proofs.Imports.{nat_cmp, number_itself, other_between, other_of, own_place, pending_on, primary_is_one, refl, same_numbers}
-use Rattle.law_copies.proofs.Imports.{secondary_is_one, server_state, state_after, subject_of, subst, sym, true, true_false, ℕ}
+use Rattle.law_copies.proofs.Imports.{nat_cmp, number_itself, other_between, other_of, own_place, pending_on, refl, same_numbers, server_state, state_after}
+use Rattle.law_copies.proofs.Imports.{subject_of, subst, sym, true, true_false, ℕ}
 use Rattle.law_copies.specs.CopyProgress.{AreCopying, IsTold, links_of}
 use Rattle.law_copies.specs.GoodCopies.{AloneOk, AreTwins, SaidOk, pair_at}
-use Rattle.law_copies.specs.Pair.{HaveMarks, Known, PairOk, pair_of}
+use Rattle.law_copies.specs.Pair.{HaveMarks, Known, PairOk, pair_of, Pair}
 use Rattle.law_copies.specs.LoneSteps.{AreFilled, IsBare, IsFit, IsFollowing, IsHolding, PagesOf}
 use Rattle.law_copies.specs.Visits.{AliveIn, IsLinked, half, place_by, store_by, with_stores}
 use Rattle.law_copies.proofs.AtSeat.{AtSeat}
@@ -120,37 +120,26 @@ module _ (it : AtSeat) where
       pub known_here : (said : Body) → heard said → (about said).cell ≡ Some cell → Known (pair_at by good.visits place cell row.primary row.secondary) said
       known_here said h of = (heard_said said h cell row is alive).both lives both last_here of
 
+      -- where the two are this pair
+      module _ {pair : Pair} (at : pair_at by good.visits place cell row.primary row.secondary ≡ pair) where
+        pub pair_ok : PairOk pair
+        pair_ok = subst PairOk at twins_here.pair
+
+        pub pair_known : (said : Body) → heard said → (about said).cell ≡ Some cell → Known pair said
+        pair_known said h of = subst (λ p. Known p said) at (known_here said h of)
+
     -- what the other server is, by its store as it is now
     abbrev pub beside : ℕ → PairState
     beside n = half (good.visits n place cell) (by n)
 
-    first_pair : (m : ℕ) → pair_at by good.visits place cell k m ≡ pair_of own (beside m) cell
-    first_pair m = λ i. pair_of (half (here_visit cell row is alive i) (own_store i)) (beside m) cell
+    -- the server is the first one, or the second one
+    pub first_at : row.primary ≡ k → pair_at by good.visits place cell row.primary row.secondary ≡ pair_of own (beside row.secondary) cell
+    first_at leads = (λ i. pair_at by good.visits place cell (leads i) row.secondary)
+        ∙ (λ i. pair_of (half (here_visit cell row is alive i) (own_store i)) (beside row.secondary) cell)
 
-    second_pair : (n : ℕ) → pair_at by good.visits place cell n k ≡ pair_of (beside n) own cell
-    second_pair n = λ i. pair_of (beside n) (half (here_visit cell row is alive i) (own_store i)) cell
-
-    -- as the first server
-    module _ (lives : IsAliveLast) (both : row.state ≡ Both) (leads : row.primary ≡ k) where
-      pub first_at : pair_at by good.visits place cell row.primary row.secondary ≡ pair_of own (beside row.secondary) cell
-      first_at = (λ i. pair_at by good.visits place cell (leads i) row.secondary) ∙ first_pair row.secondary
-
-      pub first_ok : PairOk (pair_of own (beside row.secondary) cell)
-      first_ok = subst PairOk first_at (twins_here lives both (primary_is_one row k leads)).pair
-
-      pub first_known : (said : Body) → heard said → (about said).cell ≡ Some cell → Known (pair_of own (beside row.secondary) cell) said
-      first_known said h of = subst (λ p. Known p said) first_at (known_here lives both (primary_is_one row k leads) said h of)
-
-    -- as the second one
-    module _ (lives : IsAliveLast) (both : row.state ≡ Both) (follows : row.secondary ≡ k) where
-      pub second_at : pair_at by good.visits place cell row.primary row.secondary ≡ pair_of (beside row.primary) own cell
-      second_at = (λ i. pair_at by good.visits place cell row.primary (follows i)) ∙ second_pair row.primary
-
-      pub second_ok : PairOk (pair_of (beside row.primary) own cell)
-      second_ok = subst PairOk second_at (twins_here lives both (secondary_is_one row k follows)).pair
-
-      pub second_known : (said : Body) → heard said → (about said).cell ≡ Some cell → Known (pair_of (beside row.primary) own cell) said
-      second_known said h of = subst (λ p. Known p said) second_at (known_here lives both (secondary_is_one row k follows) said h of)
+    pub second_at : row.secondary ≡ k → pair_at by good.visits place cell row.primary row.secondary ≡ pair_of (beside row.primary) own cell
+    second_at follows = (λ i. pair_at by good.visits place cell row.primary (follows i))
+        ∙ (λ i. pair_of (beside row.primary) (half (here_visit cell row is alive i) (own_store i)) cell)
 
     -- ### Alone
 

@@ -1,17 +1,17 @@
 -- What a server is to a cell, which can't be what else it is not; and as what it works on one.
-use Rattle.law_copies.proofs.Imports.{◌&&◌, ◌<◌, ◌==◌, ◌∙◌, ◌≡◌, ◌≤◌, ◌≢◌, ◌⊎◌, Begins_copy, Block, Body, Both, Busy, By_holder, By_lead, By_other}
-use Rattle.law_copies.proofs.Imports.{By_second, Cell, Closes, Closes_alone, Closes_copy, CopyStep, Copy_as_is, Copy_synced, Copy_trimmed, Copying, Did}
-use Rattle.law_copies.proofs.Imports.{DidHolder, DidLead, DidOther, DidSecond, Entry, Finds_it_full, Follows, Gives_up, Goes_on_copying, Goes_on_retired}
+use Rattle.law_copies.proofs.Imports.{◌&&◌, ◌<◌, ◌==◌, ◌∙◌, ◌≡◌, ◌≤◌, ◌≢◌, ◌⊎◌, Begins_copy, Block, Body, Both, Busy, By_holder, By_lead, By_other, By_second}
+use Rattle.law_copies.proofs.Imports.{Cell, Closes, Closes_alone, Closes_copy, CopyStep, Copy_as_is, Copy_synced, Copy_trimmed, Copying, Did, DidHolder}
+use Rattle.law_copies.proofs.Imports.{DidLead, DidOther, DidSecond, Entry, Finds_it_full, Follows, Gives_up, Goes_on_copying, Goes_on_retired}
 use Rattle.law_copies.proofs.Imports.{Goes_on_trimming, Idle, IsBothRow, IsHeldWith, IsIdle, IsOfCopy, IsSteady, Is_copied_to, JobContext, JobResult}
 use Rattle.law_copies.proofs.Imports.{LastCopy, LinkId, LinkRow, Marks, Marks_alone, None, Only, Opens, Opens_alone, Opens_fill, Opens_fill_alone, Option}
-use Rattle.law_copies.proofs.Imports.{PairState, Pending, Puts, Puts_alone, Puts_entry, Sets_apart, Some, Stale, State, Store, Taken, TakenCopy}
-use Rattle.law_copies.proofs.Imports.{Turns_page, Unmarks, Unmarks_alone, among_least, ap, both_row, both_true, by_test, cell_at, cell_holder, cell_link}
-use Rattle.law_copies.proofs.Imports.{cell_of, copied_chains, copying_on, filter, found_at, holder_cell, holder_of, id_of, in_both, inl, inr, is_alone}
-use Rattle.law_copies.proofs.Imports.{is_lead, is_link, is_second, is_the_one, is_under_way, is_up, lead_cell, lead_links, leads_link, link_led_by}
-use Rattle.law_copies.proofs.Imports.{link_named, live, live_stage, marked_blocks, next_copy, none_some, not, on_row, option_and_then, other_cell}
-use Rattle.law_copies.proofs.Imports.{other_in, other_of, page_cell, page_chains, pending_on, progress_on, refl, row_lead, row_named, same_cell_or_apart}
-use Rattle.law_copies.proofs.Imports.{same_numbers, same_or_apart, same_some, second, second_by, second_cell, stage_at, stage_live, subst, sym, taking}
-use Rattle.law_copies.proofs.Imports.{true, true_false, worked, ℕ}
+use Rattle.law_copies.proofs.Imports.{PairState, Pending, Puts, Puts_alone, Puts_entry, Sets_apart, Some, Stale, State, Store, Taken, TakenCopy, Turns_page}
+use Rattle.law_copies.proofs.Imports.{Unmarks, Unmarks_alone, among_least, ap, both_row, both_true, by_test, cell_at, cell_holder, cell_link, cell_of}
+use Rattle.law_copies.proofs.Imports.{copied_chains, copying_on, filter, found_at, holder_cell, holder_of, id_of, in_both, inl, inr, is_alone, is_lead}
+use Rattle.law_copies.proofs.Imports.{is_link, is_second, is_the_one, is_under_way, is_up, lead_cell, lead_links, leads_link, link_led_by, link_named, live}
+use Rattle.law_copies.proofs.Imports.{live_stage, marked_blocks, next_copy, none_some, not, on_row, option_and_then, other_cell, other_in, other_of}
+use Rattle.law_copies.proofs.Imports.{page_cell, page_chains, pending_on, progress_on, refl, row_lead, row_named, same_cell_or_apart, same_numbers}
+use Rattle.law_copies.proofs.Imports.{same_or_apart, same_some, second, second_by, second_cell, stage_at, stage_live, subst, sym, taking, true, true_false}
+use Rattle.law_copies.proofs.Imports.{worked, ℕ}
 use Rattle.law_copies.specs.LoneSteps.{IsFit, KeepsCell, KeepsRest}
 use Rattle.law_copies.proofs.LeftToCopy.{HasAny, marked_on, next_is, on_itself}
 use Rattle.law_copies.proofs.OtherIsNotHolder.{held_not_leading, other_apart}
@@ -132,17 +132,13 @@ abbrev pub IsSo : (Cell → Type 0) → Option Cell → Type 0
 IsSo P None = Unit {0}
 IsSo P (Some cell) = P cell
 
-so_at : (P : Cell → Type 0) (at : Option Cell) → IsSo P at → (q : Cell) → at ≡ Some q → P q
+pub so_at : (P : Cell → Type 0) (at : Option Cell) → IsSo P at → (q : Cell) → at ≡ Some q → P q
 so_at P None so q e = none_some refl e
 so_at P (Some cell) so q e = subst P (same_some e) so
 
--- it is so at this cell, or this one is not it
-pub so_or_apart : (P : Cell → Type 0) (at : Option Cell) → IsSo P at → (q : Cell) → P q ⊎ (at ≢ Some q)
-so_or_apart P None so q = inr (λ e. none_some refl e)
-so_or_apart P (Some cell) so q = elim (same_cell_or_apart q cell) [
-  | inl e ↦ inl (subst P (sym e) so)
-  | inr ne ↦ inr (λ e. ne (sym (same_some e)))
-]
+pub worked_or_apart : (at : Option Cell) (q : Cell) → (at ≡ Some q) ⊎ (at ≢ Some q)
+worked_or_apart None q = inr (λ e. none_some refl e)
+worked_or_apart (Some cell) q = elim (same_cell_or_apart cell q) [ inl e ↦ inl (ap Some e) | inr ne ↦ inr (λ e. ne (same_some e)) ]
 
 -- an idle mark is on a live cell of a link in Both
 pub idle_both : (here : JobContext) (own : PairState) (cell : Cell) → IsIdle here own cell → IsBothRow here.state cell × (live here.state cell ≡ true)

@@ -255,11 +255,18 @@ module _ (setting : Setting) (records : List Record) (w : World) (stores : ℕ �
           | inr alone ↦ inr (only_holder (state_after setting.servers more) k cell now end alone)
         ]
 
-    -- no server that serves the link has been at a later place, where each later front is at this one, or the server serves it alone
-    last_by : {B : Type 0} → ((more : List Command) (now : LinkRow) → IsPrefix (own_front k) more → IsPrefix more chosen → IsLinked setting more cell now
+    -- at each later front the link is at this place, or the server holds it alone, or this is so
+    abbrev pub IsSince : Type 0 → Type 0
+    IsSince B = (more : List Command) (now : LinkRow) → IsPrefix (own_front k) more → IsPrefix more chosen → IsLinked setting more cell now
         → AliveIn (state_after setting.servers more) cell
-        → (place_by setting more now ≡ place_by setting (own_front k) row) ⊎ ((whole : Bool) × (now.state ≡ Only k whole)) ⊎ B)
-        → (good.reached cell ≤ place_by setting (own_front k) row) ⊎ B
+        → (place_by setting more now ≡ place_by setting (own_front k) row) ⊎ ((whole : Bool) × (now.state ≡ Only k whole)) ⊎ B
+
+    pub both_still : row.state ≡ Both → has_server k row ≡ true → IsSince ⊥
+    both_still both has more now one two end alive =
+        elim (both_since both has more now one two end alive) [ inl same ↦ inl same | inr alone ↦ inr (inl alone) ]
+
+    -- no server that serves the link has been at a later place then
+    last_by : {B : Type 0} → IsSince B → (good.reached cell ≤ place_by setting (own_front k) row) ⊎ B
     last_by since = elim (good.reaching.by cell) [
       | inl none ↦ inl (omega (arith, none))
       | inr r ↦ elim (fronts_meet r.front (own_front k) chosen r.prefix (firm.servers k)) [
@@ -277,12 +284,7 @@ module _ (setting : Setting) (records : List Record) (w : World) (stores : ℕ �
     ]
 
     pub both_last : row.state ≡ Both → has_server k row ≡ true → good.reached cell ≤ place_by setting (own_front k) row
-    both_last both has = either_left
-        (last_by (λ more now one two end alive. elim (both_since both has more now one two end alive) [ inl same ↦ inl same | inr alone ↦ inr (inl alone) ]))
-      where
-        either_left : {A : Type 0} → A ⊎ ⊥ → A
-        either_left (inl a) = a
-        either_left (inr never) = absurd never
+    both_last both has = elim (last_by (both_still both has)) [ inl le ↦ le | inr never ↦ absurd never ]
 
     module _ (started : AllStarted setting records w) where
       -- one that the server holds alone it holds so still, or it was done with it
@@ -311,9 +313,12 @@ module _ (setting : Setting) (records : List Record) (w : World) (stores : ℕ �
             | inr own ↦ inr (sym (held_as_flag (server_state setting w k) (w.servers k).own cell row is) ∙ own.proposed)
           ]
 
-      pub alone_last : (whole : Bool) → row.state ≡ Only k whole
-          → (good.reached cell ≤ place_by setting (own_front k) row) ⊎ (is_flagged (w.servers k).own (id_of row) ≡ true)
-      alone_last whole alone = last_by (λ more now one two end alive. elim (holds_since whole alone more now one two end alive) [
+      pub held_still : (whole : Bool) → row.state ≡ Only k whole → IsSince (is_flagged (w.servers k).own (id_of row) ≡ true)
+      held_still whole alone more now one two end alive = elim (holds_since whole alone more now one two end alive) [
         | inl still ↦ inr (inl (still.0, still.1))
         | inr flagged ↦ inr (inr flagged)
-      ])
+      ]
+
+      pub alone_last : (whole : Bool) → row.state ≡ Only k whole
+          → (good.reached cell ≤ place_by setting (own_front k) row) ⊎ (is_flagged (w.servers k).own (id_of row) ≡ true)
+      alone_last whole alone = last_by (held_still whole alone)

@@ -1,15 +1,11 @@
 -- Each step of a server that is allowed keeps what is kept of two copies, by the stores that count.
-use Rattle.law_copies.proofs.Imports.{[], if◌then◌else◌, ◌++◌, ◌==◌, ◌∙◌, ◌∷◌, ◌≡◌, ◌≤◌, ◌⊎◌, Acted, BeforeBlank, By_ballot, By_entry, By_job, Caught}
-use Rattle.law_copies.proofs.Imports.{Command, Ends, Fails, Goes, In, IsPrefix, IsRising, JobResult, Letter, List, Log, None, Option, PairState, Post, Sender}
-use Rattle.law_copies.proofs.Imports.{Server, Serving, Setting, Some, Starts, State, Stays, Step, Store, Wakes, Worked, World, acts, ap, awake, before_blanks}
-use Rattle.law_copies.proofs.Imports.{blank_joins_in, by_bool, chain_in, counted_by, crossed, false, front_itself, front_more, has_mark, in-append, inl, inr}
-use Rattle.law_copies.proofs.Imports.{is_between, is_in, kept, kept_store, last_copy, letters_of, live, logged_apart, map, mark_on, nat_cmp, own_place}
-use Rattle.law_copies.proofs.Imports.{post_of, proposed, put_apart, put_same, raised, refl, sender, served_so, server_state, settled_by, settling, shown_so}
-use Rattle.law_copies.proofs.Imports.{silent, stage_at, stamped, start, state_after, state_in, stays, stopped_so, subject_of, subst, sym, true, true_false}
-use Rattle.law_copies.proofs.Imports.{wakes, with_store, without_rev, world_after, ℕ}
-use Rattle.law_copies.specs.GoodCopies.{IsUnheard}
-use Rattle.law_copies.specs.Pair.{HaveMarks}
-use Rattle.law_copies.specs.LoneSteps.{AreFilled}
+use Rattle.law_copies.proofs.Imports.{[], if◌then◌else◌, ◌++◌, ◌==◌, ◌∙◌, ◌∷◌, ◌≡◌, ◌⊎◌, Acted, BeforeBlank, By_ballot, By_entry, By_job, Caught, Command}
+use Rattle.law_copies.proofs.Imports.{Ends, Fails, Goes, In, IsPrefix, JobResult, Letter, List, Log, None, Option, PairState, Post, Sender, Server, Serving}
+use Rattle.law_copies.proofs.Imports.{Setting, Some, Starts, Stays, Step, Store, Wakes, Worked, World, acts, ap, awake, before_blanks, blank_joins_in}
+use Rattle.law_copies.proofs.Imports.{by_bool, chain_in, counted_by, crossed, false, front_itself, front_more, has_mark, in-append, inl, inr, is_between}
+use Rattle.law_copies.proofs.Imports.{is_in, kept, kept_store, letters_of, logged_apart, map, mark_on, own_place, post_of, proposed, put_apart, put_same}
+use Rattle.law_copies.proofs.Imports.{raised, refl, sender, served_so, server_state, settled_by, settling, shown_so, silent, stamped, start, state_in, stays}
+use Rattle.law_copies.proofs.Imports.{stopped_so, subject_of, subst, sym, true, true_false, wakes, with_store, without_rev, world_after, ℕ}
 use Rattle.law_copies.proofs.CopiesKnownOfWorlds.{OneMore, before_of}
 use Rattle.law_copies.proofs.AtEntry.{at_entry}
 use Rattle.law_copies.proofs.CopiesGround.{Ground}
@@ -19,7 +15,7 @@ use Rattle.law_copies.proofs.FramesKeepFronts.{store_same}
 use Rattle.law_copies.proofs.JobsAndBallotsKeep.{ballot_keeping, job_keeping}
 use Rattle.law_copies.proofs.StepsLeaveCopies.{posts_mute}
 use Rattle.law_copies.proofs.AtSeat.{AtSeat, IsAtWork}
-use Rattle.law_copies.proofs.StepsKeepCopies.{GoesOn, IsSoundOwn, IsTrue}
+use Rattle.law_copies.proofs.StepsKeepCopies.{GoesOn, IsMarkedOne, IsSoundOwn, IsTrue, sound_at, sound_part}
 use Rattle.law_copies.proofs.VisitsAfterSteps.{IsThen, counted as reached_then, later, stored}
 use Rattle.law_copies.proofs.AtJob.{AtJob, at_job, IsKeeping}
 use Rattle.law_copies.proofs.WakingKeepsCopies.{woken_sound}
@@ -139,23 +135,10 @@ module _ (it : OneMore) where
       counts_same : server.own ≡ (before.servers k).own
       counts_same = ap (λ (o : PairState). record o { store = kept_here o.store }) own_same
 
-      then_so_state : (P : State → Type 0) → P (server_state setting w k) → P (state_in setting.servers acted.server.log)
-      then_so_state P p = subst (λ f. P (state_after setting.servers f)) (sym applied) p
-
-      same_sound : IsSoundOwn setting top v k server
-      same_sound = record {
-        unheard = λ cell none. then_so_state (λ s. IsUnheard s server.own cell)
-            (subst (λ (o : PairState). IsUnheard (server_state setting w k) o cell) (sym counts_same)
-            (good.unheard k cell (ap (λ f. stage_at (state_after setting.servers f) cell) (sym applied) ∙ none)));
-        copied = λ cell last there. then_so_state (λ s. live s cell ≡ true)
-            (good.copied k cell last (ap (λ (o : PairState). last_copy o cell) (sym counts_same) ∙ there));
-        rising = λ cell. subst (λ (o : PairState). IsRising nat_cmp (chain_in o.store.chains cell)) (sym counts_same) (good.rising k cell);
-        counts = subst (λ (o : PairState). 1 ≤ o.pairs.next) (sym counts_same) (good.counts k);
-        filled = subst (λ (o : PairState). AreFilled o.store.chains) (sym counts_same) (good.filled k);
-        marks = λ when. then_so_state (λ s. HaveMarks s server.own.pairs.pending server.own.store)
-            (subst (λ (o : PairState). HaveMarks (server_state setting w k) o.pairs.pending o.store) (sym counts_same)
-            (good.marks k (elim when [ inl runs ↦ inl (ran runs) | inr none ↦ inr (was_blank k none) ])));
-      }
+      same_sound : IsSoundOwn setting v k server
+      same_sound = sound_at setting.servers (w.servers k).log.applied acted.server.log.applied (before.servers k).own server.own applied counts_same
+          (sound_part {marked = IsMarkedOne v k server} good k
+          (λ when. elim when [ inl runs ↦ inl (ran runs) | inr none ↦ inr (was_blank k none) ]))
 
       -- and it says nothing of pairs or copies
       quiet_goes : acted.server.life.inc ≡ (w.servers k).life.inc → (who : Sender) (posts : List Post) → acted.letters ≡ letters_of who 0 posts
@@ -170,7 +153,7 @@ module _ (it : OneMore) where
     -- a server that is not In as itself then, with its blocks and marks as they were
     module _ (out : is_in (state_in setting.servers acted.server.log) k acted.server.life.inc ≡ false)
         (step : IsStep setting top before v k server) (chains : acted.server.own.store.chains ≡ (w.servers k).own.store.chains)
-        (marks : acted.server.own.store.marks ≡ (w.servers k).own.store.marks) (sound : IsSoundOwn setting top v k server) where
+        (marks : acted.server.own.store.marks ≡ (w.servers k).own.store.marks) (sound : IsSoundOwn setting v k server) where
       out_goes : (who : Sender) (posts : List Post) → acted.letters ≡ letters_of who 0 posts
           → ((post : Post) → In post posts → is_between (subject_of post.body) ≡ false) → GoesTo then_world
       out_goes who posts is mute then_is =

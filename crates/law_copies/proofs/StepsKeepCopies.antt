@@ -1,15 +1,15 @@
 -- What is kept after a step of one server, from what the step keeps at each front, and of what it sends.
 use Rattle.law_copies.proofs.Imports.{[], ◌++◌, ◌∙◌, ◌∷◌, ◌≡◌, ◌≤◌, ◌⊎◌, Bool, Both, Cell, Command, In, IsPrefix, IsRising, LastCopy, Letter, LinkRow, List}
-use Rattle.law_copies.proofs.Imports.{None, Only, Option, PairState, Record, Server, Setting, Some, Store, World, about, arith, chain_in, front_itself, inl}
-use Rattle.law_copies.proofs.Imports.{inr, is_between, last_copy, length, live, nat_cmp, same_or_apart, server_state, stage_at, state_after, state_in}
+use Rattle.law_copies.proofs.Imports.{None, Only, Option, PairState, Record, Server, Setting, Some, State, Store, World, about, arith, chain_in, front_itself}
+use Rattle.law_copies.proofs.Imports.{inl, inr, is_between, last_copy, length, live, nat_cmp, same_or_apart, server_state, stage_at, state_after, state_in}
 use Rattle.law_copies.proofs.Imports.{subject_of, subst, sym, true, ℕ}
 use Rattle.law_copies.specs.CopyProgress.{IsOfLink}
 use Rattle.law_copies.specs.GoodCopies.{AloneOk, BothOk, Good, IsUnheard, SaidOk, store_of}
 use Rattle.law_copies.specs.Pair.{HaveMarks}
 use Rattle.law_copies.specs.LoneSteps.{AreFilled}
 use Rattle.law_copies.specs.Visits.{AliveIn, IsLinked}
-use Rattle.law_copies.proofs.VisitsAfterSteps.{then_of, IsThen, KeepsFlags, all_visited, been_now, counted_up, ever_then, here_now, now_then, reaching_now}
-use Rattle.law_copies.proofs.VisitsAfterSteps.{seen, started_now}
+use Rattle.law_copies.proofs.VisitsAfterSteps.{IsThen, KeepsFlags, all_visited, been_now, counted_up, ever_then, here_now, now_then, reaching_now, seen}
+use Rattle.law_copies.proofs.VisitsAfterSteps.{started_now, then_of}
 use Rattle.law_copies.proofs.AtStep.{AtStep}
 use Rattle.law_copies.proofs.VisitsComeFromMoments.{came_then}
 use Rattle.law_copies.proofs.PlacesByFronts.{below_at}
@@ -35,15 +35,39 @@ pub record GoesOn (setting : Setting) (records : List Record) (top next : List C
   pub reached : (cell : Cell) → old.reached cell ≤ good.reached cell
   pub following : (n : ℕ) → IsPrefix (v.servers n).log.applied top
 
--- the server's own part, by its own state then
-pub record IsSoundOwn (setting : Setting) (top : List Command) (v : World) (k : ℕ) (server : Server) : Type 0 where
-  pub unheard : (cell : Cell) → stage_at (state_in setting.servers server.log) cell ≡ 0 → IsUnheard (state_in setting.servers server.log) server.own cell
-  pub copied : (cell : Cell) (last : LastCopy) → last_copy server.own cell ≡ Some last → live (state_in setting.servers server.log) cell ≡ true
-  pub rising : (cell : Cell) → IsRising nat_cmp (chain_in server.own.store.chains cell)
-  pub counts : 1 ≤ server.own.pairs.next
-  pub filled : AreFilled server.own.store.chains
-  pub marks : (server.life.running ≡ true) ⊎ (v.before_blank k ≡ None)
-      → HaveMarks (state_in setting.servers server.log) server.own.pairs.pending server.own.store
+-- a server's own part, by its own state: its operations find their marks in this case
+pub record IsSoundPart (state : State) (own : PairState) (marked : Type 0) : Type 0 where
+  pub unheard : (cell : Cell) → stage_at state cell ≡ 0 → IsUnheard state own cell
+  pub copied : (cell : Cell) (last : LastCopy) → last_copy own cell ≡ Some last → live state cell ≡ true
+  pub rising : (cell : Cell) → IsRising nat_cmp (chain_in own.store.chains cell)
+  pub counts : 1 ≤ own.pairs.next
+  pub filled : AreFilled own.store.chains
+  pub marks : marked → HaveMarks state own.pairs.pending own.store
+
+abbrev pub IsMarkedOne : World → ℕ → Server → Type 0
+IsMarkedOne v k server = (server.life.running ≡ true) ⊎ (v.before_blank k ≡ None)
+
+abbrev pub IsSoundOwn : Setting → World → ℕ → Server → Type 0
+IsSoundOwn setting v k server = IsSoundPart (state_in setting.servers server.log) server.own (IsMarkedOne v k server)
+
+-- each server's is so
+pub sound_part : {setting : Setting} {records : List Record} {top : List Command} {w : World} {marked : Type 0} → Good setting records top w → (k : ℕ)
+    → (marked → IsMarkedOne w k (w.servers k)) → IsSoundPart (server_state setting w k) (w.servers k).own marked
+sound_part good k when = record {
+  unheard = good.unheard k;
+  copied = good.copied k;
+  rising = good.rising k;
+  counts = good.counts k;
+  filled = good.filled k;
+  marks = λ marked. good.marks k (when marked);
+}
+
+-- and by the same state, of the same part
+pub sound_at : {marked : Type 0} (servers : ℕ) (front later : List Command) (own new : PairState) → later ≡ front → new ≡ own
+    → IsSoundPart (state_after servers front) own marked → IsSoundPart (state_after servers later) new marked
+sound_at {marked} servers front later own new applied same sound =
+    subst (λ f. IsSoundPart (state_after servers f) new marked) (sym applied)
+    (subst (λ (o : PairState). IsSoundPart (state_after servers front) o marked) (sym same) sound)
 
 module _ (it : AtStep) where
   open it use {setting, records, top, w, v, k, server, good, step}
@@ -66,13 +90,13 @@ module _ (it : AtStep) where
         → length front ≡ letter.rev → IsLinked setting front cell row → AliveIn (state_after setting.servers front) cell
         → SaidOk setting top stores visits reached front letter.body cell row
 
-  unheard_now : IsSoundOwn setting top v k server → (n : ℕ) (cell : Cell) → stage_at (server_state setting v n) cell ≡ 0
+  unheard_now : IsSoundOwn setting v k server → (n : ℕ) (cell : Cell) → stage_at (server_state setting v n) cell ≡ 0
       → IsUnheard (server_state setting v n) (v.servers n).own cell
   unheard_now sound = all_servers (λ n (s : Server). (cell : Cell) → stage_at (state_in setting.servers s.log) cell ≡ 0
       → IsUnheard (state_in setting.servers s.log) s.own cell) good.unheard sound.unheard
 
   -- what is not live yet by what is chosen is not by a server's own state
-  born_now : IsSoundOwn setting top v k server → (cell : Cell) → stage_at (state_after setting.servers top) cell ≡ 0 → (n : ℕ)
+  born_now : IsSoundOwn setting v k server → (cell : Cell) → stage_at (state_after setting.servers top) cell ≡ 0 → (n : ℕ)
       → chain_in (store_of v n).chains cell ≡ []
   born_now sound cell none n =
       let within = all_servers (λ m (s : Server). IsPrefix s.log.applied top) step.before step.within n in
@@ -80,7 +104,7 @@ module _ (it : AtStep) where
       (unheard_now sound n cell (omega arith)).bare.chain
 
   good_now : (own : Record) → IsThen setting (records ++ own ∷ []) v → KeepsFlags it
-      → IsSoundOwn setting top v k server → KeepsFronts
+      → IsSoundOwn setting v k server → KeepsFronts
       → ((letter : Letter) → In letter v.sent → In letter w.sent ⊎ IsTrue setting top stores visits reached letter)
       → Good setting (records ++ own ∷ []) top v
   good_now own then_is flags sound keeps sent = record {
@@ -114,7 +138,7 @@ module _ (it : AtStep) where
   }
 
   pub good_after : (own : Record) → IsThen setting (records ++ own ∷ []) v → KeepsFlags it
-      → IsSoundOwn setting top v k server → KeepsFronts
+      → IsSoundOwn setting v k server → KeepsFronts
       → ((letter : Letter) → In letter v.sent → In letter w.sent ⊎ IsTrue setting top stores visits reached letter)
       → GoesOn setting records top top w v good own
   unfolding good_now

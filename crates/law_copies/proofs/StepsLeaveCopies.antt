@@ -111,7 +111,7 @@ module _ (it : AtStep) where
         ∙ visited_here it cell row is seat alive) in
         ap (λ (o : PairState). is_flagged o (id_of row)) (sym same) ∙ flagged
 
-    pub quiet_good : (own : Record) → IsThen setting (records ++ own ∷ []) v → IsSoundOwn setting top v k server
+    pub quiet_good : (own : Record) → IsThen setting (records ++ own ∷ []) v → IsSoundOwn setting v k server
         → ((letter : Letter) → In letter v.sent → In letter w.sent ⊎ IsTrue setting top next_stores visits reached letter)
         → GoesOn setting records top top w v good own
     quiet_good own then_is sound sent = good_after it own then_is unchanged_flags sound unchanged_fronts sent

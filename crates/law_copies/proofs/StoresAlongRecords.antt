@@ -23,6 +23,14 @@ step_moves it n =
     happened (setting_in it.prior) state (after it.prior) (may_wake it.prior.script it.prior.records it.prior.sound it.prior.legal) (after (longer it))
     (happened_in it state (below_itself state)) n
 
+-- an incarnation is never an earlier one
+pub later_inc : (servers : ℕ) (chosen : List Command) (n : ℕ) (server to : Server) → Moves servers chosen n server to → server.life.inc ≤ to.life.inc
+later_inc servers chosen n server to (Rests _ same inc runs) = omega arith
+later_inc servers chosen n server to (Works _ fresh inc runs seat) = omega arith
+later_inc servers chosen n server to (Enters _ entry other same inc runs applied stands) = omega arith
+later_inc servers chosen n server to (Settles _ now inc runs stands) = omega arith
+later_inc servers chosen n server to (Raises _ same inc rests out) = omega arith
+
 -- ### A store that waits for nobody
 
 -- as long as the server runs as this incarnation
@@ -31,7 +39,7 @@ IsFilledAs inc server = (inc < server.life.inc) ⊎ ((inc ≡ server.life.inc) �
 
 filled_moves : (servers : ℕ) (chosen : List Command) (n inc : ℕ) (server to : Server) → Moves servers chosen n server to → IsFilledAs inc server
     → IsFilledAs inc to
-filled_moves servers chosen n inc server to (Rests _ same inc_is runs) (inl lt) = inl (omega arith)
+filled_moves servers chosen n inc server to moves (inl lt) = let le = later_inc servers chosen n server to moves in inl (omega arith)
 filled_moves servers chosen n inc server to (Rests _ same inc_is runs) (inr h) = inr (
   h.0 ∙ sym inc_is,
   elim h.1 [
@@ -39,15 +47,11 @@ filled_moves servers chosen n inc server to (Rests _ same inc_is runs) (inr h) =
     | inr filled ↦ inr (same.fresh ∙ filled)
   ],
 )
-filled_moves servers chosen n inc server to (Works _ fresh inc_is runs seat) (inl lt) = inl (omega arith)
 filled_moves servers chosen n inc server to (Works _ fresh inc_is runs seat) (inr h) =
     inr (h.0 ∙ sym inc_is, elim h.1 [ inl rests ↦ true_false runs rests | inr filled ↦ inr (fresh ∙ filled) ])
-filled_moves servers chosen n inc server to (Enters _ entry other same inc_is runs applied stands) (inl lt) = inl (omega arith)
 filled_moves servers chosen n inc server to (Enters _ entry other same inc_is runs applied stands) (inr h) =
     inr (h.0 ∙ sym inc_is, elim h.1 [ inl rests ↦ true_false runs rests | inr filled ↦ inr (same.fresh ∙ filled) ])
-filled_moves servers chosen n inc server to (Settles _ now inc_is runs stands) (inl lt) = inl (omega arith)
 filled_moves servers chosen n inc server to (Settles _ now inc_is runs stands) (inr h) = inr (h.0 ∙ sym inc_is, inr now)
-filled_moves servers chosen n inc server to (Raises _ same inc_is rests out) (inl lt) = inl (omega arith)
 filled_moves servers chosen n inc server to (Raises _ same inc_is rests out) (inr h) = let e = h.0 in inl (omega arith)
 
 filled_blanked : (inc : ℕ) (server : Server) → server.life.running ≡ false → IsFilledAs inc server → IsFilledAs inc (blanked server)
@@ -74,13 +78,6 @@ stays_filled script sound records legal n inc was runs lives =
     ]
 
 -- ### A store that waits
-
-pub later_inc : (servers : ℕ) (chosen : List Command) (n : ℕ) (server to : Server) → Moves servers chosen n server to → server.life.inc ≤ to.life.inc
-later_inc servers chosen n server to (Rests _ same inc runs) = omega arith
-later_inc servers chosen n server to (Works _ fresh inc runs seat) = omega arith
-later_inc servers chosen n server to (Enters _ entry other same inc runs applied stands) = omega arith
-later_inc servers chosen n server to (Settles _ now inc runs stands) = omega arith
-later_inc servers chosen n server to (Raises _ same inc rests out) = omega arith
 
 -- it does so still, or the server has applied its Join
 pub waits_moves : (servers : ℕ) (chosen : List Command) (n : ℕ) (server to : Server) → Moves servers chosen n server to → server.own.store.fresh ≡ true

@@ -1,7 +1,7 @@
 -- What each step of one of the two servers of a cell in Both keeps of the cell.
 use Rattle.law_copies.proofs.Imports.{◌+◌, ◌<◌, ◌∙◌, ◌≡◌, ◌≢◌, ◌≤◌, ◌⊎◌, Asks_copy, Asks_slot, Body, By_holder, By_lead, By_other, By_second, Cell, Copying}
 use Rattle.law_copies.proofs.Imports.{Declines, Did, DidSecond, Ends_fill, Fills, Follows, Has_copy, Has_slot, JobResult, Key, List, Moves, Moves_on, None}
-use Rattle.law_copies.proofs.Imports.{PairState, Pending, Post, Promises, Refuses, Says, Sets_apart, Some, Stage, Stood, Writes, about, ap, arith, at}
+use Rattle.law_copies.proofs.Imports.{PairState, Pending, Post, Promises, Says, Sets_apart, Some, Stage, Stood, Writes, about, ap, arith, at}
 use Rattle.law_copies.proofs.Imports.{cell_cmp, cell_of, cell_same, chain_apart, chain_in, copying_on, did_come, did_count, did_ready, ended, follows, inl}
 use Rattle.law_copies.proofs.Imports.{inr, is_between, is_clients, is_lead, is_the, lead_links, leads_link, letters_of_job, nat_cmp, option_and_then}
 use Rattle.law_copies.proofs.Imports.{pending_on, progress, refl, row_lead, same_cell_or_apart, same_numbers, same_some, stage_live, state_lead, subject_of}

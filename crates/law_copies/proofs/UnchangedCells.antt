@@ -1,9 +1,9 @@
 -- Where all of a cell is as before in a server's own part, what is so of its copy stays so; and what goes on from a pair to the next one.
-use Rattle.law_copies.proofs.Imports.{◌+◌, ◌∙◌, ◌≡◌, ◌≤◌, Body, Cell, LinkRow, None, Option, PairState, Pending, Progress, Some, Store, above, ap, arith, at}
-use Rattle.law_copies.proofs.Imports.{false, id_of, is_clients, is_flagged, link_cmp, nat_cmp, no_progress, option_map_or, progress_on, refl, same_some}
-use Rattle.law_copies.proofs.Imports.{subst, sym, unwrap_or, ℕ}
+use Rattle.law_copies.proofs.Imports.{◌∙◌, ◌≡◌, Body, Cell, LinkRow, Option, PairState, Progress, Some, Store, above, ap, arith, at, false, id_of, is_flagged}
+use Rattle.law_copies.proofs.Imports.{link_cmp, no_progress, option_map_or, progress_on, refl, same_some, subst, sym, unwrap_or, ℕ}
+use Rattle.law_copies.specs.BothSteps.{IsLacking}
 use Rattle.law_copies.specs.CopyProgress.{AreAlike, AreCopying, IsCovered, Is_equal, Is_marked_here, Is_marked_there, Is_to_be_copied}
-use Rattle.law_copies.specs.Pair.{Known, Pair, PairOk, far}
+use Rattle.law_copies.specs.Pair.{Known, Pair, PairOk}
 use Rattle.law_copies.specs.LoneSteps.{StaysTold}
 use Rattle.law_copies.proofs.LeftByEntry.{KeepsAll, keeps_onward}
 use Rattle.law_copies.proofs.OtherServerChanges.{kept_copying, kept_told}
@@ -47,11 +47,6 @@ stays_alike own to row cell a b pages alike = record {
     by (Is_to_be_copied all ahead) = Is_to_be_copied all (ap (λ (p : Progress). above p.copied cell.block) progress ∙ ahead)
 
 -- ### Pairs that move on
-
--- of an entry that moves, the second one of a pair has nothing until it has followed
-abbrev pub IsLacking : Pair → Type 0
-IsLacking pair = (op : Pending) → pair.pending ≡ Some op → is_clients op.kind ≡ false → far pair ≤ op.op + op.op
-    → at nat_cmp pair.second op.key.epoch ≡ None
 
 -- what is so of a pair, and what letters tell of it, is so of the other one
 pub record PairGoes (old new : Pair) : Type 0 where

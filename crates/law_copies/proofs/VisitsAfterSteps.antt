@@ -139,17 +139,6 @@ module _ (it : AtStep) where
       (number_itself k)
       ∙ ap (λ b. if b then Some server.own else good.visits k (place_by setting front row) cell) (is_at_so setting k server cell row is seat alive)
 
-  pub visited_apart : (n place : ℕ) (cell : Cell) → n ≢ k → later n place cell ≡ good.visits n place cell
-  visited_apart n place cell ne = by_bool (n == k)
-      (λ same. absurd (ne (same_numbers n k same)))
-      (λ off. ap (λ b. if b && is_at setting k server place cell then Some server.own else good.visits n place cell) off)
-
-  -- another place stays as it was
-  pub visited_beside : (n place : ℕ) (cell : Cell) → (IsAt setting k server place cell → ⊥) → later n place cell ≡ good.visits n place cell
-  visited_beside n place cell away = by_bool ((n == k) && is_at setting k server place cell)
-      (λ on. absurd (away (at_by setting k server place cell (both_true (n == k) (is_at setting k server place cell) on).1)))
-      (λ off. ap (λ b. if b then Some server.own else good.visits n place cell) off)
-
   -- the visit is the server's as it is now, or as it was
   pub record IsNow (n place : ℕ) (cell : Cell) : Type 0 where
     pub who : n ≡ k
@@ -166,6 +155,13 @@ module _ (it : AtStep) where
         is = ap (λ b. if b then Some server.own else good.visits n place cell) on;
       }))
       (λ off. inl (ap (λ b. if b then Some server.own else good.visits n place cell) off))
+
+  pub visited_apart : (n place : ℕ) (cell : Cell) → n ≢ k → later n place cell ≡ good.visits n place cell
+  visited_apart n place cell ne = elim (visited_by n place cell) [ inl same ↦ same | inr now ↦ absurd (ne now.who) ]
+
+  -- another place stays as it was
+  pub visited_beside : (n place : ℕ) (cell : Cell) → (IsAt setting k server place cell → ⊥) → later n place cell ≡ good.visits n place cell
+  visited_beside n place cell away = elim (visited_by n place cell) [ inl same ↦ same | inr now ↦ absurd (away now.there) ]
 
   -- who was at a place still was
   pub none_before : (n place : ℕ) (cell : Cell) → later n place cell ≡ None → good.visits n place cell ≡ None
@@ -313,18 +309,24 @@ module _ (it : AtStep) where
   stored_here = ap (λ b. if b then server.own.store else good.stores k (blank_joins_in setting top k))
       (ap (λ b. b && (blank_joins_in setting top k == blank_joins_in setting top k)) (number_itself k) ∙ number_itself (blank_joins_in setting top k))
 
+  -- it is that one, or is as it was
+  stored_of : (n joins : ℕ) → (stored n joins ≡ good.stores n joins)
+      ⊎ ((n ≡ k) × (joins ≡ blank_joins_in setting top k) × (stored n joins ≡ server.own.store))
+  stored_of n joins = by_bool ((n == k) && (joins == blank_joins_in setting top k))
+      (λ on.
+      let two = both_true (n == k) (joins == blank_joins_in setting top k) on in
+      inr (
+        same_numbers n k two.0,
+        same_numbers joins (blank_joins_in setting top k) two.1,
+        ap (λ b. if b then server.own.store else good.stores n joins) on,
+      ))
+      (λ off. inl (ap (λ b. if b then server.own.store else good.stores n joins) off))
+
   pub stored_apart : (n joins : ℕ) → n ≢ k → stored n joins ≡ good.stores n joins
-  stored_apart n joins ne = by_bool (n == k)
-      (λ same. absurd (ne (same_numbers n k same)))
-      (λ off. ap (λ b. if b && (joins == blank_joins_in setting top k) then server.own.store else good.stores n joins) off)
+  stored_apart n joins ne = elim (stored_of n joins) [ inl same ↦ same | inr now ↦ absurd (ne now.0) ]
 
   pub stored_frozen : (n joins : ℕ) → joins ≢ blank_joins_in setting top k → stored n joins ≡ good.stores n joins
-  stored_frozen n joins ne = by_bool (joins == blank_joins_in setting top k)
-      (λ same. absurd (ne (same_numbers joins (blank_joins_in setting top k) same)))
-      (λ off. by_bool (n == k)
-      (λ on. ap (λ b. if b && (joins == blank_joins_in setting top k) then server.own.store else good.stores n joins) on
-      ∙ ap (λ b. if b then server.own.store else good.stores n joins) off)
-      (λ apart. ap (λ b. if b && (joins == blank_joins_in setting top k) then server.own.store else good.stores n joins) apart))
+  stored_frozen n joins ne = elim (stored_of n joins) [ inl same ↦ same | inr now ↦ absurd (ne now.1) ]
 
   -- by a front after which the server has joined no more
   pub stored_by : (f : List Command) → blank_joins_in setting f k ≡ blank_joins_in setting top k → store_by setting stored f k ≡ server.own.store
@@ -342,11 +344,10 @@ module _ (it : AtStep) where
 
   pub ever_then : ((cell : Cell) → IsRising nat_cmp (chain_in server.own.store.chains cell)) → (n joins : ℕ) (cell : Cell)
       → IsRising nat_cmp (chain_in (stored n joins).chains cell)
-  ever_then rising n joins cell = by ((n == k) && (joins == blank_joins_in setting top k))
-    where
-      by : (b : Bool) → IsRising nat_cmp (chain_in (if b then server.own.store else good.stores n joins).chains cell)
-      by true = rising cell
-      by false = good.ever n joins cell
+  ever_then rising n joins cell = elim (stored_of n joins) [
+    | inl same ↦ subst (λ (s : Store). IsRising nat_cmp (chain_in s.chains cell)) (sym same) (good.ever n joins cell)
+    | inr now ↦ subst (λ (s : Store). IsRising nat_cmp (chain_in s.chains cell)) (sym now.2) (rising cell)
+  ]
 
   -- ### Ballots that were started
 

@@ -14,7 +14,7 @@ module _ (it : OneMore) where
   -- what a server's own part is that has nothing in memory
   pub woken_sound : (v : World) (k : ℕ) (server : Server) → IsStep setting top before v k server → server.own.pairs ≡ no_pairs → server.own.copies ≡ no_copies
       → server.own.store.chains ≡ (before.servers k).own.store.chains → server.own.store.marks ≡ (before.servers k).own.store.marks
-      → IsSoundOwn setting top v k server
+      → IsSoundOwn setting v k server
   woken_sound v k server step pairs copies chains marks = record {
     unheard = λ cell none.
         let le = (log_below setting.servers (w.servers k).log.applied server.log.applied

@@ -9,9 +9,12 @@ abbrev pub SaysKnown : List Post → Cell → Pair → Type 0
 SaysKnown posts cell pair = (post : Post) → In post posts → (about post.body).cell ≡ Some cell → Known pair post.body
 
 -- of an entry that moves, which is pending at the first server, the second one has nothing until it has followed
+abbrev pub IsLacking : Pair → Type 0
+IsLacking pair = (op : Pending) → pair.pending ≡ Some op → is_clients op.kind ≡ false → far pair ≤ op.op + op.op
+    → at nat_cmp pair.second op.key.epoch ≡ None
+
 abbrev pub LacksFill : (first second : PairState) → Cell → Type 0
-LacksFill first second cell = (op : Pending) → at cell_cmp first.pairs.pending cell ≡ Some op → is_clients op.kind ≡ false
-    → far (pair_of first second cell) ≤ op.op + op.op → at nat_cmp (chain_in second.store.chains cell) op.key.epoch ≡ None
+LacksFill first second cell = IsLacking (pair_of first second cell)
 
 -- at the first server, where the second one has this
 pub record LeadKeeps (own new : PairState) (posts : List Post) (second : PairState) (cell : Cell) : Type 0 where

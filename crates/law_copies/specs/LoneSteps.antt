@@ -63,20 +63,24 @@ abbrev pub PagesOf : (heard : Body → Type 0) → LinkRow → Cell → Store �
 PagesOf heard row cell now visit = (after block : Option ℕ) → heard (body.Hello row.map row.link after block)
     → IsPage cell now visit after block
 
--- what the job keeps, with what is known of what it sends; a mark goes only by a copy, whose other server was there; what the holder
--- has stays; and nothing is changed of the cell once a ballot was started for the link's Caught
+-- what a change keeps: a mark goes only by a copy, whose other server was there; what the holder has stays; and nothing is changed of the cell
+-- once a ballot was started for the link's Caught
+pub record HolderStep (heard : Body → Type 0) (links : ℕ) (row : LinkRow) (cell : Cell) (other : Option PairState) (own to : PairState) : Type 0 where
+  pub copying : AreCopying links row cell (Some to) other
+  pub told : StaysTold row cell (Some own) other (Some to) other
+  pub marks : IsMarked own.store cell → IsMarked to.store cell ⊎ (is_some other ≡ true)
+  pub stored : chain_in own.store.chains cell ≢ [] → chain_in to.store.chains cell ≢ []
+  pub alike : (now : Store) → IsStill cell other now → PagesOf heard row cell now other → IsRising nat_cmp (chain_in now.chains cell)
+      → AreAlike row cell own.store now (Some own) → AreAlike row cell to.store now (Some to)
+  pub caught : is_flagged own (id_of row) ≡ true
+      → (chain_in to.store.chains cell ≡ chain_in own.store.chains cell) × (IsMarked to.store cell → ⊥) × (is_flagged to (id_of row) ≡ true)
+
+-- and what is known of what the job sends
 pub record HolderKeeps (heard : Body → Type 0) (links : ℕ) (row : LinkRow) (cell : Cell) (own : PairState) (other : Option PairState)
     (done : JobResult) : Type 0 where
-  pub copying : AreCopying links row cell (Some done.own) other
-  pub told : StaysTold row cell (Some own) other (Some done.own) other
+  pub step : HolderStep heard links row cell other own done.own
+  pub open step use *
   pub says : (post : Post) → In post done.posts → (about post.body).cell ≡ Some cell → IsTold row (Some done.own) other post.body
-  pub marks : IsMarked own.store cell → IsMarked done.own.store cell ⊎ (is_some other ≡ true)
-  pub stored : chain_in own.store.chains cell ≢ [] → chain_in done.own.store.chains cell ≢ []
-  pub alike : (now : Store) → IsStill cell other now → PagesOf heard row cell now other → IsRising nat_cmp (chain_in now.chains cell)
-      → AreAlike row cell own.store now (Some own) → AreAlike row cell done.own.store now (Some done.own)
-  pub caught : is_flagged own (id_of row) ≡ true
-      → (chain_in done.own.store.chains cell ≡ chain_in own.store.chains cell) × (IsMarked done.own.store cell → ⊥) ×
-      (is_flagged done.own (id_of row) ≡ true)
 
 -- what a ballot that is started keeps: stores stay as they are
 pub record BallotKeeps (links : ℕ) (row : LinkRow) (cell : Cell) (own : PairState) (other : Option PairState) (to : PairState) : Type 0 where
@@ -105,18 +109,18 @@ pub record IsLeftBy (row : LinkRow) (holder : Option PairState) (cell : Cell) : 
   pub met : holder ≡ Some by
   pub left : IsLeft by row cell
 
--- what the job keeps, with what is known of what it sends; the cell's chain changes only where the holder has the block left to copy
-pub record KeepsHere (links : ℕ) (row : LinkRow) (cell : Cell) (holder : Option PairState) (own : PairState) (done : JobResult) : Type 0 where
-  pub copying : AreCopying links row cell holder (Some done.own)
-  pub told : StaysTold row cell holder (Some own) holder (Some done.own)
-  pub says : (post : Post) → In post done.posts → (about post.body).cell ≡ Some cell → IsTold row holder (Some done.own) post.body
-  pub marks : (kind : MarkKind) → is_marked done.own.store kind cell ≡ is_marked own.store kind cell
-  pub changes : (chain_in done.own.store.chains cell ≡ chain_in own.store.chains cell) ⊎ IsLeftBy row holder cell
+-- what is kept of the cell: its chain changes only where the holder has the block left to copy
+pub record StaysHere (links : ℕ) (row : LinkRow) (cell : Cell) (holder : Option PairState) (own new : PairState) : Type 0 where
+  pub copying : AreCopying links row cell holder (Some new)
+  pub told : StaysTold row cell holder (Some own) holder (Some new)
+  pub marks : (kind : MarkKind) → is_marked new.store kind cell ≡ is_marked own.store kind cell
+  pub changes : (chain_in new.store.chains cell ≡ chain_in own.store.chains cell) ⊎ IsLeftBy row holder cell
 
--- and of its pages and chains
+-- and what is known of what the job sends, of its pages and of chains
 pub record OtherKeeps (links : ℕ) (row : LinkRow) (cell : Cell) (holder : Option PairState) (own : PairState) (done : JobResult) : Type 0 where
-  pub here : KeepsHere links row cell holder own done
+  pub here : StaysHere links row cell holder own done.own
   pub open here use *
+  pub says : (post : Post) → In post done.posts → (about post.body).cell ≡ Some cell → IsTold row holder (Some done.own) post.body
   pub pages : (post : Post) → In post done.posts → (after block : Option ℕ) → post.body ≡ body.Hello row.map row.link after block
       → IsPage cell done.own.store (Some done.own) after block
   pub rising : IsRising nat_cmp (chain_in done.own.store.chains cell)
