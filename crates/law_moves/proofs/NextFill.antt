@@ -7,6 +7,7 @@ use Rattle.law_moves.proofs.Imports.{keys_in, keys_of, lookup, map, nat_cmp, nat
 use Rattle.law_moves.proofs.Imports.{region_of, region_to_move, same_numbers, same_some, subst, sym, true, true_false, unwrap_or, ℕ}
 use Rattle.std.specs.BTreeMap.{is_at}
 use Rattle.law_moves.specs.LeftToMove.{IsKept, IsKnown, IsNext, IsOurs, last_told}
+use Rattle.law_state.proofs.TestFacts.{less_by, less_test}
 
 -- ### The order of keys
 
@@ -17,33 +18,27 @@ IsBefore one other = (one.block < other.block) ⊎ ((one.block ≡ other.block) 
 abbrev pub IsAfter : Key → Key → Type 0
 IsAfter one other = (other.block < one.block) ⊎ ((one.block ≡ other.block) × (one.epoch ≤ other.epoch))
 
-less_is : (a b : ℕ) → nat_lt a b ≡ true → a < b
-less_is a b e = grind (arith, nat_tests)
-
 less_not : (a b : ℕ) → nat_lt a b ≡ false → b ≤ a
 less_not a b e = grind (arith, nat_tests)
-
-is_less : (a b : ℕ) → a < b → nat_lt a b ≡ true
-is_less a b h = grind (arith, nat_tests)
 
 not_less : (a b : ℕ) → b ≤ a → nat_lt a b ≡ false
 not_less a b h = grind (arith, nat_tests)
 
 pub before_is : (one other : Key) → comes_before one other ≡ true → IsBefore one other
-before_is one other e = by_bool (nat_lt one.block other.block) (λ t. inl (less_is one.block other.block t))
+before_is one other e = by_bool (nat_lt one.block other.block) (λ t. inl (less_by one.block other.block t))
     (λ f.
     let rest : (one.block == other.block && nat_lt other.epoch one.epoch) ≡ true =
     sym (ap (λ b. b || (one.block == other.block && nat_lt other.epoch one.epoch)) f) ∙ e in
     let both = both_true (one.block == other.block) (nat_lt other.epoch one.epoch) rest in
-    inr (same_numbers one.block other.block both.0, less_is other.epoch one.epoch both.1))
+    inr (same_numbers one.block other.block both.0, less_by other.epoch one.epoch both.1))
 
 pub is_before : (one other : Key) → IsBefore one other → comes_before one other ≡ true
 is_before one other (inl lt) =
-    ap (λ b. b || (one.block == other.block && nat_lt other.epoch one.epoch)) (is_less one.block other.block lt)
+    ap (λ b. b || (one.block == other.block && nat_lt other.epoch one.epoch)) (less_test one.block other.block lt)
 is_before one other (inr h) =
     let le : nat_lt one.block other.block ≡ false = not_less one.block other.block (let e = h.0 in omega arith) in
     ap (λ b. b || (one.block == other.block && nat_lt other.epoch one.epoch)) le
-    ∙ (λ i. same i && is_less other.epoch one.epoch h.1 i)
+    ∙ (λ i. same i && less_test other.epoch one.epoch h.1 i)
   where
     same : (one.block == other.block) ≡ true
     same = subst (λ k. (one.block == k) ≡ true) h.0 (number_itself one.block)
@@ -53,15 +48,15 @@ pub either_way : (one other : Key) → IsBefore one other ⊎ IsAfter one other
 either_way one other = by (nat_lt one.block other.block) refl
   where
     epochs : (b : Bool) → nat_lt other.epoch one.epoch ≡ b → one.block ≡ other.block → IsBefore one other ⊎ IsAfter one other
-    epochs true e same = inl (inr (same, less_is other.epoch one.epoch e))
+    epochs true e same = inl (inr (same, less_by other.epoch one.epoch e))
     epochs false e same = inr (inr (same, less_not other.epoch one.epoch e))
 
     blocks : (b : Bool) → nat_lt other.block one.block ≡ b → other.block ≤ one.block → IsBefore one other ⊎ IsAfter one other
-    blocks true e le = inr (inl (less_is other.block one.block e))
+    blocks true e le = inr (inl (less_by other.block one.block e))
     blocks false e le = let low = less_not other.block one.block e in epochs (nat_lt other.epoch one.epoch) refl (omega arith)
 
     by : (b : Bool) → nat_lt one.block other.block ≡ b → IsBefore one other ⊎ IsAfter one other
-    by true e = inl (inl (less_is one.block other.block e))
+    by true e = inl (inl (less_by one.block other.block e))
     by false e = blocks (nat_lt other.block one.block) refl (less_not one.block other.block e)
 
 -- not both

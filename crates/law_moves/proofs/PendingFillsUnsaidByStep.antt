@@ -3,20 +3,19 @@
 use Rattle.law_moves.proofs.Imports.{◌==◌, ◌∙◌, ◌≡◌, ◌≢◌, ◌≤◌, ◌⊎◌, AreSteps, At, Bool, Both, Cell, Command, Handled, IsAt, IsHeldBy, IsInBoth, IsLinked}
 use Rattle.law_moves.proofs.Imports.{IsPrefix, IsStaged, Key, Letter, LinkRow, List, None, OneMore, Only, Option, PairState, Pairs, Pending, Run, Server}
 use Rattle.law_moves.proofs.Imports.{Some, Store, WasThere, World, ap, arith, at, at-empty, at_by, at_most_or_above, blank_joins_in, by_bool, cell_cmp}
-use Rattle.law_moves.proofs.Imports.{cell_link, cell_of, chain_in, chosen_log, cut, either_true, ends_of, false, far, front_itself, front_on, half}
-use Rattle.law_moves.proofs.Imports.{has_proposed, history_grows, history_is_firm, inl, inr, is_at, is_at_so, is_in, is_some, is_the_one, leads_link}
-use Rattle.law_moves.proofs.Imports.{link_led_by, linked_between, nat_cmp, one_row, option_and_then, own_place, pair_at, place_by, places_up, progress}
-use Rattle.law_moves.proofs.Imports.{row_lead, same_numbers, same_only, same_or_apart, same_some, server_state, stage_at, stage_live, subst, sym, taking}
-use Rattle.law_moves.proofs.Imports.{true, true_false, ℕ}
+use Rattle.law_moves.proofs.Imports.{cell_link, cell_of, chain_in, chosen_log, cut, either_true, ends_of, far, front_itself, front_on, half, has_proposed}
+use Rattle.law_moves.proofs.Imports.{history_grows, history_is_firm, inl, inr, is_at, is_at_so, is_in, is_some, is_the_one, leads_link, link_led_by}
+use Rattle.law_moves.proofs.Imports.{linked_between, nat_cmp, one_row, option_and_then, own_place, pair_at, place_by, places_up, progress, row_lead}
+use Rattle.law_moves.proofs.Imports.{same_numbers, same_only, same_or_apart, same_some, server_state, stage_at, stage_live, subst, sym, true, true_false, ℕ}
 use Rattle.law_moves.specs.Fills.{Has, IsFrozen, WasFilled}
 use Rattle.law_moves.proofs.LeavingCellsGainNothing.{before}
 use Rattle.law_moves.proofs.AllKeptOfMoves.{Known, WereKnown}
 use Rattle.law_moves.proofs.LeadsHaveWhatServersHave.{Alone, As_first, Following, IsAfter, led_as}
 use Rattle.law_moves.proofs.PendingFills.{by_itself, posted_says}
-use Rattle.law_moves.proofs.FillLetters.{Asks_copy, Is_done, Is_done_alone, Is_neither, Is_there, Says, is_filled}
+use Rattle.law_moves.proofs.FillLetters.{HasFilled, Is_there, Was_put}
 use Rattle.law_moves.proofs.StepsTellEntries.{IsPosted, mine_top, mine_whole}
 use Rattle.law_moves.proofs.EqualCopies.{frozen_on}
-use Rattle.law_moves.proofs.ToldEntriesAreThere.{filled_key, told_already}
+use Rattle.law_moves.proofs.ToldEntriesAreThere.{told_already}
 use Rattle.law_moves.proofs.MoveWorlds.{chosen_twins, facts_at, good, own_counts, rests, steady_at, up, was_seen}
 use Rattle.law_moves.proofs.MoveScenes.{FillAtPlace, LeadsAt}
 use Rattle.petal_msg.specs.declared.body.Body.TheVariants as body
@@ -100,10 +99,7 @@ module _ (it : OneMore) (all : WereKnown it) where
         k = p.n
 
         abbrev SaysIt : Type 0
-        SaysIt = Says (Handled w k) (own_place setting w k) (w.servers k).own p.job.done p.post
-
-        text : p.post.body ≡ body.Filled op.key
-        text = sym p.body ∙ said
+        SaysIt = HasFilled (Handled w k) (own_place setting w k) (w.servers k).own p.job.done.own op.key
 
         cell_is : (key : Key) → key ≡ op.key → cell_of key ≡ cell
         cell_is key e = ap cell_of e ∙ staged.keyed
@@ -140,28 +136,20 @@ module _ (it : OneMore) (all : WereKnown it) where
             }
 
         leading_by : SaysIt → IsLeading
-        leading_by (Is_neither other) = true_false (ap is_filled text) other.0
-        leading_by (Asks_copy o there stage txt) = let f : false ≡ true = ap is_filled (sym txt ∙ text) in absurd cc
-        leading_by (Is_there moving filled txt same) =
-            let key_is = filled_key (sym txt ∙ text) in
-            let to = cell_is moving.key key_is in
+        leading_by (Is_there moving filled of same) =
+            let to = cell_is moving.key of in
             let facts = (facts_at prior (mine k) (mine_top it k) (cell_of moving.key)).leads k filled.lead in
             record {
               seat = filled.seated;
               leads = subst (λ (q : Cell). leads_link (server_state setting w k) k q ≡ true) to facts.0;
               born = subst (λ (q : Cell). 1 ≤ stage_at (server_state setting w k) q) to facts.1;
-              so = Has_it (subst (λ (q : Cell). Has (chain_in (w.servers k).own.store.chains q) op.key.epoch) to
-                  (subst (λ e. Has (chain_in (w.servers k).own.store.chains (cell_of moving.key)) e) (ap (λ (x : Key). x.epoch) key_is) filled.has));
+              so = Has_it (subst (λ (x : Key). Has (chain_in (w.servers k).own.store.chains cell) x.epoch) of
+                  (subst (λ (q : Cell). Has (chain_in (w.servers k).own.store.chains q) moving.key.epoch) to filled.has));
             }
-        leading_by (Is_done o there both stage fill txt none) =
-            had_it o o.cell there (sym (staged_now o o.cell there).keyed ∙ cell_is o.key (filled_key (sym txt ∙ text)))
-        leading_by (Is_done_alone taken_now o taken alone put fill txt none) =
-            let old = taking (w.servers k).own taken_now o taken in
-            had_it old.old o.cell old.was
-            (sym (ap (λ (x : Pending). cell_of x.key) old.is ∙ (staged_now old.old o.cell old.was).keyed) ∙ cell_is o.key (filled_key (sym txt ∙ text)))
+        leading_by (Was_put o there of fill put how none) = had_it o o.cell there (sym (staged_now o o.cell there).keyed ∙ cell_is o.key of)
 
         leading : IsLeading
-        leading = leading_by (posted_says it all letter p)
+        leading = leading_by (posted_says it all letter p op.key said)
 
         visit : (o : PairState) × ((good prior).visits n place cell ≡ Some o) × (o.pairs ≡ pairs)
         visit = was_seen prior n place cell pairs was
@@ -189,7 +177,7 @@ module _ (it : OneMore) (all : WereKnown it) where
             ap (λ i. (v.servers i).life.inc) e ∙ ap (λ (s : Server). s.life.inc) p.is ∙ p.job.inc_is ∙ ap (λ i. (w.servers i).life.inc) (sym e) in
             let at_now : is_at setting n (v.servers n) place cell ≡ true = same_at n (v.servers n) (w.servers n) log_is inc_is ∙ at_was in
             by_itself it all n cell op (had at_now) fills letter said p e
-            (posted_says it all letter p)
+            (posted_says it all letter p op.key said)
           where
             same_at : (i : ℕ) (s t : Server) → s.log.applied ≡ t.log.applied → s.life.inc ≡ t.life.inc
                 → is_at setting i s place cell ≡ is_at setting i t place cell

@@ -8,6 +8,7 @@ use Rattle.law_run.proofs.Imports.{with_disk, written, zero_block, ℕ}
 use Rattle.std.specs.Prelude.{find}
 use Rattle.spec_machine.specs.Run.{IsOpen}
 use Rattle.law_run.specs.WritesGoOn.{IsMindful, held_in, Onward, Seat}
+use Rattle.law_state.proofs.NewMapLinks.{or_true}
 
 pub Obeys-append : (m : Plain) (es fs : List Event) → Obeys m es → Obeys (replay m es) fs → Obeys m (es ++ fs)
 Obeys-append m [] fs h g = g
@@ -80,9 +81,9 @@ pub disks_after : (m : Plain) (e : Event) → (after m e).disks ≡ (changed m e
 unfolding after
 disks_after m e = refl
 
-or_true : (a : Bool) → (a || true) ≡ true
-or_true true = refl
-or_true false = refl
+or_none : {A : Type 0} (o : Option A) → option_or o None ≡ o
+or_none None = refl
+or_none (Some x) = refl
 
 pub or_former : (a b : Bool) → a ≡ true → (a || b) ≡ true
 or_former true b e = refl
@@ -103,7 +104,7 @@ after_mindful m e c o is stands_now =
     let from = mapped (remembers (changed m e).disks) (open_of (changed m e).opened c) o (sym (opened_after m e c) ∙ is) in
     let there : stands (changed m e).disks o.write ≡ true = ap (λ d. stands d o.write) (sym (disks_after m e)) ∙ stands_now in
     let was : stands (changed m e).disks from.0.write ≡ true = ap (λ (x : Open). stands (changed m e).disks x.write) from.2 ∙ there in
-    sym (ap (λ (x : Open). x.held) from.2) ∙ ap (λ b. from.0.held || b) was ∙ or_true from.0.held
+    sym (ap (λ (x : Open). x.held) from.2) ∙ ap (λ b. from.0.held || b) was ∙ or_true from.0.held true refl
 
 -- where the disks stay, nothing new is remembered
 pub still : (m : Plain) (c : ℕ) (o : Option Open) → open_of m.opened c ≡ o → IsMindful m → option_map (remembers m.disks) o ≡ o
@@ -169,10 +170,6 @@ unbegun : (o : Option Open) (w : Write) (c : ℕ) → c ≢ w.client → option_
 unbegun o w c ne =
     ap (λ b. option_or o (cond b (Some (record { write = w; held = false })) None))
     (by_bool (w.client == c) (λ t. absurd (ne (sym (same_numbers w.client c t)))) (λ f. f)) ∙ or_none o
-  where
-    or_none : (o : Option Open) → option_or o None ≡ o
-    or_none None = refl
-    or_none (Some x) = refl
 
 -- the write is under way
 pub begin_seat : (m : Plain) (w : Write) → open_of m.opened w.client ≡ None → Seat (Some w) (open_of (after m (Begin w)).opened w.client)
@@ -231,10 +228,6 @@ make_others m name other ne =
     ap (λ ds. disk_of ds other) (disks_after m (Make name)) ∙ find-append (is_named other) m.disks (new_disk name ∷ [])
     ∙ ap (λ b. option_or (disk_of m.disks other) (cond b (Some (new_disk name)) None)) (unnamed name other (new_disk name) refl ne)
     ∙ or_none (disk_of m.disks other)
-  where
-    or_none : (o : Option PlainDisk) → option_or o None ≡ o
-    or_none None = refl
-    or_none (Some x) = refl
 
 pub make_onward : (m : Plain) (name : List ℕ) → Onward m (after m (Make name))
 make_onward m name = onward_by m (after m (Make name)) (changed m (Make name)).disks (opened_after m (Make name))
