@@ -1,22 +1,21 @@
 -- A fill that a server had pending when it was at the place that the cell's link has by what is chosen, before a step: no letter of the step says that its
 -- entry is there.
-use Rattle.law_moves.proofs.Imports.{◌==◌, ◌∙◌, ◌≡◌, ◌≢◌, ◌≤◌, ◌⊎◌, AreSteps, At, Bool, Both, Cell, Command, Handled, IsAt, IsHeldBy, IsInBoth, IsLinked}
-use Rattle.law_moves.proofs.Imports.{IsPrefix, IsStaged, Key, Letter, LinkRow, List, None, OneMore, Only, Option, PairState, Pairs, Pending, Run, Server}
-use Rattle.law_moves.proofs.Imports.{Some, Store, WasThere, World, ap, arith, at, at-empty, at_by, at_most_or_above, blank_joins_in, by_bool, cell_cmp}
-use Rattle.law_moves.proofs.Imports.{cell_link, cell_of, chain_in, chosen_log, cut, either_true, ends_of, far, front_itself, front_on, half, has_proposed}
-use Rattle.law_moves.proofs.Imports.{history_grows, history_is_firm, inl, inr, is_at, is_at_so, is_in, is_some, is_the_one, leads_link, link_led_by}
-use Rattle.law_moves.proofs.Imports.{linked_between, nat_cmp, one_row, option_and_then, own_place, pair_at, place_by, places_up, progress, row_lead}
-use Rattle.law_moves.proofs.Imports.{same_numbers, same_only, same_or_apart, same_some, server_state, stage_at, stage_live, subst, sym, true, true_false, ℕ}
+use Rattle.law_moves.proofs.Imports.{◌∙◌, ◌≡◌, ◌≢◌, ◌≤◌, ◌⊎◌, AreSteps, At, Bool, Both, Cell, Command, Handled, IsAt, IsHeldBy, IsInBoth, IsLinked, IsPrefix}
+use Rattle.law_moves.proofs.Imports.{IsStaged, Key, Letter, LinkRow, List, None, OneMore, Only, PairState, Pairs, Pending, Run, Server, Some, WasThere, World}
+use Rattle.law_moves.proofs.Imports.{ap, arith, at, at_by, at_most_or_above, cell_cmp, cell_link, cell_of, chain_in, chosen_log, cut, ends_of, front_itself}
+use Rattle.law_moves.proofs.Imports.{front_on, has_proposed, history_grows, history_is_firm, inl, inr, is_at, is_at_so, is_in, is_some, is_the_one}
+use Rattle.law_moves.proofs.Imports.{leads_link, link_led_by, linked_between, nat_cmp, one_row, option_and_then, own_place, place_by, places_up, row_lead}
+use Rattle.law_moves.proofs.Imports.{same_only, same_or_apart, same_some, server_state, stage_at, stage_live, subst, sym, true, true_false, ℕ}
 use Rattle.law_moves.specs.Fills.{Has, IsFrozen, WasFilled}
 use Rattle.law_moves.proofs.LeavingCellsGainNothing.{before}
 use Rattle.law_moves.proofs.AllKeptOfMoves.{Known, WereKnown}
-use Rattle.law_moves.proofs.LeadsHaveWhatServersHave.{Alone, As_first, Following, IsAfter, led_as}
+use Rattle.law_moves.proofs.LeadsHaveWhatServersHave.{Alone, As_first, Following, IsAfter, follower_lacks, led_as}
 use Rattle.law_moves.proofs.PendingFills.{by_itself, posted_says}
 use Rattle.law_moves.proofs.FillLetters.{HasFilled, Is_there, Was_put}
 use Rattle.law_moves.proofs.StepsTellEntries.{IsPosted, mine_top, mine_whole}
 use Rattle.law_moves.proofs.EqualCopies.{frozen_on}
 use Rattle.law_moves.proofs.ToldEntriesAreThere.{told_already}
-use Rattle.law_moves.proofs.MoveWorlds.{chosen_twins, facts_at, good, own_counts, rests, steady_at, up, was_seen}
+use Rattle.law_moves.proofs.MoveWorlds.{facts_at, good, rests, steady_at, up, was_seen}
 use Rattle.law_moves.proofs.MoveScenes.{FillAtPlace, LeadsAt}
 use Rattle.petal_msg.specs.declared.body.Body.TheVariants as body
 
@@ -217,23 +216,9 @@ module _ (it : OneMore) (all : WereKnown it) where
           lacks : IsAfter prior cell k leads_now now
               → at nat_cmp (chain_in (w.servers k).own.store.chains cell) op.key.epoch ≡ None
           lacks b =
-              let good_now = good prior in
-              let at_place : ℕ → Option PairState = λ i. good_now.visits i (place_by setting top now) cell in
-              let first_is = first_of b.both in
-              let there : at_place now.primary ≡ Some visit.0 =
-              ap at_place first_is ∙ ap (λ q. good_now.visits n q cell) spot_top ∙ visit.1 in
-              let second_is : now.secondary ≡ k = same_numbers now.secondary k (either_true (now.primary == k) (now.secondary == k) b.one_of
-              (by_bool (now.primary == k) (λ t. absurd (apart (sym first_is ∙ same_numbers now.primary k t))) (λ f. f))) in
-              let far_is : far (pair_at (λ i. good_now.stores i (blank_joins_in setting top i)) good_now.visits
-              (place_by setting top now) cell now.primary now.secondary) ≡ 0 =
-              ap (λ o. progress (at cell_cmp (half o (good_now.stores now.secondary (blank_joins_in setting top now.secondary))).pairs.last cell))
-              (ap at_place second_is ∙ b.unseen) ∙ ap progress (at-empty cell_cmp cell) in
-              let none = (chosen_twins prior cell now linked_top.1 b.both (omega arith)).lacks visit.0 op there
-              (ap (λ (q : Pairs). at cell_cmp q.pending cell) visit.2 ∙ is) fills (omega arith) in
-              ap (λ (s : Store). at nat_cmp (chain_in s.chains cell) op.key.epoch)
-              (sym (own_counts prior k p.job.runs (mine k) (mine_top it k) leading.seat) ∙ sym (good_now.now k)
-              ∙ ap (λ i. good_now.stores i (blank_joins_in setting top i)) (sym second_is))
-              ∙ none
+              follower_lacks prior cell n k apart leads_now now linked_top.1 (first_of b.both) b visit.0
+              (ap (λ q. (good prior).visits n q cell) spot_top ∙ visit.1) op (ap (λ (q : Pairs). at cell_cmp q.pending cell) visit.2 ∙ is) fills
+              (omega arith)
 
           pub not_other : ⊥
           not_other = elim (led_as prior cell k leads_now now linked_top.1) [

@@ -3,27 +3,16 @@
 use Rattle.law_moves.proofs.Imports.{[], ◌&&◌, ◌++◌, ◌<◌, ◌==◌, ◌||◌, ◌∙◌, ◌∷◌, ◌≡◌, ◌≢◌, ◌⊎◌, AliveIn, AreSteps, At, Bool, Both, ByBoth, ByNone, ByOne}
 use Rattle.law_moves.proofs.Imports.{By_caught, By_join, By_leave, Caught, Cell, Chain, Command, Copies, Good, HasJoinedSince, HasProperTuples, IsCaughtBy}
 use Rattle.law_moves.proofs.Imports.{IsCaughtIn, IsCaughtStill, IsLast, IsLinked, IsPrefix, IsServing, IsSteady, IsTouchedBy, Join, Leave, LinkRow, LinkState}
-use Rattle.law_moves.proofs.Imports.{List, Lost, OneMore, Only, PairState, Progress, Record, Server, Setting, Some, State, Store, WasStarted, World, alive_on}
-use Rattle.law_moves.proofs.Imports.{ap, arith, at, at-empty, before_part, blank_joins_in, blanked_state, by_bool, cell_link, chain_in, chosen_caught_was}
-use Rattle.law_moves.proofs.Imports.{chosen_log, counted_by, ends_of, false, front_itself, front_long, front_more, front_on, front_plain, has_server}
-use Rattle.law_moves.proofs.Imports.{history_grows, history_is_firm, id_of, if◌then◌else◌, inl, inr, is_flagged, joined_where, kept_by, length, length-append}
-use Rattle.law_moves.proofs.Imports.{link_cmp, linked_between, log_alone, log_lost, log_steady, log_touched, no_copies, number_itself, one_before, one_front}
-use Rattle.law_moves.proofs.Imports.{option_map_or, other_of, other_than, place_by, places_up, refl, row_blanked, row_joined, rows_later, same_only}
-use Rattle.law_moves.proofs.Imports.{same_or_apart, serves, serves_alone, serves_its, split_last, stands_in, state_next, subst, sym, true, true_false, ℕ}
+use Rattle.law_moves.proofs.Imports.{List, Lost, OneMore, Only, PairState, Progress, Server, Some, State, Store, WasStarted, alive_on, ap, arith, at}
+use Rattle.law_moves.proofs.Imports.{at-empty, before_part, blank_joins_in, blanked_state, by_bool, cell_link, chain_in, chosen_caught_was, chosen_log}
+use Rattle.law_moves.proofs.Imports.{counted_by, ends_of, false, front_itself, front_long, front_more, front_on, front_plain, has_server, history_grows}
+use Rattle.law_moves.proofs.Imports.{history_is_firm, id_of, if◌then◌else◌, inl, inr, is_flagged, joined_where, kept_by, length, length-append, link_cmp}
+use Rattle.law_moves.proofs.Imports.{linked_between, log_alone, log_lost, log_steady, log_touched, no_copies, number_itself, one_before, one_front}
+use Rattle.law_moves.proofs.Imports.{option_map_or, other_of, other_than, place_by, refl, row_blanked, row_joined, rows_later, same_only, same_or_apart}
+use Rattle.law_moves.proofs.Imports.{serves, serves_alone, serves_its, split_last, stands_in, state_next, subst, sym, true, true_false, ℕ}
 use Rattle.law_moves.proofs.StepsTellEntries.{Goes_on, Is_bare, Keeps, mine_top, Awakes, Works, gone, middle}
 use Rattle.law_copies.proofs.ServedAtLaterFronts.{holder_is_one}
-use Rattle.law_moves.proofs.MoveWorlds.{row_serving}
-
--- nobody who serves a link has been at a later place than the one by all that is chosen
-pub top_last : (setting : Setting) (records : List Record) (top : List Command) (w : World) → HasProperTuples setting.servers top
-    → (good : Good setting records top w) → (cell : Cell) (row : LinkRow) → IsLinked setting top cell row → IsLast good.reached setting top cell row
-top_last setting records top w plain good cell row is = elim (good.reaching.by cell) [
-  | inl none ↦ omega (arith, none)
-  | inr r ↦
-      let le = places_up setting top plain r.front top cell r.row row r.prefix (front_itself top) r.linked is in
-      let spot = r.at in
-      omega arith
-]
+use Rattle.law_moves.proofs.MoveWorlds.{row_serving, top_last}
 
 join_server : {n inc m other : ℕ} {blank bare : Bool} → Join n inc blank ≡ Join m other bare → n ≡ m
 join_server e = cc

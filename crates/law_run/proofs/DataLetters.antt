@@ -1,9 +1,9 @@
 -- What a server's step sends: which letters have data, and that one ends a write as written only where that has had its bytes.
-use Rattle.law_run.proofs.Imports.{[], ◌==◌, ◌∙◌, ◌∷◌, ◌≡◌, ◌⊎◌, Answered, Body, Bool, Did, Ending, Ends_fill, Finished, Glanced, In, IsOpen, IsRefusal}
-use Rattle.law_run.proofs.Imports.{JobContext, JobResult, Letter, List, Moves, Moves_on, NeverRetired, Of_the_log, OpKind, PairState, Plain, Post, Refused}
-use Rattle.law_run.proofs.Imports.{Refuses, Repeats, Says, Sender, Subject, about, ap, down_posts, ended, false, filter, inl, inr, is_logged, is_refused}
-use Rattle.law_run.proofs.Imports.{letters_of, letters_of_job, map, not, own_place, owns_of, post_of, range_with_len, refl, said, same_some, stamped}
-use Rattle.law_run.proofs.Imports.{subject_of, subst, sym, to_client, true, true_false, ℕ}
+use Rattle.law_run.proofs.Imports.{◌==◌, ◌∙◌, ◌≡◌, ◌⊎◌, Answered, Body, Bool, Did, Ending, Ends_fill, Finished, Glanced, In, IsOpen, IsRefusal, JobContext}
+use Rattle.law_run.proofs.Imports.{JobResult, Letter, List, Moves, Moves_on, NeverRetired, Of_the_log, OpKind, PairState, Plain, Post, Refused, Refuses}
+use Rattle.law_run.proofs.Imports.{Repeats, Says, Sender, Subject, about, ap, down_posts, ended, false, filter, inl, inr, is_logged, is_notice, is_refused}
+use Rattle.law_run.proofs.Imports.{letters_of, letters_of_job, not, own_place, owns_of, range_with_len, refl, said, same_some, stamped, subject_of, subst}
+use Rattle.law_run.proofs.Imports.{sym, to_client, true, true_false, ℕ}
 use Rattle.law_run.specs.WritesGoOn.{is_held, Onward}
 use Rattle.law_run.proofs.ReadsLookWhereSent.{is_looked, one_client}
 use Rattle.law_run.proofs.Machine.{held_onward}
@@ -11,6 +11,8 @@ use Rattle.law_run.proofs.LeadPutsThatCount.{finish_held}
 use Rattle.law_run.proofs.EventsOfServerSteps.{ServerStep, ends_of}
 use Rattle.law_jobs.specs.Sayings.{SaysOf}
 use Rattle.law_jobs.proofs.JobsSay.{IsOfRead, letters_by}
+use Rattle.law_steps.proofs.LettersOfSteps.{logged_notice}
+use Rattle.law_log.proofs.ProposersInSchedule.{said_to_all}
 use Rattle.petal_msg.specs.declared.body.Body.TheVariants as body
 use Rattle.petal_msg.specs.declared.letter.Actor.TheVariants as actor
 use Rattle.petal_msg.specs.declared.operation.Ending.TheVariants as ending
@@ -54,13 +56,13 @@ refused_written _ r = refl
 abbrev pub IsUnended : Post → Type 0
 IsUnended post = is_reply (subject_of post.body) ≡ false
 
+pub notice_unended : (subject : Subject) → is_notice subject ≡ true → is_reply subject ≡ false
+notice_unended Answered e = true_false e refl
+notice_unended Refused e = true_false e refl
+notice_unended _ e = refl
+
 pub logged_unended : (said : Body) → is_logged (subject_of said) ≡ true → is_reply (subject_of said) ≡ false
-logged_unended said e = by (subject_of said) e
-  where
-    by : (of : Subject) → is_logged of ≡ true → is_reply of ≡ false
-    by Answered e = true_false e refl
-    by Refused e = true_false e refl
-    by _ e = refl
+logged_unended said e = notice_unended (subject_of said) (logged_notice (subject_of said) e)
 
 pub unended_no_data : (who : Sender) (stamp : ℕ) (posts : List Post) → ((post : Post) → In post posts → IsUnended post) → (letter : Letter)
     → In letter (stamped stamp (letters_of who 0 posts)) → is_looked letter.body ≡ false
@@ -73,14 +75,9 @@ unended_no_end who stamp posts all letter h =
     let s = said who stamp 0 posts letter h in ap is_written s.body ∙ unended_written s.post.body (all s.post s.there)
 
 -- a server that stops tells the others
-downs : (me inc : ℕ) (others : List ℕ) (post : Post) → In post (map (post_of (body.Down me inc)) others) → IsUnended post
-unfolding In
-downs me inc [] post h = absurd h
-downs me inc (n ∷ others) post (inl e) = ap (λ (p : Post). is_reply (subject_of p.body)) e
-downs me inc (n ∷ others) post (inr h) = downs me inc others post h
-
 pub downs_unended : (me inc servers : ℕ) (post : Post) → In post (down_posts me inc servers) → IsUnended post
-downs_unended me inc servers post h = downs me inc (filter (λ n. not (n == me)) (range_with_len 0 servers)) post h
+downs_unended me inc servers post h =
+    ap (λ b. is_reply (subject_of b)) (said_to_all (body.Down me inc) (filter (λ n. not (n == me)) (range_with_len 0 servers)) post h)
 
 pub glances_unended : (post : Post) → subject_of post.body ≡ Glanced → IsUnended post
 glances_unended post e = ap is_reply e

@@ -1,14 +1,15 @@
--- What each event does to the machine.
+-- What each event does to the machine; and while no write begins or ends, what was tied to it stays tied.
 use Rattle.law_run.proofs.Imports.{[], ◌++◌, ◌==◌, ◌||◌, ◌∙◌, ◌∷◌, ◌≡◌, ◌≢◌, ◌⊎◌, AreSnapshots, Begin, Bool, DiskRow, End, Event, Holds, In, List, Look, Make}
-use Rattle.law_run.proofs.Imports.{None, Obeys, Open, Option, Plain, PlainDisk, Some, Table, Take, Write, WriteEnd, after, ap, at_apart, at_same, but_of}
-use Rattle.law_run.proofs.Imports.{by_bool, changed, cond, content, disk_of, false, find-append, has_content, inl, inr, is_named, is_of, map, nat_cmp}
-use Rattle.law_run.proofs.Imports.{nat_list_eq_equiv, nat_lists_same, none_some, not, number_itself, open_of, option_map, option_or, put, refl, remembers}
-use Rattle.law_run.proofs.Imports.{replay, same_bytes, same_numbers, same_or_apart, same_some, some_or_none, stands, subst, sym, true, true_false, unwrap_or}
-use Rattle.law_run.proofs.Imports.{with_disk, written, zero_block, ℕ}
+use Rattle.law_run.proofs.Imports.{None, Obeys, Open, Option, Plain, PlainDisk, Setting, Some, Table, Take, World, Write, WriteEnd, after, ap, at_apart}
+use Rattle.law_run.proofs.Imports.{at_same, but_of, by_bool, changed, cond, content, disk_of, false, find-append, has_content, inl, inr, is_named, is_of, map}
+use Rattle.law_run.proofs.Imports.{nat_cmp, nat_list_eq_equiv, nat_lists_same, none_some, not, number_itself, open_of, open_write, option_map, option_or, put}
+use Rattle.law_run.proofs.Imports.{refl, remembers, replay, same_bytes, same_numbers, same_or_apart, same_some, some_or_none, stands, subst, sym, true}
+use Rattle.law_run.proofs.Imports.{true_false, unwrap_or, with_disk, written, zero_block, ℕ}
 use Rattle.std.specs.Prelude.{find}
 use Rattle.spec_machine.specs.Run.{IsOpen}
 use Rattle.law_run.specs.WritesGoOn.{IsMindful, held_in, Onward, Seat}
 use Rattle.law_state.proofs.NewMapLinks.{or_true}
+use Rattle.law_run.specs.MachineTies.{Follow, Stores}
 
 pub Obeys-append : (m : Plain) (es fs : List Event) → Obeys m es → Obeys (replay m es) fs → Obeys m (es ++ fs)
 Obeys-append m [] fs h g = g
@@ -145,6 +146,18 @@ seat_onward m k c None h s = h.none c s
 seat_onward m k c (Some write) h s =
     let g = h.some c (record { write = write; held = s.0 }) s.1 in
     (g.now.held, g.is ∙ λ i. Some (record { write = g.same i; held = g.now.held }))
+
+-- what was tied to the machine stays tied: with other disks, or the same with other events
+pub follow_onward : (setting : Setting) (old new : List DiskRow) (v : World) (from to : Plain) → Follow setting old v from
+    → Onward from to → Stores setting new v to → Follow setting new v to
+follow_onward setting old new v from to follows goes_on stores = record {
+  stores = stores;
+  seats = λ c. seat_onward from to c (open_write v c) goes_on (follows.seats c);
+  letters = λ letter c seq h at says still. held_onward from to c goes_on (follows.letters letter c seq h at says still);
+  pending = λ n cell op on is clients counted still.
+      held_onward from to op.client goes_on (follows.pending n cell op on is clients counted still);
+  finished = λ n c newest on is how still. held_onward from to c goes_on (follows.finished n c newest on is how still);
+}
 
 -- ### Looks, begins and ends
 

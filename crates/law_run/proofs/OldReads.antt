@@ -1,17 +1,16 @@
 -- A read that was told that the new map has nothing, and is answered under the old one: whoever answers has what was frozen.
-use Rattle.law_run.proofs.Imports.{[], ◌&&◌, ◌||◌, ◌∙◌, ◌∷◌, ◌≡◌, ◌≤◌, Acted, Actor, Answered, AreStepsFrom, Blank, Bool, By_read, Cell, Did, Firm, Handled}
-use Rattle.law_run.proofs.Imports.{In, IsPrefix, IsRead, IsReadable, IsSteady, JobResult, Letter, List, MayActor, None, NotThere, Not_here, Record, Refused}
-use Rattle.law_run.proofs.Imports.{Serving, Setting, Shows, Some, State, Step, Subject, World, acts, ap, arith, begins_to_leave, both_true, by_bool, by_test}
-use Rattle.law_run.proofs.Imports.{bytes_of, chain_in, chain_that_counts, chosen_log, chosen_state, data_among, entry_at, epoch_at, false, front_itself}
-use Rattle.law_run.proofs.Imports.{front_on, if◌then◌else◌, in_former, inl, inr, is_notice, leaving, length, letters_of, log_below, log_rev, none_some, not}
-use Rattle.law_run.proofs.Imports.{old_data, one_post, own_place, own_plain, own_steady, owns_of, reads_old, refl, said, sender, server_serves, server_state}
-use Rattle.law_run.proofs.Imports.{server_step, serves_sent, stage_at, stage_facts, stamped, step, stepped, subject_of, subst, sym, true, true_false, turns}
-use Rattle.law_run.proofs.Imports.{ℕ}
+use Rattle.law_run.proofs.Imports.{[], ◌&&◌, ◌||◌, ◌∙◌, ◌∷◌, ◌≡◌, ◌≤◌, Acted, Actor, AreStepsFrom, Blank, Bool, By_read, Cell, Did, Firm, Handled, In}
+use Rattle.law_run.proofs.Imports.{IsPrefix, IsRead, IsReadable, IsSteady, JobResult, Letter, List, MayActor, None, NotThere, Not_here, Record, Serving}
+use Rattle.law_run.proofs.Imports.{Setting, Shows, Some, State, Step, World, acts, ap, arith, begins_to_leave, both_true, by_bool, by_test, bytes_of}
+use Rattle.law_run.proofs.Imports.{chain_in, chain_that_counts, chosen_log, chosen_state, data_among, entry_at, epoch_at, front_itself, front_on}
+use Rattle.law_run.proofs.Imports.{if◌then◌else◌, in_former, inl, inr, leaving, length, letters_of, log_below, log_rev, none_some, not, old_data, one_post}
+use Rattle.law_run.proofs.Imports.{own_place, own_plain, own_steady, owns_of, reads_old, refl, said, sender, server_serves, server_state, server_step}
+use Rattle.law_run.proofs.Imports.{serves_sent, stage_at, stage_facts, stamped, step, stepped, subject_of, subst, sym, true, true_false, turns, ℕ}
 use Rattle.law_run.specs.MachineTies.{Ground}
 use Rattle.law_run.proofs.EntryAtEpoch.{AreUpTo}
 use Rattle.law_run.proofs.ReadsLookWhereSent.{Accepts, AreGrounded, ground_now, is_looked, who_accepts}
 use Rattle.law_run.proofs.ContentsAsked.{known_read, own_up_to, reader_serves, reads_old_is}
-use Rattle.law_run.proofs.DataLetters.{is_reply, mute_data, unended_data}
+use Rattle.law_run.proofs.DataLetters.{mute_data, notice_unended, unended_data}
 use Rattle.law_run.proofs.RunScenes.{Grounded}
 use Rattle.law_run.proofs.SearchesFindData.{IsAmong, in_data, some_data}
 use Rattle.petal_msg.specs.declared.body.Body.TheVariants as body
@@ -35,11 +34,6 @@ same_seq e = cc
 
 pub same_data : {a b : ℕ} {xs ys : List ℕ} → body.Data a xs ≡ body.Data b ys → xs ≡ ys
 same_data e = cc
-
-notice_unended : (subject : Subject) → is_notice subject ≡ true → is_reply subject ≡ false
-notice_unended Answered e = true_false e refl
-notice_unended Refused e = true_false e refl
-notice_unended _ e = refl
 
 module _ (g : Grounded) (steady : IsSteady g.state) (y stamp : ℕ) (letter : Letter) (seq : ℕ) (bytes : List ℕ) (says : letter.body ≡ body.Data seq bytes) where
   open g use {setting, w as u}
