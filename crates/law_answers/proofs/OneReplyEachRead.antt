@@ -1,9 +1,9 @@
 -- What a server sends to whoever reads: the reply to the one read that it handles in the step.
 use Rattle.law_answers.proofs.Imports.{[], ◌∙◌, ◌∷◌, ◌≡◌, Acted, Actor, Body, Bool, By_read, Cell, Did, Grounded, Handled, In, IsReadable, IsSeatedOrMute}
-use Rattle.law_answers.proofs.Imports.{IsSteady, JobResult, Letter, List, Lives, NeverRetired, None, Not_here, Option, PairState, Post, SaysOk, Scene}
-use Rattle.law_answers.proofs.Imports.{Sender, Serving, Setting, Shows, Some, Step, World, ap, bytes_of, chain_in, entry_at, false, inl, inr, is_looked}
-use Rattle.law_answers.proofs.Imports.{is_notice, job_tells, letters_of, mute_data, never_retired, own_place, owns_of, refl, said, same_data, sender}
-use Rattle.law_answers.proofs.Imports.{server_state, serves_sent, stamped, subject_of, subst, sym, true, true_false, ℕ}
+use Rattle.law_answers.proofs.Imports.{IsSteady, JobResult, Letter, List, Lives, None, Not_here, Option, PairState, Post, SaysOk, Scene, Sender, Serving}
+use Rattle.law_answers.proofs.Imports.{Setting, Shows, Some, Step, World, ap, bytes_of, chain_in, entry_at, false, inl, inr, is_looked, is_notice, job_tells}
+use Rattle.law_answers.proofs.Imports.{letters_of, mute_data, own_place, owns_of, refl, said, same_data, sender, server_state, serves_sent, stamped}
+use Rattle.law_answers.proofs.Imports.{subject_of, subst, sym, true, true_false, ℕ}
 use Rattle.petal_msg.specs.declared.body.Body.TheVariants as body
 use Rattle.petal_msg.specs.declared.letter.Actor.TheVariants as actor
 
@@ -121,9 +121,8 @@ module _ (g : Grounded) (steady : IsSteady g.state) (n stamp : ℕ) where
   job_sends runs _ (By_read _ (Not_here client seq cell epoch readable comes none)) ok letter h =
       one_sent client seq cell epoch (body.NotHere seq) runs readable refl (λ k bytes e. absurd cc) letter h
   job_sends runs done d ok letter h =
-      let never : NeverRetired (own_place setting w n) (owns_of w n) = never_retired g steady n runs in
       all_apart mine done.posts (λ post i. neither setting w ground.lives n done.own post.to post.body
-      (mute_data (Handled w n) (own_place setting w n) (owns_of w n) never done d tt post i) (ok post i)) letter h
+      (mute_data (Handled w n) (own_place setting w n) (owns_of w n) done d (λ of_read. of_read) post i) (ok post i)) letter h
 
   seated_tells : (runs : (w.servers n).life.running ≡ true) (done : JobResult) → IsSeatedOrMute (own_place setting w n) (owns_of w n) done
       → Did (Handled w n) (own_place setting w n) (owns_of w n) done

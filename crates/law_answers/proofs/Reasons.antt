@@ -107,7 +107,7 @@ module _ (heard : Body → Type 0) (here : JobContext) (own : PairState) where
 
     reason_of : (new : PairState) (post : Post) → Says heard here own new post → Reason post.to post.body
     reason_of new _ (says.Refuses to said is busy held) = refusal_reason to said is busy held
-    reason_of new _ (says.Shows_nothing client seq cell epoch may comes none) =
+    reason_of new _ (says.Shows_nothing client seq cell epoch may comes none of_read) =
         record { client = client; to_client = refl; cell = cell; epoch = epoch; may = may; comes = comes; none = none }
     reason_of new _ (says.Repeats want last same h lead is e) = unreasoned _ _ (ended_none want.seq last.ending)
     reason_of new _ (says.Ends client last why is) = unreasoned _ _ (ended_none last.seq last.ending)

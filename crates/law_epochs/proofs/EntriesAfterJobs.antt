@@ -6,10 +6,10 @@ use Rattle.law_epochs.proofs.EntryPredicates.{AreWithin, IsWithin, OfKey, drop_w
 module _ (bound : Cell → ℕ → Type 0) (heard : Body → Type 0) (here : JobContext) (own : PairState) (all : AreWithin bound own.store.chains)
     (pending : (cell : Cell) (op : Pending) → at cell_cmp own.pairs.pending cell ≡ Some op → IsWithin bound op.key)
     (told : (said : Body) → heard said → OfKey (IsWithin bound) said) where
-  within : (key : Key) (stored : Stored) → IsPutFor heard own key stored → IsWithin bound key
-  within _ _ (An_operation op version is) = pending op.cell op is
-  within _ _ (A_lead number key version put bytes h) = told _ h
-  within _ _ (A_copy entry h) = told _ h
+  within : (key : Key) (stored : Stored) → IsPutFor heard here own key stored → IsWithin bound key
+  within _ _ (An_operation op version is fresh) = pending op.cell op is
+  within _ _ (A_lead number key version put bytes h follows last) = told _ h
+  within _ _ (A_copy entry holder last of_copy next) = told _ of_copy.said
 
   pub becomes_kept : (now : PairState) → Becomes heard here own now → AreWithin bound now.store.chains
   becomes_kept =

@@ -19,7 +19,7 @@ pub use Rattle.law_jobs.specs.Imports.{AreSteps, Begins_copy, By_holder, By_lead
 pub use Rattle.law_jobs.specs.Imports.{DidOther, DidSecond, Finds_it_full, Follows, Gives_up, Goes_on_copying, Goes_on_retired, Goes_on_trimming, IsNextKey}
 pub use Rattle.law_jobs.specs.Imports.{IsSound, Is_copied_to, Marks, Marks_alone, Opens, Opens_alone, Opens_fill, Opens_fill_alone, Puts, Puts_alone}
 pub use Rattle.law_jobs.specs.Imports.{Puts_entry, Script, Sets_apart, Taken, TakenCopy, Turns_page, Unmarks, Unmarks_alone, far_of, first_last, progress}
-pub use Rattle.law_jobs.specs.Imports.{setting_of, start}
+pub use Rattle.law_jobs.specs.Imports.{epochs_beyond, is_alone_on, setting_of, start}
 pub use Rattle.std.specs.Prelude.{◌+◌, ◌-◌}
 pub use Rattle.busy_marks.proofs.Orders.{is_mark}
 pub use Rattle.busy_marks.proofs.Sets.{is_set, set_apart, set_keeps, unset_apart, unset_back}

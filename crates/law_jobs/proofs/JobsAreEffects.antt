@@ -1,20 +1,21 @@
 -- Each job of a server is a list of effects.
-use Rattle.law_jobs.proofs.Imports.{◌+◌, ◌-◌, ◌≡◌, Action, As_it_is, As_told, Begins_copy, Body, Bool, By_filler, By_holder, By_lead, By_other, By_read}
-use Rattle.law_jobs.proofs.Imports.{By_second, By_sweep, Cell, Closes, Closes_alone, Closes_copy, CopyStep, Copy_as_is, Copy_synced, Copy_trimmed, Copying}
-use Rattle.law_jobs.proofs.Imports.{Did, DidFiller, DidHolder, DidLead, DidOther, DidSecond, DidSweep, Drops_entry, Ending, Finds_it_full, FollowProgress}
-use Rattle.law_jobs.proofs.Imports.{Follows, Gives_up, Goes_on_copying, Goes_on_retired, Goes_on_trimming, Ignores, Is_copied_to, Is_filled, Is_full}
-use Rattle.law_jobs.proofs.Imports.{Is_out_of_slots, Is_trimmed, JobContext, JobResult, Key, LastCopy, LinkId, LinkRow, MarkKind, Marks, Marks_alone, None}
-use Rattle.law_jobs.proofs.Imports.{OpKind, Opens, Opens_alone, Opens_fill, Opens_fill_alone, Option, PairState, Pending, Promises, Puts, Puts_alone}
-use Rattle.law_jobs.proofs.Imports.{Puts_entry, Refuses, Sets_apart, Some, Stage, Stored, Sweeps, Taken, TakenCopy, Tidies, TrimStep, Turns_page, Unmarks}
-use Rattle.law_jobs.proofs.Imports.{Unmarks_alone, Unmarks_copied, above, acts, ap, arith, begins_copy, by_test, cell_at, cell_gone, cell_link, cell_of}
-use Rattle.law_jobs.proofs.Imports.{cell_same, chain_in, ends, false, fill_operation, first_last, gives_back, gives_up, id_of, inl, inr, is_some, key_at}
-use Rattle.law_jobs.proofs.Imports.{last_on, link_named, live, marks, next_stage, of_read, operation, pending_on, progress, progress_on, puts, refl}
-use Rattle.law_jobs.proofs.Imports.{row_named, subst, sym, taking, tells, told, true, true_false, version_of, with_copied, with_flag, with_mark_at}
-use Rattle.law_jobs.proofs.Imports.{with_opened, with_page, with_paired, with_pending, with_progress, with_reserved, without_copying, without_pending, ℕ}
-use Rattle.law_jobs.proofs.ChainsApart.{entry_put}
+use Rattle.law_jobs.proofs.Imports.{◌+◌, ◌-◌, ◌∷◌, ◌≡◌, ◌⊎◌, Action, As_it_is, As_told, Begins_copy, Body, Bool, By_filler, By_holder, By_lead, By_other}
+use Rattle.law_jobs.proofs.Imports.{By_read, By_second, By_sweep, Cell, Closes, Closes_alone, Closes_copy, CopyStep, Copy_as_is, Copy_synced, Copy_trimmed}
+use Rattle.law_jobs.proofs.Imports.{Copying, Did, DidFiller, DidHolder, DidLead, DidOther, DidSecond, DidSweep, Drops_entry, Ending, Finds_it_full}
+use Rattle.law_jobs.proofs.Imports.{FollowProgress, Follows, Gives_up, Goes_on_copying, Goes_on_retired, Goes_on_trimming, Ignores, Is_copied_to, Is_filled}
+use Rattle.law_jobs.proofs.Imports.{Is_full, Is_out_of_slots, Is_trimmed, JobContext, JobResult, Key, LastCopy, LinkId, LinkRow, List, MarkKind, Marks}
+use Rattle.law_jobs.proofs.Imports.{Marks_alone, None, OpKind, Opens, Opens_alone, Opens_fill, Opens_fill_alone, Option, PairState, Pending, Promises, Puts}
+use Rattle.law_jobs.proofs.Imports.{Puts_alone, Puts_entry, Refuses, Sets_apart, Some, Stage, Stored, Sweeps, Taken, TakenCopy, Tidies, TrimStep, Turns_page}
+use Rattle.law_jobs.proofs.Imports.{Unmarks, Unmarks_alone, Unmarks_copied, above, acts, ap, arith, begins_copy, by_test, cell_at, cell_gone, cell_link}
+use Rattle.law_jobs.proofs.Imports.{cell_of, cell_same, chain_in, chains_with, ends, epochs_beyond, false, fill_operation, first_last, gives_back, gives_up}
+use Rattle.law_jobs.proofs.Imports.{id_of, inl, inr, is_alone_on, key_at, last_on, link_named, live, marks, next_stage, of_read, operation, pending_on}
+use Rattle.law_jobs.proofs.Imports.{progress, progress_on, puts, refl, row_named, subst, sym, taking, tells, told, true, true_false, version_of, with_copied}
+use Rattle.law_jobs.proofs.Imports.{with_flag, with_mark_at, with_opened, with_page, with_paired, with_pending, with_progress, with_reserved, without_copying}
+use Rattle.law_jobs.proofs.Imports.{without_pending, ℕ}
 use Rattle.law_jobs.specs.Effects.{Effect, applied, May, Becomes, As_it_was, Then, Alone_has, Both_have, By_operation, For_a_fill, For_a_write, Had_no_slot}
-use Rattle.law_jobs.specs.Effects.{HasEnded, Is_retired, Is_declined, IsFilledAs, IsOpening, IsPutFor, IsSetFor, Is_begun, Is_further, Is_opened, Goes_on}
-use Rattle.law_jobs.specs.Effects.{Has_put, An_operation, A_lead, A_copy, BecomesAt, Idle, IsAt, IsPutAt, Of_key, Of_operation}
+use Rattle.law_jobs.specs.Effects.{HasEnded, Is_retired, Is_declined, IsFilledAs, IsOpening, Is_begun, Is_further, Is_opened, Goes_on, Has_put, An_operation}
+use Rattle.law_jobs.specs.Effects.{A_lead, A_copy, BecomesAt, Idle, IsAt, Of_key, Of_operation, A_new_copy, A_sweep, The_last_copy, Was_paired, IsDroppedFor}
+use Rattle.law_jobs.specs.Effects.{IsPaired, Is_apart, Is_replicated}
 use Rattle.law_jobs.specs.Worked.{holder_cell, lead_cell, other_cell, page_cell, second_cell, worked}
 use Rattle.busy_marks.specs.declared.marks.MarkKind.TheVariants as mark
 use Rattle.petal_msg.specs.declared.retired.Retired.TheVariants as retired
@@ -33,14 +34,14 @@ module _ (heard : Body → Type 0) (here : JobContext) (own : PairState) where
 
   -- ### The lead
 
-  taken_to : (now : PairState) (op : Pending) → Taken own now op → At op now
-  taken_to _ _ (As_it_is op is) = As_it_was
-  taken_to _ _ (As_told op reserved paired is) = Then own (effect.Sets (told op reserved paired)) As_it_was
-      (Goes_on op (record op.stage { reserved = reserved; paired = paired }) is refl, refl) refl
+  -- an operation is taken up where the server holds its link alone, or its cell is no longer live
+  abbrev IsApart : Pending → Type 0
+  IsApart op = (is_alone_on here.state here.me op.cell ≡ true) ⊎ (live here.state op.cell ≡ false)
 
-  chains_taken : (now : PairState) (op : Pending) → Taken own now op → now.store.chains ≡ own.store.chains
-  chains_taken _ _ (As_it_is op is) = refl
-  chains_taken _ _ (As_told op reserved paired is) = refl
+  taken_to : (now : PairState) (op : Pending) → Taken own now op → IsApart op → At op now
+  taken_to _ _ (As_it_is op is) apart = As_it_was
+  taken_to _ _ (As_told op reserved paired is) apart = Then own (effect.Sets (told op reserved paired)) As_it_was
+      (Goes_on op (record op.stage { reserved = reserved; paired = paired }) is refl (λ e. Is_apart is apart), refl) refl
 
   ends_to : (now : PairState) (op : Pending) (how : Ending) → HasEnded heard here own op how → pending_on now op.cell ≡ None
       → now.pairs.finished ≡ own.pairs.finished → At op now → At op (ends here now op op.kind how).own
@@ -60,17 +61,21 @@ module _ (heard : Body → Type 0) (here : JobContext) (own : PairState) where
   flag_put stage mark.Busy is = refl
   flag_put stage mark.Stale is = refl
 
+  flag_paired : (op : Pending) (which : MarkKind) (is : Bool) → (with_flag op.stage which is).paired ≡ true → IsPaired heard here own op.cell op
+  flag_paired op mark.Busy is e = Was_paired e
+  flag_paired op mark.Stale is e = Was_paired e
+
   marks_to : (now : PairState) (op : Pending) (which : MarkKind) → pending_on now op.cell ≡ Some op → now.pairs.finished ≡ own.pairs.finished
       → At op now → At op (with_pending (applied now (effect.Marks which op.cell)) (with_mark_at op which true))
   marks_to now op which there same so =
       Then (applied now (effect.Marks which op.cell)) (effect.Sets (with_mark_at op which true)) (Then now (effect.Marks which op.cell) so tt refl)
-      (Goes_on op (with_flag op.stage which true) there (flag_put op.stage which true), same) refl
+      (Goes_on op (with_flag op.stage which true) there (flag_put op.stage which true) (flag_paired op which true), same) refl
 
   unmarks_to : (now : PairState) (op : Pending) (which : MarkKind) → pending_on now op.cell ≡ Some op → now.pairs.finished ≡ own.pairs.finished
       → At op now → At op (with_pending (applied now (effect.Unmarks which op.cell)) (with_mark_at op which false))
   unmarks_to now op which there same so =
       Then (applied now (effect.Unmarks which op.cell)) (effect.Sets (with_mark_at op which false)) (Then now (effect.Unmarks which op.cell) so tt (inl refl))
-      (Goes_on op (with_flag op.stage which false) there (flag_put op.stage which false), same) refl
+      (Goes_on op (with_flag op.stage which false) there (flag_put op.stage which false) (flag_paired op which false), same) refl
 
   opened_to : (op : Pending) → IsOpening heard here own op → At op (with_opened own op)
   opened_to op opening =
@@ -79,31 +84,29 @@ module _ (heard : Body → Type 0) (here : JobContext) (own : PairState) where
       Then set (effect.Holds_slots (own.store.tickets + 1))
       (Then counted (effect.Sets op) (Then own effect.Counts As_it_was tt tt) (Is_opened op opening refl, refl) refl) tt tt
 
-  puts_to : (now : PairState) (op : Pending) → Taken own now op → At op (puts now op).own
-  puts_to now op taken =
+  put_to : (op : Pending) (reserved paired : Bool) → pending_on own op.cell ≡ Some op → (live here.state op.cell ≡ true → op.stage.put ≡ false)
+      → (paired ≡ true → IsPaired heard here own op.cell op) → (now : PairState) → At op now → now.store.chains ≡ own.store.chains
+      → now.pairs.finished ≡ own.pairs.finished → At op (puts now (told op reserved paired)).own
+  put_to op reserved paired is fresh why now so chains same =
+      let new = told op reserved paired in
       let version = version_of (chain_in now.store.chains op.cell) + 1 in
       let stored : Stored = record { version = version; bytes = op.bytes } in
-      Then (applied now (effect.Puts op.key stored)) (effect.Sets (record op { version = version; stage = record op.stage { put = true } }))
-      (Then now (effect.Puts op.key stored) (taken_to now op taken) (for_taken now op taken version, chains_taken now op taken)
-      (of_taken now op taken))
-      (put_taken now op taken version stored, (taking own now op taken).finished) refl
-    where
-      put_taken : (now : PairState) (op : Pending) → Taken own now op → (version : ℕ) (stored : Stored)
-          → IsSetFor heard here own (applied now (effect.Puts op.key stored)) (record op { version = version; stage = record op.stage { put = true } })
-      put_taken _ _ (As_it_is op is) version stored =
-          Has_put op version (record op.stage { put = true }) is (ap is_some (entry_put own.store.chains op.key stored))
-      put_taken _ _ (As_told op reserved paired is) version stored =
-          Has_put op version (record op.stage { reserved = reserved; paired = paired; put = true }) is
-          (ap is_some (entry_put own.store.chains op.key stored))
+      Then (applied now (effect.Puts op.key stored)) (effect.Sets (record new { version = version; stage = record new.stage { put = true } }))
+      (Then now (effect.Puts op.key stored) so (An_operation op version is fresh, chains) (Of_operation op is)) (
+        Has_put op version (record new.stage { put = true }) is
+            (λ i. chains_with (chains i) op.key (record { version = version_of (chain_in (chains i) op.cell) + 1; bytes = op.bytes })) why,
+        same,
+      ) refl
 
-      for_taken : (now : PairState) (op : Pending) → Taken own now op → (version : ℕ)
-          → IsPutFor heard own op.key (record { version = version; bytes = op.bytes })
-      for_taken _ _ (As_it_is op is) version = An_operation op version is
-      for_taken _ _ (As_told op reserved paired is) version = An_operation op version is
+  puts_as_is : (op : Pending) → pending_on own op.cell ≡ Some op → (live here.state op.cell ≡ true → op.stage.put ≡ false) → At op (puts own op).own
+  puts_as_is op is fresh = put_to op op.stage.reserved op.stage.paired is fresh (λ e. Was_paired e) own As_it_was refl refl
 
-      of_taken : (now : PairState) (op : Pending) → Taken own now op → IsPutAt own (Some op.cell) op.key
-      of_taken _ _ (As_it_is op is) = Of_operation op is
-      of_taken _ _ (As_told op reserved paired is) = Of_operation op is
+  puts_taken : (now : PairState) (op : Pending) → Taken own now op → (live here.state op.cell ≡ true → op.stage.put ≡ false) → IsApart op
+      → At op (puts now op).own
+  puts_taken _ _ (As_it_is op is) fresh apart = puts_as_is op is fresh
+  puts_taken _ _ (As_told op reserved paired is) fresh apart =
+      let now = with_pending own (told op reserved paired) in
+      put_to op reserved paired is fresh (λ e. Is_apart is apart) now (taken_to now _ (As_told op reserved paired is) apart) refl refl
 
   drops_to : (now : PairState) (op : Pending) → At op now → At op (gives_up now op)
   drops_to now op so =
@@ -111,26 +114,26 @@ module _ (heard : Body → Type 0) (here : JobContext) (own : PairState) where
       by_test (At op) op.stage.put (without_pending now op.cell) (gives_back (without_pending now op.cell)) (λ put. closed)
       (λ fresh. Then (without_pending now op.cell) (effect.Holds_slots (now.store.tickets - 1)) closed tt tt)
 
-  marks_taken : (now : PairState) (op : Pending) → Taken own now op → (which : MarkKind)
+  marks_taken : (now : PairState) (op : Pending) → Taken own now op → IsApart op → (which : MarkKind)
       → At op (with_pending (applied now (effect.Marks which op.cell)) (with_mark_at op which true))
-  marks_taken now op taken which = let t = taking own now op taken in marks_to now op which t.there t.finished (taken_to now op taken)
+  marks_taken now op taken apart which = let t = taking own now op taken in marks_to now op which t.there t.finished (taken_to now op taken apart)
 
-  unmarks_taken : (now : PairState) (op : Pending) → Taken own now op → (which : MarkKind)
+  unmarks_taken : (now : PairState) (op : Pending) → Taken own now op → IsApart op → (which : MarkKind)
       → At op (with_pending (applied now (effect.Unmarks which op.cell)) (with_mark_at op which false))
-  unmarks_taken now op taken which = let t = taking own now op taken in unmarks_to now op which t.there t.finished (taken_to now op taken)
+  unmarks_taken now op taken apart which = let t = taking own now op taken in unmarks_to now op which t.there t.finished (taken_to now op taken apart)
 
-  closes_taken : (now : PairState) (op : Pending) → Taken own now op → HasEnded heard here own op ending.Written
+  closes_taken : (now : PairState) (op : Pending) → Taken own now op → IsApart op → HasEnded heard here own op ending.Written
       → At op (ends here (without_pending now op.cell) op op.kind ending.Written).own
-  closes_taken now op taken ended = closes_to now op ended (taking own now op taken).finished (taken_to now op taken)
+  closes_taken now op taken apart ended = closes_to now op ended (taking own now op taken).finished (taken_to now op taken apart)
 
   acts_to : (now : PairState) (op : Pending) → Taken own now op → live here.state op.cell ≡ false → (next : Action) → At op (acts here now op next).own
-  acts_to now op taken off action.Reserve = taken_to now op taken
-  acts_to now op taken off (action.Mark which) = marks_taken now op taken which
-  acts_to now op taken off action.Put = puts_to now op taken
-  acts_to now op taken off action.Replicate = taken_to now op taken
-  acts_to now op taken off (action.Unmark which) = unmarks_taken now op taken which
-  acts_to now op taken off action.Answer = closes_taken now op taken (Is_retired now op taken off)
-  acts_to now op taken off action.Drop = drops_to now op (taken_to now op taken)
+  acts_to now op taken off action.Reserve = taken_to now op taken (inr off)
+  acts_to now op taken off (action.Mark which) = marks_taken now op taken (inr off) which
+  acts_to now op taken off action.Put = puts_taken now op taken (λ on. true_false on off) (inr off)
+  acts_to now op taken off action.Replicate = taken_to now op taken (inr off)
+  acts_to now op taken off (action.Unmark which) = unmarks_taken now op taken (inr off) which
+  acts_to now op taken off action.Answer = closes_taken now op taken (inr off) (Is_retired now op taken off)
+  acts_to now op taken off action.Drop = drops_to now op (taken_to now op taken (inr off))
 
   opens_alone_to : (op : Pending) → IsOpening heard here own op → At op (marks (with_opened own op) op mark.Stale).own
   opens_alone_to op opening =
@@ -146,17 +149,18 @@ module _ (heard : Body → Type 0) (here : JobContext) (own : PairState) where
   lead_to _ (Opens want new both) = opened_to (operation here own.pairs.next want) (For_a_write want new)
   lead_to _ (Marks op h is both stage) =
       marks_to (with_pending own (with_reserved op)) (with_reserved op) mark.Busy (cell_same own.pairs.pending op.cell (with_reserved op)) refl
-      (Then own (effect.Sets (with_reserved op)) As_it_was (Goes_on op (record op.stage { reserved = true }) is refl, refl) refl)
-  lead_to _ (Puts op is both stage) = puts_to own op (As_it_is op is)
+      (Then own (effect.Sets (with_reserved op)) As_it_was (Goes_on op (record op.stage { reserved = true }) is refl (λ e. Was_paired e), refl) refl)
+  lead_to _ (Puts op is both stage) = puts_as_is op is (λ on. ap (λ (s : Stage). s.put) stage)
   lead_to _ (Unmarks op h is both stage) =
       unmarks_to (with_pending own (with_paired op)) (with_paired op) mark.Busy (cell_same own.pairs.pending op.cell (with_paired op)) refl
-      (Then own (effect.Sets (with_paired op)) As_it_was (Goes_on op (record op.stage { paired = true }) is refl, refl) refl)
+      (Then own (effect.Sets (with_paired op)) As_it_was
+      (Goes_on op (record op.stage { paired = true }) is refl (λ e. Is_replicated h is both (ap (λ (s : Stage). s.put) stage)), refl) refl)
   lead_to _ (Closes op is both stage) = closes_to own op (Both_have op is both stage) refl As_it_was
   lead_to _ (Opens_alone want new alone) = opens_alone_to (operation here own.pairs.next want) (For_a_write want new)
-  lead_to _ (Marks_alone now op taken alone fresh) = marks_taken now op taken mark.Stale
-  lead_to _ (Puts_alone now op taken alone stale put) = puts_to now op taken
-  lead_to _ (Unmarks_alone now op taken alone stale put busy) = unmarks_taken now op taken mark.Busy
-  lead_to _ (Closes_alone now op taken alone stale put free) = closes_taken now op taken (Alone_has now op taken alone stale put free)
+  lead_to _ (Marks_alone now op taken alone fresh) = marks_taken now op taken (inl alone) mark.Stale
+  lead_to _ (Puts_alone now op taken alone stale put) = puts_taken now op taken (λ on. put) (inl alone)
+  lead_to _ (Unmarks_alone now op taken alone stale put busy) = unmarks_taken now op taken (inl alone) mark.Busy
+  lead_to _ (Closes_alone now op taken alone stale put free) = closes_taken now op taken (inl alone) (Alone_has now op taken alone stale put free)
   lead_to _ (Opens_fill moving new room both) = opened_to (fill_operation here own.pairs.next moving) (For_a_fill moving new)
   lead_to _ (Opens_fill_alone moving new room alone) = opens_alone_to (fill_operation here own.pairs.next moving) (For_a_fill moving new)
   lead_to _ (Goes_on_retired now op taken off) = acts_to now op taken off (next_stage here.state here.me op)
@@ -173,11 +177,11 @@ module _ (heard : Body → Type 0) (here : JobContext) (own : PairState) where
       Then (applied own (effect.Holds_slots tickets)) (effect.Follows cell (record { op = number; progress = follow_progress.Reserved }))
       (Then own (effect.Holds_slots tickets) As_it_was tt tt) le refl
   second_to _ (Promises number cell how s is) = tells_to None own cell number how As_it_was
-  second_to _ (Follows number key version bytes h s is) =
+  second_to _ (Follows number key version bytes h is last) =
       let stored : Stored = record { version = version_of (chain_in own.store.chains (cell_of key)) + 1; bytes = bytes } in
       Then (applied own (effect.Puts key stored)) (effect.Follows (cell_of key) (record { op = number; progress = follow_progress.Replicated }))
-      (Then own (effect.Puts key stored) As_it_was (A_lead number key version stored.version bytes h, refl) (Of_key key))
-      (let was : progress (last_on own (cell_of key)) ≡ number + number = ap progress is in omega arith) refl
+      (Then own (effect.Puts key stored) As_it_was (A_lead number key version stored.version bytes h is last, refl) (Of_key key))
+      (let was : progress (last_on own (cell_of key)) ≡ number + number = ap progress last in omega arith) refl
   second_to _ _ = As_it_was
 
   -- ### Copies
@@ -228,19 +232,24 @@ module _ (heard : Body → Type 0) (here : JobContext) (own : PairState) where
       Then own (effect.Unmarks which (cell_at row block)) As_it_was tt (inr (inr (Idle id row block is both idle)))
   holder_to _ _ = As_it_was
 
-  trim_to : (now : PairState) (cell : Cell) (last : LastCopy) (holder : ℕ) (done : JobResult) → TrimStep now cell last holder done → To (Some cell) now
-      → (now.store.chains ≡ own.store.chains) × (now.pairs.pending ≡ own.pairs.pending) → To (Some cell) done.own
-  trim_to now cell last holder _ (Is_trimmed none) so same = so
-  trim_to now cell last holder _ (Drops_entry epoch epochs is) so same = Then now (effect.Drops (key_at cell epoch)) so same (inl refl)
+  trim_to : (now : PairState) (cell : Cell) (last : LastCopy) (holder : ℕ) (done : JobResult) → TrimStep now cell last holder done
+      → ((epoch : ℕ) (epochs : List ℕ) → epochs_beyond now cell last.epochs ≡ epoch ∷ epochs → IsDroppedFor heard here own (key_at cell epoch))
+      → To (Some cell) now → now.store.chains ≡ own.store.chains → now.pairs.pending ≡ own.pairs.pending → To (Some cell) done.own
+  trim_to now cell last holder _ (Is_trimmed none) why so chains pending = so
+  trim_to now cell last holder _ (Drops_entry epoch epochs is) why so chains pending =
+      Then now (effect.Drops (key_at cell epoch)) so (chains, pending, why epoch epochs is) (inl refl)
 
   other_to : (done : JobResult) (d : DidOther heard here own done) → To (other_cell heard here own done d) done.own
   other_to done (Is_copied_to number cell epochs holder _ h held newer step) =
-      trim_to _ cell _ holder done step (Then own (effect.Is_copied cell (first_last number epochs)) As_it_was (Is_begun number epochs h) refl) (refl, refl)
-  other_to done (Goes_on_trimming cell holder last _ held is step) = trim_to own cell last holder done step As_it_was (refl, refl)
+      trim_to _ cell _ holder done step (λ epoch later is. A_new_copy number cell epochs holder epoch h held newer)
+      (Then own (effect.Is_copied cell (first_last number epochs)) As_it_was (Is_begun number epochs h) refl) refl refl
+  other_to done (Goes_on_trimming cell holder last _ held is step) =
+      trim_to own cell last holder done step (λ epoch later beyond. The_last_copy cell holder last epoch later held is beyond) As_it_was refl refl
   other_to _ (Puts_entry entry holder last of_copy at room) =
       let apart = applied own (effect.Holds_slots (own.store.tickets + 1)) in
       Then (applied apart (effect.Puts entry.key entry.stored)) (effect.Is_copied (cell_of entry.key) (record last { index = last.index + 1 }))
-      (Then apart (effect.Puts entry.key entry.stored) (Then own (effect.Holds_slots (own.store.tickets + 1)) As_it_was tt tt) (A_copy entry of_copy.said, refl)
+      (Then apart (effect.Puts entry.key entry.stored) (Then own (effect.Holds_slots (own.store.tickets + 1)) As_it_was tt tt)
+      (A_copy entry holder last of_copy at, refl)
       (Of_key entry.key)) (Is_further last (last.index + 1) of_copy.last_is) refl
   other_to _ _ = As_it_was
 
@@ -255,7 +264,7 @@ module _ (heard : Body → Type 0) (here : JobContext) (own : PairState) where
       Then own (effect.Is_full true) As_it_was (λ e. inr (record { key = key; row = row; said = h; next = next })) tt
 
   sweep_to : (done : JobResult) → DidSweep here own done → To None done.own
-  sweep_to _ (Sweeps (retired.Key key) seated next off) = Then own (effect.Drops key) As_it_was (refl, refl) (inr off)
+  sweep_to _ (Sweeps (retired.Key key) seated next off) = Then own (effect.Drops key) As_it_was (refl, refl, A_sweep key off) (inr off)
   sweep_to _ (Sweeps (retired.Mark which cell) seated next off) = Then own (effect.Unmarks which cell) As_it_was tt (inr (inl off))
 
   pub effects_at : (done : JobResult) (did : Did heard here own done) → BecomesAt heard here own (worked heard here own done did) done.own

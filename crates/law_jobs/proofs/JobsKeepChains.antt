@@ -4,7 +4,7 @@ use Rattle.law_jobs.specs.Effects.{Becomes, Effect, IsPutFor, May, Drops, Puts, 
 use Rattle.law_jobs.proofs.JobsAreEffects.{all_keep, effects_of}
 
 module _ (P : Table Cell Chain → Type 0) (heard : Body → Type 0) (here : JobContext) (own : PairState)
-    (puts : (chains : Table Cell Chain) (key : Key) (stored : Stored) → IsPutFor heard own key stored → P chains → P (chains_with chains key stored))
+    (puts : (chains : Table Cell Chain) (key : Key) (stored : Stored) → IsPutFor heard here own key stored → P chains → P (chains_with chains key stored))
     (drops : (store : Store) (key : Key) → P store.chains → P (without_entry store key).chains) (all : P own.store.chains) where
   each : (now : PairState) (e : Effect) → May heard here own now e → P now.store.chains → P (applied now e).store.chains
   each now (Puts key stored) may kept = puts now.store.chains key stored may.0 kept

@@ -10,7 +10,7 @@ use Rattle.law_jobs.proofs.Imports.{TrimStep, acts, ap, arith, cell_gone, cell_h
 use Rattle.law_jobs.proofs.Imports.{gives_back, inl, inr, is_second, last_copy, last_on, live, nat_cmp, next_stage, none_some, of_sweep, operation}
 use Rattle.law_jobs.proofs.Imports.{pending_on, post_to, put, refl, retired_second, subst, sym, taking, tells, true, without_pending, ℕ}
 use Rattle.law_jobs.specs.Effects.{Alone_has, Both_have, By_operation, Had_no_slot, HasEnded, Is_retired, Is_declined}
-use Rattle.law_jobs.specs.Sayings.{IsCopying, Says, to_server}
+use Rattle.law_jobs.specs.Sayings.{IsCopying, Says, SaysOf, to_server}
 use Rattle.petal_msg.specs.declared.operation.Action.TheVariants as action
 use Rattle.petal_msg.specs.declared.operation.Ending.TheVariants as ending
 use Rattle.petal_msg.specs.declared.operation.FollowProgress.TheVariants as follow_progress
@@ -21,22 +21,28 @@ pub none_in : {A : Type 0} (post : Post) → In post [] → A
 unfolding In
 none_in post i = absurd i
 
-module _ (heard : Body → Type 0) (here : JobContext) (own : PairState) where
-  abbrev AreSaid : PairState → List Post → Type 0
-  AreSaid new posts = (post : Post) → In post posts → Says heard here own new post
+-- only a read's job answers a read
+abbrev pub IsOfRead : {heard : Body → Type 0} {here : JobContext} {own : PairState} {done : JobResult} → Did heard here own done → Type 0
+IsOfRead (By_read done d) = Unit {0}
+IsOfRead _ = ⊥
 
-  alone : (new : PairState) (it : Post) → Says heard here own new it → AreSaid new (it ∷ [])
+module _ (reads : Type 0) (heard : Body → Type 0) (here : JobContext) (own : PairState) where
+  abbrev AreSaid : PairState → List Post → Type 0
+  AreSaid new posts = (post : Post) → In post posts → SaysOf reads heard here own new post
+
+  alone : (new : PairState) (it : Post) → SaysOf reads heard here own new it → AreSaid new (it ∷ [])
   unfolding In
-  alone new it so post (inl e) = subst (Says heard here own new) (sym e) so
+  alone new it so post (inl e) = subst (SaysOf reads heard here own new) (sym e) so
   alone new it so post (inr none) = absurd none
 
   -- one letter, where there is a server to send it to
-  one : (new : PairState) (to : Option ℕ) (what : Body) → ((n : ℕ) → to ≡ Some n → Says heard here own new (to_server n what)) → AreSaid new (post_to to what)
+  one : (new : PairState) (to : Option ℕ) (what : Body) → ((n : ℕ) → to ≡ Some n → SaysOf reads heard here own new (to_server n what))
+      → AreSaid new (post_to to what)
   one new None what so post i = none_in post i
   one new (Some n) what so post i = alone new (to_server n what) (so n refl) post i
 
   -- what a server asks for
-  pub asks_said : (post : Post) → Asks here own post → Says heard here own own post
+  pub asks_said : (post : Post) → Asks here own post → SaysOf reads heard here own own post
   asks_said _ (A_slot op to is stage so) = says.Asks_slot op to refl is stage so
   asks_said _ (A_copy op to is stage so) = says.Asks_copy op to refl is stage so
   asks_said _ (A_trim cell copy to is fresh so) = says.Trims cell copy to (says.Goes_on own copy (Copy_as_is copy is)) fresh so
@@ -101,7 +107,8 @@ module _ (heard : Body → Type 0) (here : JobContext) (own : PairState) where
   second_said _ (Promises number cell how so is) = tells_said own cell number how so is
   second_said _ (Declines number cell h follows found) = one _ _ _ (λ to so. says.Has_no_slot number cell to refl h follows found so)
   second_said _ (Follows number key version bytes h so is) =
-      tells_said _ (cell_of key) number follow_progress.Replicated so (cell_same own.pairs.last (cell_of key) (record { op = number; progress = follow_progress.Replicated }))
+      tells_said _ (cell_of key) number follow_progress.Replicated so
+      (cell_same own.pairs.last (cell_of key) (record { op = number; progress = follow_progress.Replicated }))
 
   step_said : (now : PairState) (cell : Cell) (copy : Copying) (done : JobResult) → IsCopying heard here own cell now copy → CopyStep here now cell copy done
       → AreSaid done.own done.posts
@@ -134,18 +141,22 @@ module _ (heard : Body → Type 0) (here : JobContext) (own : PairState) where
       let later : LastCopy = record last { index = last.index + 1 } in
       alone _ _ (says.Is_synced entry holder last later of_copy (cell_same own.copies.last (cell_of entry.key) later) refl (omega arith))
 
-  read_said : (done : JobResult) → DidRead heard here own done → AreSaid done.own done.posts
-  read_said _ (Shows client seq cell epoch may so) = alone _ _ (says.Shows client seq cell epoch may so)
-  read_said _ (Not_here client seq cell epoch may comes none) = alone _ _ (says.Shows_nothing client seq cell epoch may comes none)
+  read_said : (done : JobResult) → DidRead heard here own done → reads → AreSaid done.own done.posts
+  read_said _ (Shows client seq cell epoch may so) is = alone _ _ (says.Shows client seq cell epoch may so is)
+  read_said _ (Not_here client seq cell epoch may comes none) is = alone _ _ (says.Shows_nothing client seq cell epoch may comes none is)
 
-  pub letters_of_job : (done : JobResult) → Did heard here own done → AreSaid done.own done.posts
-  letters_of_job _ Ignores = λ post i. none_in post i
-  letters_of_job _ (Refuses to what is busy held) = alone _ _ (says.Refuses to what is busy held)
-  letters_of_job _ (By_read done d) = read_said done d
-  letters_of_job _ (By_lead done d) = lead_said done d
-  letters_of_job _ (By_second done d) = second_said done d
-  letters_of_job _ (By_holder done d) = holder_said done d
-  letters_of_job _ (By_other done d) = other_said done d
-  letters_of_job _ (By_filler _ (Is_filled key row posts h next fills)) = λ post i. says.Moves_on key row post refl h next (fills post i)
-  letters_of_job _ (By_filler _ (Is_out_of_slots key row h next)) = λ post i. none_in post i
-  letters_of_job _ (By_sweep done d) = λ post i. absurd ((of_sweep heard here own done d).silent post i)
+  pub letters_by : (done : JobResult) (did : Did heard here own done) → (IsOfRead did → reads) → AreSaid done.own done.posts
+  letters_by _ Ignores of_read = λ post i. none_in post i
+  letters_by _ (Refuses to what is busy held) of_read = alone _ _ (says.Refuses to what is busy held)
+  letters_by _ (By_read done d) of_read = read_said done d (of_read tt)
+  letters_by _ (By_lead done d) of_read = lead_said done d
+  letters_by _ (By_second done d) of_read = second_said done d
+  letters_by _ (By_holder done d) of_read = holder_said done d
+  letters_by _ (By_other done d) of_read = other_said done d
+  letters_by _ (By_filler _ (Is_filled key row posts h next fills)) of_read = λ post i. says.Moves_on key row post refl h next (fills post i)
+  letters_by _ (By_filler _ (Is_out_of_slots key row h next)) of_read = λ post i. none_in post i
+  letters_by _ (By_sweep done d) of_read = λ post i. absurd ((of_sweep heard here own done d).silent post i)
+
+pub letters_of_job : (heard : Body → Type 0) (here : JobContext) (own : PairState) (done : JobResult) → Did heard here own done → (post : Post)
+    → In post done.posts → Says heard here own done.own post
+letters_of_job heard here own done did = letters_by (Unit {0}) heard here own done did (λ is. tt)

@@ -28,9 +28,9 @@ module _ (heard : Body → Type 0) (here : JobContext) (own : PairState) where
   set_so : (now : PairState) (op : Pending) → IsSetFor heard here own now op → HaveCome now → (cell : Cell) → cell ≡ op.cell
       → HasCome now.pairs.next cell op
   set_so now _ (Is_opened op opening number) so cell e = Is_new op opening e (same_itself op) (omega arith)
-  set_so now _ (Goes_on op stage is put) so cell e =
+  set_so now _ (Goes_on op stage is put paired) so cell e =
       further now.pairs.next cell op _ (restaged op op.version stage) (so cell op (ap (at cell_cmp now.pairs.pending) e ∙ is))
-  set_so now _ (Has_put op version stage is has) so cell e =
+  set_so now _ (Has_put op version stage is ahead paired) so cell e =
       Stood (record { was = op; is = ap (at cell_cmp own.pairs.pending) e ∙ is; same = restaged op version stage })
 
   counted : (next : ℕ) (cell : Cell) (op : Pending) → HasCome next cell op → HasCome (next + 1) cell op

@@ -1,13 +1,15 @@
 -- Of what a job is made: effects, each on one place of a server's own part, with what was so when it was had.
-use Rattle.law_jobs.specs.Imports.{Body, Both, Cell, Copying, Ending, Entry, Finished, Full, IsNew, IsNewFill, IsNextKey, JobContext, Key, LastCopy, LastOp}
-use Rattle.law_jobs.specs.Imports.{LinkId, LinkRow, MarkKind, Moving, PairState, Pending, Progress, Stage, Stored, Table, Taken, Wanted, Write, Written}
-use Rattle.law_jobs.specs.Imports.{answering, at, cell_at, cell_cmp, cell_of, chain_in, copying_on, far_of, fill_operation, first_last, free_of, idle_mark}
-use Rattle.law_jobs.specs.Imports.{in_both, is_alone_on, last_copy, last_on, link_named, live, operation, pending_on, progress, put, with_copying, with_entry}
-use Rattle.law_jobs.specs.Imports.{with_filled, with_full, with_last_copy, with_mark_on, with_pending, with_progress, without_copying, without_entry}
-use Rattle.law_jobs.specs.Imports.{without_mark_on, without_pending}
-use Rattle.std.specs.Prelude.{◌+◌, ◌<◌, ◌≡◌, ◌≤◌, ◌⊎◌, Bool, List, None, Option, Some, false, is_some, length, true, ℕ}
+use Rattle.law_jobs.specs.Imports.{Body, Both, Cell, Chain, Copying, Ending, Entry, Finished, Full, IsNew, IsNewFill, IsNextKey, IsOfCopy, JobContext, Key}
+use Rattle.law_jobs.specs.Imports.{LastCopy, LastOp, LinkId, LinkRow, MarkKind, Moving, PairState, Pending, Progress, Stage, Stored, Table, Taken, Wanted}
+use Rattle.law_jobs.specs.Imports.{Write, Written, answering, at, cell_at, cell_cmp, cell_holder, cell_of, chain_in, chains_with, copying_on, epochs_beyond}
+use Rattle.law_jobs.specs.Imports.{far_of, fill_operation, first_last, free_of, idle_mark, in_both, is_alone_on, is_second, key_at, last_copy, last_on}
+use Rattle.law_jobs.specs.Imports.{link_named, live, operation, pending_on, progress, put, version_of, with_copying, with_entry, with_filled, with_full}
+use Rattle.law_jobs.specs.Imports.{with_last_copy, with_mark_on, with_pending, with_progress, without_copying, without_entry, without_mark_on}
+use Rattle.law_jobs.specs.Imports.{without_pending}
+use Rattle.std.specs.Prelude.{◌+◌, ◌<◌, ◌∷◌, ◌≡◌, ◌≤◌, ◌⊎◌, Bool, List, None, Option, Some, false, length, true, ℕ}
 use Rattle.std.specs.Ordering.{nat_cmp}
 use Rattle.petal_msg.specs.declared.body.Body.TheVariants as body
+use Rattle.petal_msg.specs.declared.operation.FollowProgress.TheVariants as follow_progress
 
 pub data Effect : Type 0 where
   -- an operation is opened on its cell, or is at another stage
@@ -49,14 +51,39 @@ applied own (Moves_on row progress) = with_progress own row progress
 applied own (Is_full full) = with_full own full
 applied own (Fills row key) = with_filled own row key
 
--- of what comes an entry that is put
-pub data IsPutFor (heard : Body → Type 0) (own : PairState) : Key → Stored → Type 0 where
-  An_operation : (op : Pending) (version : ℕ) → pending_on own op.cell ≡ Some op
-      → IsPutFor heard own op.key (record { version = version; bytes = op.bytes })
+-- of what comes an entry that is put: of an operation, which has not put yet; of a lead, for which its second server has set a slot apart; or of
+-- a holder, as the next one of its copy
+pub data IsPutFor (heard : Body → Type 0) (here : JobContext) (own : PairState) : Key → Stored → Type 0 where
+  An_operation : (op : Pending) (version : ℕ) → pending_on own op.cell ≡ Some op → (live here.state op.cell ≡ true → op.stage.put ≡ false)
+      → IsPutFor heard here own op.key (record { version = version; bytes = op.bytes })
   A_lead : (number : ℕ) (key : Key) (told version : ℕ) (bytes : List ℕ) → heard (body.Replicate number key told bytes)
-      → IsPutFor heard own key (record { version = version; bytes = bytes })
-  A_copy : (entry : Entry) → heard (body.Sync entry.op entry.key entry.stored.version entry.index entry.stored.bytes)
-      → IsPutFor heard own entry.key entry.stored
+      → is_second here.state here.me (cell_of key) ≡ true → last_on own (cell_of key) ≡ Some (record { op = number; progress = follow_progress.Reserved })
+      → IsPutFor heard here own key (record { version = version; bytes = bytes })
+  A_copy : (entry : Entry) (holder : ℕ) (last : LastCopy) → IsOfCopy heard here own entry holder last → entry.index ≡ last.index
+      → IsPutFor heard here own entry.key entry.stored
+
+-- why an entry is dropped: its holder has it not, by a copy that is new here or by the last one; or its cell is no longer live
+pub data IsDroppedFor (heard : Body → Type 0) (here : JobContext) (own : PairState) : Key → Type 0 where
+  A_new_copy : (number : ℕ) (cell : Cell) (epochs : List ℕ) (holder epoch : ℕ) → heard (body.Trim number cell epochs)
+      → cell_holder here cell ≡ Some holder → ((last : LastCopy) → last_copy own cell ≡ Some last → last.op < number)
+      → IsDroppedFor heard here own (key_at cell epoch)
+  The_last_copy : (cell : Cell) (holder : ℕ) (last : LastCopy) (epoch : ℕ) (epochs : List ℕ) → cell_holder here cell ≡ Some holder
+      → last_copy own cell ≡ Some last → epochs_beyond own cell last.epochs ≡ epoch ∷ epochs → IsDroppedFor heard here own (key_at cell epoch)
+  A_sweep : (key : Key) → live here.state (cell_of key) ≡ false → IsDroppedFor heard here own key
+
+-- why an operation's stage says that its second server has put: it said so already; that server told so, after the lead put; or the server holds
+-- its link alone, or the cell is no longer live, where a late letter may have told it
+pub data IsPaired (heard : Body → Type 0) (here : JobContext) (own : PairState) (cell : Cell) (op : Pending) : Type 0 where
+  Was_paired : op.stage.paired ≡ true → IsPaired heard here own cell op
+  Is_replicated : heard (body.Replicated op.op cell) → pending_on own cell ≡ Some op → in_both here.state cell ≡ true → op.stage.put ≡ true
+      → IsPaired heard here own cell op
+  Is_apart : pending_on own cell ≡ Some op → (is_alone_on here.state here.me cell ≡ true) ⊎ (live here.state cell ≡ false)
+      → IsPaired heard here own cell op
+
+-- the chains with the entry of an operation that puts, of the version after that of its cell's chain
+abbrev pub chains_ahead : PairState → Cell → Pending → Table Cell Chain
+chains_ahead own cell op =
+    chains_with own.store.chains op.key (record { version = version_of (chain_in own.store.chains cell) + 1; bytes = op.bytes })
 
 -- for what an operation is opened under the next number
 pub data IsOpening (heard : Body → Type 0) (here : JobContext) (own : PairState) : Pending → Type 0 where
@@ -67,10 +94,9 @@ pub data IsOpening (heard : Body → Type 0) (here : JobContext) (own : PairStat
 pub data IsSetFor (heard : Body → Type 0) (here : JobContext) (own now : PairState) : Pending → Type 0 where
   Is_opened : (op : Pending) → IsOpening heard here own op → now.pairs.next ≡ own.pairs.next + 1 → IsSetFor heard here own now op
   Goes_on : (op : Pending) (stage : Stage) → pending_on now op.cell ≡ Some op → stage.put ≡ op.stage.put
-      → IsSetFor heard here own now (record op { stage = stage })
-  Has_put : (op : Pending) (version : ℕ) (stage : Stage) → pending_on own op.cell ≡ Some op
-      → is_some (at nat_cmp (chain_in now.store.chains (cell_of op.key)) op.key.epoch) ≡ true
-      → IsSetFor heard here own now (record op { version = version; stage = stage })
+      → (stage.paired ≡ true → IsPaired heard here own op.cell op) → IsSetFor heard here own now (record op { stage = stage })
+  Has_put : (op : Pending) (version : ℕ) (stage : Stage) → pending_on own op.cell ≡ Some op → now.store.chains ≡ chains_ahead own op.cell op
+      → (stage.paired ≡ true → IsPaired heard here own op.cell op) → IsSetFor heard here own now (record op { version = version; stage = stage })
 
 -- how an operation that was pending at its lead has ended: its second server has no slot for it, or it has been put where its copies are, or it
 -- is of a cell that is no longer live
@@ -127,8 +153,8 @@ pub record IsFilledAs (heard : Body → Type 0) (here : JobContext) (own : PairS
 abbrev pub May : (heard : Body → Type 0) (here : JobContext) (own now : PairState) → Effect → Type 0
 May heard here own now (Sets op) = IsSetFor heard here own now op × (now.pairs.finished ≡ own.pairs.finished)
 May heard here own now (Finishes client last) = IsFinishedFor heard here own now.pairs.pending client last × (now.pairs.finished ≡ own.pairs.finished)
-May heard here own now (Puts key stored) = IsPutFor heard own key stored × (now.store.chains ≡ own.store.chains)
-May heard here own now (Drops key) = (now.store.chains ≡ own.store.chains) × (now.pairs.pending ≡ own.pairs.pending)
+May heard here own now (Puts key stored) = IsPutFor heard here own key stored × (now.store.chains ≡ own.store.chains)
+May heard here own now (Drops key) = (now.store.chains ≡ own.store.chains) × (now.pairs.pending ≡ own.pairs.pending) × IsDroppedFor heard here own key
 May heard here own now (Follows cell last) = progress (last_on now cell) ≤ far_of last.op last.progress
 May heard here own now (Is_copied cell last) = IsCopiedFor heard own cell last
 May heard here own now (Is_full full) = full ≡ true → HearsNone heard here own

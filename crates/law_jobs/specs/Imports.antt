@@ -23,5 +23,5 @@ pub use Rattle.petal_msg.specs.declared.operation.Ending.TheVariants.{Full, Writ
 pub use Rattle.petal_msg.specs.declared.operation.OpKind.TheVariants.{Fill, Write}
 unfoldable pub use Rattle.petal_table.specs.Table.{put}
 pub use Rattle.spec_rules.specs.Progress.{with_progress}
-pub use Rattle.spec_rules.specs.Store.{with_entry, with_mark_on}
+pub use Rattle.spec_rules.specs.Store.{Chain, chains_with, version_of, with_entry, with_mark_on}
 pub use Rattle.spec_rules.specs.Writes.{moved_as}

@@ -1,12 +1,11 @@
 -- Each step keeps what letters of entries that move say, and what operations for them were opened for.
-use Rattle.law_moves.proofs.Imports.{[], ◌&&◌, ◌<◌, ◌||◌, ◌∙◌, ◌∷◌, ◌≡◌, BeforeBlank, Body, Cell, Chain, Command, Fills, Handled, HasProperTuples, In}
-use Rattle.law_moves.proofs.Imports.{IsNextFill, IsPrefix, Is_next, Is_other, Key, Letter, List, OneMore, Option, PairState, Pending, Post, Server, Some}
-use Rattle.law_moves.proofs.Imports.{State, Stood, Store, Table, Writes, ap, arith, at, at-empty, cell_cmp, cell_of, chain_in, chosen_log, comes_before}
-use Rattle.law_moves.proofs.Imports.{did_come, did_fills, ends_of, false, front_on, front_plain, id_of, is_clients, is_fill, is_of_entries, key_at, length}
-use Rattle.law_moves.proofs.Imports.{link_named, log_plain, log_rev, nat_cmp, nat_lt, nat_tests, next_on, none_some, number_itself, or_true, own_place, refl}
-use Rattle.law_moves.proofs.Imports.{same_some, server_state, source, stage_facts, subject_of, subst, sym, true, true_false, ℕ}
-use Rattle.law_moves.proofs.StepsTellEntries.{Goes_on, HasStore, Is_bare, Keeps, Awakes, Before, IsJob, IsPosted, Other, Posted, Works, chosen_on, gone}
-use Rattle.law_moves.proofs.StepsTellEntries.{knows, sent}
+use Rattle.law_moves.proofs.Imports.{[], ◌&&◌, ◌<◌, ◌||◌, ◌∙◌, ◌∷◌, ◌≡◌, Body, Cell, Chain, Command, Fills, Handled, HasProperTuples, In, IsNextFill}
+use Rattle.law_moves.proofs.Imports.{IsPrefix, Is_next, Is_other, Key, Letter, List, OneMore, PairState, Pending, Post, Server, Some, State, Stood, Store}
+use Rattle.law_moves.proofs.Imports.{Table, Writes, ap, at, at-empty, cell_cmp, cell_of, chain_in, chosen_log, comes_before, did_come, did_fills, ends_of}
+use Rattle.law_moves.proofs.Imports.{false, front_on, front_plain, id_of, is_clients, is_fill, is_of_entries, key_at, length, link_named, log_plain, log_rev}
+use Rattle.law_moves.proofs.Imports.{nat_cmp, nat_lt, next_on, none_some, number_itself, or_true, own_place, refl, same_some, server_state, source}
+use Rattle.law_moves.proofs.Imports.{stage_facts, subject_of, subst, sym, true, true_false, ℕ}
+use Rattle.law_moves.proofs.StepsTellEntries.{Goes_on, Is_bare, Keeps, Awakes, Before, IsJob, IsPosted, Other, Posted, Works, chosen_on, gone, knows, sent}
 use Rattle.law_moves.specs.Fills.{Has, IsFrozen, WasFilled}
 use Rattle.law_moves.specs.LeftToMove.{IsKept, IsOurs}
 use Rattle.law_moves.proofs.FrozenIsWhatCounted.{frozen_stays}
@@ -16,10 +15,8 @@ use Rattle.law_moves.proofs.NextFill.{next_is}
 use Rattle.law_moves.proofs.LeadsWereTold.{HasTold, lift, same_frozen}
 use Rattle.law_moves.proofs.LeadsRememberMoved.{done_told}
 use Rattle.law_moves.proofs.MoveScenes.{IsMover}
+use Rattle.law_state.proofs.TestFacts.{less_test}
 use Rattle.petal_msg.specs.declared.body.Body.TheVariants as body
-
-is_lower : (a b : ℕ) → a < b → nat_lt a b ≡ true
-is_lower a b lt = grind (arith, nat_tests)
 
 abbrev key_said : Key → Body → Key
 key_said other (body.Fill key bytes) = key
@@ -102,7 +99,7 @@ module _ (it : OneMore) (known : WasKnown it) where
         let n = next_is here f.row f.region now f.key f.next in
         let held : IsKept now old epoch = subst (λ (s : Store). Has (chain_in s.chains old) epoch) (sym kept) has in
         let earlier : comes_before (key_at old epoch) f.key ≡ true =
-        (λ i. nat_lt f.key.block f.key.block || (number_itself f.key.block i && is_lower f.key.epoch epoch lt i))
+        (λ i. nat_lt f.key.block f.key.block || (number_itself f.key.block i && less_test f.key.epoch epoch lt i))
         ∙ or_true (nat_lt f.key.block f.key.block) true refl in
         let k = n.before old epoch on held earlier in
         told log old f.cell f.row k.until lies_v
@@ -171,13 +168,12 @@ module _ (it : OneMore) (known : WasKnown it) where
         (subst (IsFrozen setting v h.letter.rev opened.moving.key) (sym opened.bytes) f))
   ]
 
-  asked_by : (m : ℕ) (to : Server) (b : Option BeforeBlank) → HasStore it m to b → AreAsked to.own.pairs.pending
-  asked_by m to b (Goes_on (Keeps kept) same) = subst AreAsked (sym kept.pending) (still_asked m)
-  asked_by m to b (Goes_on (Works job) same) = subst (λ (o : PairState). AreAsked o.pairs.pending) (sym job.own_is) (job_asked m to job)
-  asked_by m to b (Goes_on (Awakes asleep is) same) =
-      subst (λ (s : Server). AreAsked s.own.pairs.pending) (sym is) (λ cell op is. none_some (at-empty cell_cmp cell) is)
-  asked_by m to b (Is_bare asleep bare same) = subst (λ (s : Server). AreAsked s.own.pairs.pending) (sym bare) (still_asked m)
-
   pub asked_next : (m : ℕ) (cell : Cell) (op : Pending) → at cell_cmp (v.servers m).own.pairs.pending cell ≡ Some op → is_clients op.kind ≡ false
       → IsFrozen setting v op.rev op.key op.bytes
-  asked_next m = asked_by m (v.servers m) _ (gone it m)
+  asked_next m = elim (gone it m) [
+    | Goes_on (Keeps kept) same ↦ subst AreAsked (sym kept.pending) (still_asked m)
+    | Goes_on (Works job) same ↦ subst (λ (o : PairState). AreAsked o.pairs.pending) (sym job.own_is) (job_asked m (v.servers m) job)
+    | Goes_on (Awakes asleep is) same ↦
+        subst (λ (s : Server). AreAsked s.own.pairs.pending) (sym is) (λ cell op is. none_some (at-empty cell_cmp cell) is)
+    | Is_bare asleep bare same ↦ subst (λ (s : Server). AreAsked s.own.pairs.pending) (sym bare) (still_asked m)
+  ]

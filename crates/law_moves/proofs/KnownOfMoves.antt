@@ -7,11 +7,11 @@ use Rattle.law_moves.specs.Fills.{HaveComeOver, IsFrozen}
 use Rattle.law_moves.proofs.MovesInHistories.{all_known, known_after}
 use Rattle.law_moves.proofs.AllKeptOfMoves.{Known}
 use Rattle.law_moves.proofs.MovedsHadNothingLeft.{had_now}
-use Rattle.law_moves.proofs.MovedRegionsHaveAll.{come_over, retired_moved, facts, until_lies}
+use Rattle.law_moves.proofs.MovedRegionsHaveAll.{come_over, retired_moved, until_lies}
 use Rattle.law_moves.proofs.TwoCopyRuleInMoves.{rule_kept}
 use Rattle.law_moves.proofs.EqualCopies.{frozen_on}
 use Rattle.law_moves.proofs.ToldEntriesAreThere.{told_already}
-use Rattle.law_moves.proofs.MoveWorlds.{rests}
+use Rattle.law_moves.proofs.MoveWorlds.{rests, facts_at}
 
 module _ (script : Script) (records : List Record) (sound : IsSound script) (legal : AreSteps script records) where
   abbrev h : Run
@@ -34,7 +34,7 @@ module _ (script : Script) (records : List Record) (sound : IsSound script) (leg
   retired_frozen cell four =
       let m = retired_moved h cell four in
       let lies = until_lies h m.until (Moved cell.map (region_of cell.block) m.row.link) m.stands in
-      let goes = (facts h m.until lies cell).targets m.leaves in
+      let goes = (facts_at h m.until lies cell).targets m.leaves in
       let earlier = λ (before : List Record) (own : Record) (later : List Record) (e : records ≡ before ++ own ∷ later).
       all_known script sound records legal before (own ∷ later) e in (
         _,

@@ -1,6 +1,6 @@
 -- What a lead of a cell, by its own state, has of it while nothing of its own is under way, or its second server has followed: each server that serves the
 -- link by what is chosen has it too. And of two such leads the one has just held the link alone, and is after its own Caught.
-use Rattle.law_moves.proofs.Imports.{◌+◌, ◌<◌, ◌==◌, ◌∙◌, ◌≡◌, ◌≤◌, ◌⊎◌, AliveIn, AreCopies, Bool, Both, Cell, Chain, Command, HasOwnCaught, IsHeldBy}
+use Rattle.law_moves.proofs.Imports.{◌+◌, ◌<◌, ◌==◌, ◌∙◌, ◌≡◌, ◌≢◌, ◌≤◌, ◌⊎◌, AliveIn, AreCopies, Bool, Both, Cell, Chain, Command, HasOwnCaught, IsHeldBy}
 use Rattle.law_moves.proofs.Imports.{IsInBoth, IsLinked, IsPrefix, IsServing, LinkRow, List, None, Only, Option, PairOk, PairState, Pending, Run, Some, Store}
 use Rattle.law_moves.proofs.Imports.{Working, alone_not_both, alone_row, ap, arith, at, at-empty, at_apart, at_most_or_above, at_same, blank_joins_in}
 use Rattle.law_moves.proofs.Imports.{both_since, by_bool, cell_cmp, cell_link, chain_in, chosen_state, either_true, end_of, false, far, front_itself, half}
@@ -271,6 +271,29 @@ module _ (it : Run) (cell : Cell) (k : ℕ) (lead : LeadsAt (end_of it).setting 
       ]
     ]
 
+-- a second server that comes after the first one, which has a fill pending at the link's last place, has nothing of the fill's epoch
+pub follower_lacks : (it : Run) (cell : Cell) (m k : ℕ) → m ≢ k → (lead : LeadsAt (end_of it).setting (end_of it).w cell k) (now : LinkRow)
+    → IsLinked (end_of it).setting (end_of it).chosen cell now → now.primary ≡ m → IsAfter it cell k lead now → (own : PairState)
+    → (good it).visits m (place_by (end_of it).setting (end_of it).chosen now) cell ≡ Some own → (op : Pending) → pending_on own cell ≡ Some op
+    → is_clients op.kind ≡ false → AliveIn (chosen_state (end_of it).setting (end_of it).w) cell
+    → at nat_cmp (chain_in ((end_of it).w.servers k).own.store.chains cell) op.key.epoch ≡ None
+follower_lacks it cell m k apart lead now linked first follows own visited op is fills alive =
+    let this = (end_of it).setting in
+    let by_all = (end_of it).chosen in
+    let good_now = good it in
+    let visit : ℕ → Option PairState = λ n. good_now.visits n (place_by this by_all now) cell in
+    let second_is : now.secondary ≡ k = same_numbers now.secondary k (either_true (now.primary == k) (now.secondary == k) follows.one_of
+    (by_bool (now.primary == k) (λ t. absurd (apart (sym first ∙ same_numbers now.primary k t))) (λ f. f))) in
+    let far_is : far
+    (pair_at (λ n. good_now.stores n (blank_joins_in this by_all n)) good_now.visits (place_by this by_all now) cell now.primary now.secondary) ≡ 0 =
+    ap (λ o. progress (at cell_cmp (half o (good_now.stores now.secondary (blank_joins_in this by_all now.secondary))).pairs.last cell))
+    (ap visit second_is ∙ follows.unseen) ∙ ap progress (at-empty cell_cmp cell) in
+    let lacks = (chosen_twins it cell now linked follows.both alive).lacks own op (ap visit first ∙ visited) is fills (omega arith) in
+    ap (λ (s : Store). at nat_cmp (chain_in s.chains cell) op.key.epoch)
+    (sym (own_counts it k lead.runs ((end_of it).w.servers k).log.applied ((firm it).servers k) lead.seat) ∙ sym (good_now.now k)
+    ∙ ap (λ n. good_now.stores n (blank_joins_in this by_all n)) (sym second_is))
+    ∙ lacks
+
 -- ### Two leads
 
 -- a server has a fill pending, and another one leads the cell by its own state: that one has nothing pending, and nothing of the fill's epoch
@@ -319,21 +342,5 @@ module _ (it : Run) (two : TwoLeads (end_of it).setting (end_of it).w) where
   pub other_lacks : is_clients op.kind ≡ false → at nat_cmp (chain_in (u.servers k).own.store.chains cell) op.key.epoch ≡ None
   other_lacks fills =
       let a = are_apart in
-      let now = a.now in
-      let good_now = good it in
-      let visit : ℕ → Option PairState = λ n. good_now.visits n (place_by this by_all now) cell in
-      let there : visit now.primary ≡ Some (u.servers m).own =
-      ap visit a.first.first ∙ ap (λ p. good_now.visits m p cell) a.first.place
-      ∙ visit_mine it cell m one now a.first.linked in
-      let second_is : now.secondary ≡ k = same_numbers now.secondary k (either_true (now.primary == k) (now.secondary == k) a.second.one_of
-      (by_bool (now.primary == k) (λ t. absurd (apart (sym a.first.first ∙ same_numbers now.primary k t))) (λ f. f))) in
-      let far_is : far
-      (pair_at (λ n. good_now.stores n (blank_joins_in this by_all n)) good_now.visits (place_by this by_all now) cell now.primary now.secondary) ≡ 0 =
-      ap (λ o. progress (at cell_cmp (half o (good_now.stores now.secondary (blank_joins_in this by_all now.secondary))).pairs.last cell))
-      (ap visit second_is ∙ a.second.unseen) ∙ ap progress (at-empty cell_cmp cell) in
-      let mine_all = (firm it).servers k in
-      let lacks = (chosen_twins it cell now a.end a.first.both (omega arith)).lacks (u.servers m).own op there is fills (omega arith) in
-      ap (λ (s : Store). at nat_cmp (chain_in s.chains cell) op.key.epoch)
-      (sym (own_counts it k other.runs (u.servers k).log.applied mine_all other.seat) ∙ sym (good_now.now k)
-      ∙ ap (λ n. good_now.stores n (blank_joins_in this by_all n)) (sym second_is))
-      ∙ lacks
+      follower_lacks it cell m k apart other a.now a.end a.first.first a.second (u.servers m).own
+      (ap (λ p. (good it).visits m p cell) a.first.place ∙ visit_mine it cell m one a.now a.first.linked) op is fills (omega arith)

@@ -1,9 +1,8 @@
 -- Each step keeps what old leads remember of the entries that they have moved, and that each remembers so only since its region is on its way.
-use Rattle.law_moves.proofs.Imports.{◌∙◌, ◌≡◌, As_before, BeforeBlank, Cell, Command, Handled, IsPrefix, Key, LinkId, LinkRow, List, OneMore, Option}
-use Rattle.law_moves.proofs.Imports.{PairState, Server, Some, Table, Told_of, ap, at, at-empty, by_bool, chosen_log, did_remember, ends_of, eq_by_cmp}
-use Rattle.law_moves.proofs.Imports.{filled_beside, filled_here, front_on, id_of, link_cmp, none_some, own_place, put, same_id, same_some, subst, sym, true}
-use Rattle.law_moves.proofs.Imports.{true_false, ℕ}
-use Rattle.law_moves.proofs.StepsTellEntries.{Goes_on, HasStore, Is_bare, Keeps, Awakes, IsJob, Works, gone}
+use Rattle.law_moves.proofs.Imports.{◌∙◌, ◌≡◌, As_before, Cell, Command, Handled, IsPrefix, Key, LinkId, LinkRow, List, OneMore, PairState, Server, Some}
+use Rattle.law_moves.proofs.Imports.{Table, Told_of, ap, at, at-empty, by_bool, chosen_log, did_remember, ends_of, eq_by_cmp, filled_beside, filled_here}
+use Rattle.law_moves.proofs.Imports.{front_on, id_of, link_cmp, none_some, own_place, put, same_id, same_some, subst, sym, true, true_false, ℕ}
+use Rattle.law_moves.proofs.StepsTellEntries.{Goes_on, Is_bare, Keeps, Awakes, IsJob, Works, gone}
 use Rattle.law_moves.specs.Fills.{AllFilled, IsOnWay, IsToldOf}
 use Rattle.law_moves.proofs.AllKeptOfMoves.{HasBegun, HaveBegun, WasKnown}
 use Rattle.law_moves.proofs.LeadsWereTold.{HasTold, begun_here, told_before, told_now}
@@ -24,19 +23,17 @@ module _ (it : OneMore) (known : WasKnown it) where
     | Told_of key row heard next is ↦ subst (HasTold it known y) (sym is) (told_now it known y job.runs key row heard next)
   ]
 
-  told_by : (y : ℕ) (to : Server) (b : Option BeforeBlank) → HasStore it y to b → to.life.running ≡ true → HasTold it known y to.own.filled
-  told_by y to b (Goes_on (Keeps kept) same) runs = λ f old new row last lies way is.
-      told_before it known y (kept.runs runs).0 f old new row last lies way (kept.filled (id_of row) last is)
-  told_by y to b (Goes_on (Works job) same) runs =
-      subst (HasTold it known y) (ap (λ (o : PairState). o.filled) (sym job.own_is)) (done_told y to job)
-  told_by y to b (Goes_on (Awakes asleep is) same) runs =
-      subst (HasTold it known y) (ap (λ (s : Server). s.own.filled) (sym is)) (λ f old new row last lies way is. none_some (at-empty link_cmp (id_of row)) is)
-  told_by y to b (Is_bare asleep bare same) runs = true_false (ap (λ (s : Server). s.life.running) (sym bare) ∙ runs) asleep
-
   pub told_next : (y : ℕ) (f : List Command) (old new : Cell) (row : LinkRow) (last : Key) → (v.servers y).life.running ≡ true
       → IsPrefix f (chosen_log setting v) → IsOnWay script.servers f old new row → at link_cmp (v.servers y).own.filled (id_of row) ≡ Some last
       → AllFilled v old new (IsToldOf last old)
-  told_next y f old new row last runs = told_by y (v.servers y) _ (gone it y) runs f old new row last
+  told_next y f old new row last runs lies way is = elim (gone it y) [
+    | Goes_on (Keeps kept) same ↦ told_before it known y (kept.runs runs).0 f old new row last lies way (kept.filled (id_of row) last is)
+    | Goes_on (Works job) same ↦
+        subst (HasTold it known y) (ap (λ (o : PairState). o.filled) (sym job.own_is)) (done_told y (v.servers y) job) f old new row last lies way is
+    | Goes_on (Awakes asleep so) same ↦
+        none_some (at-empty link_cmp (id_of row)) (ap (λ (s : Server). at link_cmp s.own.filled (id_of row)) (sym so) ∙ is)
+    | Is_bare asleep bare same ↦ true_false (ap (λ (s : Server). s.life.running) (sym bare) ∙ runs) asleep
+  ]
 
   -- ### And since when
 
@@ -63,15 +60,14 @@ module _ (it : OneMore) (known : WasKnown it) where
         (sym (filled_beside (Was y).own row (record { map = row.map; block = key.block; epoch = key.epoch }) id apart) ∙ there)))
   ]
 
-  begun_by : (y : ℕ) (to : Server) (b : Option BeforeBlank) → HasStore it y to b → HaveSince to.log.applied to.own.filled
-  begun_by y to b (Goes_on (Keeps kept) same) = λ id last is.
-      since_more (Was y).log.applied to.log.applied (Was y).own.filled kept.onward (known.begun y) id last (kept.filled id last is)
-  begun_by y to b (Goes_on (Works job) same) =
-      subst (λ log. HaveSince log to.own.filled) (sym job.log_is)
-      (subst (HaveSince (Was y).log.applied) (ap (λ (o : PairState). o.filled) (sym job.own_is)) (done_since y to job))
-  begun_by y to b (Goes_on (Awakes asleep is) same) =
-      subst (λ (s : Server). HaveSince s.log.applied s.own.filled) (sym is) (λ id last is. none_some (at-empty link_cmp id) is)
-  begun_by y to b (Is_bare asleep bare same) = subst (λ (s : Server). HaveSince s.log.applied s.own.filled) (sym bare) (known.begun y)
-
   pub begun_next : HaveBegun setting v
-  begun_next y = begun_by y (v.servers y) _ (gone it y)
+  begun_next y = elim (gone it y) [
+    | Goes_on (Keeps kept) same ↦ (λ id last is.
+        since_more (Was y).log.applied (v.servers y).log.applied (Was y).own.filled kept.onward (known.begun y) id last (kept.filled id last is))
+    | Goes_on (Works job) same ↦
+        subst (λ log. HaveSince log (v.servers y).own.filled) (sym job.log_is)
+        (subst (HaveSince (Was y).log.applied) (ap (λ (o : PairState). o.filled) (sym job.own_is)) (done_since y (v.servers y) job))
+    | Goes_on (Awakes asleep is) same ↦
+        subst (λ (s : Server). HaveSince s.log.applied s.own.filled) (sym is) (λ id last is. none_some (at-empty link_cmp id) is)
+    | Is_bare asleep bare same ↦ subst (λ (s : Server). HaveSince s.log.applied s.own.filled) (sym bare) (known.begun y)
+  ]

@@ -1,8 +1,8 @@
 -- What the lead of a link of an old map remembers: up to the last key of which it was told, the new map was told to have all.
-use Rattle.law_moves.proofs.Imports.{[], if◌then◌else◌, ◌&&◌, ◌++◌, ◌==◌, ◌||◌, ◌∙◌, ◌∷◌, ◌≡◌, Cell, Chain, Command, DiskRow, Firm, Handled, HasProperTuples}
-use Rattle.law_moves.proofs.Imports.{IsMoved, IsNextKey, IsPrefix, Key, LinkId, LinkRow, List, None, OneMore, Option, PairState, Some, State, Table, ap}
-use Rattle.law_moves.proofs.Imports.{arith, at, by_bool, cell_link, cell_of, cells_same, chain_in, chosen_log, comes_before, ends_of, eq_by_cmp, false}
-use Rattle.law_moves.proofs.Imports.{filled_beside, filled_here, front_itself, front_on, front_plain, history_grows, history_is_firm, id_of, inl, inr}
+use Rattle.law_moves.proofs.Imports.{[], ◌&&◌, ◌++◌, ◌==◌, ◌||◌, ◌∙◌, ◌∷◌, ◌≡◌, Cell, Chain, Command, DiskRow, Firm, Handled, HasProperTuples, IsMoved}
+use Rattle.law_moves.proofs.Imports.{IsNextKey, IsPrefix, Key, LinkId, LinkRow, List, None, OneMore, Option, PairState, Some, State, Table, ap, arith, at}
+use Rattle.law_moves.proofs.Imports.{by_bool, cell_link, cell_of, cells_same, chain_in, chosen_log, comes_before, ends_of, eq_by_cmp, false, filled_beside}
+use Rattle.law_moves.proofs.Imports.{filled_here, front_itself, front_on, front_plain, history_grows, history_is_firm, id_of, if◌then◌else◌, inl, inr}
 use Rattle.law_moves.proofs.Imports.{is_link, is_some, key_at, leaves_with, link_cmp, link_named, log_below, log_comes, log_goes, log_plain, log_steady}
 use Rattle.law_moves.proofs.Imports.{map_of, move_region, nat_lt, new_stage, next_on, none_some, number_itself, old_stage, option_and_then, option_map_or}
 use Rattle.law_moves.proofs.Imports.{own_place, owner, put, refl, region_left, region_of, row_named, same_id, same_some, server_state, some_or_none, source}
@@ -14,8 +14,9 @@ use Rattle.law_moves.proofs.AllKeptOfMoves.{HasBegun, WasKnown}
 use Rattle.law_moves.proofs.MovedsHadNothingLeft.{filled_stays}
 use Rattle.law_moves.proofs.Movers.{had, known_told, three}
 use Rattle.law_moves.proofs.NextFill.{here_or_before, next_is}
-use Rattle.law_moves.proofs.MovedRegionsHaveAll.{link_slot, one_goal, plain}
+use Rattle.law_moves.proofs.MovedRegionsHaveAll.{link_slot, one_goal}
 use Rattle.law_moves.proofs.MoveScenes.{IsMover}
+use Rattle.law_moves.proofs.MoveWorlds.{plain_at}
 use Rattle.petal_msg.specs.declared.body.Body.TheVariants as body
 
 -- a cell is as far as another one of its map and region
@@ -65,8 +66,8 @@ module _ (it : OneMore) (known : WasKnown it) (y : ℕ) where
       → cell_link (By a) old ≡ Some one → cell_link (By b) old ≡ Some other → id_of one ≡ id_of other
   one_link a b la lb old one other is two =
       let all = front ++ it.own ∷ [] in
-      let map_of_a = map_of script.servers (By a) (log_plain script.servers a (plain present a la)) old one is in
-      let map_of_b = map_of script.servers (By b) (log_plain script.servers b (plain present b lb)) old other two in
+      let map_of_a = map_of script.servers (By a) (log_plain script.servers a (plain_at present a la)) old one is in
+      let map_of_b = map_of script.servers (By b) (log_plain script.servers b (plain_at present b lb)) old other two in
       ids_same (id_of one) (id_of other) (map_of_a ∙ sym map_of_b)
       (link_slot present a la old one is ∙ sym (link_slot present b lb old other two))
 
@@ -75,8 +76,8 @@ module _ (it : OneMore) (known : WasKnown it) (y : ℕ) where
       → target (By a) old ≡ Some one → target (By b) old ≡ Some other → other ≡ one
   same_goal a b la lb old one other is two =
       let all = front ++ it.own ∷ [] in
-      one_goal present a b la lb old one other (log_goes script.servers a (plain present a la) old one is)
-      (log_goes script.servers b (plain present b lb) old other two)
+      one_goal present a b la lb old one other (log_goes script.servers a (plain_at present a la) old one is)
+      (log_goes script.servers b (plain_at present b lb) old other two)
 
   -- what a table of keys tells, of each cell that leaves by some of what is chosen
   abbrev pub HasTold : Table LinkId Key → Type 0
@@ -91,7 +92,7 @@ module _ (it : OneMore) (known : WasKnown it) (y : ℕ) where
         let lies_now = front_on b.front (chosen_log setting w) (chosen_log setting v) lies_then on in
         let all = front ++ it.own ∷ [] in
         let map_is : old.map ≡ last.map =
-        sym (map_of script.servers (By f) (log_plain script.servers f (plain present f lies)) old row way.linked) ∙ sym b.map in
+        sym (map_of script.servers (By f) (log_plain script.servers f (plain_at present f lies)) old row way.linked) ∙ sym b.map in
         let three : stage_at (By b.front) old ≡ 3 = stage_region (By b.front) old (cell_of last) map_is told.region ∙ b.leaves in
         let facts = stage_facts script.servers b.front (plain_was b.front lies_then) old in
         let h = (log_steady script.servers b.front (plain_was b.front lies_then)).lives old (facts.alive (omega arith) (omega arith)) in
@@ -148,7 +149,7 @@ module _ (it : OneMore) (known : WasKnown it) (y : ℕ) where
         map_is : old.map ≡ row.map
         map_is =
             let all = front ++ it.own ∷ [] in
-            sym (map_of script.servers (By f) (log_plain script.servers f (plain present f lies_f)) old at_row way.linked)
+            sym (map_of script.servers (By f) (log_plain script.servers f (plain_at present f lies_f)) old at_row way.linked)
             ∙ ap (λ (i : LinkId). i.map) id
 
         leaves_old : stage_at here old ≡ 3

@@ -2,16 +2,27 @@
 -- link have.
 use Rattle.law_moves.proofs.Imports.{◌<◌, ◌∙◌, ◌≡◌, ◌≤◌, ◌⊎◌, AliveIn, AreTwins, Bool, Both, Cell, Command, Firm, Good, HasJoinedSince, HasProperTuples}
 use Rattle.law_moves.proofs.Imports.{HasStage, IsBelow, IsLast, IsLinked, IsOwn, IsPrefix, IsServing, IsSteady, Join, KeepsRoles, LinkRow, List, PairState}
-use Rattle.law_moves.proofs.Imports.{Pairs, Rests, Run, Some, State, Store, WasThere, after_front, always_firm, arith, blank_joins_in, cell_link}
-use Rattle.law_moves.proofs.Imports.{chosen_state, counted, end_of, false, front_itself, front_plain, has_server, history_is_firm, in_own, inl, inr, is_in}
-use Rattle.law_moves.proofs.Imports.{join_was_wanted, joined_counts, joined_since, kept, kept_after, log_below, log_roles, log_steady, own_by, place_by}
-use Rattle.law_moves.proofs.Imports.{places_up, refl, rests_after, runs_at, serves, stage_at, stage_facts, stands_in, start, start_rests, stays_filled, sym}
-use Rattle.law_moves.proofs.Imports.{true, true_false, ℕ}
+use Rattle.law_moves.proofs.Imports.{Pairs, Record, Rests, Run, Setting, Some, State, Store, WasThere, World, after_front, always_firm, arith, blank_joins_in}
+use Rattle.law_moves.proofs.Imports.{cell_link, chosen_state, counted, end_of, false, front_itself, front_plain, has_server, history_is_firm, in_own, inl}
+use Rattle.law_moves.proofs.Imports.{inr, is_in, join_was_wanted, joined_counts, joined_since, kept, kept_after, log_below, log_roles, log_steady, own_by}
+use Rattle.law_moves.proofs.Imports.{place_by, places_up, refl, rests_after, runs_at, serves, stage_at, stage_facts, stands_in, start, start_rests}
+use Rattle.law_moves.proofs.Imports.{stays_filled, sym, true, true_false, ℕ}
 use Rattle.law_moves.proofs.PlacesAreVisits.{seen_after, were}
 
 pub row_serving : (state : State) (n : ℕ) (cell : Cell) (row : LinkRow) → cell_link state cell ≡ Some row → has_server n row ≡ true
     → serves n row row.state ≡ true → IsServing state n cell
 row_serving state n cell row is has so = record { row = row; is = is; one_of = has; so = so }
+
+-- nobody who serves a link has been at a later place than the one by all that is chosen
+pub top_last : (setting : Setting) (records : List Record) (top : List Command) (w : World) → HasProperTuples setting.servers top
+    → (good : Good setting records top w) → (cell : Cell) (row : LinkRow) → IsLinked setting top cell row → IsLast good.reached setting top cell row
+top_last setting records top w plain good cell row is = elim (good.reaching.by cell) [
+  | inl none ↦ omega (arith, none)
+  | inr r ↦
+      let le = places_up setting top plain r.front top cell r.row row r.prefix (front_itself top) r.linked is in
+      let spot = r.at in
+      omega arith
+]
 
 module _ (it : Run) where
   open it use {script, sound, records, legal}
@@ -108,13 +119,7 @@ module _ (it : Run) where
   -- ### The two copies by what is chosen
 
   pub chosen_last : (cell : Cell) (row : LinkRow) → IsLinked setting chosen cell row → IsLast good.reached setting chosen cell row
-  chosen_last cell row is = elim (good.reaching.by cell) [
-    | inl none ↦ omega (arith, none)
-    | inr r ↦
-        let up = places_up setting chosen firm.plain r.front chosen cell r.row row r.prefix (front_itself chosen) r.linked is in
-        let spot = r.at in
-        omega arith
-  ]
+  chosen_last cell row is = top_last setting records chosen (counted setting w) firm.plain good cell row is
 
   abbrev chosen_store : ℕ → Store
   chosen_store n = good.stores n (blank_joins_in setting chosen n)

@@ -1,12 +1,13 @@
 -- A region that has moved has all that was frozen: after the Moved of a link each of its entries was told to be at the new map, and what was told
 -- so is there.
-use Rattle.law_moves.proofs.Imports.{[], ◌++◌, ◌==◌, ◌∙◌, ◌∷◌, ◌≡◌, ◌≤◌, Cell, Chain, Command, HasMovedIn, HasProperTuples, HasStage, IsMoved, IsPrefix}
-use Rattle.law_moves.proofs.Imports.{LinkRow, List, MapRow, Moved, Run, Setting, Some, World, ap, arith, below, both_true, cell_link, chosen_log, end_of}
-use Rattle.law_moves.proofs.Imports.{found_at, front_more, front_on, front_plain, fronts_meet, goal_same, gone_twin, history_is_firm, inl, inr, is_link}
-use Rattle.law_moves.proofs.Imports.{key_at, length, link_at, link_of, links_of, log_comes, log_goes, log_grown, log_plain, log_retired, log_steady, no_home}
-use Rattle.law_moves.proofs.Imports.{none_some, option_and_then, option_map, option_map_or, proper, refl, region_of, row_or_none, same_numbers, some_or_none}
-use Rattle.law_moves.proofs.Imports.{source, stage_at, stage_facts, stage_in, stage_is, subst, sym, tuple_of, tuple_on, ℕ}
+use Rattle.law_moves.proofs.Imports.{[], ◌++◌, ◌==◌, ◌∙◌, ◌∷◌, ◌≡◌, ◌≤◌, Cell, Chain, Command, HasMovedIn, HasProperTuples, IsMoved, IsPrefix, LinkRow, List}
+use Rattle.law_moves.proofs.Imports.{MapRow, Moved, Run, Setting, Some, World, ap, arith, below, both_true, cell_link, chosen_log, end_of, found_at}
+use Rattle.law_moves.proofs.Imports.{front_more, front_on, fronts_meet, goal_same, gone_twin, history_is_firm, inl, inr, is_link, key_at, length, link_at}
+use Rattle.law_moves.proofs.Imports.{link_of, links_of, log_comes, log_goes, log_grown, log_plain, log_retired, log_steady, no_home, none_some}
+use Rattle.law_moves.proofs.Imports.{option_and_then, option_map, option_map_or, proper, refl, region_of, row_or_none, same_numbers, some_or_none, source}
+use Rattle.law_moves.proofs.Imports.{stage_at, stage_in, stage_is, subst, sym, tuple_of, tuple_on, ℕ}
 use Rattle.law_moves.specs.Fills.{AllFilled, AreFilled, Has, HaveComeOver, IsOnWay, WasFilled}
+use Rattle.law_moves.proofs.MoveWorlds.{plain_at, facts_at}
 
 -- at each Moved of a link that is chosen, while a cell of the link was leaving, the new map was told to have each entry of the cell
 abbrev pub AllMoved : Setting → World → Type 0
@@ -21,12 +22,6 @@ module _ (it : Run) where
   pub all_plain : HasProperTuples script.servers chosen
   all_plain = (history_is_firm script records sound legal).plain
 
-  pub plain : (log : List Command) → IsPrefix log chosen → HasProperTuples script.servers log
-  plain log lies = front_plain script.servers log chosen all_plain lies
-
-  pub facts : (log : List Command) → IsPrefix log chosen → (cell : Cell) → HasStage (By log) cell
-  facts log lies cell = stage_facts script.servers log (plain log lies) cell
-
   -- ### The link of a cell
 
   -- the number of a cell's link
@@ -38,7 +33,8 @@ module _ (it : Run) where
     | inl h ↦ (
         let at = found_at (is_link cell.map (link_of (length h.0) cell.block)) (By log).links row
         (sym (ap (option_and_then (λ ids. link_at (By log).links cell.map (link_of (length ids) cell.block))) h.1) ∙ is) in
-        let later = tuple_on script.servers (By log) (By chosen) (log_plain script.servers log (plain log lies)) (log_plain script.servers chosen all_plain)
+        let later =
+        tuple_on script.servers (By log) (By chosen) (log_plain script.servers log (plain_at it log lies)) (log_plain script.servers chosen all_plain)
         (log_grown script.servers log chosen all_plain lies) cell.map h.0 h.1 in
         same_numbers row.link (link_of (length h.0) cell.block) (both_true (row.map == cell.map) (row.link == link_of (length h.0) cell.block) at.2).1
         ∙ ap (λ o. link_of (option_map_or length o 0) cell.block) (sym later))
@@ -60,7 +56,7 @@ module _ (it : Run) where
   on_own_link old link m is =
       let lies = until_lies m.until (Moved old.map (region_of old.block) link) m.stands in
       let three = m.leaves in
-      let h = (log_steady script.servers m.until (plain m.until lies)).lives old ((facts m.until lies old).alive (omega arith) (omega arith)) in
+      let h = (log_steady script.servers m.until (plain_at it m.until lies)).lives old ((facts_at it m.until lies old).alive (omega arith) (omega arith)) in
       let same : link ≡ h.row.link = is ∙ sym (link_slot m.until lies old h.row h.is) in
       record {
         until = m.until;
@@ -93,8 +89,8 @@ module _ (it : Run) where
   pub one_goal : (a b : List Command) → IsPrefix a chosen → IsPrefix b chosen → (old new goal : Cell) → IsMoved (By a) old new → IsMoved (By b) old goal
       → goal ≡ new
   one_goal a b one two old new goal first second = elim (fronts_meet a b chosen one two) [
-    | inl on ↦ goal_same script.servers a b (plain b two) on old new goal first second
-    | inr back ↦ sym (goal_same script.servers b a (plain a one) back old goal new second first)
+    | inl on ↦ goal_same script.servers a b (plain_at it b two) on old new goal first second
+    | inr back ↦ sym (goal_same script.servers b a (plain_at it a one) back old goal new second first)
   ]
 
   -- ### What has come over
@@ -104,8 +100,8 @@ module _ (it : Run) where
         → (before : Chain) (epoch : ℕ) → w.frozen old ≡ Some before → Has before epoch → WasFilled w (key_at new epoch)
     moved_filled old new m front lies is before epoch frozen has =
         let until = until_lies m.until (Moved old.map (region_of old.block) m.row.link) m.stands in
-        let goes = (facts m.until until old).targets m.leaves in
-        let same = one_goal front m.until lies until old new goes.0 is (log_goes script.servers m.until (plain m.until until) old goes.0 goes.1) in
+        let goes = (facts_at it m.until until old).targets m.leaves in
+        let same = one_goal front m.until lies until old new goes.0 is (log_goes script.servers m.until (plain_at it m.until until) old goes.0 goes.1) in
         all_moved m.until (region_of old.block) old new m.row m.stands
         (record { stage = m.leaves; to = goes.1 ∙ ap Some same; linked = m.linked }) refl before epoch frozen has tt
 
@@ -113,7 +109,7 @@ module _ (it : Run) where
     pub over_told : (old new : Cell) (front : List Command) → IsPrefix front chosen → source (By front) new ≡ Some old → 2 ≤ stage_at (By chosen) new
         → (before : Chain) (epoch : ℕ) → w.frozen old ≡ Some before → Has before epoch → WasFilled w (key_at new epoch)
     over_told old new front lies comes two before epoch frozen has =
-        let m = log_comes script.servers front (plain front lies) old new comes in
+        let m = log_comes script.servers front (plain_at it front lies) old new comes in
         moved_filled old new (retired_moved old (gone_twin script.servers front chosen all_plain lies old new m two)) front lies m before epoch frozen has
 
   pub come_over : AreFilled setting w → HaveComeOver setting w

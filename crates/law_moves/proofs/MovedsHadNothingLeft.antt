@@ -12,8 +12,9 @@ use Rattle.law_moves.specs.LeftToMove.{IsKept, IsKnown, IsOurs}
 use Rattle.law_moves.proofs.FrozenIsWhatCounted.{frozen_stays}
 use Rattle.law_moves.proofs.AllKeptOfMoves.{Known}
 use Rattle.law_moves.proofs.NextFill.{none_left, nothing_left}
-use Rattle.law_moves.proofs.MovedRegionsHaveAll.{AllMoved, plain, until_lies}
+use Rattle.law_moves.proofs.MovedRegionsHaveAll.{AllMoved, until_lies}
 use Rattle.law_moves.proofs.ServersOfLinks.{link_lead_serves}
+use Rattle.law_moves.proofs.MoveWorlds.{plain_at}
 
 -- ### Letters stay
 
@@ -81,7 +82,7 @@ module _ (it : Run)
     one_row : was.row ≡ row
     one_row =
         let map_is = map_of script.servers (By front)
-        (log_plain script.servers front (plain it front (until_lies it front _ stands))) old row way.linked in
+        (log_plain script.servers front (plain_at it front (until_lies it front _ stands))) old row way.linked in
         same_some (sym was.linked ∙ ap (λ k. link_named (By front) (record { map = k; link = row.link })) (sym map_is)
         ∙ row_named (By front) old row way.linked)
 
@@ -89,7 +90,7 @@ module _ (it : Run)
     serving =
         let leads = mover_leads (By front) was.server (region_of old.block) was.row was.moves in
         link_lead_serves (By front)
-        (log_steady script.servers front (plain it front (until_lies it front _ stands))) old was.server
+        (log_steady script.servers front (plain_at it front (until_lies it front _ stands))) old was.server
         (ap (option_and_then (row_lead (By front))) (way.linked ∙ ap Some (sym one_row)) ∙ is_the_one (row_lead (By front) was.row) was.server leads)
 
     -- what it had was frozen

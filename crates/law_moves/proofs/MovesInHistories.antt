@@ -95,7 +95,7 @@ none_there setting f lies cell =
 none_now : (setting : Setting) (cell : Cell) → stage_at (chosen_state setting (start setting)) cell ≡ 0
 none_now setting cell = ap (λ log. stage_at (state_after setting.servers log) cell) (none_chosen setting) ∙ first_stage setting.servers cell
 
-none_in : (f : List Command) (entry : Command) → [] ≡ (f ++ entry ∷ []) → ⊥
+pub none_in : (f : List Command) (entry : Command) → [] ≡ (f ++ entry ∷ []) → ⊥
 none_in [] entry e = cc
 none_in (x ∷ f) entry e = cc
 

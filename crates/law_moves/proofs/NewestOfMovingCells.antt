@@ -7,8 +7,8 @@ use Rattle.law_moves.proofs.Imports.{start_same, subst, sym, twins_later, ℕ}
 use Rattle.law_epochs.proofs.EntriesNeverEarly.{kept_by}
 use Rattle.law_moves.specs.Fills.{Has, IsFrozen, IsThere, WasFilled}
 use Rattle.law_moves.proofs.NewestByLetters.{AllNewest, IsNewest}
-use Rattle.law_moves.proofs.MovedRegionsHaveAll.{facts, plain}
 use Rattle.law_moves.proofs.FrozenEpochs.{entry_of}
+use Rattle.law_moves.proofs.MoveWorlds.{facts_at, plain_at}
 
 module _ (it : Run) where
   open it use {script}
@@ -19,8 +19,8 @@ module _ (it : Run) where
   pub one_start : (a b : List Command) → IsPrefix a chosen → IsPrefix b chosen → (old other cell : Cell) → IsMoved (By a) old cell → IsMoved (By b) other cell
       → other ≡ old
   one_start a b la lb old other cell one two = elim (fronts_meet a b chosen la lb) [
-    | inl on ↦ start_same script.servers a b (plain it b lb) on cell old other one two
-    | inr back ↦ sym (start_same script.servers b a (plain it a la) back cell other old two one)
+    | inl on ↦ start_same script.servers a b (plain_at it b lb) on cell old other one two
+    | inr back ↦ sym (start_same script.servers b a (plain_at it a la) back cell other old two one)
   ]
 
   -- by entries by which the new cell is born, the old one is leaving, or has left; and both are of one epoch
@@ -31,15 +31,15 @@ module _ (it : Run) where
   pub at_coming : (f a : List Command) → IsPrefix f chosen → IsPrefix a chosen → (old cell : Cell) → IsMoved (By f) old cell → stage_at (By a) cell ≡ 1
       → (source (By a) cell ≡ Some old) × HasLeft a old cell
   at_coming f a lf la old cell moved one =
-      let s = (facts it a la cell).sources one in
-      let there = log_comes script.servers a (plain it a la) s.0 cell s.1 in
+      let s = (facts_at it a la cell).sources one in
+      let there = log_comes script.servers a (plain_at it a la) s.0 cell s.1 in
       let same : s.0 ≡ old = one_start f a lf la old s.0 cell moved there in
       let at_old = subst (λ (c : Cell). IsMoved (By a) c cell) same there in
       let three : stage_at (By a) old ≡ 3 = subst (λ (c : Cell). stage_at (By a) c ≡ 3) same s.3.stage_is in (
         s.1 ∙ ap Some same,
         record {
           three = omega arith;
-          epochs = twins_later script.servers a a (plain it a la) (front_itself a) old cell at_old;
+          epochs = twins_later script.servers a a (plain_at it a la) (front_itself a) old cell at_old;
         },
       )
 
@@ -49,11 +49,11 @@ module _ (it : Run) where
     | inl one ↦ (at_coming f a lf la old cell moved (omega arith)).1
     | inr two ↦ elim (fronts_meet f a chosen lf la) [
       | inl on ↦
-          let plain_a = plain it a la in
+          let plain_a = plain_at it a la in
           let gone = gone_twin script.servers f a plain_a on old cell moved two in
           record { three = (omega arith); epochs = twins_later script.servers f a plain_a on old cell moved }
       | inr back ↦
-          let up = (log_below script.servers a f (plain it f lf) back).stages cell in
+          let up = (log_below script.servers a f (plain_at it f lf) back).stages cell in
           absurd (omega arith)
     ]
   ]
@@ -66,8 +66,8 @@ module _ (it : Run) where
   frozen_newest rev key bytes f born = record {
     born = born;
     newest = λ a old before later lies comes low frozen lt has.
-        let one = log_comes script.servers a (plain it a lies) old (cell_of key) comes in
-        let two = log_comes script.servers f.front (plain it f.front f.lies) f.old (cell_of key) f.from in
+        let one = log_comes script.servers a (plain_at it a lies) old (cell_of key) comes in
+        let two = log_comes script.servers f.front (plain_at it f.front f.lies) f.old (cell_of key) f.from in
         let same : f.old ≡ old = one_start a f.front lies f.lies old f.old (cell_of key) one two in
         let chain : before ≡ f.before = same_some (sym frozen ∙ ap w.frozen (sym same) ∙ f.frozen) in
         f.newer later lt (subst (λ (c : Chain). Has c later) chain has);

@@ -1,105 +1,34 @@
 -- The keys that an old lead has still to move: which one comes next, and what the new map is known to have once none is left.
-use Rattle.law_moves.proofs.Imports.{[], ◌&&◌, ◌<◌, ◌==◌, ◌||◌, ◌∙◌, ◌∷◌, ◌≡◌, ◌≤◌, ◌⊎◌, Bool, Cell, Chain, Equal, Greater, In, Key, Less, LinkRow, List}
-use Rattle.law_moves.proofs.Imports.{None, Option, Ordering, PairState, Some, State, Stored, Table, ap, arith, at, at-empty, at_most_or_above, both_true}
-use Rattle.law_moves.proofs.Imports.{by_bool, by_test, cell_cmp, cell_cmp_same, comes_before, comes_next, cond, earlier, false, fill_left, fill_of, filter}
-use Rattle.law_moves.proofs.Imports.{first_key, flat_map, in_former, in_kept, in_later, in_left, in_mapped, in_none, inl, inr, is_eq, is_on, is_some, key_at}
-use Rattle.law_moves.proofs.Imports.{keys_in, keys_of, lookup, map, nat_cmp, nat_lt, nat_tests, next_fill, none_some, not, number_itself, ranked, refl}
-use Rattle.law_moves.proofs.Imports.{region_of, region_to_move, same_numbers, same_some, subst, sym, true, true_false, unwrap_or, ℕ}
+use Rattle.law_moves.proofs.Imports.{[], ◌&&◌, ◌==◌, ◌||◌, ◌∙◌, ◌∷◌, ◌≡◌, ◌⊎◌, Cell, Chain, Equal, Greater, In, Key, Less, LinkRow, List, None, Option}
+use Rattle.law_moves.proofs.Imports.{Ordering, PairState, Some, State, Stored, Table, ap, arith, at, at-empty, by_bool, by_test, cell_cmp, cell_cmp_same}
+use Rattle.law_moves.proofs.Imports.{comes_before, comes_next, cond, earlier, false, fill_left, fill_of, filter, first_key, flat_map, in_former, in_kept}
+use Rattle.law_moves.proofs.Imports.{in_later, in_left, in_mapped, in_none, inl, inr, is_eq, is_on, is_some, key_at, keys_in, keys_of, lookup, map, nat_cmp}
+use Rattle.law_moves.proofs.Imports.{nat_tests, next_fill, none_some, not, number_itself, ranked, refl, region_of, region_to_move, same_numbers, same_some}
+use Rattle.law_moves.proofs.Imports.{subst, sym, true, true_false, unwrap_or, ℕ}
 use Rattle.std.specs.BTreeMap.{is_at}
 use Rattle.law_moves.specs.LeftToMove.{IsKept, IsKnown, IsNext, IsOurs, last_told}
 
 -- ### The order of keys
 
--- a key comes before another one, or it is that one or comes after it
-abbrev pub IsBefore : Key → Key → Type 0
-IsBefore one other = (one.block < other.block) ⊎ ((one.block ≡ other.block) × (other.epoch < one.epoch))
-
+-- a key is another one, or comes after it: by its block, or by its epoch, which falls
 abbrev pub IsAfter : Key → Key → Type 0
-IsAfter one other = (other.block < one.block) ⊎ ((one.block ≡ other.block) × (one.epoch ≤ other.epoch))
-
-less_is : (a b : ℕ) → nat_lt a b ≡ true → a < b
-less_is a b e = grind (arith, nat_tests)
-
-less_not : (a b : ℕ) → nat_lt a b ≡ false → b ≤ a
-less_not a b e = grind (arith, nat_tests)
-
-is_less : (a b : ℕ) → a < b → nat_lt a b ≡ true
-is_less a b h = grind (arith, nat_tests)
-
-not_less : (a b : ℕ) → b ≤ a → nat_lt a b ≡ false
-not_less a b h = grind (arith, nat_tests)
-
-pub before_is : (one other : Key) → comes_before one other ≡ true → IsBefore one other
-before_is one other e = by_bool (nat_lt one.block other.block) (λ t. inl (less_is one.block other.block t))
-    (λ f.
-    let rest : (one.block == other.block && nat_lt other.epoch one.epoch) ≡ true =
-    sym (ap (λ b. b || (one.block == other.block && nat_lt other.epoch one.epoch)) f) ∙ e in
-    let both = both_true (one.block == other.block) (nat_lt other.epoch one.epoch) rest in
-    inr (same_numbers one.block other.block both.0, less_is other.epoch one.epoch both.1))
-
-pub is_before : (one other : Key) → IsBefore one other → comes_before one other ≡ true
-is_before one other (inl lt) =
-    ap (λ b. b || (one.block == other.block && nat_lt other.epoch one.epoch)) (is_less one.block other.block lt)
-is_before one other (inr h) =
-    let le : nat_lt one.block other.block ≡ false = not_less one.block other.block (let e = h.0 in omega arith) in
-    ap (λ b. b || (one.block == other.block && nat_lt other.epoch one.epoch)) le
-    ∙ (λ i. same i && is_less other.epoch one.epoch h.1 i)
-  where
-    same : (one.block == other.block) ≡ true
-    same = subst (λ k. (one.block == k) ≡ true) h.0 (number_itself one.block)
-
--- one of two
-pub either_way : (one other : Key) → IsBefore one other ⊎ IsAfter one other
-either_way one other = by (nat_lt one.block other.block) refl
-  where
-    epochs : (b : Bool) → nat_lt other.epoch one.epoch ≡ b → one.block ≡ other.block → IsBefore one other ⊎ IsAfter one other
-    epochs true e same = inl (inr (same, less_is other.epoch one.epoch e))
-    epochs false e same = inr (inr (same, less_not other.epoch one.epoch e))
-
-    blocks : (b : Bool) → nat_lt other.block one.block ≡ b → other.block ≤ one.block → IsBefore one other ⊎ IsAfter one other
-    blocks true e le = inr (inl (less_is other.block one.block e))
-    blocks false e le = let low = less_not other.block one.block e in epochs (nat_lt other.epoch one.epoch) refl (omega arith)
-
-    by : (b : Bool) → nat_lt one.block other.block ≡ b → IsBefore one other ⊎ IsAfter one other
-    by true e = inl (inl (less_is one.block other.block e))
-    by false e = blocks (nat_lt other.block one.block) refl (less_not one.block other.block e)
-
--- not both
-never_both : {B : Type 0} (one other : Key) → IsBefore one other → IsAfter one other → B
-never_both one other (inl lt) (inl past) = absurd (omega arith)
-never_both one other (inl lt) (inr h) = let e = h.0 in absurd (omega arith)
-never_both one other (inr h) (inl past) = let e = h.0 in absurd (omega arith)
-never_both one other (inr h) (inr k) = let a = h.1 in let b = k.1 in absurd (omega arith)
-
-pub after_is : (one other : Key) → comes_before one other ≡ false → IsAfter one other
-after_is one other e = elim (either_way one other) [ inl before ↦ true_false (is_before one other before) e | inr following ↦ following ]
+IsAfter one other = comes_before one other ≡ false
 
 after_itself : (key : Key) → IsAfter key key
-after_itself key = inr (refl, omega arith)
+after_itself key = grind (arith, nat_tests)
 
-pub following_on : (one mid other : Key) → IsAfter one mid → IsAfter mid other → IsAfter one other
-following_on one mid other (inl a) (inl b) = inl (omega arith)
-following_on one mid other (inl a) (inr b) = let e = b.0 in inl (omega arith)
-following_on one mid other (inr a) (inl b) = let e = a.0 in inl (omega arith)
-following_on one mid other (inr a) (inr b) = inr (a.0 ∙ b.0, (let x = a.1 in let y = b.1 in omega arith))
+following_on : (one mid other : Key) → IsAfter one mid → IsAfter mid other → IsAfter one other
+following_on one mid other a b = grind (arith, nat_tests, a, b)
 
-after_before : (one other : Key) → IsBefore other one → IsAfter one other
-after_before one other (inl lt) = inl lt
-after_before one other (inr h) = inr (sym h.0, (let lt = h.1 in omega arith))
+after_before : (one other : Key) → comes_before other one ≡ true → IsAfter one other
+after_before one other before = grind (arith, nat_tests, before)
 
 -- of one map: a key that another one does not come before is that one, or comes before it
 pub here_or_before : (key last : Key) → key.map ≡ last.map → comes_before last key ≡ false → (key ≡ last) ⊎ (comes_before key last ≡ true)
-here_or_before key last map e = by (after_is last key e)
-  where
-    epochs : last.block ≡ key.block → (key.epoch ≤ last.epoch) ⊎ (last.epoch < key.epoch) → last.epoch ≤ key.epoch
-        → (key ≡ last) ⊎ (comes_before key last ≡ true)
-    epochs block (inl low) high =
-        let epoch : key.epoch ≡ last.epoch = omega arith in inl (λ i. record { map = map i; block = sym block i; epoch = epoch i })
-    epochs block (inr past) high = inr (is_before key last (inr (sym block, past)))
-
-    by : IsAfter last key → (key ≡ last) ⊎ (comes_before key last ≡ true)
-    by (inl lt) = inr (is_before key last (inl lt))
-    by (inr h) = epochs h.0 (at_most_or_above key.epoch last.epoch) h.1
+here_or_before key last map e = by_bool (comes_before key last) (λ before. inr before) (λ no.
+    let block : key.block ≡ last.block = grind (arith, nat_tests, e, no) in
+    let epoch : key.epoch ≡ last.epoch = grind (arith, nat_tests, e, no) in
+    inl (λ i. record { map = map i; block = block i; epoch = epoch i }))
 
 -- ### The first of some keys
 
@@ -132,7 +61,7 @@ first_is (key ∷ keys) first e = by (first_key keys) refl (λ one some. first_i
         (λ before same. subst (IsFirst (key ∷ keys)) (same_some same) (record {
           among = inr rest.among;
           least = λ other i. elim i [
-            | inl here ↦ subst (λ k. IsAfter k one) (sym here) (after_before key one (before_is one key before))
+            | inl here ↦ subst (λ k. IsAfter k one) (sym here) (after_before key one before)
             | inr later ↦ rest.least other later
           ];
         }))
@@ -140,7 +69,7 @@ first_is (key ∷ keys) first e = by (first_key keys) refl (λ one some. first_i
           among = inl refl;
           least = λ other i. elim i [
             | inl here ↦ subst (λ k. IsAfter k key) (sym here) (after_itself key)
-            | inr later ↦ following_on other one key (rest.least other later) (after_is one key following)
+            | inr later ↦ following_on other one key (rest.least other later) following
           ];
         })) is
 
@@ -226,7 +155,7 @@ module _ (state : State) (row : LinkRow) (region : ℕ) (own : PairState) where
         before = λ cell epoch ours kept before.
             let i = key_in cell epoch ours kept in
             by_bool (comes_next region (last_told row own) (key_at cell epoch))
-            (λ new. never_both (key_at cell epoch) next (before_is (key_at cell epoch) next before)
+            (λ new. true_false before
             (first.least (key_at cell epoch) (in_kept (comes_next region (last_told row own)) keys (key_at cell epoch) i new)))
             (λ known. known_by (last_told row own) refl (key_at cell epoch) known);
       }

@@ -1,54 +1,76 @@
--- What is pending after a job was so before: with the same number, and put only if it was, or the job put it; or it is new, under the next number, and not
--- put.
-use Rattle.law_moves.proofs.Imports.{◌∙◌, ◌≡◌, ◌⊎◌, Body, Cell, Chain, Did, Drops, Effect, For_a_fill, For_a_write, Goes_on, Has_put, IsSame, IsSetFor}
-use Rattle.law_moves.proofs.Imports.{Is_opened, JobContext, JobResult, Key, May, PairState, Pending, Sets, Some, Stored, Table, ap, applied, at, cell_apart}
-use Rattle.law_moves.proofs.Imports.{cell_cmp, cell_of, cell_same, chain_in, chains_with, entry_stays, false, inl, inr, job_keeps, put, refl, restaged}
-use Rattle.law_moves.proofs.Imports.{same_cell_or_apart, same_itself, same_on, same_some, stood, subst, sym, true}
-use Rattle.law_jobs.specs.Effects.{Closes, Puts}
-use Rattle.law_moves.specs.Fills.{Has}
+-- What is pending after a job was so before: with the same number, and put only if it was, or the job put it, and its copy told only for a reason; or
+-- it is new, under the next number, and neither put nor copied.
+use Rattle.law_moves.proofs.Imports.{◌∙◌, ◌≡◌, ◌⊎◌, Body, Cell, Chain, Did, Effect, For_a_fill, For_a_write, Goes_on, Has_put, IsSame, IsSetFor, Is_opened}
+use Rattle.law_moves.proofs.Imports.{JobContext, JobResult, Key, May, None, PairState, Pending, Sets, Some, Stored, Table, ap, applied, at, by_bool}
+use Rattle.law_moves.proofs.Imports.{cell_apart, cell_cmp, cell_of, cell_same, chain_in, chains_with, false, inl, inr, job_keeps, none_some, put, refl}
+use Rattle.law_moves.proofs.Imports.{restaged, same_cell_or_apart, same_itself, same_on, same_some, stood, subst, sym, true, true_false}
+use Rattle.law_jobs.specs.Effects.{Closes, Drops, IsPaired, Is_apart, Is_replicated, Puts, Was_paired, chains_ahead}
+use Rattle.law_moves.proofs.JobsChangeOneChain.{not_ahead}
 
 -- the operation was pending, or is new
-pub data WasSo (own : PairState) (chains : Table Cell Chain) (q : Cell) (op : Pending) : Type 0 where
+pub data WasSo (heard : Body → Type 0) (here : JobContext) (own : PairState) (chains : Table Cell Chain) (q : Cell) (op : Pending) : Type 0 where
   It_was : (o : Pending) → at cell_cmp own.pairs.pending q ≡ Some o → IsSame o op
-      → (op.stage.put ≡ true → (o.stage.put ≡ true) ⊎ Has (chain_in chains q) op.key.epoch) → WasSo own chains q op
-  Is_new : op.op ≡ own.pairs.next → op.stage.put ≡ false → WasSo own chains q op
+      → (op.stage.put ≡ true → (o.stage.put ≡ true) ⊎ (chains ≡ chains_ahead own q o))
+      → (op.stage.paired ≡ true → IsPaired heard here own q o) → WasSo heard here own chains q op
+  Is_new : at cell_cmp own.pairs.pending q ≡ None → op.op ≡ own.pairs.next → op.stage.put ≡ false → op.stage.paired ≡ false
+      → WasSo heard here own chains q op
 
 module _ (heard : Body → Type 0) (here : JobContext) (own : PairState)
     (keyed : (cell : Cell) (op : Pending) → at cell_cmp own.pairs.pending cell ≡ Some op → cell_of op.key ≡ cell) where
-  abbrev AreSo : PairState → Type 0
-  AreSo now = (q : Cell) (op : Pending) → at cell_cmp now.pairs.pending q ≡ Some op → WasSo own now.store.chains q op
+  abbrev W : Table Cell Chain → Cell → Pending → Type 0
+  W chains q op = WasSo heard here own chains q op
 
-  stands : (chains : Table Cell Chain) (q : Cell) (op : Pending) → at cell_cmp own.pairs.pending q ≡ Some op → WasSo own chains q op
-  stands chains q op is = It_was op is (same_itself op) (λ put. inl put)
+  abbrev AreSo : PairState → Type 0
+  AreSo now = (q : Cell) (op : Pending) → at cell_cmp now.pairs.pending q ≡ Some op → W now.store.chains q op
+
+  stands : (chains : Table Cell Chain) (q : Cell) (op : Pending) → at cell_cmp own.pairs.pending q ≡ Some op → W chains q op
+  stands chains q op is = It_was op is (same_itself op) (λ put. inl put) (λ paired. Was_paired paired)
+
+  -- of one that was pending the reason is told as it was
+  paired_on : (q : Cell) (o op : Pending) → at cell_cmp own.pairs.pending q ≡ Some o → (op.stage.paired ≡ true → IsPaired heard here own q o)
+      → IsPaired heard here own q op → IsPaired heard here own q o
+  paired_on q o op was old (Was_paired paired) = old paired
+  paired_on q o op was old (Is_replicated h is both put) = subst (IsPaired heard here own q) (same_some (sym is ∙ was)) (Is_replicated h is both put)
+  paired_on q o op was old (Is_apart is apart) = subst (IsPaired heard here own q) (same_some (sym is ∙ was)) (Is_apart is apart)
+
+  -- of none that was there is none
+  unpaired : {B : Type 0} (q : Cell) (op : Pending) → at cell_cmp own.pairs.pending q ≡ None → op.stage.paired ≡ false → IsPaired heard here own q op → B
+  unpaired q op none fresh (Was_paired paired) = true_false paired fresh
+  unpaired q op none fresh (Is_replicated h is both put) = none_some none is
+  unpaired q op none fresh (Is_apart is apart) = none_some none is
 
   -- one that is set
-  set_so : (now : PairState) (next : Pending) → IsSetFor heard here own now next → AreSo now → (q : Cell) → q ≡ next.cell → WasSo own now.store.chains q next
-  set_so now _ (Is_opened _ (For_a_write want new) number) so q e = Is_new refl refl
-  set_so now _ (Is_opened _ (For_a_fill moving new) number) so q e = Is_new refl refl
-  set_so now _ (Goes_on op stage is put) so q e = elim (so q op (ap (at cell_cmp now.pairs.pending) e ∙ is)) [
-    | Is_new number fresh ↦ Is_new number (put ∙ fresh)
-    | It_was o was same how ↦ It_was o was (same_on o op _ same (restaged op op.version stage)) (λ done. how (sym put ∙ done))
+  set_so : (now : PairState) (next : Pending) → IsSetFor heard here own now next → AreSo now → (q : Cell) → q ≡ next.cell → W now.store.chains q next
+  set_so now _ (Is_opened _ (For_a_write want new) number) so q e = Is_new (ap (at cell_cmp own.pairs.pending) e ∙ new.none) refl refl refl
+  set_so now _ (Is_opened _ (For_a_fill moving new) number) so q e = Is_new (ap (at cell_cmp own.pairs.pending) e ∙ new.none) refl refl refl
+  set_so now _ (Goes_on op stage is put paired) so q e = elim (so q op (ap (at cell_cmp now.pairs.pending) e ∙ is)) [
+    | Is_new none number fresh alone ↦ Is_new none number (put ∙ fresh)
+        (by_bool stage.paired (λ done. unpaired q op none alone (subst (λ c. IsPaired heard here own c op) (sym e) (paired done))) (λ f. f))
+    | It_was o was same how why ↦ It_was o was (same_on o op _ same (restaged op op.version stage)) (λ done. how (sym put ∙ done))
+        (λ done. paired_on q o op was why (subst (λ c. IsPaired heard here own c op) (sym e) (paired done)))
   ]
-  set_so now _ (Has_put op version stage is has) so q e =
-      It_was op (ap (at cell_cmp own.pairs.pending) e ∙ is) (restaged op version stage) (λ done. inr
-      (subst (λ cell. Has (chain_in now.store.chains cell) op.key.epoch) (keyed op.cell op is ∙ sym e) has))
+  set_so now _ (Has_put op version stage is ahead paired) so q e =
+      It_was op (ap (at cell_cmp own.pairs.pending) e ∙ is) (restaged op version stage)
+      (λ done. inr (ahead ∙ ap (λ c. chains_ahead own c op) (sym e)))
+      (λ done. subst (λ c. IsPaired heard here own c op) (sym e) (paired done))
 
-  put_so : (chains : Table Cell Chain) (key : Key) (stored : Stored) (q : Cell) (op : Pending) → WasSo own chains q op
-      → WasSo own (chains_with chains key stored) q op
-  put_so chains key stored q op (Is_new number fresh) = Is_new number fresh
-  put_so chains key stored q op (It_was o was same how) =
-      It_was o was same (λ done. elim (how done) [ inl put ↦ inl put | inr has ↦ inr (entry_stays chains key stored q op.key.epoch has) ])
+  put_so : (chains : Table Cell Chain) (key : Key) (stored : Stored) → chains ≡ own.store.chains → (q : Cell) (op : Pending) → W chains q op
+      → W (chains_with chains key stored) q op
+  put_so chains key stored same q op (Is_new none number fresh alone) = Is_new none number fresh alone
+  put_so chains key stored same q op (It_was o was as_it how why) =
+      It_was o was as_it (λ done.
+      elim (how done) [ inl put ↦ inl put | inr ahead ↦ absurd (not_ahead own q o (keyed q o was) (ap (λ c. chain_in c q) (sym ahead ∙ same))) ]) why
 
   each : (now : PairState) (e : Effect) → May heard here own now e → AreSo now → AreSo (applied now e)
   each now (Sets next) may so q op there = elim (same_cell_or_apart q next.cell) [
     | inl e ↦
         let t = now.pairs.pending in
         let same = same_some (sym (cell_same t next.cell next) ∙ ap (at cell_cmp (put cell_cmp t next.cell next)) (sym e) ∙ there) in
-        subst (WasSo own now.store.chains q) same (set_so now next may.0 so q e)
+        subst (W now.store.chains q) same (set_so now next may.0 so q e)
     | inr ne ↦ so q op (sym (cell_apart now.pairs.pending next.cell next q ne) ∙ there)
   ]
   each now (Closes cell) may so q op there = so q op (stood now.pairs.pending cell q op there)
-  each now (Puts key stored) may so q op there = put_so now.store.chains key stored q op (so q op there)
+  each now (Puts key stored) may so q op there = put_so now.store.chains key stored may.1 q op (so q op there)
   each now (Drops key) may so q op there = stands _ q op (ap (λ t. at cell_cmp t q) (sym may.1) ∙ there)
   each now _ may so q op there = so q op there
 

@@ -2,9 +2,9 @@
 -- entry is not there, and then it is.
 use Rattle.law_moves.proofs.Imports.{◌∙◌, ◌≡◌, ◌≢◌, ◌≤◌, BeforeBlank, Cell, Command, Fills, Handled, IsOpenedFill, IsStaged, Key, Letter, List, None, OneMore}
 use Rattle.law_moves.proofs.Imports.{Option, PairState, Pending, Server, Some, Stood, Store, World, Writes, ap, arith, at, at-empty, at_most_or_above}
-use Rattle.law_moves.proofs.Imports.{cell_cmp, cell_link, cell_of, chain_in, chosen_state, did_come, ends_of, false, front_itself, has_proposed, inl, inr}
-use Rattle.law_moves.proofs.Imports.{is_clients, is_in, is_some, is_the_one, lead, leads_link, nat_cmp, none_some, option_and_then, own_place, row_lead}
-use Rattle.law_moves.proofs.Imports.{same_or_apart, server_state, stage_at, stage_live, subst, sym, taking, true, true_false, ℕ}
+use Rattle.law_moves.proofs.Imports.{at_same, cell_cmp, cell_link, cell_of, chain_in, chosen_state, did_come, ends_of, false, front_itself, has_proposed, inl}
+use Rattle.law_moves.proofs.Imports.{inr, is_clients, is_in, is_some, is_the_one, lead, leads_link, nat_cmp, none_some, option_and_then, own_place, row_lead}
+use Rattle.law_moves.proofs.Imports.{same_or_apart, server_state, stage_at, stage_live, subst, sym, true, true_false, ℕ}
 use Rattle.law_moves.proofs.StepsTellEntries.{Goes_on, HasStore, Is_bare, Keeps, Awakes, Before, IsJob, IsPosted, Other, Posted, Works, chosen_on, gone, sent}
 use Rattle.law_moves.proofs.StepsTellEntries.{mine_top}
 use Rattle.law_moves.specs.Fills.{Has, IsFrozen, WasFilled}
@@ -13,12 +13,13 @@ use Rattle.law_moves.proofs.LeavingCellsGainNothing.{before}
 use Rattle.law_moves.proofs.AllKeptOfMoves.{Known, WereKnown}
 use Rattle.law_moves.proofs.LeadsHaveWhatServersHave.{other_idle, other_lacks}
 use Rattle.law_moves.proofs.PendingAfterJobs.{Is_new, It_was, did_was}
-use Rattle.law_moves.proofs.FillLetters.{Asks_copy, Is_done, Is_done_alone, Is_neither, Is_there, Says, did_says, is_filled}
+use Rattle.law_moves.proofs.FillLetters.{HasFilled, Is_there, Was_put, did_says}
 use Rattle.law_moves.proofs.ServersOfLinks.{lead_serves, link_lead_serves}
 use Rattle.law_moves.proofs.EqualCopies.{moved_now}
-use Rattle.law_moves.proofs.ToldEntriesAreThere.{filled_key, kept_own, no_other, told_already}
+use Rattle.law_moves.proofs.ToldEntriesAreThere.{kept_own, no_other, told_already}
 use Rattle.law_moves.proofs.MoveWorlds.{facts_at, firm, good, own_counts, rests, steady_at, up}
 use Rattle.law_moves.proofs.MoveScenes.{TwoLeads}
+use Rattle.law_moves.proofs.JobsChangeOneChain.{put_on}
 use Rattle.petal_msg.specs.declared.body.Body.TheVariants as body
 
 module _ (it : OneMore) (all : WereKnown it) where
@@ -124,11 +125,11 @@ module _ (it : OneMore) (all : WereKnown it) where
     ]
   ]
 
-  -- what is said in the step
-  pub posted_says : (letter : Letter) (p : IsPosted it letter)
-      → Says (Handled w p.n) (own_place setting w p.n) (w.servers p.n).own p.job.done p.post
-  posted_says letter p = did_says (Handled w p.n) (own_place setting w p.n) (w.servers p.n).own
-      (never_retired prior known.filled.opened p.n p.job.runs) p.job.done p.job.did p.post p.there
+  -- who says in the step that an entry is there
+  pub posted_says : (letter : Letter) (p : IsPosted it letter) (key : Key) → letter.body ≡ body.Filled key
+      → HasFilled (Handled w p.n) (own_place setting w p.n) (w.servers p.n).own p.job.done.own key
+  posted_says letter p key said = did_says (Handled w p.n) (own_place setting w p.n) (w.servers p.n).own
+      (never_retired prior known.filled.opened p.n p.job.runs) p.job.done p.job.did p.post p.there (body.Filled key) (sym p.body ∙ said)
 
   -- one of the step's own
   module _ (m : ℕ) (cell : Cell) (op : Pending) (is : pending_at v m cell ≡ Some op) (fills : is_clients op.kind ≡ false)
@@ -137,33 +138,20 @@ module _ (it : OneMore) (all : WereKnown it) where
     k = p.n
 
     abbrev SaysIt : Type 0
-    SaysIt = Says (Handled w k) (own_place setting w k) (w.servers k).own p.job.done p.post
-
-    text : p.post.body ≡ body.Filled op.key
-    text = sym p.body ∙ said
-
-    says_it : SaysIt
-    says_it = posted_says letter p
+    SaysIt = HasFilled (Handled w k) (own_place setting w k) (w.servers k).own p.job.done.own op.key
 
     abbrev cell_is : (key : Key) → key ≡ op.key → cell_of key ≡ cell
     cell_is key e = ap cell_of e ∙ keyed_now m cell op is
 
     -- by the server that has it pending
     pub by_itself : m ≡ k → SaysIt → ⊥
-    by_itself e (Is_neither other) = true_false (ap is_filled text) other.0
-    by_itself e (Asks_copy o there stage txt) = let f : false ≡ true = ap is_filled (sym txt ∙ text) in absurd cc
-    by_itself e (Is_there moving filled txt same) =
-        let to = cell_is moving.key (filled_key (sym txt ∙ text)) in
-        none_some filled.none (ap (at cell_cmp (w.servers k).own.pairs.pending) to ∙ ap (λ (o : PairState). at cell_cmp o.pairs.pending cell)
+    by_itself e (Is_there moving filled of same) =
+        none_some filled.none (ap (at cell_cmp (w.servers k).own.pairs.pending) (cell_is moving.key of)
+        ∙ ap (λ (o : PairState). at cell_cmp o.pairs.pending cell)
         (sym (ap (λ i. (v.servers i).own) e ∙ ap (λ (s : Server). s.own) p.is ∙ p.job.own_is ∙ same)) ∙ is)
-    by_itself e (Is_done o there both stage fill txt none) =
-        let to = sym (keyed_was k o.cell o there) ∙ cell_is o.key (filled_key (sym txt ∙ text)) in
-        none_some none (ap (at cell_cmp p.job.done.own.pairs.pending) to ∙ ap (λ (o : PairState). at cell_cmp o.pairs.pending cell)
-        (sym (ap (λ i. (v.servers i).own) e ∙ ap (λ (s : Server). s.own) p.is ∙ p.job.own_is)) ∙ is)
-    by_itself e (Is_done_alone now o taken alone put fill txt none) =
-        let old = taking (w.servers k).own now o taken in
-        let to = sym (ap (λ (x : Pending). cell_of x.key) old.is ∙ keyed_was k o.cell old.old old.was) ∙ cell_is o.key (filled_key (sym txt ∙ text)) in
-        none_some none (ap (at cell_cmp p.job.done.own.pairs.pending) to ∙ ap (λ (o : PairState). at cell_cmp o.pairs.pending cell)
+    by_itself e (Was_put o there of fill put how none) =
+        none_some none (ap (at cell_cmp p.job.done.own.pairs.pending) (sym (keyed_was k o.cell o there) ∙ cell_is o.key of)
+        ∙ ap (λ (o : PairState). at cell_cmp o.pairs.pending cell)
         (sym (ap (λ i. (v.servers i).own) e ∙ ap (λ (s : Server). s.own) p.is ∙ p.job.own_is)) ∙ is)
 
     -- by another one
@@ -215,29 +203,24 @@ module _ (it : OneMore) (all : WereKnown it) where
           other_idle prior (two_leads ((rests prior).seated k cell o p.job.runs at_cell) l b) o at_cell
 
       by_other : SaysIt → ⊥
-      by_other (Is_neither other) = true_false (ap is_filled text) other.0
-      by_other (Asks_copy o there stage txt) = let f : false ≡ true = ap is_filled (sym txt ∙ text) in absurd cc
-      by_other (Is_there moving filled txt same_own) =
-          let key_is = filled_key (sym txt ∙ text) in
-          let to = cell_is moving.key key_is in
+      by_other (Is_there moving filled of same_own) =
+          let to = cell_is moving.key of in
           let facts = (facts_at prior (mine k) (mine_top it k) (cell_of moving.key)).leads k filled.lead in
           let at_top = one in
           let lacks = other_lacks prior (two_leads filled.seated
           (subst (λ (q : Cell). leads_link (server_state setting w k) k q ≡ true) to facts.0)
           (subst (λ (q : Cell). 1 ≤ stage_at (server_state setting w k) q) to facts.1)) fills in
           let has : Has (chain_in (w.servers k).own.store.chains cell) op.key.epoch =
-          subst (λ (q : Cell). Has (chain_in (w.servers k).own.store.chains q) op.key.epoch) to
-          (subst (λ e. Has (chain_in (w.servers k).own.store.chains (cell_of moving.key)) e) (ap (λ (x : Key). x.epoch) key_is) filled.has) in
+          subst (λ (x : Key). Has (chain_in (w.servers k).own.store.chains cell) x.epoch) of
+          (subst (λ (q : Cell). Has (chain_in (w.servers k).own.store.chains q) moving.key.epoch) to filled.has) in
           true_false has (ap is_some lacks)
-      by_other (Is_done o there both stage fill txt none) =
-          pending_too o o.cell there (sym (keyed_was k o.cell o there) ∙ cell_is o.key (filled_key (sym txt ∙ text)))
-      by_other (Is_done_alone now o taken alone put fill txt none) =
-          let old = taking (w.servers k).own now o taken in
-          pending_too old.old o.cell old.was
-          (sym (ap (λ (x : Pending). cell_of x.key) old.is ∙ keyed_was k o.cell old.old old.was) ∙ cell_is o.key (filled_key (sym txt ∙ text)))
+      by_other (Was_put o there of fill put how none) = pending_too o o.cell there (sym (keyed_was k o.cell o there) ∙ cell_is o.key of)
 
     said_now : (v.servers m).life.running ≡ true → ⊥
-    said_now runs = elim (same_or_apart m k) [ inl e ↦ by_itself e says_it | inr apart ↦ by_other runs apart says_it ]
+    said_now runs = elim (same_or_apart m k) [
+      | inl e ↦ by_itself e (posted_says letter p op.key said)
+      | inr apart ↦ by_other runs apart (posted_says letter p op.key said)
+    ]
 
   pub unsaid_next : (m : ℕ) (cell : Cell) (op : Pending) → (v.servers m).life.running ≡ true → pending_at v m cell ≡ Some op → is_clients op.kind ≡ false
       → WasFilled v op.key → ⊥
@@ -282,9 +265,15 @@ module _ (it : OneMore) (all : WereKnown it) where
   puts_next m cell op runs is fills put = elim (came m cell op is) [
     | Same_pairs up_was was ↦ still_has m cell op op.key.epoch runs (up_was runs) was fills (known.puts m cell op (up_was runs) was fills put)
     | By_job job there ↦ elim (did_was (Handled w m) (own_place setting w m) (w.servers m).own (keyed_was m) job.done job.did cell op there) [
-      | Is_new next fresh ↦ true_false put fresh
-      | It_was o was same how ↦ elim (how put) [
-        | inr has ↦ subst (λ (s : PairState). Has (chain_in s.store.chains cell) op.key.epoch) (sym job.own_is) has
+      | Is_new none next fresh alone ↦ true_false put fresh
+      | It_was o was same how why ↦ elim (how put) [
+        | inr ahead ↦
+            let has : Has (chain_in job.done.own.store.chains cell) o.key.epoch =
+            ap (λ c. is_some (at nat_cmp (chain_in c cell) o.key.epoch)) ahead
+            ∙ ap (λ c. is_some (at nat_cmp c o.key.epoch)) (put_on (w.servers m).own.store.chains o.key _ cell (keyed_was m cell o was))
+            ∙ ap is_some (at_same (chain_in (w.servers m).own.store.chains cell) o.key.epoch _) in
+            subst (λ (x : Key). Has (chain_in (v.servers m).own.store.chains cell) x.epoch) same.key
+            (subst (λ (s : PairState). Has (chain_in s.store.chains cell) o.key.epoch) (sym job.own_is) has)
         | inl old ↦ (
             let fill = ap is_clients same.kind ∙ fills in
             subst (λ (x : Key). Has (chain_in (v.servers m).own.store.chains cell) x.epoch) same.key
@@ -316,7 +305,7 @@ module _ (it : OneMore) (all : WereKnown it) where
   numbered_next old m cell op is = elim (came m cell op is) [
     | Same_pairs up_was was ↦ old m cell op was
     | By_job job there ↦ elim (did_was (Handled w m) (own_place setting w m) (w.servers m).own (keyed_was m) job.done job.did cell op there) [
-      | Is_new next fresh ↦ (let one = (good prior).counts m in omega arith)
-      | It_was o was same how ↦ (let one = old m cell o was in let e = same.number in omega arith)
+      | Is_new none next fresh alone ↦ (let one = (good prior).counts m in omega arith)
+      | It_was o was same how why ↦ (let one = old m cell o was in let e = same.number in omega arith)
     ]
   ]

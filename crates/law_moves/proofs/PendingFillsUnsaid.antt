@@ -108,7 +108,7 @@ module _ (it : OneMore) (all : WereKnown it) where
             let pending : at cell_cmp (v.servers n).own.pairs.pending cell ≡ Some op = ap (λ (q : Pairs). at cell_cmp q.pending cell) had ∙ is in
             elim (same_or_apart n p.n) [
               | inl itself ↦ by_itself it all n cell op pending fills letter said p itself
-                  (posted_says it all letter p)
+                  (posted_says it all letter p op.key said)
               | inr apart ↦ unsaid_new it all a
                   (as_now n place cell pairs (ap (λ (s : Server). is_at setting n s place cell) (sym (p.others n apart)) ∙ there)
                   (ap (λ (s : Server). s.own.pairs) (sym (p.others n apart)) ∙ had)) letter said p (λ so. pending)

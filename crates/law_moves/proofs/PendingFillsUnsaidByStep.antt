@@ -1,23 +1,21 @@
 -- A fill that a server had pending when it was at the place that the cell's link has by what is chosen, before a step: no letter of the step says that its
 -- entry is there.
-use Rattle.law_moves.proofs.Imports.{◌==◌, ◌∙◌, ◌≡◌, ◌≢◌, ◌≤◌, ◌⊎◌, AreSteps, At, Bool, Both, Cell, Command, Handled, IsAt, IsHeldBy, IsInBoth, IsLinked}
-use Rattle.law_moves.proofs.Imports.{IsPrefix, IsStaged, Key, Letter, LinkRow, List, None, OneMore, Only, Option, PairState, Pairs, Pending, Run, Server}
-use Rattle.law_moves.proofs.Imports.{Some, Store, WasThere, World, ap, arith, at, at-empty, at_by, at_most_or_above, blank_joins_in, by_bool, cell_cmp}
-use Rattle.law_moves.proofs.Imports.{cell_link, cell_of, chain_in, chosen_log, cut, either_true, ends_of, false, far, front_itself, front_on, half}
-use Rattle.law_moves.proofs.Imports.{has_proposed, history_grows, history_is_firm, inl, inr, is_at, is_at_so, is_in, is_some, is_the_one, leads_link}
-use Rattle.law_moves.proofs.Imports.{link_led_by, linked_between, nat_cmp, one_row, option_and_then, own_place, pair_at, place_by, places_up, progress}
-use Rattle.law_moves.proofs.Imports.{row_lead, same_numbers, same_only, same_or_apart, same_some, server_state, stage_at, stage_live, subst, sym, taking}
-use Rattle.law_moves.proofs.Imports.{true, true_false, ℕ}
+use Rattle.law_moves.proofs.Imports.{◌∙◌, ◌≡◌, ◌≢◌, ◌≤◌, ◌⊎◌, AreSteps, At, Bool, Both, Cell, Command, Handled, IsAt, IsHeldBy, IsInBoth, IsLinked, IsPrefix}
+use Rattle.law_moves.proofs.Imports.{IsStaged, Key, Letter, LinkRow, List, None, OneMore, Only, PairState, Pairs, Pending, Run, Server, Some, WasThere, World}
+use Rattle.law_moves.proofs.Imports.{ap, arith, at, at_by, at_most_or_above, cell_cmp, cell_link, cell_of, chain_in, chosen_log, cut, ends_of, front_itself}
+use Rattle.law_moves.proofs.Imports.{front_on, has_proposed, history_grows, history_is_firm, inl, inr, is_at, is_at_so, is_in, is_some, is_the_one}
+use Rattle.law_moves.proofs.Imports.{leads_link, link_led_by, linked_between, nat_cmp, one_row, option_and_then, own_place, place_by, places_up, row_lead}
+use Rattle.law_moves.proofs.Imports.{same_only, same_or_apart, same_some, server_state, stage_at, stage_live, subst, sym, true, true_false, ℕ}
 use Rattle.law_moves.specs.Fills.{Has, IsFrozen, WasFilled}
 use Rattle.law_moves.proofs.LeavingCellsGainNothing.{before}
 use Rattle.law_moves.proofs.AllKeptOfMoves.{Known, WereKnown}
-use Rattle.law_moves.proofs.LeadsHaveWhatServersHave.{Alone, As_first, Following, IsAfter, led_as}
+use Rattle.law_moves.proofs.LeadsHaveWhatServersHave.{Alone, As_first, Following, IsAfter, follower_lacks, led_as}
 use Rattle.law_moves.proofs.PendingFills.{by_itself, posted_says}
-use Rattle.law_moves.proofs.FillLetters.{Asks_copy, Is_done, Is_done_alone, Is_neither, Is_there, Says, is_filled}
+use Rattle.law_moves.proofs.FillLetters.{HasFilled, Is_there, Was_put}
 use Rattle.law_moves.proofs.StepsTellEntries.{IsPosted, mine_top, mine_whole}
 use Rattle.law_moves.proofs.EqualCopies.{frozen_on}
-use Rattle.law_moves.proofs.ToldEntriesAreThere.{filled_key, told_already}
-use Rattle.law_moves.proofs.MoveWorlds.{chosen_twins, facts_at, good, own_counts, rests, steady_at, up, was_seen}
+use Rattle.law_moves.proofs.ToldEntriesAreThere.{told_already}
+use Rattle.law_moves.proofs.MoveWorlds.{facts_at, good, rests, steady_at, up, was_seen}
 use Rattle.law_moves.proofs.MoveScenes.{FillAtPlace, LeadsAt}
 use Rattle.petal_msg.specs.declared.body.Body.TheVariants as body
 
@@ -100,10 +98,7 @@ module _ (it : OneMore) (all : WereKnown it) where
         k = p.n
 
         abbrev SaysIt : Type 0
-        SaysIt = Says (Handled w k) (own_place setting w k) (w.servers k).own p.job.done p.post
-
-        text : p.post.body ≡ body.Filled op.key
-        text = sym p.body ∙ said
+        SaysIt = HasFilled (Handled w k) (own_place setting w k) (w.servers k).own p.job.done.own op.key
 
         cell_is : (key : Key) → key ≡ op.key → cell_of key ≡ cell
         cell_is key e = ap cell_of e ∙ staged.keyed
@@ -140,28 +135,20 @@ module _ (it : OneMore) (all : WereKnown it) where
             }
 
         leading_by : SaysIt → IsLeading
-        leading_by (Is_neither other) = true_false (ap is_filled text) other.0
-        leading_by (Asks_copy o there stage txt) = let f : false ≡ true = ap is_filled (sym txt ∙ text) in absurd cc
-        leading_by (Is_there moving filled txt same) =
-            let key_is = filled_key (sym txt ∙ text) in
-            let to = cell_is moving.key key_is in
+        leading_by (Is_there moving filled of same) =
+            let to = cell_is moving.key of in
             let facts = (facts_at prior (mine k) (mine_top it k) (cell_of moving.key)).leads k filled.lead in
             record {
               seat = filled.seated;
               leads = subst (λ (q : Cell). leads_link (server_state setting w k) k q ≡ true) to facts.0;
               born = subst (λ (q : Cell). 1 ≤ stage_at (server_state setting w k) q) to facts.1;
-              so = Has_it (subst (λ (q : Cell). Has (chain_in (w.servers k).own.store.chains q) op.key.epoch) to
-                  (subst (λ e. Has (chain_in (w.servers k).own.store.chains (cell_of moving.key)) e) (ap (λ (x : Key). x.epoch) key_is) filled.has));
+              so = Has_it (subst (λ (x : Key). Has (chain_in (w.servers k).own.store.chains cell) x.epoch) of
+                  (subst (λ (q : Cell). Has (chain_in (w.servers k).own.store.chains q) moving.key.epoch) to filled.has));
             }
-        leading_by (Is_done o there both stage fill txt none) =
-            had_it o o.cell there (sym (staged_now o o.cell there).keyed ∙ cell_is o.key (filled_key (sym txt ∙ text)))
-        leading_by (Is_done_alone taken_now o taken alone put fill txt none) =
-            let old = taking (w.servers k).own taken_now o taken in
-            had_it old.old o.cell old.was
-            (sym (ap (λ (x : Pending). cell_of x.key) old.is ∙ (staged_now old.old o.cell old.was).keyed) ∙ cell_is o.key (filled_key (sym txt ∙ text)))
+        leading_by (Was_put o there of fill put how none) = had_it o o.cell there (sym (staged_now o o.cell there).keyed ∙ cell_is o.key of)
 
         leading : IsLeading
-        leading = leading_by (posted_says it all letter p)
+        leading = leading_by (posted_says it all letter p op.key said)
 
         visit : (o : PairState) × ((good prior).visits n place cell ≡ Some o) × (o.pairs ≡ pairs)
         visit = was_seen prior n place cell pairs was
@@ -189,7 +176,7 @@ module _ (it : OneMore) (all : WereKnown it) where
             ap (λ i. (v.servers i).life.inc) e ∙ ap (λ (s : Server). s.life.inc) p.is ∙ p.job.inc_is ∙ ap (λ i. (w.servers i).life.inc) (sym e) in
             let at_now : is_at setting n (v.servers n) place cell ≡ true = same_at n (v.servers n) (w.servers n) log_is inc_is ∙ at_was in
             by_itself it all n cell op (had at_now) fills letter said p e
-            (posted_says it all letter p)
+            (posted_says it all letter p op.key said)
           where
             same_at : (i : ℕ) (s t : Server) → s.log.applied ≡ t.log.applied → s.life.inc ≡ t.life.inc
                 → is_at setting i s place cell ≡ is_at setting i t place cell
@@ -229,23 +216,9 @@ module _ (it : OneMore) (all : WereKnown it) where
           lacks : IsAfter prior cell k leads_now now
               → at nat_cmp (chain_in (w.servers k).own.store.chains cell) op.key.epoch ≡ None
           lacks b =
-              let good_now = good prior in
-              let at_place : ℕ → Option PairState = λ i. good_now.visits i (place_by setting top now) cell in
-              let first_is = first_of b.both in
-              let there : at_place now.primary ≡ Some visit.0 =
-              ap at_place first_is ∙ ap (λ q. good_now.visits n q cell) spot_top ∙ visit.1 in
-              let second_is : now.secondary ≡ k = same_numbers now.secondary k (either_true (now.primary == k) (now.secondary == k) b.one_of
-              (by_bool (now.primary == k) (λ t. absurd (apart (sym first_is ∙ same_numbers now.primary k t))) (λ f. f))) in
-              let far_is : far (pair_at (λ i. good_now.stores i (blank_joins_in setting top i)) good_now.visits
-              (place_by setting top now) cell now.primary now.secondary) ≡ 0 =
-              ap (λ o. progress (at cell_cmp (half o (good_now.stores now.secondary (blank_joins_in setting top now.secondary))).pairs.last cell))
-              (ap at_place second_is ∙ b.unseen) ∙ ap progress (at-empty cell_cmp cell) in
-              let none = (chosen_twins prior cell now linked_top.1 b.both (omega arith)).lacks visit.0 op there
-              (ap (λ (q : Pairs). at cell_cmp q.pending cell) visit.2 ∙ is) fills (omega arith) in
-              ap (λ (s : Store). at nat_cmp (chain_in s.chains cell) op.key.epoch)
-              (sym (own_counts prior k p.job.runs (mine k) (mine_top it k) leading.seat) ∙ sym (good_now.now k)
-              ∙ ap (λ i. good_now.stores i (blank_joins_in setting top i)) (sym second_is))
-              ∙ none
+              follower_lacks prior cell n k apart leads_now now linked_top.1 (first_of b.both) b visit.0
+              (ap (λ q. (good prior).visits n q cell) spot_top ∙ visit.1) op (ap (λ (q : Pairs). at cell_cmp q.pending cell) visit.2 ∙ is) fills
+              (omega arith)
 
           pub not_other : ⊥
           not_other = elim (led_as prior cell k leads_now now linked_top.1) [

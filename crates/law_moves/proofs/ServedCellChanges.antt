@@ -5,15 +5,15 @@ use Rattle.law_moves.proofs.Imports.{[], ◌==◌, ◌∙◌, ◌∷◌, ◌≡�
 use Rattle.law_moves.proofs.Imports.{IsCaught, IsLeft, IsLinked, IsOther, IsPrefix, IsSeatedOrMute, IsServing, IsSteady, IsTold, JobResult, Key, LastCopy}
 use Rattle.law_moves.proofs.Imports.{LinkRow, List, Only, Option, PairState, Pending, Run, Setting, Some, Store, Stored, Table, World, about}
 use Rattle.law_moves.proofs.Imports.{alone_or_flagged, alone_row, ap, arith, at, at_most_or_above, by_bool, cell_cmp, cell_holder, cell_of, chain_apart}
-use Rattle.law_moves.proofs.Imports.{chain_in, chain_put, chains_with, chosen_caught_was, chosen_state, copying_on, end_of, false, front_itself, held_by}
-use Rattle.law_moves.proofs.Imports.{id_of, inl, inr, is_alone, is_alone_on, is_clients, is_flagged, is_in, is_second, kept, last_copy, last_on, live}
-use Rattle.law_moves.proofs.Imports.{nat_cmp, none_some, number_itself, option_map_or, other_apart, other_of, other_than, own_place, place_by, put, refl}
-use Rattle.law_moves.proofs.Imports.{running_timely, same_cell_or_apart, same_numbers, same_some, server_state, serves, serves_alone, stage_at, stage_live}
-use Rattle.law_moves.proofs.Imports.{state_after, subst, sym, taking, true, true_false, unseen_beyond, ℕ}
+use Rattle.law_moves.proofs.Imports.{chain_in, chosen_caught_was, chosen_state, copying_on, end_of, false, front_itself, held_by, id_of, inl, inr, is_alone}
+use Rattle.law_moves.proofs.Imports.{is_alone_on, is_clients, is_flagged, is_in, is_second, kept, last_copy, last_on, live, nat_cmp, none_some, number_itself}
+use Rattle.law_moves.proofs.Imports.{option_map_or, other_apart, other_of, other_than, own_place, place_by, put, refl, running_timely, same_cell_or_apart}
+use Rattle.law_moves.proofs.Imports.{same_numbers, same_some, server_state, serves, serves_alone, stage_at, stage_live, state_after, subst, sym, taking, true}
+use Rattle.law_moves.proofs.Imports.{true_false, unseen_beyond, ℕ}
 use Rattle.law_copies.specs.CopyProgress.{links_of}
 use Rattle.law_copies.proofs.ServedAtLaterFronts.{holder_is_one}
 use Rattle.law_moves.proofs.JobsChangeOneChain.{A_copy, An_asked, An_own, CopiesSo, Is_dropped, Is_dropped_first, Is_put, NeverRetired, Nothing_new}
-use Rattle.law_moves.proofs.JobsChangeOneChain.{Of_the_retired, StoresSo, copied_apart, did_stores}
+use Rattle.law_moves.proofs.JobsChangeOneChain.{Of_the_retired, StoresSo, copied_apart, did_stores, put_on}
 use Rattle.law_moves.proofs.MoveWorlds.{firm, good, own_counts, rests, steady_at, up}
 use Rattle.petal_msg.specs.declared.body.Body.TheVariants as body
 use Rattle.petal_msg.specs.declared.operation.FollowProgress.TheVariants as follow_progress
@@ -26,11 +26,6 @@ AreOpenedComing setting w = (m : ℕ) (cell : Cell) (op : Pending) → (w.server
 -- the chain with an entry put
 abbrev pub IsPutOn : (old new : Chain) → ℕ → List ℕ → Type 0
 IsPutOn old new epoch bytes = (entry : Stored) × (entry.bytes ≡ bytes) × (new ≡ put nat_cmp old epoch entry)
-
-pub put_on : (chains : Table Cell Chain) (key : Key) (entry : Stored) (cell : Cell) → cell_of key ≡ cell
-    → chain_in (chains_with chains key entry) cell ≡ put nat_cmp (chain_in chains cell) key.epoch entry
-put_on chains key entry cell e =
-    subst (λ (q : Cell). chain_in (chains_with chains key entry) q ≡ put nat_cmp (chain_in chains q) key.epoch entry) e (chain_put chains (cell_of key) _)
 
 module _ (it : Run) (opened : AreOpenedComing (end_of it).setting (end_of it).w) (n : ℕ) (runs : ((end_of it).w.servers n).life.running ≡ true) where
   open it use {script, sound, records, legal}
@@ -182,7 +177,7 @@ module _ (it : Run) (opened : AreOpenedComing (end_of it).setting (end_of it).w)
           → is_second (server_state setting w n) n cell ≡ true → last_on own cell ≡ Some (record { op = number; progress = follow_progress.Reserved })
           → IsPutOn chain new key.epoch bytes → ChainSo new
 
-    stored_so : (new : PairState) → StoresSo (Handled w n) (own_place setting w n) own new → ChainSo (chain_in new.store.chains cell)
+    stored_so : (new : Table Cell Chain) → StoresSo (Handled w n) (own_place setting w n) own new → ChainSo (chain_in new cell)
     stored_so new (Nothing_new same) = Same (ap (λ c. chain_in c cell) same)
     stored_so new (An_own p) =
         let keyed = (((rests it).pending n).staged p.op.cell p.op p.is).keyed in
@@ -202,9 +197,9 @@ module _ (it : Run) (opened : AreOpenedComing (end_of it).setting (end_of it).w)
       | inr ne ↦ Same (ap (λ c. chain_in c cell) p.chains ∙ chain_apart own.store.chains (cell_of p.key) _ cell (λ f. ne (sym f)))
     ]
     stored_so new (A_copy p) = elim (same_cell_or_apart cell p.cell) [
-      | inl e ↦ absurd (never_copied p.holder (ap (cell_holder (own_place setting w n)) e ∙ p.held) new.store.chains
-          (subst (λ (q : Cell). CopiesSo (Handled w n) own q new.store.chains) (sym e) p.how))
-      | inr ne ↦ Same (copied_apart (Handled w n) own p.cell new.store.chains p.how cell ne)
+      | inl e ↦ absurd (never_copied p.holder (ap (cell_holder (own_place setting w n)) e ∙ p.held) new
+          (subst (λ (q : Cell). CopiesSo (Handled w n) own q new) (sym e) p.how))
+      | inr ne ↦ Same (copied_apart (Handled w n) own p.cell new p.how cell ne)
     ]
     stored_so new (Of_the_retired p) = elim (same_cell_or_apart cell p.cell) [
       | inl e ↦ (let none = unborn (ap (live (server_state setting w n)) e ∙ p.off) in Same (p.none cell none ∙ sym none))
@@ -225,4 +220,4 @@ module _ (it : Run) (opened : AreOpenedComing (end_of it).setting (end_of it).w)
     pub chain_so : (done : JobResult) → Did (Handled w n) (own_place setting w n) own done → IsSeatedOrMute (own_place setting w n) own done
         → ChainSo (chain_in done.own.store.chains cell)
     chain_so done did seated =
-        stored_so done.own (did_stores (Handled w n) (own_place setting w n) own never_retired done seated did)
+        stored_so done.own.store.chains (did_stores (Handled w n) (own_place setting w n) own never_retired done seated did)

@@ -1,30 +1,18 @@
 -- Who serves a link at a front of what is chosen after a step, after what was chosen before it: a server that served it then, or the other server of
 -- one that held it alone, by a Caught right after what was chosen then. That one's holder had started the ballot, so the two copies are equal.
-use Rattle.law_moves.proofs.Imports.{[], if◌then◌else◌, ◌&&◌, ◌++◌, ◌<◌, ◌==◌, ◌||◌, ◌∙◌, ◌∷◌, ◌≡◌, ◌≢◌, ◌⊎◌, AliveIn, AreSteps, At, BeforeBlank, Bool, Both}
-use Rattle.law_moves.proofs.Imports.{ByBoth, ByNone, ByOne, By_caught, By_join, By_leave, Caught, Cell, Chain, Command, Copies, Good, HasJoinedSince}
-use Rattle.law_moves.proofs.Imports.{HasProperTuples, IsCaughtBy, IsCaughtIn, IsCaughtStill, IsLast, IsLinked, IsPrefix, IsServing, IsSteady, IsTouchedBy}
-use Rattle.law_moves.proofs.Imports.{Join, Leave, LinkRow, LinkState, List, Lost, OneMore, Only, Option, PairState, Progress, Record, Server, Setting, Some}
-use Rattle.law_moves.proofs.Imports.{State, Store, WasStarted, World, alive_on, ap, arith, at, at-empty, before_part, blank_joins_in, blanked_state, by_bool}
-use Rattle.law_moves.proofs.Imports.{cell_link, chain_in, chosen_caught_was, chosen_log, counted_by, ends_of, false, front_itself, front_long, front_more}
-use Rattle.law_moves.proofs.Imports.{front_on, front_plain, has_server, history_grows, history_is_firm, id_of, inl, inr, is_flagged, joined_where, kept_by}
-use Rattle.law_moves.proofs.Imports.{length, length-append, link_cmp, linked_between, log_alone, log_lost, log_steady, log_touched, no_copies, number_itself}
-use Rattle.law_moves.proofs.Imports.{one_before, one_front, option_map_or, other_of, other_than, place_by, places_up, refl, row_blanked, row_joined}
-use Rattle.law_moves.proofs.Imports.{rows_later, same_only, same_or_apart, serves, serves_alone, serves_its, split_last, stands_in, state_next, subst, sym}
-use Rattle.law_moves.proofs.Imports.{true, true_false, ℕ}
-use Rattle.law_moves.proofs.StepsTellEntries.{Goes_on, HasStore, Is_bare, Keeps, mine_top, Awakes, Works, gone, middle}
+use Rattle.law_moves.proofs.Imports.{[], ◌&&◌, ◌++◌, ◌<◌, ◌==◌, ◌||◌, ◌∙◌, ◌∷◌, ◌≡◌, ◌≢◌, ◌⊎◌, AliveIn, AreSteps, At, Bool, Both, ByBoth, ByNone, ByOne}
+use Rattle.law_moves.proofs.Imports.{By_caught, By_join, By_leave, Caught, Cell, Chain, Command, Copies, Good, HasJoinedSince, HasProperTuples, IsCaughtBy}
+use Rattle.law_moves.proofs.Imports.{IsCaughtIn, IsCaughtStill, IsLast, IsLinked, IsPrefix, IsServing, IsSteady, IsTouchedBy, Join, Leave, LinkRow, LinkState}
+use Rattle.law_moves.proofs.Imports.{List, Lost, OneMore, Only, PairState, Progress, Server, Some, State, Store, WasStarted, alive_on, ap, arith, at}
+use Rattle.law_moves.proofs.Imports.{at-empty, before_part, blank_joins_in, blanked_state, by_bool, cell_link, chain_in, chosen_caught_was, chosen_log}
+use Rattle.law_moves.proofs.Imports.{counted_by, ends_of, false, front_itself, front_long, front_more, front_on, front_plain, has_server, history_grows}
+use Rattle.law_moves.proofs.Imports.{history_is_firm, id_of, if◌then◌else◌, inl, inr, is_flagged, joined_where, kept_by, length, length-append, link_cmp}
+use Rattle.law_moves.proofs.Imports.{linked_between, log_alone, log_lost, log_steady, log_touched, no_copies, number_itself, one_before, one_front}
+use Rattle.law_moves.proofs.Imports.{option_map_or, other_of, other_than, place_by, refl, row_blanked, row_joined, rows_later, same_only, same_or_apart}
+use Rattle.law_moves.proofs.Imports.{serves, serves_alone, serves_its, split_last, stands_in, state_next, subst, sym, true, true_false, ℕ}
+use Rattle.law_moves.proofs.StepsTellEntries.{Goes_on, Is_bare, Keeps, mine_top, Awakes, Works, gone, middle}
 use Rattle.law_copies.proofs.ServedAtLaterFronts.{holder_is_one}
-use Rattle.law_moves.proofs.MoveWorlds.{row_serving}
-
--- nobody who serves a link has been at a later place than the one by all that is chosen
-pub top_last : (setting : Setting) (records : List Record) (top : List Command) (w : World) → HasProperTuples setting.servers top
-    → (good : Good setting records top w) → (cell : Cell) (row : LinkRow) → IsLinked setting top cell row → IsLast good.reached setting top cell row
-top_last setting records top w plain good cell row is = elim (good.reaching.by cell) [
-  | inl none ↦ omega (arith, none)
-  | inr r ↦
-      let le = places_up setting top plain r.front top cell r.row row r.prefix (front_itself top) r.linked is in
-      let spot = r.at in
-      omega arith
-]
+use Rattle.law_moves.proofs.MoveWorlds.{row_serving, top_last}
 
 join_server : {n inc m other : ℕ} {blank bare : Bool} → Join n inc blank ≡ Join m other bare → n ≡ m
 join_server e = cc
@@ -47,13 +35,12 @@ module _ (it : OneMore) where
 
   -- a server has applied no more than was chosen before the step, unless it has just booted
   within_or_awake : (n : ℕ) → IsPrefix (v.servers n).log.applied top ⊎ ((v.servers n).own.copies ≡ no_copies)
-  within_or_awake n = by (v.servers n) _ (gone it n)
-    where
-      by : (to : Server) (b : Option BeforeBlank) → HasStore it n to b → IsPrefix to.log.applied top ⊎ (to.own.copies ≡ no_copies)
-      by to b (Goes_on (Keeps kept) same) = inl kept.within
-      by to b (Goes_on (Works job) same) = inl (subst (λ l. IsPrefix l top) (sym job.log_is) (mine_top it n))
-      by to b (Goes_on (Awakes asleep is) same) = inr (ap (λ (s : Server). s.own.copies) is)
-      by to b (Is_bare asleep bare same) = inl (subst (λ (s : Server). IsPrefix s.log.applied top) (sym bare) (mine_top it n))
+  within_or_awake n = elim (gone it n) [
+    | Goes_on (Keeps kept) same ↦ inl kept.within
+    | Goes_on (Works job) same ↦ inl (subst (λ l. IsPrefix l top) (sym job.log_is) (mine_top it n))
+    | Goes_on (Awakes asleep is) same ↦ inr (ap (λ (s : Server). s.own.copies) is)
+    | Is_bare asleep bare same ↦ inl (subst (λ (s : Server). IsPrefix s.log.applied top) (sym bare) (mine_top it n))
+  ]
 
   -- the holder of a Caught that is chosen had applied the entries before it, so they were chosen before the step
   started_within : (holder inc : ℕ) (f : List Command) (row : LinkRow) → WasStarted setting records holder inc f (id_of row) → IsPrefix f top

@@ -13,10 +13,10 @@ use Rattle.law_moves.proofs.FrozenIsWhatCounted.{frozen_same}
 use Rattle.law_moves.proofs.AllKeptOfMoves.{WasKnown}
 use Rattle.law_moves.proofs.NewestOfMovingCells.{at_coming, frozen_newest, has_left}
 use Rattle.law_moves.proofs.NewestByLetters.{AllNewest, IsNewest}
-use Rattle.law_moves.proofs.MovedRegionsHaveAll.{facts, plain}
 use Rattle.law_moves.proofs.EntryLettersKept.{frozen_on, next_frozen}
 use Rattle.law_moves.proofs.FrozenEpochs.{frozen_then}
 use Rattle.law_moves.proofs.LeadsWereTold.{HasTold, lift, told_before, told_now}
+use Rattle.law_moves.proofs.MoveWorlds.{facts_at, plain_at}
 use Rattle.petal_msg.specs.declared.operation.OpKind.TheVariants as kind
 
 module _ (it : OneMore) (known : WasKnown it) (old : AllNewest (ends_of it).setting (ends_of it).w) where
@@ -51,7 +51,7 @@ module _ (it : OneMore) (known : WasKnown it) (old : AllNewest (ends_of it).sett
   known_then f old_cell cell lies comes low born = elim (fronts_meet f (chosen_log setting w) (chosen_log setting v) lies on) [
     | inl back ↦ record { f = f; lies = back; comes = comes; low = low }
     | inr more ↦
-        let plain_f = plain present f lies in
+        let plain_f = plain_at present f lies in
         let up = (log_below script.servers (chosen_log setting w) f plain_f more).stages cell in
         let moved = log_comes script.servers f plain_f old_cell cell comes in
         let there = at_coming present f (chosen_log setting w) lies on old_cell cell moved (omega arith) in
@@ -62,7 +62,7 @@ module _ (it : OneMore) (known : WasKnown it) (old : AllNewest (ends_of it).sett
   grown cell epoch k = record {
     born = born_on (chosen_log setting w) on cell k.born;
     newest = λ f old_cell before later lies comes low frozen lt has.
-        let moved = log_comes script.servers f (plain present f lies) old_cell cell comes in
+        let moved = log_comes script.servers f (plain_at present f lies) old_cell cell comes in
         let left = has_left present f (chosen_log setting w) lies on old_cell cell moved low k.born in
         let was : w.frozen old_cell ≡ Some before = sym (frozen_same it old_cell (inl left.three)) ∙ frozen in
         let t = known_then f old_cell cell lies comes low k.born in
@@ -78,7 +78,7 @@ module _ (it : OneMore) (known : WasKnown it) (old : AllNewest (ends_of it).sett
       record {
         born = born_on o.opened opened cell o.timely.born;
         newest = λ f old_cell before later lies comes low frozen lt has.
-            let moved = log_comes script.servers f (plain present f lies) old_cell cell comes in
+            let moved = log_comes script.servers f (plain_at present f lies) old_cell cell comes in
             let left = has_left present f o.opened lies opened old_cell cell moved low o.timely.born in
             let le = frozen_then script records sound legal old_cell before later o.opened frozen has opened left.three in
             let epoch = o.timely.epoch in
@@ -89,7 +89,7 @@ module _ (it : OneMore) (known : WasKnown it) (old : AllNewest (ends_of it).sett
   coming_born : (rev : ℕ) (cell : Cell) → WasComing setting w rev cell → 1 ≤ stage_at (chosen_state setting v) cell
   coming_born rev cell c =
       let lies = front_on c.front (chosen_log setting w) (chosen_log setting v) c.lies on in
-      let one = (facts present c.front lies cell).comes c.coming in
+      let one = (facts_at present c.front lies cell).comes c.coming in
       born_on c.front lies cell (omega arith)
 
   is_fill : (op : Pending) → IsOpenedFor op → is_clients op.kind ≡ false → op.kind ≡ kind.Fill
@@ -126,7 +126,7 @@ module _ (it : OneMore) (known : WasKnown it) (old : AllNewest (ends_of it).sett
       let log = (Was n).log.applied in
       let lies = front_on log (chosen_log setting w) (chosen_log setting v) ((knows it).servers n) on in
       let comes = next_comes script.servers log (own_plain setting w (knows it) n) (own_place setting w n) refl now post f in
-      let one = (facts present log lies f.cell).comes comes in
+      let one = (facts_at present log lies f.cell).comes comes in
       subst (λ (p : Post). OfKey (IsWithin New) p.body) (sym f.is)
       (frozen_newest present (length log) (key_at f.cell f.key.epoch) f.entry.bytes frozen (born_on log lies f.cell (omega arith)))
 

@@ -1,16 +1,15 @@
 -- What a step of a history may have done to each server, and which letters it sent that tell of entries.
-use Rattle.law_moves.proofs.Imports.{[], ◌++◌, ◌+◌, ◌∙◌, ◌∷◌, ◌≡◌, ◌≢◌, ◌≤◌, ◌⊎◌, Acted, AreSteps, Aside, At, BeforeBlank, Blanks, Bool, By_ballot}
-use Rattle.law_moves.proofs.Imports.{By_entry, By_job, Caught, Command, Did, Ends, Fails, Firm, Goes, Good, Handled, Happens, In, IsPrefix}
-use Rattle.law_moves.proofs.Imports.{IsSeatedOrMute, IsSound, JobResult, Join, Key, Letter, LinkId, LinkRow, List, Log, None, Of_job, OneMore, Option}
-use Rattle.law_moves.proofs.Imports.{PairState, Pairs, Post, Record, Script, Server, Serves, Serving, Some, State, Stays, Step, Store, Table, Turns}
-use Rattle.law_moves.proofs.Imports.{Wakes, Was_sent, Worked, World, after, all_put, always_firm, ap, arith, aside_none, at, at-where, awake}
-use Rattle.law_moves.proofs.Imports.{ballot_store, before_last, below_itself, blank_joins_in, blanked, by_bool, by_settled, chosen_log, chosen_state}
-use Rattle.law_moves.proofs.Imports.{cond, counted_by, crossed, ends_of, entry_after, false, filter, first_incs, front_itself, front_more, front_on}
-use Rattle.law_moves.proofs.Imports.{front_plain, front_same, good_after, happens_sent, history_grows, history_is_firm, holds_link, in_former, inl, inr}
-use Rattle.law_moves.proofs.Imports.{is_eq, is_in, is_of_entries, is_some, join_was_wanted, kept, last_happens, length, link_cmp, link_named, log_rev}
-use Rattle.law_moves.proofs.Imports.{longer, none_some, own_place, proposed, proposed_pairs, put_apart, put_at, put_same, raised, refl, run_of, same_id}
-use Rattle.law_moves.proofs.Imports.{same_or_apart, server_state, settling, since, state_after, step_goes, subject_of, subst, sym, true, true_false}
-use Rattle.law_moves.proofs.Imports.{who_is_in, ℕ}
+use Rattle.law_moves.proofs.Imports.{[], ◌++◌, ◌+◌, ◌∙◌, ◌∷◌, ◌≡◌, ◌≢◌, ◌≤◌, ◌⊎◌, Acted, AreSteps, Aside, At, BeforeBlank, Blanks, Bool, By_ballot, By_entry}
+use Rattle.law_moves.proofs.Imports.{By_job, Caught, Command, Did, Ends, Fails, Firm, Goes, Good, Handled, Happens, In, IsPrefix, IsSeatedOrMute, IsSound}
+use Rattle.law_moves.proofs.Imports.{JobResult, Join, Key, Letter, LinkId, LinkRow, List, Log, None, Of_job, OneMore, Option, PairState, Pairs, Post, Record}
+use Rattle.law_moves.proofs.Imports.{Script, Server, Serves, Serving, Some, State, Stays, Step, Store, Table, Turns, Wakes, Was_sent, Worked, World, after}
+use Rattle.law_moves.proofs.Imports.{all_put, always_firm, ap, arith, aside_none, at, at-where, awake, ballot_store, before_last, below_itself}
+use Rattle.law_moves.proofs.Imports.{blank_joins_in, blanked, by_bool, by_settled, chosen_log, chosen_state, cond, counted_by, crossed, ends_of, entry_after}
+use Rattle.law_moves.proofs.Imports.{false, filter, first_incs, front_itself, front_more, front_on, front_plain, front_same, good_after, happens_sent}
+use Rattle.law_moves.proofs.Imports.{history_grows, history_is_firm, holds_link, in_former, inl, inr, is_eq, is_in, is_of_entries, is_some, join_was_wanted}
+use Rattle.law_moves.proofs.Imports.{kept, last_happens, length, link_cmp, link_named, log_rev, longer, none_some, own_place, proposed, proposed_pairs}
+use Rattle.law_moves.proofs.Imports.{put_apart, put_at, put_same, raised, refl, run_of, same_id, same_or_apart, server_state, settling, since, state_after}
+use Rattle.law_moves.proofs.Imports.{step_goes, subject_of, subst, sym, true, true_false, who_is_in, ℕ}
 
 holds_filled : (own : PairState) (o : Option LinkRow) → (holds_link own o).filled ≡ own.filled
 holds_filled own None = refl
@@ -278,20 +277,17 @@ module _ (it : OneMore) where
     pub onward : IsPrefix (old.servers n).log.applied to.log.applied
     pub within : IsPrefix to.log.applied (chosen_log this old)
 
-  here_by : (n : ℕ) (to : Server) (b : Option BeforeBlank) → HasStore it n to b → to.life.running ≡ true → (f : List Command)
-      → IsPrefix f (chosen_log this new) → is_in (state_after script.servers f) n to.life.inc ≡ true → IsHere n to
-  here_by n to b (Goes_on (Keeps kept) same) runs f lies seat =
-      let ran = kept.runs runs in record { runs = ran.0; inc_is = ran.1; onward = kept.onward; within = kept.within }
-  here_by n to b (Goes_on (Works job) same) runs f lies seat = record {
-    runs = job.runs;
-    inc_is = job.inc_is;
-    onward = front_same (old.servers n).log.applied to.log.applied job.log_is;
-    within = subst (λ l. IsPrefix l (chosen_log this old)) (sym job.log_is) (mine_top it n);
-  }
-  here_by n to b (Goes_on (Awakes asleep is) same) runs f lies seat =
-      absurd (not_new n f lies (subst (λ (s : Server). is_in (state_after script.servers f) n s.life.inc ≡ true) is seat))
-  here_by n to b (Is_bare asleep bare same) runs f lies seat = true_false (ap (λ (s : Server). s.life.running) (sym bare) ∙ runs) asleep
-
   pub here : (n : ℕ) → (new.servers n).life.running ≡ true → (f : List Command) → IsPrefix f (chosen_log this new)
       → is_in (state_after script.servers f) n (new.servers n).life.inc ≡ true → IsHere n (new.servers n)
-  here n runs f lies seat = here_by n (new.servers n) _ (gone it n) runs f lies seat
+  here n runs f lies seat = elim (gone it n) [
+    | Goes_on (Keeps kept) same ↦ (let ran = kept.runs runs in record { runs = ran.0; inc_is = ran.1; onward = kept.onward; within = kept.within })
+    | Goes_on (Works job) same ↦ record {
+      runs = job.runs;
+      inc_is = job.inc_is;
+      onward = front_same (old.servers n).log.applied (new.servers n).log.applied job.log_is;
+      within = subst (λ l. IsPrefix l (chosen_log this old)) (sym job.log_is) (mine_top it n);
+    }
+    | Goes_on (Awakes asleep is) same ↦
+        absurd (not_new n f lies (subst (λ (s : Server). is_in (state_after script.servers f) n s.life.inc ≡ true) is seat))
+    | Is_bare asleep bare same ↦ true_false (ap (λ (s : Server). s.life.running) (sym bare) ∙ runs) asleep
+  ]

@@ -1,6 +1,6 @@
 -- Where a region was leaving before a step, each letter that asks a second server to put is of an operation that it has followed still: none is sent
 -- from then on.
-use Rattle.law_moves.proofs.Imports.{[], ◌++◌, ◌+◌, ◌||◌, ◌∙◌, ◌∷◌, ◌≡◌, ◌≤◌, BeforeBlank, Body, Cell, Command, Handled, In, IsLinked, IsPrefix, Key, LinkRow}
+use Rattle.law_moves.proofs.Imports.{[], ◌++◌, ◌+◌, ◌||◌, ◌∙◌, ◌∷◌, ◌≡◌, ◌≤◌, BeforeBlank, Body, Cell, Command, Handled, In, IsLinked, IsPrefix, LinkRow}
 use Rattle.law_moves.proofs.Imports.{List, None, OneMore, Option, PairState, Server, Some, State, ap, arith, at, at-where, both_true, by_bool, cell_cmp}
 use Rattle.law_moves.proofs.Imports.{cell_cmp_same, cell_link, cell_of, cond, crossed, did_follow, dies, ends_cell, ends_of, false, front_on, front_within}
 use Rattle.law_moves.proofs.Imports.{inl, inr, is_between, is_clients, is_in, is_of_entries, live, live_stage, not, option_map_or, own_place, place_by}
@@ -12,13 +12,10 @@ use Rattle.spec_state.specs.Command.{after}
 use Rattle.law_moves.proofs.ServedCellChanges.{never_retired}
 use Rattle.law_moves.proofs.LeavingCellsGainNothing.{before}
 use Rattle.law_moves.proofs.AllKeptOfMoves.{Known, WereKnown}
-use Rattle.law_moves.proofs.FillLetters.{Asks_copy, Is_done, Is_done_alone, Is_neither, Is_there, Says, did_says, is_replicate}
+use Rattle.law_moves.proofs.FillLetters.{did_says}
 use Rattle.law_moves.proofs.MoveWorlds.{good, rests, up}
 use Rattle.law_moves.proofs.MoveScenes.{AsksToPut, IsSecondAt}
 use Rattle.petal_msg.specs.declared.body.Body.TheVariants as body
-
-replicate_key : {number other v1 v2 : ℕ} {key one : Key} {b1 b2 : List ℕ} → body.Replicate number key v1 b1 ≡ body.Replicate other one v2 b2 → key ≡ one
-replicate_key e = cc
 
 module _ (it : OneMore) (all : WereKnown it) where
   open it use {prior, prior.{script, sound, records as front}}
@@ -138,24 +135,16 @@ module _ (it : OneMore) (all : WereKnown it) where
 
     -- none is sent any more
     not_sent : 3 ≤ stage_at (By top) cell → IsPosted it letter → ⊥
-    not_sent high p = by (did_says (Handled w p.n) (own_place setting w p.n) (w.servers p.n).own
-        (never_retired prior known.filled.opened p.n p.job.runs) p.job.done p.job.did p.post p.there)
-      where
-        text : p.post.body ≡ body.Replicate number key version bytes
-        text = sym p.body ∙ is
-
-        by : Says (Handled w p.n) (own_place setting w p.n) (w.servers p.n).own p.job.done p.post → ⊥
-        by (Is_neither other) = true_false (ap is_replicate text) other.1
-        by (Is_there moving filled txt same) = let g : false ≡ true = ap is_replicate (sym txt ∙ text) in absurd cc
-        by (Is_done o there on_both stage fill txt none) = let g : false ≡ true = ap is_replicate (sym txt ∙ text) in absurd cc
-        by (Is_done_alone now o taken alone put fill txt none) = let g : false ≡ true = ap is_replicate (sym txt ∙ text) in absurd cc
-        by (Asks_copy o there stage txt) =
-            let keyed = (((rests prior).pending p.n).staged o.cell o there).keyed in
-            let to : o.cell ≡ cell = sym keyed ∙ ap cell_of (replicate_key (sym txt ∙ text)) ∙ of in
-            let at_cell : at cell_cmp (w.servers p.n).own.pairs.pending cell ≡ Some o = ap (at cell_cmp (w.servers p.n).own.pairs.pending) (sym to) ∙ there in
-            by_bool (is_clients o.kind)
-            (λ clients. let stays = (running_timely script front sound prior.legal p.n cell o p.job.runs at_cell clients).stays in absurd (omega arith))
-            (λ fills. let one = known.filled.opened p.n cell o p.job.runs at_cell fills in absurd (omega arith))
+    not_sent high p =
+        let asks = did_says (Handled w p.n) (own_place setting w p.n) (w.servers p.n).own (never_retired prior known.filled.opened p.n p.job.runs)
+        p.job.done p.job.did p.post p.there (body.Replicate number key version bytes) (sym p.body ∙ is) in
+        let o = asks.op in
+        let keyed = (((rests prior).pending p.n).staged o.cell o asks.is).keyed in
+        let to : o.cell ≡ cell = sym keyed ∙ ap cell_of asks.of ∙ of in
+        let at_cell : at cell_cmp (w.servers p.n).own.pairs.pending cell ≡ Some o = ap (at cell_cmp (w.servers p.n).own.pairs.pending) (sym to) ∙ asks.is in
+        by_bool (is_clients o.kind)
+        (λ clients. let stays = (running_timely script front sound prior.legal p.n cell o p.job.runs at_cell clients).stays in absurd (omega arith))
+        (λ fills. let one = known.filled.opened p.n cell o p.job.runs at_cell fills in absurd (omega arith))
 
     pub past_so : 3 ≤ stage_at (By top) cell → In letter v.sent → IsPast
     past_so high i = elim (sent it letter i) [

@@ -1,11 +1,10 @@
 -- A step keeps that what was told to be at the new map is there; and what is told in the step is: its lead has it, with nothing under way or with its
 -- second server after it; or the region has moved on, and all of it was told before.
-use Rattle.law_moves.proofs.Imports.{◌∙◌, ◌≡◌, ◌≤◌, BeforeBlank, Body, Cell, Chain, Command, Handled, IsPrefix, IsServing, Key, Letter, List, OneMore, Option}
-use Rattle.law_moves.proofs.Imports.{Pending, Run, Server, Some, Stage, Store, ap, arith, at, at_most_or_above, cell_cmp, cell_of, chain_in, chosen_state}
-use Rattle.law_moves.proofs.Imports.{end_of, ends_of, false, front_itself, front_on, fronts_meet, in_counts, inl, inr, is_clients, is_in, is_of_entries}
-use Rattle.law_moves.proofs.Imports.{is_some, kept, kept_by, kept_store, leads_link, own_place, server_state, stage_at, stage_live, subject_of, subst, sym}
-use Rattle.law_moves.proofs.Imports.{taking, true, true_false, ℕ}
-use Rattle.law_moves.proofs.StepsTellEntries.{gone, Before, Goes_on, HasStore, IsPosted, Is_bare, Other, Posted, here, sent, mine_top}
+use Rattle.law_moves.proofs.Imports.{◌∙◌, ◌≡◌, ◌≤◌, Body, Cell, Chain, Command, Handled, IsPrefix, IsServing, Key, Letter, List, OneMore, Pending, Run}
+use Rattle.law_moves.proofs.Imports.{Server, Some, Store, ap, arith, at, at_most_or_above, cell_cmp, cell_of, chain_in, chosen_state, end_of, ends_of, false}
+use Rattle.law_moves.proofs.Imports.{front_itself, front_on, fronts_meet, in_counts, inl, inr, is_clients, is_in, is_of_entries, is_some, kept, kept_by}
+use Rattle.law_moves.proofs.Imports.{kept_store, leads_link, own_place, server_state, stage_at, stage_live, subject_of, subst, sym, true, true_false, ℕ}
+use Rattle.law_moves.proofs.StepsTellEntries.{gone, Before, Goes_on, IsPosted, Is_bare, Other, Posted, here, sent, mine_top}
 use Rattle.law_moves.specs.Fills.{Has, IsFrozen, IsThere, WasFilled}
 use Rattle.law_moves.proofs.ServedCellChanges.{never_retired}
 use Rattle.law_moves.proofs.ServersOfGrownLog.{It_came, It_did, same_joins, served_before}
@@ -13,7 +12,7 @@ use Rattle.law_moves.proofs.LeavingCellsGainNothing.{before, has_on, kept_has}
 use Rattle.law_moves.proofs.AllKeptOfMoves.{Known, WereKnown}
 use Rattle.law_moves.proofs.LeadsHaveWhatServersHave.{Followed, Holds, IsIdle, Nothing, spread}
 use Rattle.law_moves.proofs.MovedRegionsHaveAll.{AllMoved, over_told}
-use Rattle.law_moves.proofs.FillLetters.{Asks_copy, Is_done, Is_done_alone, Is_neither, Is_there, Says, did_says, is_filled}
+use Rattle.law_moves.proofs.FillLetters.{HasFilled, Is_there, Was_put, did_says}
 use Rattle.law_moves.proofs.MoveWorlds.{facts_at, own_counts, rests, runs_on, serving_on, steady_at, up}
 use Rattle.law_moves.proofs.MoveScenes.{LeadsAt}
 use Rattle.petal_msg.specs.declared.body.Body.TheVariants as body
@@ -25,9 +24,6 @@ pub told_already : (h : Run) → AllMoved (end_of h).setting (end_of h).w → (r
     → WasFilled (end_of h).w key
 told_already h moved rev key bytes f two =
     over_told h moved f.old (cell_of key) f.front f.lies f.from two f.before key.epoch f.frozen (ap is_some f.entry.1)
-
-pub filled_key : {one other : Key} → body.Filled one ≡ body.Filled other → one ≡ other
-filled_key e = cc
 
 fill_not_client : (op : Pending) → op.kind ≡ kind.Fill → is_clients op.kind ≡ false
 fill_not_client op e = ap is_clients e
@@ -95,12 +91,10 @@ module _ (it : OneMore) (all : WereKnown it) where
   pub kept_own : (n : ℕ) → (v.servers n).life.running ≡ true → (f : List Command) → IsPrefix (w.servers n).log.applied f → IsPrefix f top → (cell : Cell)
       → stage_at (By f) cell ≤ 3 → IsServing (By f) n cell → (epoch : ℕ) → Has (chain_in (w.servers n).own.store.chains cell) epoch
       → Has (chain_in (v.servers n).own.store.chains cell) epoch
-  kept_own n runs f on lies cell low serving epoch has = by (v.servers n) (v.before_blank n) (gone it n) runs
-    where
-      by : (to : Server) (b : Option BeforeBlank) → HasStore it n to b → to.life.running ≡ true
-          → Has (chain_in to.own.store.chains cell) epoch
-      by to b (Goes_on g same) up = has_on it all n f on lies cell low serving to g epoch has
-      by to b (Is_bare asleep bare same) up = true_false (ap (λ (s : Server). s.life.running) (sym bare) ∙ up) asleep
+  kept_own n runs f on lies cell low serving epoch has = elim (gone it n) [
+    | Goes_on g same ↦ has_on it all n f on lies cell low serving (v.servers n) g epoch has
+    | Is_bare asleep bare same ↦ true_false (ap (λ (s : Server). s.life.running) (sym bare) ∙ runs) asleep
+  ]
 
   pub there_before : (key : Key) → WasFilled w key → IsThere setting v (cell_of key) key.epoch
   there_before key told =
@@ -139,9 +133,6 @@ module _ (it : OneMore) (all : WereKnown it) where
   module _ (letter : Letter) (key : Key) (is : letter.body ≡ body.Filled key) (p : IsPosted it letter) where
     abbrev n : ℕ
     n = p.n
-
-    said_is : p.post.body ≡ body.Filled key
-    said_is = sym p.body ∙ is
 
     runs : (w.servers n).life.running ≡ true
     runs = p.job.runs
@@ -188,27 +179,21 @@ module _ (it : OneMore) (all : WereKnown it) where
         (subst (λ (q : Cell). 1 ≤ stage_at (server_state setting w n) q) to born) (subst IdleAt to idle)
         (subst (λ (q : Cell). Has (chain_in (w.servers n).own.store.chains q) op.key.epoch) to (known.puts n cell op runs there fills put))
 
-    by_says : Says (Handled w n) (own_place setting w n) (w.servers n).own p.job.done p.post → Told key
-    by_says (Is_neither e) = true_false (ap is_filled said_is) e.0
-    by_says (Asks_copy op there stage e) = let f : false ≡ true = ap is_filled (sym e ∙ said_is) in absurd cc
-    by_says (Is_there moving filled e same) =
+    by_says : HasFilled (Handled w n) (own_place setting w n) (w.servers n).own p.job.done.own key → Told key
+    by_says (Is_there moving filled of same) =
         let facts = (facts_at prior (w.servers n).log.applied (mine_top it n) (cell_of moving.key)).leads n filled.lead in
-        told_so moving.key filled.wanted.letter.rev moving.bytes (filled_key (sym e ∙ said_is))
+        told_so moving.key filled.wanted.letter.rev moving.bytes of
         (known.filled.sent filled.wanted.letter moving.key moving.bytes filled.wanted.sent filled.wanted.is) filled.seated facts.0 facts.1
         (λ lead. Nothing filled.none) filled.has
-    by_says (Is_done op there both stage fill e none) =
-        let put : op.stage.put ≡ true = ap (λ (s : Stage). s.put) stage in
-        told_op op op.cell there (filled_key (sym e ∙ said_is)) (fill_not_client op fill) put
-        (λ lead. Followed op there put (ap (λ (s : Stage). s.paired) stage) both)
-    by_says (Is_done_alone now op taken alone put fill e none) =
-        let k = taking (w.servers n).own now op taken in
-        told_op k.old op.cell k.was (ap (λ (o : Pending). o.key) (sym k.is) ∙ filled_key (sym e ∙ said_is))
-        (fill_not_client k.old (ap (λ (o : Pending). o.kind) (sym k.is) ∙ fill)) (ap (λ (o : Pending). o.stage.put) (sym k.is) ∙ put)
-        (λ lead. Holds k.old k.was alone)
+    by_says (Was_put op there of fill put how none) =
+        told_op op op.cell there of (fill_not_client op fill) put (λ lead. elim how [
+          | inl copied ↦ Followed op there put copied.1 copied.0
+          | inr alone ↦ Holds op there alone
+        ])
 
     told_new : Told key
     told_new = by_says (did_says (Handled w n) (own_place setting w n) (w.servers n).own
-        (never_retired prior known.filled.opened n runs) p.job.done p.job.did p.post p.there)
+        (never_retired prior known.filled.opened n runs) p.job.done p.job.did p.post p.there (body.Filled key) (sym p.body ∙ is))
 
   -- ### Both
 

@@ -5,8 +5,9 @@ use Rattle.law_moves.proofs.Imports.{inl, kept, key_at, leaving, log_comes, log_
 use Rattle.law_moves.proofs.Imports.{running_timely, same_some, source, source_same, stage_at, subst, sym, true, ℕ}
 use Rattle.law_moves.specs.Fills.{AreFilled, Has, IsFrozen, WasFilled}
 use Rattle.law_moves.specs.FrozenCopies.{AreStill}
-use Rattle.law_moves.proofs.MovedRegionsHaveAll.{all_plain, facts, link_slot, moved_filled, on_own_link}
+use Rattle.law_moves.proofs.MovedRegionsHaveAll.{all_plain, link_slot, moved_filled, on_own_link}
 use Rattle.law_moves.proofs.ServersOfLinks.{authority_serves, first_serves, matters_serves, second_serves}
+use Rattle.law_moves.proofs.MoveWorlds.{facts_at}
 
 module _ (it : Run) (still : AreStill (end_of it).setting (end_of it).w) (filled : AreFilled (end_of it).setting (end_of it).w) where
   open it use {script, sound, records, legal}
@@ -19,7 +20,7 @@ module _ (it : Run) (still : AreStill (end_of it).setting (end_of it).w) (filled
   steady = log_steady script.servers chosen (all_plain it)
 
   by_stage : (cell : Cell) → HasStage now cell
-  by_stage cell = facts it chosen (front_itself chosen) cell
+  by_stage cell = facts_at it chosen (front_itself chosen) cell
 
   -- what a letter says to be there is at each server that matters, while the cell is coming
   told_there : (cell : Cell) (n epoch : ℕ) → coming now cell ≡ true → Matters now cell n → WasFilled w (key_at cell epoch)

@@ -296,7 +296,7 @@ module _ (scene : Scene) (n : ℕ) (runs : (scene.w.servers n).life.running ≡ 
 
     pub says_tells : (post : Post) → Says hears here own new post → S new post.to post.body
     says_tells _ (says.Refuses to said is busy held) = refusal_said new to said is.refused is.other
-    says_tells _ (Shows_nothing client seq cell epoch may comes none) =
+    says_tells _ (Shows_nothing client seq cell epoch may comes none of_read) =
         nothing_known client seq cell epoch (known_of setting w lives asking n _ may.asked) comes
     says_tells _ (Repeats want last same h lead is e) =
         let k = wanted_known want h in

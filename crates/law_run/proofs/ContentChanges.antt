@@ -6,6 +6,7 @@ use Rattle.law_run.proofs.Imports.{in_flat, in_flat_map, in_kept, in_left, in_ma
 use Rattle.law_run.proofs.Imports.{none_some, not, number_itself, open_write, range_with_len, refl, same_bytes, same_numbers, same_some, subst, sym, taken}
 use Rattle.law_run.proofs.Imports.{taker, takes, takes_on, true, true_false, with_first, write_asked, write_by, writes_so, ℕ}
 use Rattle.law_run.proofs.ListMembers.{all_empty, into_range, into_filter_map, of_filter_map, found_one, row_at, key_at, put_key}
+use Rattle.law_state.proofs.TestFacts.{was_true}
 use Rattle.script_lines.specs.declared.request.Request.TheVariants as request
 
 unlike : (xs ys : List ℕ) → xs ≡ ys → not (same_bytes xs ys) ≡ false
@@ -23,10 +24,6 @@ and_when false b f = refl
 -- else it had none, or another one
 had_same : (had : Bool) (xs ys : List ℕ) → (not had || not (same_bytes xs ys)) ≡ false → (had ≡ true) × (xs ≡ ys)
 had_same true xs ys e = (refl, nat_lists_same xs ys (was_true (same_bytes xs ys) e))
-  where
-    was_true : (b : Bool) → not b ≡ false → b ≡ true
-    was_true true e = refl
-    was_true false e = true_false refl e
 had_same false xs ys e = true_false refl e
 
 -- a client's open write is its own

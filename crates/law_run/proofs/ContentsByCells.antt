@@ -1,9 +1,10 @@
 -- A block's content is told by the cell under which requests name it and, between two maps, by what was frozen.
-use Rattle.law_run.proofs.Imports.{if◌then◌else◌, ◌&&◌, ◌==◌, ◌||◌, ◌∙◌, ◌≡◌, ◌≤◌, Bool, Cell, DiskRow, DiskView, Fenced, Move, New, None, Old, Option}
-use Rattle.law_run.proofs.Imports.{RegionState, Some, State, Stored, World, ap, arith, authority, by_bool, cell_asked, disk_at, entry_at_home, entry_before}
-use Rattle.law_run.proofs.Imports.{entry_of, false, first_entry, has_at_home, has_map, home_of, is_fenced, is_some, leaves, map_asked, move_region}
-use Rattle.law_run.proofs.Imports.{named_cell, named_map, new_stage, number_itself, old_cell, old_map, old_stage, option_map, read_cell, read_map, refl}
-use Rattle.law_run.proofs.Imports.{region_at, region_of, same_numbers, stage_under, subst, sym, true, true_false, view_of, ℕ}
+use Rattle.law_run.proofs.Imports.{◌&&◌, ◌==◌, ◌||◌, ◌∙◌, ◌≡◌, ◌≤◌, Bool, Cell, DiskRow, DiskView, Fenced, Move, New, None, Old, Option, RegionState, Some}
+use Rattle.law_run.proofs.Imports.{State, Stored, World, ap, arith, authority, by_bool, cell_asked, disk_at, entry_at_home, entry_before, entry_of, false}
+use Rattle.law_run.proofs.Imports.{first_entry, has_at_home, has_map, home_of, if◌then◌else◌, is_fenced, is_some, leaves, map_asked, move_region, named_cell}
+use Rattle.law_run.proofs.Imports.{named_map, new_stage, number_itself, old_cell, old_map, old_stage, option_map, read_cell, read_map, refl, region_at}
+use Rattle.law_run.proofs.Imports.{region_of, same_numbers, stage_under, subst, sym, true, true_false, view_of, ℕ}
+use Rattle.law_state.proofs.Stages.{new_most}
 
 -- ### Contents
 
@@ -113,13 +114,8 @@ module _ (row : DiskRow) (block of : ℕ) (has : has_map of row ≡ true) where
   -- one that is leaving is that of the old map
   pub leaves_between : stage ≡ 3 → is_between row block ≡ true
   leaves_between three = by_bool (row.map == of)
-      (λ t. let e = own_stage t in let most = most_new home in absurd (omega arith))
+      (λ t. let e = own_stage t in let most = new_most home in absurd (omega arith))
       (λ f. let e = other_stage f in is_on_way home (omega arith))
-    where
-      most_new : (r : RegionState) → new_stage r ≤ 2
-      most_new Old = omega arith
-      most_new Fenced = omega arith
-      most_new New = omega arith
 
   pub is_old_cell : stage ≡ 3 → record { map = of; block = block } ≡ old_cell row block
   is_old_cell three =

@@ -56,7 +56,7 @@ nothing_left own caught (inr whole) = caught.copied whole.0 whole.1
 pub counted_lives : (state : State) (cell : Cell) (n : ℕ) → authority state cell ≡ Some n → live state cell ≡ true
 counted_lives state cell n counts = by_bool (live state cell) (λ t. t) (λ f. none_some (retired_authority state cell f) counts)
 
-module _ (g : Grounded) (n : ℕ) (runs : (g.w.servers n).life.running ≡ true) (new : PairState)
+module _ (g : Grounded) (n : ℕ) (runs : (g.w.servers n).life.running ≡ true) (new : Table Cell Chain)
     (puts : PutsCopy (Handled g.w n) (own_place g.setting g.w n) (owns_of g.w n) new) (alive : AliveIn (chosen_state g.setting g.w) puts.cell) where
   open g use {setting, w, firm, ground}
 
@@ -133,7 +133,7 @@ module _ (g : Grounded) (n : ℕ) (runs : (g.w.servers n).life.running ≡ true)
       subst (λ o. IsTold link visit o said) own_visit (subst (λ (b : Body). (about b).cell ≡ Some cell → both b) heard.is letter of)
 
   left : IsLeftBy link visit cell
-  left = copy_left (Handled w n) (owns_of w n) link cell visit links copying told new.store.chains puts.how
+  left = copy_left (Handled w n) (owns_of w n) link cell visit links copying told new puts.how
 
   pub copied_to : IsCopiedTo
   copied_to = record {

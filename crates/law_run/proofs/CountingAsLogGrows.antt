@@ -18,6 +18,7 @@ use Rattle.law_run.proofs.OpenWritesAreOnDisks.{Placed, placed}
 use Rattle.law_run.proofs.EventsOfServerSteps.{ServerStep, ends_of, grounded, joined_now, joined_then, kept_chain, kept_middle, new}
 use Rattle.law_run.proofs.OwnPlacesAreLatest.{chosen_last, chosen_store, chosen_twins}
 use Rattle.law_run.proofs.FirstIsOneAhead.{copied_low}
+use Rattle.law_moves.proofs.MoveWorlds.{top_last}
 
 module _ (this : ServerStep) (same_store : (new this).store.chains ≡ (owns_of this.w this.n).store.chains) where
   open ends_of this use {v, top, end, chosen, after}
@@ -50,13 +51,7 @@ module _ (this : ServerStep) (same_store : (new this).store.chains ≡ (owns_of 
 
   -- nobody who serves the link has been further
   middle_last : (cell : Cell) (row : LinkRow) → IsLinked this.setting top cell row → IsLast middle.reached this.setting top cell row
-  middle_last cell row is = elim (middle.reaching.by cell) [
-    | inl none ↦ omega (arith, none)
-    | inr r ↦
-        let up = places_up this.setting top this.along.firm.plain r.front top cell r.row row r.prefix (front_itself top) r.linked is in
-        let spot = r.at in
-        omega arith
-  ]
+  middle_last cell row is = top_last this.setting this.onward.records top (counted_by this.setting top v) this.along.firm.plain middle cell row is
 
   -- the stores are as before the step
   middle_chain : (i : ℕ) (cell : Cell) → chain_in (middle.stores i (joined_then this i)).chains cell ≡ chain_in (kept this.setting this.w i).chains cell

@@ -1,17 +1,18 @@
 -- What a server's step sends: which letters have data, and that one ends a write as written only where that has had its bytes.
-use Rattle.law_run.proofs.Imports.{[], ◌==◌, ◌∙◌, ◌∷◌, ◌≡◌, An_entry_to_move, Answered, Asks, Asks_for, Body, Bool, By_filler, By_holder, By_lead, By_other}
-use Rattle.law_run.proofs.Imports.{By_read, By_second, By_sweep, Closes, Closes_alone, Did, DidLead, DidSecond, Ending, Ends_fill, Finished, Gives_up}
-use Rattle.law_run.proofs.Imports.{Glanced, Goes_on_retired, Has_fill, Has_no_room, Ignores, In, IsOpen, IsRefusal, Is_full, JobContext, JobResult, Letter}
-use Rattle.law_run.proofs.Imports.{List, Moves, Moves_on, NeverRetired, Of_the_log, OpKind, Opens, Opens_fill, PairState, Pending, Plain, Post, Refused}
-use Rattle.law_run.proofs.Imports.{Refuses, Repeats, Says, Sender, Subject, about, ap, down_posts, ended, ends, false, filter, gives_back, inl, inr}
-use Rattle.law_run.proofs.Imports.{is_logged, is_refused, letters_of, letters_of_job, map, not, of_filler, of_holder, of_other, of_second, of_sweep, old_lead}
-use Rattle.law_run.proofs.Imports.{one_post, own_place, owns_of, post_of, posted, range_with_len, refl, said, same_some, stamped, subject_of, subst, sym}
-use Rattle.law_run.proofs.Imports.{to_client, true, true_false, without_pending, ℕ}
+use Rattle.law_run.proofs.Imports.{◌==◌, ◌∙◌, ◌≡◌, ◌⊎◌, Answered, Body, Bool, Did, Ending, Ends_fill, Finished, Glanced, In, IsOpen, IsRefusal, JobContext}
+use Rattle.law_run.proofs.Imports.{JobResult, Letter, List, Moves, Moves_on, NeverRetired, Of_the_log, OpKind, PairState, Plain, Post, Refused, Refuses}
+use Rattle.law_run.proofs.Imports.{Repeats, Says, Sender, Subject, about, ap, down_posts, ended, false, filter, inl, inr, is_logged, is_notice, is_refused}
+use Rattle.law_run.proofs.Imports.{letters_of, letters_of_job, not, own_place, owns_of, range_with_len, refl, said, same_some, stamped, subject_of, subst}
+use Rattle.law_run.proofs.Imports.{sym, to_client, true, true_false, ℕ}
 use Rattle.law_run.specs.WritesGoOn.{is_held, Onward}
 use Rattle.law_run.proofs.ReadsLookWhereSent.{is_looked, one_client}
 use Rattle.law_run.proofs.Machine.{held_onward}
 use Rattle.law_run.proofs.LeadPutsThatCount.{finish_held}
 use Rattle.law_run.proofs.EventsOfServerSteps.{ServerStep, ends_of}
+use Rattle.law_jobs.specs.Sayings.{SaysOf}
+use Rattle.law_jobs.proofs.JobsSay.{IsOfRead, letters_by}
+use Rattle.law_steps.proofs.LettersOfSteps.{logged_notice}
+use Rattle.law_log.proofs.ProposersInSchedule.{said_to_all}
 use Rattle.petal_msg.specs.declared.body.Body.TheVariants as body
 use Rattle.petal_msg.specs.declared.letter.Actor.TheVariants as actor
 use Rattle.petal_msg.specs.declared.operation.Ending.TheVariants as ending
@@ -55,13 +56,13 @@ refused_written _ r = refl
 abbrev pub IsUnended : Post → Type 0
 IsUnended post = is_reply (subject_of post.body) ≡ false
 
+pub notice_unended : (subject : Subject) → is_notice subject ≡ true → is_reply subject ≡ false
+notice_unended Answered e = true_false e refl
+notice_unended Refused e = true_false e refl
+notice_unended _ e = refl
+
 pub logged_unended : (said : Body) → is_logged (subject_of said) ≡ true → is_reply (subject_of said) ≡ false
-logged_unended said e = by (subject_of said) e
-  where
-    by : (of : Subject) → is_logged of ≡ true → is_reply of ≡ false
-    by Answered e = true_false e refl
-    by Refused e = true_false e refl
-    by _ e = refl
+logged_unended said e = notice_unended (subject_of said) (logged_notice (subject_of said) e)
 
 pub unended_no_data : (who : Sender) (stamp : ℕ) (posts : List Post) → ((post : Post) → In post posts → IsUnended post) → (letter : Letter)
     → In letter (stamped stamp (letters_of who 0 posts)) → is_looked letter.body ≡ false
@@ -74,73 +75,41 @@ unended_no_end who stamp posts all letter h =
     let s = said who stamp 0 posts letter h in ap is_written s.body ∙ unended_written s.post.body (all s.post s.there)
 
 -- a server that stops tells the others
-downs : (me inc : ℕ) (others : List ℕ) (post : Post) → In post (map (post_of (body.Down me inc)) others) → IsUnended post
-unfolding In
-downs me inc [] post h = absurd h
-downs me inc (n ∷ others) post (inl e) = ap (λ (p : Post). is_reply (subject_of p.body)) e
-downs me inc (n ∷ others) post (inr h) = downs me inc others post h
-
 pub downs_unended : (me inc servers : ℕ) (post : Post) → In post (down_posts me inc servers) → IsUnended post
-downs_unended me inc servers post h = downs me inc (filter (λ n. not (n == me)) (range_with_len 0 servers)) post h
+downs_unended me inc servers post h =
+    ap (λ b. is_reply (subject_of b)) (said_to_all (body.Down me inc) (filter (λ n. not (n == me)) (range_with_len 0 servers)) post h)
 
 pub glances_unended : (post : Post) → subject_of post.body ≡ Glanced → IsUnended post
 glances_unended post e = ap is_reply e
 
 -- ### A job
 
-abbrev pub IsNoRead : {heard : Body → Type 0} {here : JobContext} {own : PairState} {done : JobResult} → Did heard here own done → Type 0
-IsNoRead (By_read done d) = ⊥
-IsNoRead _ = Unit {0}
-
-asks_unended : (here : JobContext) (own : PairState) (post : Post) → Asks here own post → IsUnended post
-asks_unended here own _ (Of_the_log post e) = logged_unended post.body e
-asks_unended here own _ (An_entry_to_move post fill) = ap (λ (p : Post). is_reply (subject_of p.body)) fill.is
-asks_unended here own _ _ = refl
-
 ended_data : (seq : ℕ) (how : Ending) → is_looked (ended seq how) ≡ false
 ended_data seq ending.Written = refl
 ended_data seq ending.Full = refl
 
--- how an operation ends
-ends_data : (here : JobContext) (own : PairState) (op : Pending) (of : OpKind) (how : Ending) (post : Post) → In post (ends here own op of how).posts
-    → is_looked post.body ≡ false
-unfolding In
-ends_data here own op kind.Write how post i = ap is_looked (one_post _ _ post i).1 ∙ ended_data op.seq how
-ends_data here own op kind.Fill ending.Written post i = ap is_looked (posted (old_lead here.state op.cell) (body.Filled op.key) post i)
-ends_data here own op kind.Fill ending.Full post i = ap is_looked (posted (old_lead here.state op.cell) (body.FillFull op.key) post i)
-ends_data here own op kind.Copy how post i = absurd i
+-- only a read's job sends data
+module _ (reads : Type 0) (heard : Body → Type 0) (here : JobContext) (own : PairState) where
+  says_data : (new : PairState) (post : Post) → SaysOf reads heard here own new post → (is_looked post.body ≡ false) ⊎ reads
+  says_data new _ (says.Refuses to said is busy held) = inl (refused_looks said is)
+  says_data new _ (says.Shows client seq cell epoch may there of_read) = inr of_read
+  says_data new _ (says.Shows_nothing client seq cell epoch may comes none of_read) = inr of_read
+  says_data new _ (says.Repeats want last same h lead is e) = inl (ended_data want.seq last.ending)
+  says_data new _ (says.Ends client last why is) = inl (ended_data last.seq last.ending)
+  says_data new _ (Ends_fill op ending.Full to ended is none so) = inl refl
+  says_data new _ (Ends_fill op ending.Written to ended is none so) = inl refl
+  says_data new post (Moves _ same next) = inl (ap (λ (p : Post). is_looked p.body) next.is)
+  says_data new post (Moves_on key row _ same h is next) = inl (ap (λ (p : Post). is_looked p.body) next.is)
+  says_data new post (says.Of_the_log _ logged) = inl (unended_data post.body (logged_unended post.body logged))
+  says_data new _ _ = inl refl
 
-module _ (heard : Body → Type 0) (here : JobContext) (own : PairState) (never : NeverRetired here own) where
-  lead_data : (done : JobResult) → DidLead heard here own done → (post : Post) → In post done.posts → is_looked post.body ≡ false
-  unfolding In
-  lead_data _ (Asks_for posts h) post i = unended_data post.body (asks_unended here own post (h post i))
-  lead_data _ (Repeats want last h lead is e) post i = ap is_looked (one_post _ _ post i).1 ∙ ended_data want.seq last.ending
-  lead_data _ (Is_full want new no_room) post i = ap is_looked (one_post _ _ post i).1
-  lead_data _ (Gives_up op h is reserved put) post i = ends_data here (gives_back (without_pending own op.cell)) op op.kind ending.Full post i
-  lead_data _ (Opens want new both) post i = ap is_looked (posted _ _ post i)
-  lead_data _ (Closes op is both stage) post i = ends_data here (without_pending own op.cell) op op.kind ending.Written post i
-  lead_data _ (Closes_alone now op taken alone stale put free) post i = ends_data here (without_pending now op.cell) op op.kind ending.Written post i
-  lead_data _ (Opens_fill moving new room both) post i = ap is_looked (posted _ _ post i)
-  lead_data _ (Has_fill moving filled) post i = ap is_looked (posted _ _ post i)
-  lead_data _ (Has_no_room moving new no_room) post i = ap is_looked (posted _ _ post i)
-  lead_data _ (Goes_on_retired now op taken off) post i = absurd (never now op taken off)
-  lead_data _ _ post i = absurd i
-
-  second_unended : (done : JobResult) → DidSecond heard here own done → (post : Post) → In post done.posts → IsUnended post
-  second_unended done d post i = ap is_reply ((of_second heard here own done d).says post i)
-
-  -- only a read's job sends data
-  pub mute_data : (done : JobResult) (d : Did heard here own done) → IsNoRead d → (post : Post) → In post done.posts → is_looked post.body ≡ false
-  unfolding In
-  mute_data _ Ignores quiet post i = absurd i
-  mute_data _ (Refuses to what is why back) quiet post i = ap is_looked (one_post to what post i).1 ∙ refused_looks what is
-  mute_data _ (By_read done d) quiet post i = absurd quiet
-  mute_data _ (By_lead done d) quiet post i = lead_data done d post i
-  mute_data _ (By_second done d) quiet post i = unended_data post.body (second_unended done d post i)
-  mute_data _ (By_holder done d) quiet post i = unended_data post.body (ap is_reply ((of_holder heard here own done d).says post i))
-  mute_data _ (By_other done d) quiet post i = unended_data post.body (ap is_reply ((of_other heard here own done d).says post i))
-  mute_data _ (By_filler done d) quiet post i = unended_data post.body (ap is_reply ((of_filler heard here own done d).says post i))
-  mute_data _ (By_sweep done d) quiet post i = absurd ((of_sweep heard here own done d).silent post i)
+pub mute_data : (heard : Body → Type 0) (here : JobContext) (own : PairState) (done : JobResult) (did : Did heard here own done) → (IsOfRead did → ⊥)
+    → (post : Post) → In post done.posts → is_looked post.body ≡ false
+mute_data heard here own done did unread post i =
+    elim (says_data (IsOfRead did) heard here own done.own post (letters_by (IsOfRead did) heard here own done did (λ is. is) post i)) [
+      | inl mute ↦ mute
+      | inr is ↦ absurd (unread is)
+    ]
 
 -- ### Writes that end as written
 

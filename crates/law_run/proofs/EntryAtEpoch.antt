@@ -1,7 +1,7 @@
 -- Which entry of a chain that rises is that of an epoch: after a put, and where no entry is of a later epoch.
-use Rattle.law_run.proofs.Imports.{[], ◌+◌, ◌<◌, ◌∙◌, ◌∷◌, ◌≡◌, ◌≤◌, Bool, Chain, Equal, Greater, In, IsRising, Less, None, Option, Some, Stored, ap, arith}
-use Rattle.law_run.proofs.Imports.{at, at_same, cond, entry_at, false, inl, inr, insert_entry, is_at, is_eq, lookup, match_ordering, max, nat_cmp, nat_le}
-use Rattle.law_run.proofs.Imports.{nat_tests, none_some, or_else, put, ranked, refl, same_some, sym, true, version_of, ℕ}
+use Rattle.law_run.proofs.Imports.{[], ◌<◌, ◌∙◌, ◌∷◌, ◌≡◌, ◌≤◌, Bool, Chain, Equal, Greater, In, IsRising, Less, None, Option, Some, Stored, ap, arith, cond}
+use Rattle.law_run.proofs.Imports.{entry_at, false, inl, inr, insert_entry, match_ordering, nat_cmp, nat_le, nat_tests, or_else, put, ranked, refl, sym, true}
+use Rattle.law_run.proofs.Imports.{ℕ}
 
 over : (a b : ℕ) → b < a → nat_le a b ≡ false
 over a b lt = grind (arith, nat_tests, lt)
@@ -74,20 +74,3 @@ entry_later (row ∷ later) low high up le =
     let on = entry_later later low high (λ other h. up other (inr h)) le in
     ap (λ b. first_so b later high row.1) (within row.0 high (omega arith)) ∙ ap (λ o. Some (or_else o row.1)) on
     ∙ sym (ap (λ b. first_so b later low row.1) (within row.0 low here))
-
--- what stands in a chain has no greater version than the chain
-version_up : (chain : Chain) (epoch : ℕ) (entry : Stored) → at nat_cmp chain epoch ≡ Some entry → entry.version ≤ version_of chain
-unfolding at
-version_up [] epoch entry is = none_some refl is
-version_up (row ∷ later) epoch entry is =
-    elim (is_eq (nat_cmp epoch row.0)) as (λ b. (lookup (is_at (nat_cmp epoch)) later ≡ Some entry → entry.version ≤ version_of later)
-    → cond b (Some row.1) (lookup (is_at (nat_cmp epoch)) later) ≡ Some entry → entry.version ≤ max row.1.version (version_of later)) [
-      | true ↦ λ on e. (let same : row.1.version ≡ entry.version = ap (λ (s : Stored). s.version) (same_some e) in omega arith)
-      | false ↦ λ on e. (let le = on e in omega arith)
-    ] (version_up later epoch entry) is
-
--- a put makes another chain, since its version is a new one
-pub not_ahead : (chain : Chain) (epoch : ℕ) (entry : Stored) → entry.version ≡ version_of chain + 1 → put nat_cmp chain epoch entry ≡ chain → ⊥
-not_ahead chain epoch entry next equal =
-    let le = version_up chain epoch entry (ap (λ c. at nat_cmp c epoch) (sym equal) ∙ at_same chain epoch entry) in
-    omega arith

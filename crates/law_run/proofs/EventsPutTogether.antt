@@ -12,9 +12,8 @@ use Rattle.law_run.proofs.ChosenDisks.{rows_in, content_is, disks_now, has_conte
 use Rattle.law_run.proofs.EntryAtEpoch.{AreUpTo, entry_later}
 use Rattle.law_run.proofs.ContentsByCells.{entry_over, has_over, is_between}
 use Rattle.law_run.proofs.SnapshotsTaken.{AllFrozen, IsFrozenFrom, apart_by, freeze_rows, freezes_of}
-use Rattle.law_run.proofs.Machine.{Obeys-append, onward_joined, replay-append}
+use Rattle.law_run.proofs.Machine.{Obeys-append, onward_joined, replay-append, follow_onward}
 use Rattle.law_run.proofs.DisksMade.{Made, fresh_made, made_all, made_same, new_row, unlike_named}
-use Rattle.law_run.proofs.MachineGoesOn.{follow_onward}
 use Rattle.law_run.proofs.SnapshotsAreChosen.{as_of}
 use Rattle.law_run.proofs.EventsOfServerSteps.{LooksTold, ServerStep, ServerTold, TakesTold, ends_of, frozen_early, frozen_empty, looks_here, unput}
 use Rattle.law_run.proofs.EventsOfServerSteps.{unput_above}

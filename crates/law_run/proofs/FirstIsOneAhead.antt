@@ -9,10 +9,11 @@ put_ahead pair op ok is put =
     let copies : AreCopies pair.first pair.second (far pair) (Some op) = subst (AreCopies pair.first pair.second (far pair)) is ok.copies in
     subst (Working pair.first pair.second (far pair) op) put copies
 
--- where two copies differ, the first server's operation is put, and the second server has not put it
+-- where two copies differ, the first server's operation is put, and the second server has set a slot apart for it but not put it
 pub record IsAheadLow (pair : Pair) : Type 0 where
   pub op : Pending
   pub is : pair.pending ≡ Some op
+  pub begun : op.op + op.op ≤ far pair
   pub ahead : pair.first ≡ one_put_ahead pair.second op
   pub low : far pair ≤ op.op + op.op
 
@@ -23,7 +24,8 @@ copied_low pair ok = by pair.pending refl ok.copies
         → (pair.first ≡ pair.second) ⊎ IsAheadLow pair
     working op is false even = inl even.even
     working op is true ahead = elim (cases_lt (far pair) (op.op + op.op + 1)) [
-      | inl before ↦ (let begun = ahead.begun in inr (record { op = op; is = is; ahead = ahead.ahead (omega arith); low = omega arith }))
+      | inl before ↦
+          let begun = ahead.begun in inr (record { op = op; is = is; begun = ahead.begun; ahead = ahead.ahead (omega arith); low = omega arith })
       | inr past ↦ inl (ahead.even past)
     ]
 
@@ -33,18 +35,11 @@ copied_low pair ok = by pair.pending refl ok.copies
 
 -- they are equal where the second server has nothing in mind of the place: it has set no slot apart
 pub unfollowed_equal : (pair : Pair) → PairOk pair → pair.last ≡ None → pair.first ≡ pair.second
-unfollowed_equal pair ok none = by pair.pending refl ok.copies
-  where
-    nowhere : far pair ≡ 0
-    nowhere = ap progress none
-
-    working : (op : Pending) → pair.pending ≡ Some op → (put : Bool) → Working pair.first pair.second (far pair) op put → pair.first ≡ pair.second
-    working op is false even = even.even
-    working op is true ahead =
-        let begun = ahead.begun in
-        let from_one = subst (λ o. 1 ≤ number_of o pair.next) is ok.counted in
-        absurd (omega (arith, nowhere))
-
-    by : (o : Option Pending) → pair.pending ≡ o → AreCopies pair.first pair.second (far pair) o → pair.first ≡ pair.second
-    by None is same = same
-    by (Some op) is copies = working op is op.stage.put copies
+unfollowed_equal pair ok none = elim (copied_low pair ok) [
+  | inl same ↦ same
+  | inr a ↦
+      let begun = a.begun in
+      let nowhere : far pair ≡ 0 = ap progress none in
+      let from_one = subst (λ o. 1 ≤ number_of o pair.next) a.is ok.counted in
+      absurd (omega arith)
+]

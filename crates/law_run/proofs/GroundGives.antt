@@ -2,11 +2,11 @@
 -- entries.
 use Rattle.law_run.proofs.Imports.{[], ◌+◌, ◌∙◌, ◌∷◌, ◌≡◌, ◌≤◌, ◌⊎◌, AliveIn, AreEarly, AskingBy, Body, Cell, Chain, Drops, Handled, IsFrozen, IsLinked}
 use Rattle.law_run.proofs.Imports.{IsPutting, IsSteady, IsTimely, IsWrite, JobContext, Key, LinkRow, List, Lives, NeverRetired, None, Option, PairState}
-use Rattle.law_run.proofs.Imports.{Pending, PendingFor, PutsAsked, Setting, Some, State, Store, WasThere, World, ap, arith, asked_for, at, at-empty, at_row}
-use Rattle.law_run.proofs.Imports.{cases_lt, cell_cmp, cell_of, chain_in, chosen_log, chosen_state, epoch_at, false, front_itself, front_long, front_on, half}
-use Rattle.law_run.proofs.Imports.{inl, inr, is_clients, is_in, kept, length, live, nat_cmp, nat_cmp_total, none_some, own_below, own_place, own_plain}
-use Rattle.law_run.proofs.Imports.{owns_of, place_by, progress, refl, runs_now, same_cell_or_apart, seen, server_state, stage_at, stage_facts, subst, sym}
-use Rattle.law_run.proofs.Imports.{taking, true, true_false, write_stays, ℕ}
+use Rattle.law_run.proofs.Imports.{Pending, PendingFor, PutsAsked, Setting, Some, State, Store, Table, WasThere, World, ap, arith, asked_for, at, at-empty}
+use Rattle.law_run.proofs.Imports.{at_row, cases_lt, cell_cmp, cell_of, chain_in, chosen_log, chosen_state, epoch_at, false, front_itself, front_long}
+use Rattle.law_run.proofs.Imports.{front_on, half, inl, inr, is_clients, is_in, kept, length, live, nat_cmp, nat_cmp_total, none_some, own_below, own_place}
+use Rattle.law_run.proofs.Imports.{own_plain, owns_of, place_by, progress, refl, runs_now, same_cell_or_apart, seen, server_state, stage_at, stage_facts}
+use Rattle.law_run.proofs.Imports.{subst, sym, taking, true, true_false, write_stays, ℕ}
 use Rattle.law_run.specs.MachineTies.{Ground, IsRemembered, Is_pending, Was_pending}
 use Rattle.law_run.proofs.StoresThatCount.{of_kept}
 use Rattle.law_run.proofs.EntryAtEpoch.{AreUpTo}
@@ -142,8 +142,8 @@ module _ (g : Grounded) (steady : IsSteady g.state) (n : ℕ) where
       true_false (op_lives g n op.cell t.old runs there) off
 
   -- what is dropped of a cell that is not retired by what is chosen is nothing: the server does not know yet that it is live
-  pub dropped_same : (new : PairState) → Drops here own new → (q : Cell) → AliveIn (chosen_state setting w) q
-      → chain_in new.store.chains q ≡ chain_in own.store.chains q
+  pub dropped_same : (new : Table Cell Chain) → Drops here own new → (q : Cell) → AliveIn (chosen_state setting w) q
+      → chain_in new q ≡ chain_in own.store.chains q
   dropped_same new d q alive = elim (same_cell_or_apart q d.cell) [
     | inr ne ↦ d.others q ne
     | inl e ↦
@@ -178,7 +178,8 @@ module _ (g : Grounded) (steady : IsSteady g.state) (n : ℕ) where
   putting_there None store cell number key bytes p = none_some (at-empty cell_cmp cell) p.is
   putting_there (Some own) store cell number key bytes p = (own, refl, p)
 
-  pub followed : (w.servers n).life.running ≡ true → (new : PairState) (a : PutsAsked hears here own new) → AliveIn (chosen_state setting w) (cell_of a.key)
+  pub followed : (w.servers n).life.running ≡ true → (new : Table Cell Chain) (a : PutsAsked hears here own new)
+      → AliveIn (chosen_state setting w) (cell_of a.key)
       → Followed a.number a.key a.bytes
   followed runs new a alive =
       let cell = cell_of a.key in
@@ -249,7 +250,8 @@ module _ (g : Grounded) (steady : IsSteady g.state) (n : ℕ) where
         let twins = (ground.good.both (w.servers n).log.applied cell f.row (firm.servers n) f.shares.linked f.shares.both).twins f.shares.alive
         (sharing_last g n cell f.row f.shares) in
         let there = store_there g n in
-        let last : at cell_cmp (half (ground.good.visits q spot cell) (there q)).pairs.last cell ≡ Some (record { op = number; progress = follow_progress.Reserved }) =
+        let last : at cell_cmp (half (ground.good.visits q spot cell) (there q)).pairs.last cell
+        ≡ Some (record { op = number; progress = follow_progress.Reserved }) =
         ap (λ k. at cell_cmp (half (ground.good.visits k spot cell) (there k)).pairs.last cell) f.second
         ∙ ap (λ o. at cell_cmp (half o (there n)).pairs.last cell)
         (visit_here g n cell f.row f.shares.runs f.shares.seat f.shares.linked

@@ -1,7 +1,7 @@
 -- The ground of a legal history is there at its beginning, and each step of it keeps it.
-use Rattle.law_run.proofs.Imports.{[], ◌++◌, ◌∙◌, ◌∷◌, ◌≡◌, ◌⊎◌, AllMayWake, AllStarted, AreSteps, AskingAlong, At, Caught, Cell, Command, Firm, Follows}
-use Rattle.law_run.proofs.Imports.{Good, Happens, HasProperTuples, In, IsGrown, IsOwn, IsPrefix, IsSound, IsSteady, KeepsOn, KnowsReports, List, OneMore}
-use Rattle.law_run.proofs.Imports.{Option, PairState, Ready, Record, Run, Script, Setting, Some, State, World, ap, at_by, blank_joins_in, by_run, by_test}
+use Rattle.law_run.proofs.Imports.{[], ◌++◌, ◌∙◌, ◌∷◌, ◌≡◌, ◌⊎◌, AllMayWake, AllStarted, AreSteps, AskingAlong, At, Cell, Command, Firm, Follows, Good}
+use Rattle.law_run.proofs.Imports.{Happens, HasProperTuples, In, IsGrown, IsOwn, IsPrefix, IsSound, IsSteady, KeepsOn, KnowsReports, List, OneMore, Option}
+use Rattle.law_run.proofs.Imports.{PairState, Ready, Record, Run, Script, Setting, Some, State, World, ap, at_by, blank_joins_in, by_run, by_test}
 use Rattle.law_run.proofs.Imports.{chosen_caught_was, chosen_log, chosen_state, counted, early_after, firm_in, firm_then, first_lives, follows_in, front_on}
 use Rattle.law_run.proofs.Imports.{grown_in, grown_then, happens, happens_asking, happens_later, in_counts, in_own, inl, inr, is_in, lives_after, log_below}
 use Rattle.law_run.proofs.Imports.{log_grown, log_plain, log_steady, longer, may_wake, more_lives, none_chosen, none_some, one_more, pending_timely, place_by}
@@ -18,6 +18,8 @@ use Rattle.law_run.proofs.StepsLeaveServers.{happens_leaves}
 use Rattle.law_run.proofs.LetterNames.{happens_named, start_named}
 use Rattle.law_run.proofs.OperationsRecalled.{GoesOnFrom, IsVisit, remembered_next}
 use Rattle.law_run.proofs.EventsOfServerSteps.{IsMiddle}
+use Rattle.law_moves.proofs.MovesInHistories.{none_in}
+use Rattle.law_steps.proofs.Records.{none_before_none}
 
 -- what is known of epochs after each legal history
 epochs_after : (script : Script) (records : List Record) → IsSound script → AreSteps script records
@@ -184,7 +186,7 @@ start_ground state script sound ready wake =
       come = refl;
       good = start_good setting;
       started = λ front of link holder inc other other_inc prefix.
-          no_prefix front _ (subst (IsPrefix (front ++ Caught of link holder inc other other_inc ∷ [])) (none_chosen setting) prefix);
+          absurd (none_in front _ (sym (none_before_none _ prefix.later (sym (none_chosen setting) ∙ prefix.is))));
       lives = first_lives;
       asking = start_asking script;
       reports = subst (λ l. KnowsReports setting (start setting) l) (start_lives script) (reports_known script sound [] tt (start_along script));
@@ -193,36 +195,11 @@ start_ground state script sound ready wake =
       named = start_named script;
       own = λ n runs seat store. refl;
       joined = λ n front prefix seat.
-          ap (λ log. blank_joins_in setting log n) (no_front front (subst (IsPrefix front) (none_chosen setting) prefix)
+          ap (λ log. blank_joins_in setting log n) (none_before_none front prefix.later (sym (none_chosen setting) ∙ prefix.is)
           ∙ sym (none_chosen setting));
       epochs = epochs_after script [] sound tt;
       moves = moves_known script [] sound tt;
     }
-  where
-    no_front : (front : List Command) → IsPrefix front [] → front ≡ []
-    no_front [] p = refl
-    no_front (x ∷ front) p = let f : [] ≡ x ∷ (front ++ p.later) = p.is in absurd cc
-
-    no_prefix : {B : Type 0} (front : List Command) (entry : Command) → IsPrefix (front ++ entry ∷ []) [] → B
-    no_prefix [] entry p = let f : [] ≡ entry ∷ p.later = p.is in absurd cc
-    no_prefix (x ∷ front) entry p = let f : [] ≡ x ∷ ((front ++ entry ∷ []) ++ p.later) = p.is in absurd cc
-
--- the ground of the empty history
-pub record FirstGround (state : State) (script : Script) : Type 0 where
-  pub now : Ground (setting_of script) state (start (setting_of script))
-  pub records_are : now.records ≡ []
-  pub known : AskingAlong (setting_of script) now.records (At script now.records)
-  pub lives_are : now.lives ≡ known.asks.lives
-
-pub first_ground : (state : State) (script : Script) → IsSound script → Ready (setting_of script) state (start (setting_of script))
-    → AllMayWake (setting_of script) (start (setting_of script)) → FirstGround state script
-unfolding start_ground
-first_ground state script sound ready wake = record {
-  now = start_ground state script sound ready wake;
-  records_are = refl;
-  known = start_along script;
-  lives_are = sym (start_lives script);
-}
 
 -- ### Of a run
 
@@ -237,12 +214,19 @@ FootedBelow run = (whole : List Command) (all : HasProperTuples run.script.serve
     → IsFooted run whole all (after run)
 
 footed_first : (script : Script) (sound : IsSound script) (legal : AreSteps script []) → FootedBelow (run_of script sound [] legal)
+unfolding start_ground
 footed_first script sound legal whole all front =
     let run = run_of script sound [] legal in
     let along = along_at script sound whole all (after run) (firm_in run) front in
-    let first = first_ground (state_after script.servers whole) script sound (record { rests = rests_in run; firm = along.firm; below = along.below })
-    (may_wake script [] sound legal) in
-    record { footing = record { ground = first.now; known = first.known; lives_are = first.lives_are }; records_are = first.records_are }
+    record {
+      footing = record {
+        ground = start_ground (state_after script.servers whole) script sound (record { rests = rests_in run; firm = along.firm; below = along.below })
+            (may_wake script [] sound legal);
+        known = start_along script;
+        lives_are = sym (start_lives script);
+      };
+      records_are = refl;
+    }
 
 -- one record on
 pub record IsOn (it : OneMore) (whole : List Command) (all : HasProperTuples it.prior.script.servers whole) (v : World) : Type 0 where

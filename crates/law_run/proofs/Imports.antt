@@ -95,8 +95,8 @@ pub use Rattle.law_jobs.specs.Sayings.{to_client}
 pub use Rattle.law_moves.proofs.EpochHistories.{early_after, pending_timely, place_timely, second_timely}
 pub use Rattle.law_moves.proofs.FillsAtSeconds.{second_after}
 pub use Rattle.law_moves.proofs.JobsChangeOneChain.{A_copy, An_asked, An_own, CopiesSo, Drops, Is_dropped, Is_dropped_first, Is_put, NeverRetired}
-pub use Rattle.law_moves.proofs.JobsChangeOneChain.{Nothing_new, Of_the_retired, OtherStores, PutsAsked, PutsCopy, PutsOwn, StoresSo, copied_apart}
-pub use Rattle.law_moves.proofs.JobsChangeOneChain.{did_stores, lead_stores}
+pub use Rattle.law_moves.proofs.JobsChangeOneChain.{Nothing_new, Of_the_retired, PutsAsked, PutsCopy, PutsOwn, StoresSo, copied_apart, did_stores, not_ahead}
+pub use Rattle.law_moves.proofs.PendingAfterJobs.{Is_new, It_was, did_was}
 pub use Rattle.law_moves.proofs.KnownOfMoves.{comes_after, filling_after, over_after, retired_frozen, rule_after}
 pub use Rattle.law_moves.proofs.MovesInHistories.{known_after, none_chosen}
 pub use Rattle.law_moves.proofs.NextFill.{in_flat}

@@ -1,23 +1,22 @@
--- What a job of a cell's first server, or of its only one, leaves pending and finished: the write of what is put where it counts, or is closed,
--- has had its bytes.
-use Rattle.law_run.proofs.Imports.{◌+◌, ◌∙◌, ◌≡◌, ◌≢◌, ◌≤◌, A_copy, Alone_has, An_asked, An_own, AreCopies, Bool, Both_have, Busy, By_operation, Cell, Chain}
-use Rattle.law_run.proofs.Imports.{Closes, Closes_alone, DidLead, Finished, Gives_up, Goes_on_retired, Had_no_slot, IsFinishedFor, IsLinked, IsOpen}
-use Rattle.law_run.proofs.Imports.{Is_declined, Is_retired, JobResult, Key, LinkRow, Marks, Marks_alone, NeverRetired, None, Nothing_new, Of_the_retired}
-use Rattle.law_run.proofs.Imports.{Opens, Opens_alone, Opens_fill, Opens_fill_alone, Option, PairOk, PairState, Pending, Plain, Puts, Puts_alone, Some, Stage}
-use Rattle.law_run.proofs.Imports.{Stale, Store, Stored, StoresSo, Table, Taken, Unmarks, Unmarks_alone, Working, alone_not_both, answering, ap, at}
-use Rattle.law_run.proofs.Imports.{authority, cell_apart, cell_cmp, cell_of, cell_same, chain_apart, chain_in, chain_put, chains_with, chosen_state, false}
-use Rattle.law_run.proofs.Imports.{far, fill_operation, gives_back, half, in_both, inl, inr, is_alone_on, is_clients, kept, lead_stores, nat_cmp, of_ending}
-use Rattle.law_run.proofs.Imports.{operation, pair_of, put, puts, putting, refl, same_cell_or_apart, same_some, secondary_is_one, so_both, stood, subst, sym}
-use Rattle.law_run.proofs.Imports.{taking, true, true_false, version_of, with_mark_at, with_paired, with_reserved, without_pending, ℕ}
+-- What a job leaves pending and finished at its server: the write of what is put where it counts, or is closed, has had its bytes.
+use Rattle.law_run.proofs.Imports.{◌+◌, ◌∙◌, ◌≡◌, ◌≤◌, ◌⊎◌, A_copy, Alone_has, An_asked, An_own, AreCopies, Bool, Both, Both_have, By_operation, Cell, Chain}
+use Rattle.law_run.proofs.Imports.{Did, Finished, Had_no_slot, IsFinishedFor, IsLinked, IsOpen, IsSteady, Is_declined, Is_new, Is_retired, It_was, JobResult}
+use Rattle.law_run.proofs.Imports.{LinkRow, NeverRetired, None, Nothing_new, Of_the_retired, Only, Option, PairOk, PairState, Pending, Plain, Some, Stage}
+use Rattle.law_run.proofs.Imports.{Store, StoresSo, Table, Taken, Working, alone_not_both, answering, ap, at, authority, cell_cmp, cell_of, chain_apart}
+use Rattle.law_run.proofs.Imports.{chain_in, chosen_state, copied_apart, did_was, false, far, half, held_not_lead, in_both, inl, inr, is_alone_on, is_clients}
+use Rattle.law_run.proofs.Imports.{is_lead, is_second, is_the_one, kept, lead_links, led_by, live, nat_cmp, not_ahead, own_steady, pair_of, put, putting}
+use Rattle.law_run.proofs.Imports.{refl, same_cell_or_apart, same_some, second_by, secondary_is_one, so_both, subst, sym, true, true_false, ℕ}
 use Rattle.law_run.specs.WritesGoOn.{is_held, Onward}
 use Rattle.law_run.specs.MachineTies.{HasCounted, Is_told, Is_followed, Is_counted}
 use Rattle.law_run.proofs.ServerFrames.{kept_finished, own_counted}
-use Rattle.law_run.proofs.EntryAtEpoch.{not_ahead}
 use Rattle.law_run.proofs.GroundGives.{Followed}
 use Rattle.law_run.proofs.Machine.{held_onward}
 use Rattle.law_run.proofs.OwnPlacesAreLatest.{IsSharing, first_ok, heard_shared, op_alone, op_shared, peer, place_of, shared_or_alone, shared_store}
-use Rattle.law_run.proofs.OwnPlacesAreLatest.{store_there}
+use Rattle.law_run.proofs.OwnPlacesAreLatest.{store_there, op_lead}
 use Rattle.law_run.proofs.EventsOfServerSteps.{ServerStep, ends_of, grounded}
+use Rattle.law_steps.specs.DidLead.{As_it_is, As_told}
+use Rattle.law_jobs.specs.Effects.{IsPaired, Is_apart, Is_replicated, Was_paired, chains_ahead}
+use Rattle.law_steps.proofs.Restages.{IsSame}
 use Rattle.petal_msg.specs.declared.body.Body.TheVariants as body
 use Rattle.petal_msg.specs.declared.operation.Ending.TheVariants as ending
 
@@ -34,7 +33,7 @@ module _ (this : ServerStep) (k : Plain) where
   mine cell = chain_in own.store.chains cell
 
   -- what was put where it counts has had its bytes
-  abbrev pub PutHeld : {new : PairState} → StoresSo hears here own new → Type 0
+  abbrev pub PutHeld : {new : Table Cell Chain} → StoresSo hears here own new → Type 0
   PutHeld (Nothing_new same) = Unit {0}
   PutHeld (An_own p) = is_clients p.op.kind ≡ true → authority (chosen_state this.setting this.w) p.op.cell ≡ Some this.n → is_held k p.op.client ≡ true
   PutHeld (An_asked a) =
@@ -49,30 +48,6 @@ module _ (this : ServerStep) (k : Plain) where
     was_held cell op is counted clients still =
         held_onward this.m k op.client onward (this.follow.pending this.n cell op runs is clients
         (subst (Counted cell op) (sym (own_counted this k runs cell op is)) counted) still)
-
-    -- the same in another stage
-    recounted : (cell : Cell) (old now : Pending) (chain : Chain)
-        → (now.stage.paired ≡ true → old.stage.paired ≡ true)
-        → (now.stage.put ≡ true → old.stage.put ≡ true) → Counted cell now chain → Counted cell old chain
-    recounted cell old now chain paired put (Is_told both e) = Is_told both (paired e)
-    recounted cell old now chain paired put (Is_followed row linked both shared e same) = Is_followed row linked both shared (put e) same
-    recounted cell old now chain paired put (Is_counted e counts) = Is_counted (put e) counts
-
-    -- one that is put in the table, beside which other chains stay
-    put_lead : (t : Table Cell Pending) (chains : Table Cell Chain) (cell : Cell) (now : Pending)
-        → ((q : Cell) → q ≢ cell → at cell_cmp t q ≡ at cell_cmp own.pairs.pending q) → ((q : Cell) → q ≢ cell → chain_in chains q ≡ mine q)
-        → (Counted cell now (chain_in chains cell) → Held now) → (q : Cell) (op : Pending) → at cell_cmp (put cell_cmp t cell now) q ≡ Some op
-        → Counted q op (chain_in chains q) → Held op
-    put_lead t chains cell now others beside held q op is = elim (same_cell_or_apart q cell) [
-      | inl e ↦
-          let same : now ≡ op = same_some (sym (cell_same t cell now) ∙ ap (at cell_cmp (put cell_cmp t cell now)) (sym e) ∙ is) in
-          subst (λ (c : Cell). Counted c op (chain_in chains c) → Held op) (sym e)
-          (subst (λ (o : Pending). Counted cell o (chain_in chains cell) → Held o) same held)
-      | inr ne ↦ (λ counted. was_held q op (sym (others q ne) ∙ sym (cell_apart t cell now q ne) ∙ is) (subst (Counted q op) (beside q ne) counted))
-    ]
-
-    beside : (t : Table Cell Pending) (cell : Cell) (one : Pending) (q : Cell) → q ≢ cell → at cell_cmp (put cell_cmp t cell one) q ≡ at cell_cmp t q
-    beside t cell one q ne = cell_apart t cell one q ne
 
     -- ### In Both
 
@@ -160,150 +135,103 @@ module _ (this : ServerStep) (k : Plain) where
     not_both : {B : Type 0} (cell : Cell) → is_alone_on here.state this.n cell ≡ true → in_both here.state cell ≡ true → B
     not_both cell alone both = true_false both (alone_not_both here.state this.n cell alone)
 
-    -- an operation that is taken up has had its bytes once it is put
-    taken_held : (now : PairState) (op new : Pending) → Taken own now op → is_alone_on here.state this.n op.cell ≡ true → new.kind ≡ op.kind
-        → new.client ≡ op.client → new.seq ≡ op.seq
-        → (new.stage.put ≡ true → op.stage.put ≡ true) → (chain : Chain) → Counted op.cell new chain → Held new
-    taken_held now op new taken alone kind client seq put chain (Is_told both e) clients still = not_both op.cell alone both
-    taken_held now op new taken alone kind client seq put chain (Is_followed row linked both shared e same) clients still =
-        not_both op.cell alone (so_both here.state op.cell row linked both)
-    taken_held now op new taken alone kind client seq put chain (Is_counted e counts) clients still =
-        let t = taking own now op taken in
-        let old_put : t.old.stage.put ≡ true = ap (λ (o : Pending). o.stage.put) (sym t.is) ∙ put e in
-        let c : new.client ≡ t.old.client = client ∙ ap (λ (o : Pending). o.client) t.is in
-        let s : new.seq ≡ t.old.seq = seq ∙ ap (λ (o : Pending). o.seq) t.is in
-        let still' : IsOpen (this.w.clients t.old.client) t.old.seq = subst (IsOpen (this.w.clients t.old.client)) s
-        (subst (λ i. IsOpen (this.w.clients i) new.seq) c still) in
-        subst (λ i. is_held k i ≡ true) (sym c) (was_held op.cell t.old t.was (Is_counted old_put counts)
-        (ap (λ (o : Pending). is_clients o.kind) (sym t.is) ∙ ap is_clients (sym kind) ∙ clients) still')
+    -- ### What a job stores
 
-    others_taken : (now : PairState) (op : Pending) (taken : Taken own now op) (q : Cell) → q ≢ op.cell
-        → at cell_cmp now.pairs.pending q ≡ at cell_cmp own.pairs.pending q
-    others_taken now op taken q ne = (taking own now op taken).others q ne
+    abbrev Leads : Cell → Type 0
+    Leads cell = is_lead here.state this.n cell ≡ true
 
-    taken_keyed : (now : PairState) (op : Pending) → Taken own now op → cell_of op.key ≡ op.cell
-    taken_keyed now op taken =
-        let t = taking own now op taken in
-        let old : at cell_cmp own.pairs.pending t.old.cell ≡ Some t.old = ap (λ (o : Pending). at cell_cmp own.pairs.pending o.cell) (sym t.is) ∙ t.was in
-        subst (λ (o : Pending). cell_of o.key ≡ o.cell) (sym t.is) ((this.ground.ready.rests.pending this.n).staged t.old.cell t.old old).keyed
+    abbrev steady_here : IsSteady here.state
+    steady_here = own_steady this.setting this.w this.along.firm this.n
 
-    chains_taken : (now : PairState) (op : Pending) (taken : Taken own now op) → now.store.chains ≡ own.store.chains
-    chains_taken now op taken = λ i. ((taking own now op taken).store i).chains
+    keyed : (cell : Cell) (op : Pending) → at cell_cmp own.pairs.pending cell ≡ Some op → cell_of op.key ≡ cell
+    keyed cell op is = ((this.ground.ready.rests.pending this.n).staged cell op is).keyed
 
-    still_taken : (now : PairState) (op : Pending) (taken : Taken own now op) (q : Cell) → q ≢ op.cell → chain_in now.store.chains q ≡ mine q
-    still_taken now op taken q ne = ap (λ c. chain_in c q) (chains_taken now op taken)
+    -- a cell that the server leads, it is not the second of
+    led_alone : (cell : Cell) → Leads cell → is_second here.state this.n cell ≡ true → ⊥
+    led_alone cell lead second =
+        let b = second_by here.state steady_here cell this.n (is_the_one _ this.n second) in
+        elim (led_by here.state steady_here cell this.n (is_the_one _ this.n lead)) [
+          | inl f ↦ b.0.linked.apart (ap (λ (r : LinkRow). r.primary) (same_some (sym b.0.is ∙ f.0.is)) ∙ f.1 ∙ sym b.1)
+          | inr held ↦ (let f : Only this.n held.whole ≡ Both = sym held.so
+              ∙ ap (λ (r : LinkRow). r.state) (same_some (sym held.is ∙ b.0.is)) ∙ b.0.so in absurd cc)
+        ]
 
-    -- beside the block that is put
-    put_beside : (chains : Table Cell Chain) (key : Key) (entry : Stored) (cell : Cell) → cell_of key ≡ cell → (q : Cell) → q ≢ cell
-        → chain_in (chains_with chains key entry) q ≡ chain_in chains q
-    put_beside chains key entry cell keyed q ne = chain_apart chains (cell_of key) _ q (λ e. ne (e ∙ keyed))
+    -- the chain of a cell with an operation pending stays, or the operation, which had not put, has put
+    chain_of : (new : Table Cell Chain) (s : StoresSo hears here own new) → PutHeld s → (was : Pending) → at cell_cmp own.pairs.pending was.cell ≡ Some was
+        → Leads was.cell → (chain_in new was.cell ≡ mine was.cell) ⊎ ((was.stage.put ≡ false)
+        × (is_clients was.kind ≡ true → authority (chosen_state this.setting this.w) was.cell ≡ Some this.n → is_held k was.client ≡ true))
+    chain_of new (Nothing_new same) held was is lead = inl (ap (λ c. chain_in c was.cell) same)
+    chain_of new (An_own p) held was is lead = elim (same_cell_or_apart was.cell p.op.cell) [
+      | inl e ↦
+          let same : p.op ≡ was = same_some (sym p.is ∙ ap (at cell_cmp own.pairs.pending) (sym e) ∙ is) in
+          inr (subst (λ (o : Pending). (o.stage.put ≡ false)
+          × (is_clients o.kind ≡ true → authority (chosen_state this.setting this.w) o.cell ≡ Some this.n → is_held k o.client ≡ true)) same (p.fresh, held))
+      | inr ne ↦ inl (ap (λ c. chain_in c was.cell) p.chains
+          ∙ chain_apart own.store.chains (cell_of p.op.key) _ was.cell (λ e. ne (e ∙ keyed p.op.cell p.op p.is)))
+    ]
+    chain_of new (An_asked a) held was is lead = inl (ap (λ c. chain_in c was.cell) a.chains
+        ∙ chain_apart own.store.chains (cell_of a.key) _ was.cell
+        (λ e. led_alone was.cell lead (subst (λ (c : Cell). is_second here.state this.n c ≡ true) (sym e) a.seconds)))
+    chain_of new (A_copy c) held was is lead = inl (copied_apart hears own c.cell new c.how was.cell
+        (λ e. held_not_lead here steady_here c.cell c.holder c.held (subst (λ (q : Cell). Leads q) e lead)))
+    chain_of new (Of_the_retired d) held was is lead =
+        inl (d.others was.cell (λ e. true_false (lead_links here.state this.n was.cell lead).0 (ap (live here.state) e ∙ d.off)))
 
     -- ### What is pending
 
-    -- an operation that is put in Both
-    puts_held : (op : Pending) (there : at cell_cmp own.pairs.pending op.cell ≡ Some op) → in_both here.state op.cell ≡ true → op.stage ≡ putting
-        → (is_clients op.kind ≡ true → authority (chosen_state this.setting this.w) op.cell ≡ Some this.n → is_held k op.client ≡ true)
-        → Counted op.cell (record op { version = version_of (mine op.cell) + 1; stage = record op.stage { put = true } })
-        (chain_in (puts own op).own.store.chains op.cell)
-        → Held (record op { version = version_of (mine op.cell) + 1; stage = record op.stage { put = true } })
-    puts_held op there both stage held (Is_told here_both e) clients still = was_held op.cell op there (Is_told here_both e) clients still
-    puts_held op there both stage held (Is_counted e counts) clients still = held clients counts
-    puts_held op there both stage held (Is_followed row linked in_it shared e same) clients still =
-        let keyed = ((this.ground.ready.rests.pending this.n).staged op.cell op there).keyed in
-        let cell = cell_of op.key in
-        let entry : Stored = record { version = version_of (mine op.cell) + 1; bytes = op.bytes } in
-        let new : chain_in (puts own op).own.store.chains cell ≡ put nat_cmp (mine cell) op.key.epoch entry = chain_put own.store.chains cell _ in
-        let equal : put nat_cmp (mine cell) op.key.epoch entry ≡ mine cell =
-        sym new ∙ ap (chain_in (puts own op).own.store.chains) keyed ∙ same
-        ∙ sym (put_now op there both (ap (λ (s : Stage). s.put) stage) row linked shared) ∙ ap mine (sym keyed) in
-        let next : entry.version ≡ version_of (mine cell) + 1 = ap (λ (c : Cell). version_of (mine c) + 1) (sym keyed) in
-        absurd (not_ahead (mine cell) op.key.epoch entry next equal)
+    told_held : (was : Pending) → at cell_cmp own.pairs.pending was.cell ≡ Some was → in_both here.state was.cell ≡ true
+        → IsPaired hears here own was.cell was → Held was
+    told_held was is both (Was_paired paired) = was_held was.cell was is (Is_told both paired)
+    told_held was is both (Is_replicated h there shared put) = paired_held was h is both put
+    told_held was is both (Is_apart there (inl alone)) = not_both was.cell alone both
+    told_held was is both (Is_apart there (inr off)) = absurd (never own was (As_it_is was is) off)
 
-    -- what stays pending where an operation is closed by the one that holds the link alone
-    closed_pending : (now : PairState) (op : Pending) → Taken own now op → is_alone_on here.state this.n op.cell ≡ true → (cell : Cell) (o : Pending)
-        → at cell_cmp now.pairs.pending cell ≡ Some o → Counted cell o (chain_in now.store.chains cell) → Held o
-    closed_pending now op taken alone cell o there = elim (same_cell_or_apart cell op.cell) [
-      | inl e ↦
-          let t = taking own now op taken in
-          let same : op ≡ o = same_some (sym t.there ∙ ap (at cell_cmp now.pairs.pending) (sym e) ∙ there) in
-          subst (λ (c : Cell). Counted c o (chain_in now.store.chains c) → Held o) (sym e)
-          (subst (λ (x : Pending). Counted op.cell x (chain_in now.store.chains op.cell) → Held x) same
-          (taken_held now op op taken alone refl refl refl (λ e. e) (chain_in now.store.chains op.cell)))
-      | inr ne ↦ (λ counted. was_held cell o (sym (others_taken now op taken cell ne) ∙ there)
-          (subst (Counted cell o) (ap (λ c. chain_in c cell) (chains_taken now op taken)) counted))
+    -- an operation that was pending, in the stage that it is left in
+    stage_held : (was op : Pending) (is : at cell_cmp own.pairs.pending was.cell ≡ Some was) (new : Table Cell Chain) (s : StoresSo hears here own new)
+        → PutHeld s → (op.stage.put ≡ true → (was.stage.put ≡ true) ⊎ (new ≡ chains_ahead own was.cell was))
+        → (op.stage.paired ≡ true → IsPaired hears here own was.cell was) → Counted was.cell op (chain_in new was.cell) → Held was
+    stage_held was op is new s held how why = by
+      where
+        chain : (chain_in new was.cell ≡ mine was.cell) ⊎ ((was.stage.put ≡ false)
+            × (is_clients was.kind ≡ true → authority (chosen_state this.setting this.w) was.cell ≡ Some this.n → is_held k was.client ≡ true))
+        chain = chain_of new s held was is (op_lead (grounded this) this.n was.cell was runs is)
+
+        unmoved : {B : Type 0} → new ≡ chains_ahead own was.cell was → chain_in new was.cell ≡ mine was.cell → B
+        unmoved ahead stays = absurd (not_ahead own was.cell was (keyed was.cell was is) (ap (λ c. chain_in c was.cell) (sym ahead) ∙ stays))
+
+        by : Counted was.cell op (chain_in new was.cell) → Held was
+        by (Is_told both paired) = told_held was is both (why paired)
+        by (Is_counted put counts) = elim (how put) [
+          | inl old ↦ was_held was.cell was is (Is_counted old counts)
+          | inr ahead ↦ elim chain [ inl stays ↦ unmoved ahead stays | inr made ↦ λ clients still. made.1 clients counts ]
+        ]
+        by (Is_followed row linked both shared put same) = elim (how put) [
+          | inl old ↦ elim chain [
+            | inl stays ↦ was_held was.cell was is (Is_followed row linked both shared old (sym stays ∙ same))
+            | inr made ↦ true_false old made.0
+          ]
+          | inr ahead ↦ elim chain [
+            | inl stays ↦ unmoved ahead stays
+            | inr made ↦ unmoved ahead (same ∙ sym (put_now was is (so_both here.state was.cell row linked both) made.0 row linked shared))
+          ]
+        ]
+
+    same_held : (was op : Pending) → IsSame was op → Held was → Held op
+    same_held was op same held clients still =
+        subst (λ c. is_held k c ≡ true) same.client (held (ap is_clients same.kind ∙ clients)
+        (subst (IsOpen (this.w.clients was.client)) (sym same.seq) (subst (λ c. IsOpen (this.w.clients c) op.seq) (sym same.client) still)))
+
+    pub pending_held : (done : JobResult) → Did hears here own done → (s : StoresSo hears here own done.own.store.chains) → PutHeld s → (cell : Cell)
+        (op : Pending) → at cell_cmp done.own.pairs.pending cell ≡ Some op → Counted cell op (chain_in done.own.store.chains cell) → Held op
+    pending_held done did s held cell op is = elim (did_was hears here own keyed done did cell op is) [
+      | Is_new none number fresh alone ↦ fresh_held cell op (chain_in done.own.store.chains cell) alone fresh
+      | It_was was there same how why ↦ (
+          let new = done.own.store.chains in
+          subst (λ (q : Cell). at cell_cmp own.pairs.pending q ≡ Some was
+          → (op.stage.put ≡ true → (was.stage.put ≡ true) ⊎ (new ≡ chains_ahead own q was)) → (op.stage.paired ≡ true → IsPaired hears here own q was)
+          → Counted q op (chain_in new q) → Held op) ((this.ground.ready.rests.pending this.n).staged cell was there).own
+          (λ at_own how_put why_paired counted. same_held was op same (stage_held was op at_own new s held how_put why_paired counted)) there how why)
     ]
-
-    pub lead_pending : (done : JobResult) (d : DidLead hears here own done) → PutHeld (lead_stores hears here own never done d) → (cell : Cell) (o : Pending)
-        → at cell_cmp done.own.pairs.pending cell ≡ Some o → Counted cell o (chain_in done.own.store.chains cell) → Held o
-    lead_pending _ (Gives_up op h there reserved put) held = λ cell o is counted.
-        let ended = of_ending here (gives_back (without_pending own op.cell)) op op.kind ending.Full in
-        was_held cell o (stood own.pairs.pending op.cell cell o (sym (ap (λ t. at cell_cmp t cell) ended.pending) ∙ is))
-        (subst (λ (x : Store). Counted cell o (chain_in x.chains cell)) ended.store counted)
-    lead_pending _ (Opens want new both) held =
-        put_lead own.pairs.pending own.store.chains want.cell (operation here own.pairs.next want) (λ q ne. refl) (λ q ne. refl)
-        (fresh_held want.cell (operation here own.pairs.next want) (mine want.cell) refl refl)
-    lead_pending _ (Marks op h there both stage) held =
-        put_lead (put cell_cmp own.pairs.pending op.cell (with_reserved op)) own.store.chains op.cell (with_mark_at (with_reserved op) Busy true)
-        (beside own.pairs.pending op.cell (with_reserved op)) (λ q ne. refl)
-        (λ counted. was_held op.cell op there
-        (recounted op.cell op (with_mark_at (with_reserved op) Busy true) (mine op.cell) (λ e. e) (λ e. e) counted))
-    lead_pending _ (Puts op there both stage) held =
-        let keyed = ((this.ground.ready.rests.pending this.n).staged op.cell op there).keyed in
-        put_lead own.pairs.pending (puts own op).own.store.chains op.cell
-        (record op { version = version_of (mine op.cell) + 1; stage = record op.stage { put = true } }) (λ q ne. refl)
-        (put_beside own.store.chains op.key (record { version = version_of (mine op.cell) + 1; bytes = op.bytes }) op.cell keyed)
-        (puts_held op there both stage held)
-    lead_pending _ (Unmarks op h there both stage) held =
-        put_lead (put cell_cmp own.pairs.pending op.cell (with_paired op)) own.store.chains op.cell (with_mark_at (with_paired op) Busy false)
-        (beside own.pairs.pending op.cell (with_paired op)) (λ q ne. refl)
-        (λ counted. paired_held op h there both (ap (λ (s : Stage). s.put) stage))
-    lead_pending _ (Closes op there both stage) held = λ cell o is counted.
-        let ended = of_ending here (without_pending own op.cell) op op.kind ending.Written in
-        was_held cell o (stood own.pairs.pending op.cell cell o (sym (ap (λ t. at cell_cmp t cell) ended.pending) ∙ is))
-        (subst (λ (x : Store). Counted cell o (chain_in x.chains cell)) ended.store counted)
-    lead_pending _ (Opens_alone want new alone) held =
-        let op = operation here own.pairs.next want in
-        put_lead (put cell_cmp own.pairs.pending want.cell op) own.store.chains want.cell (with_mark_at op Stale true)
-        (beside own.pairs.pending want.cell op) (λ q ne. refl)
-        (fresh_held want.cell (with_mark_at op Stale true) (mine want.cell) refl refl)
-    lead_pending _ (Marks_alone now op taken alone fresh) held =
-        put_lead now.pairs.pending now.store.chains op.cell (with_mark_at op Stale true) (others_taken now op taken) (still_taken now op taken)
-        (taken_held now op (with_mark_at op Stale true) taken alone refl refl refl (λ e. e) (chain_in now.store.chains op.cell))
-    lead_pending _ (Puts_alone now op taken alone stale put) held =
-        let t = taking own now op taken in
-        let keyed = taken_keyed now op taken in
-        put_lead now.pairs.pending (puts now op).own.store.chains op.cell
-        (record op { version = version_of (chain_in now.store.chains op.cell) + 1; stage = record op.stage { put = true } }) (others_taken now op taken)
-        (λ q ne.
-        put_beside now.store.chains op.key (record { version = version_of (chain_in now.store.chains op.cell) + 1; bytes = op.bytes }) op.cell keyed q ne
-        ∙ still_taken now op taken q ne)
-        (λ counted clients still. elim counted [
-          | Is_told both e ↦ not_both op.cell alone both
-          | Is_followed row linked both shared e same ↦ not_both op.cell alone (so_both here.state op.cell row linked both)
-          | Is_counted e counts ↦
-              subst (λ i. is_held k i ≡ true) (sym (ap (λ (o : Pending). o.client) t.is))
-              (held (ap (λ (o : Pending). is_clients o.kind) (sym t.is) ∙ clients)
-              (ap (λ (o : Pending). authority (chosen_state this.setting this.w) o.cell) (sym t.is) ∙ counts))
-        ])
-    lead_pending _ (Unmarks_alone now op taken alone stale put busy) held =
-        put_lead now.pairs.pending now.store.chains op.cell (with_mark_at op Busy false) (others_taken now op taken) (still_taken now op taken)
-        (taken_held now op (with_mark_at op Busy false) taken alone refl refl refl (λ e. e) (chain_in now.store.chains op.cell))
-    lead_pending _ (Closes_alone now op taken alone stale put free) held = λ cell o is counted.
-        let ended = of_ending here (without_pending now op.cell) op op.kind ending.Written in
-        closed_pending now op taken alone cell o (stood now.pairs.pending op.cell cell o (sym (ap (λ t. at cell_cmp t cell) ended.pending) ∙ is))
-        (subst (λ (x : Store). Counted cell o (chain_in x.chains cell)) ended.store counted)
-    lead_pending _ (Opens_fill moving new room both) held =
-        let op = fill_operation here own.pairs.next moving in
-        put_lead own.pairs.pending own.store.chains (cell_of moving.key) op (λ q ne. refl) (λ q ne. refl)
-        (fresh_held (cell_of moving.key) op (mine (cell_of moving.key)) refl refl)
-    lead_pending _ (Opens_fill_alone moving new room alone) held =
-        let op = fill_operation here own.pairs.next moving in
-        let cell = cell_of moving.key in
-        put_lead (put cell_cmp own.pairs.pending cell op) own.store.chains cell (with_mark_at op Stale true)
-        (beside own.pairs.pending cell op) (λ q ne. refl)
-        (fresh_held cell (with_mark_at op Stale true) (mine cell) refl refl)
-    lead_pending _ (Goes_on_retired now op taken off) held = absurd (never now op taken off)
-    lead_pending _ _ held = λ cell o is. was_held cell o is
 
     -- ### What is finished
 
@@ -321,10 +249,9 @@ module _ (this : ServerStep) (k : Plain) where
         was_held op.cell op is (Is_told both (ap (λ (s : Stage). s.paired) stage))
 
     closed_alone : (now : PairState) (op : Pending) → Taken own now op → is_alone_on here.state this.n op.cell ≡ true → op.stage.put ≡ true → Held op
-    closed_alone now op taken alone put =
-        let t = taking own now op taken in
-        taken_held now op op taken alone refl refl refl (λ e. e) (mine op.cell)
-        (Is_counted put (op_alone (grounded this) this.n op.cell t.old runs t.was alone))
+    closed_alone _ _ (As_it_is op is) alone put = was_held op.cell op is (Is_counted put (op_alone (grounded this) this.n op.cell op runs is alone))
+    closed_alone _ _ (As_told op reserved paired is) alone put =
+        was_held op.cell op is (Is_counted put (op_alone (grounded this) this.n op.cell op runs is alone))
 
     -- a request is finished, for want of a slot, or as written
     pub finish_held : (t : Table Cell Pending) (client : ℕ) (last : Finished) → IsFinishedFor hears here own t client last → last.ending ≡ ending.Written

@@ -26,6 +26,7 @@ use Rattle.law_run.proofs.ContentChanges.{block_there}
 use Rattle.law_run.proofs.CountingAsLogGrows.{steady, IsLeftToFirst, Moves, Stays_there, Is_left, Is_handed_on, Is_lost, moves, entry, was_second, now_first}
 use Rattle.law_run.proofs.CountingAsLogGrows.{place, now_entry, below_entry, was_there, fill_frozen, fill_comes, IsPutAhead, Turns, Is_same, Is_gone}
 use Rattle.law_run.proofs.CountingAsLogGrows.{Is_written, Is_filled, turns, spot, there}
+use Rattle.law_state.proofs.NewMapLinks.{or_true}
 
 module _ (this : ServerStep) (same_store : (new this).store.chains ≡ (owns_of this.w this.n).store.chains) where
   open ends_of this use {v, top, chosen, after}
@@ -82,15 +83,11 @@ module _ (this : ServerStep) (same_store : (new this).store.chains ≡ (owns_of 
         some_of = by_bool (is_some (now_entry_of e))
             (λ t. elim (from between t) [
               | inl was ↦ ap (λ c. c || is_some (this.w.frozen old)) was
-              | inr frozen ↦ or_right (is_some (was_entry e)) (is_some (this.w.frozen old)) frozen
+              | inr frozen ↦ or_true (is_some (was_entry e)) (is_some (this.w.frozen old)) frozen
             ])
-            (λ f. or_right (is_some (was_entry e)) (is_some (this.w.frozen old))
+            (λ f. or_true (is_some (was_entry e)) (is_some (this.w.frozen old))
             (of_or (is_some (authority after cell)) (is_some (now_entry_of e)) (is_some (this.w.frozen old)) f (sym (has e) ∙ there)))
           where
-            or_right : (x y : Bool) → y ≡ true → (x || y) ≡ true
-            or_right true y t = refl
-            or_right false y t = t
-
             of_or : (c x y : Bool) → x ≡ false → (c && (x || y)) ≡ true → y ≡ true
             of_or true false y f t = t
             of_or true true y f t = true_false refl f
@@ -101,7 +98,7 @@ module _ (this : ServerStep) (same_store : (new this).store.chains ≡ (owns_of 
         let counts = some_at (authority after cell) (has e there) in (
           had_by e
               ∙ (λ i. has_over (between i) (counted_was i) (was_entry e) (is_some (a.frozen i)))
-              ∙ or_true (is_some (was_entry e)),
+              ∙ or_true (is_some (was_entry e)) true refl,
           was_by e ∙ ap (λ t. bytes_of (entry_over t (was_entry e) (entry_before this.w old e))) between ∙ over between
               ∙ come_same a counts.0 counts.1 e ∙ sym (bytes e),
         ))
@@ -110,10 +107,6 @@ module _ (this : ServerStep) (same_store : (new this).store.chains ≡ (owns_of 
           was_by e ∙ ap (λ t. bytes_of (entry_over t (was_entry e) (entry_before this.w old e))) apart ∙ plain apart ∙ sym (bytes e),
         ))
       where
-        or_true : (x : Bool) → (x || true) ≡ true
-        or_true true = refl
-        or_true false = refl
-
         some_at : (o : Option ℕ) → is_some o ≡ true → (n : ℕ) × (o ≡ Some n)
         some_at None e = true_false e refl
         some_at (Some n) e = (n, refl)

@@ -3,7 +3,6 @@ pub mod ListMembers
 pub mod Machine
 pub mod SnapshotsAreChosen
 pub mod SnapshotsTaken
-pub mod MachineGoesOn
 pub mod LetterNames
 pub mod ContentChanges
 pub mod ReadScripts

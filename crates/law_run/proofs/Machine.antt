@@ -1,13 +1,15 @@
--- What each event does to the machine.
+-- What each event does to the machine; and while no write begins or ends, what was tied to it stays tied.
 use Rattle.law_run.proofs.Imports.{[], ◌++◌, ◌==◌, ◌||◌, ◌∙◌, ◌∷◌, ◌≡◌, ◌≢◌, ◌⊎◌, AreSnapshots, Begin, Bool, DiskRow, End, Event, Holds, In, List, Look, Make}
-use Rattle.law_run.proofs.Imports.{None, Obeys, Open, Option, Plain, PlainDisk, Some, Table, Take, Write, WriteEnd, after, ap, at_apart, at_same, but_of}
-use Rattle.law_run.proofs.Imports.{by_bool, changed, cond, content, disk_of, false, find-append, has_content, inl, inr, is_named, is_of, map, nat_cmp}
-use Rattle.law_run.proofs.Imports.{nat_list_eq_equiv, nat_lists_same, none_some, not, number_itself, open_of, option_map, option_or, put, refl, remembers}
-use Rattle.law_run.proofs.Imports.{replay, same_bytes, same_numbers, same_or_apart, same_some, some_or_none, stands, subst, sym, true, true_false, unwrap_or}
-use Rattle.law_run.proofs.Imports.{with_disk, written, zero_block, ℕ}
+use Rattle.law_run.proofs.Imports.{None, Obeys, Open, Option, Plain, PlainDisk, Setting, Some, Table, Take, World, Write, WriteEnd, after, ap, at_apart}
+use Rattle.law_run.proofs.Imports.{at_same, but_of, by_bool, changed, cond, content, disk_of, false, find-append, has_content, inl, inr, is_named, is_of, map}
+use Rattle.law_run.proofs.Imports.{nat_cmp, nat_list_eq_equiv, nat_lists_same, none_some, not, number_itself, open_of, open_write, option_map, option_or, put}
+use Rattle.law_run.proofs.Imports.{refl, remembers, replay, same_bytes, same_numbers, same_or_apart, same_some, some_or_none, stands, subst, sym, true}
+use Rattle.law_run.proofs.Imports.{true_false, unwrap_or, with_disk, written, zero_block, ℕ}
 use Rattle.std.specs.Prelude.{find}
 use Rattle.spec_machine.specs.Run.{IsOpen}
 use Rattle.law_run.specs.WritesGoOn.{IsMindful, held_in, Onward, Seat}
+use Rattle.law_state.proofs.NewMapLinks.{or_true}
+use Rattle.law_run.specs.MachineTies.{Follow, Stores}
 
 pub Obeys-append : (m : Plain) (es fs : List Event) → Obeys m es → Obeys (replay m es) fs → Obeys m (es ++ fs)
 Obeys-append m [] fs h g = g
@@ -80,9 +82,9 @@ pub disks_after : (m : Plain) (e : Event) → (after m e).disks ≡ (changed m e
 unfolding after
 disks_after m e = refl
 
-or_true : (a : Bool) → (a || true) ≡ true
-or_true true = refl
-or_true false = refl
+or_none : {A : Type 0} (o : Option A) → option_or o None ≡ o
+or_none None = refl
+or_none (Some x) = refl
 
 pub or_former : (a b : Bool) → a ≡ true → (a || b) ≡ true
 or_former true b e = refl
@@ -103,7 +105,7 @@ after_mindful m e c o is stands_now =
     let from = mapped (remembers (changed m e).disks) (open_of (changed m e).opened c) o (sym (opened_after m e c) ∙ is) in
     let there : stands (changed m e).disks o.write ≡ true = ap (λ d. stands d o.write) (sym (disks_after m e)) ∙ stands_now in
     let was : stands (changed m e).disks from.0.write ≡ true = ap (λ (x : Open). stands (changed m e).disks x.write) from.2 ∙ there in
-    sym (ap (λ (x : Open). x.held) from.2) ∙ ap (λ b. from.0.held || b) was ∙ or_true from.0.held
+    sym (ap (λ (x : Open). x.held) from.2) ∙ ap (λ b. from.0.held || b) was ∙ or_true from.0.held true refl
 
 -- where the disks stay, nothing new is remembered
 pub still : (m : Plain) (c : ℕ) (o : Option Open) → open_of m.opened c ≡ o → IsMindful m → option_map (remembers m.disks) o ≡ o
@@ -145,6 +147,18 @@ seat_onward m k c (Some write) h s =
     let g = h.some c (record { write = write; held = s.0 }) s.1 in
     (g.now.held, g.is ∙ λ i. Some (record { write = g.same i; held = g.now.held }))
 
+-- what was tied to the machine stays tied: with other disks, or the same with other events
+pub follow_onward : (setting : Setting) (old new : List DiskRow) (v : World) (from to : Plain) → Follow setting old v from
+    → Onward from to → Stores setting new v to → Follow setting new v to
+follow_onward setting old new v from to follows goes_on stores = record {
+  stores = stores;
+  seats = λ c. seat_onward from to c (open_write v c) goes_on (follows.seats c);
+  letters = λ letter c seq h at says still. held_onward from to c goes_on (follows.letters letter c seq h at says still);
+  pending = λ n cell op on is clients counted still.
+      held_onward from to op.client goes_on (follows.pending n cell op on is clients counted still);
+  finished = λ n c newest on is how still. held_onward from to c goes_on (follows.finished n c newest on is how still);
+}
+
 -- ### Looks, begins and ends
 
 pub look_onward : (m : Plain) (name : List ℕ) (snap : Option (List ℕ)) (block : ℕ) (bytes : List ℕ) → IsMindful m
@@ -169,10 +183,6 @@ unbegun : (o : Option Open) (w : Write) (c : ℕ) → c ≢ w.client → option_
 unbegun o w c ne =
     ap (λ b. option_or o (cond b (Some (record { write = w; held = false })) None))
     (by_bool (w.client == c) (λ t. absurd (ne (sym (same_numbers w.client c t)))) (λ f. f)) ∙ or_none o
-  where
-    or_none : (o : Option Open) → option_or o None ≡ o
-    or_none None = refl
-    or_none (Some x) = refl
 
 -- the write is under way
 pub begin_seat : (m : Plain) (w : Write) → open_of m.opened w.client ≡ None → Seat (Some w) (open_of (after m (Begin w)).opened w.client)
@@ -231,10 +241,6 @@ make_others m name other ne =
     ap (λ ds. disk_of ds other) (disks_after m (Make name)) ∙ find-append (is_named other) m.disks (new_disk name ∷ [])
     ∙ ap (λ b. option_or (disk_of m.disks other) (cond b (Some (new_disk name)) None)) (unnamed name other (new_disk name) refl ne)
     ∙ or_none (disk_of m.disks other)
-  where
-    or_none : (o : Option PlainDisk) → option_or o None ≡ o
-    or_none None = refl
-    or_none (Some x) = refl
 
 pub make_onward : (m : Plain) (name : List ℕ) → Onward m (after m (Make name))
 make_onward m name = onward_by m (after m (Make name)) (changed m (Make name)).disks (opened_after m (Make name))

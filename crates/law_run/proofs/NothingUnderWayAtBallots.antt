@@ -8,9 +8,10 @@ use Rattle.law_run.proofs.Imports.{cell_cmp, cell_link, chain_in, chosen_log, ch
 use Rattle.law_run.proofs.Imports.{front_plain, good_after, has_proposed, held_as_flag, history_agrees, history_grows, history_is_firm, holder_is_one, id_of}
 use Rattle.law_run.proofs.Imports.{in_once, inc_of, inl, inr, is_at_work, is_flagged, is_in, live, live_stage, log_held_or_both, log_steady, none_some}
 use Rattle.law_run.proofs.Imports.{one_place, one_row, option_map_or, other_alone, other_between, other_of, pair_at, place_by, place_in, place_of_later}
-use Rattle.law_run.proofs.Imports.{places_grow, places_up, refl, rests_after, same_or_apart, same_place, server_state, setting_of, some_or_none, split_fronts}
-use Rattle.law_run.proofs.Imports.{start, start_rests, state_after, store_by, subst, sym, true, true_false, world_after, ℕ}
+use Rattle.law_run.proofs.Imports.{places_grow, refl, rests_after, same_or_apart, same_place, server_state, setting_of, some_or_none, split_fronts, start}
+use Rattle.law_run.proofs.Imports.{start_rests, state_after, store_by, subst, sym, true, true_false, world_after, ℕ}
 use Rattle.law_run.proofs.OwnPlacesAreLatest.{equal_pair, unfollowed_halves}
+use Rattle.law_moves.proofs.MoveWorlds.{top_last}
 
 module _ (script : Script) (records : List Record) (sound : IsSound script) (legal : AreSteps script records) where
   abbrev setting : Setting
@@ -99,13 +100,7 @@ module _ (script : Script) (records : List Record) (sound : IsSound script) (leg
 
     -- no server has served the link at a later place than the last one
     last : (now : LinkRow) → cell_link (chosen_state setting w) cell ≡ Some now → IsLast good.reached setting chosen cell now
-    last now linked = elim (good.reaching.by cell) [
-      | inl none ↦ omega arith
-      | inr far ↦ (
-          let up = places_up setting chosen plain far.front chosen cell far.row now far.prefix (front_itself chosen) far.linked linked in
-          let at = far.at in
-          omega arith)
-    ]
+    last now linked = top_last setting records chosen (counted setting w) plain good cell now linked
 
     -- the two copies by the last stores are those that count
     by_stores : (one other : ℕ)

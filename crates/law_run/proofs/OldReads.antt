@@ -1,18 +1,16 @@
 -- A read that was told that the new map has nothing, and is answered under the old one: whoever answers has what was frozen.
-use Rattle.law_run.proofs.Imports.{[], if◌then◌else◌, ◌&&◌, ◌||◌, ◌∙◌, ◌∷◌, ◌≡◌, ◌≤◌, Acted, Actor, Answered, AreStepsFrom, Blank, Bool, By_read, Cell}
-use Rattle.law_run.proofs.Imports.{Did, Firm, Handled, In, IsPrefix, IsRead, IsReadable, IsSteady, JobResult, Letter, List, MayActor, NeverRetired, None}
-use Rattle.law_run.proofs.Imports.{NotThere, Not_here, Record, Refused, Serving, Setting, Shows, Some, State, Step, Subject, World, acts, ap, arith}
-use Rattle.law_run.proofs.Imports.{begins_to_leave, both_true, by_bool, by_test, bytes_of, chain_in, chain_that_counts, chosen_log, chosen_state}
-use Rattle.law_run.proofs.Imports.{data_among, entry_at, epoch_at, false, front_itself, front_on, in_former, inl, inr, is_notice, leaving, length}
-use Rattle.law_run.proofs.Imports.{letters_of, log_below, log_rev, none_some, not, old_data, one_post, own_place, own_plain, own_steady, owns_of}
-use Rattle.law_run.proofs.Imports.{reads_old, refl, said, sender, server_serves, server_state, server_step, serves_sent, stage_at, stage_facts, stamped}
-use Rattle.law_run.proofs.Imports.{step, stepped, subject_of, subst, sym, true, true_false, turns, ℕ}
+use Rattle.law_run.proofs.Imports.{[], ◌&&◌, ◌||◌, ◌∙◌, ◌∷◌, ◌≡◌, ◌≤◌, Acted, Actor, AreStepsFrom, Blank, Bool, By_read, Cell, Did, Firm, Handled, In}
+use Rattle.law_run.proofs.Imports.{IsPrefix, IsRead, IsReadable, IsSteady, JobResult, Letter, List, MayActor, None, NotThere, Not_here, Record, Serving}
+use Rattle.law_run.proofs.Imports.{Setting, Shows, Some, State, Step, World, acts, ap, arith, begins_to_leave, both_true, by_bool, by_test, bytes_of}
+use Rattle.law_run.proofs.Imports.{chain_in, chain_that_counts, chosen_log, chosen_state, data_among, entry_at, epoch_at, front_itself, front_on}
+use Rattle.law_run.proofs.Imports.{if◌then◌else◌, in_former, inl, inr, leaving, length, letters_of, log_below, log_rev, none_some, not, old_data, one_post}
+use Rattle.law_run.proofs.Imports.{own_place, own_plain, own_steady, owns_of, reads_old, refl, said, sender, server_serves, server_state, server_step}
+use Rattle.law_run.proofs.Imports.{serves_sent, stage_at, stage_facts, stamped, step, stepped, subject_of, subst, sym, true, true_false, turns, ℕ}
 use Rattle.law_run.specs.MachineTies.{Ground}
 use Rattle.law_run.proofs.EntryAtEpoch.{AreUpTo}
-use Rattle.law_run.proofs.GroundGives.{never_retired}
 use Rattle.law_run.proofs.ReadsLookWhereSent.{Accepts, AreGrounded, ground_now, is_looked, who_accepts}
 use Rattle.law_run.proofs.ContentsAsked.{known_read, own_up_to, reader_serves, reads_old_is}
-use Rattle.law_run.proofs.DataLetters.{is_reply, mute_data, unended_data}
+use Rattle.law_run.proofs.DataLetters.{mute_data, notice_unended, unended_data}
 use Rattle.law_run.proofs.RunScenes.{Grounded}
 use Rattle.law_run.proofs.SearchesFindData.{IsAmong, in_data, some_data}
 use Rattle.petal_msg.specs.declared.body.Body.TheVariants as body
@@ -36,11 +34,6 @@ same_seq e = cc
 
 pub same_data : {a b : ℕ} {xs ys : List ℕ} → body.Data a xs ≡ body.Data b ys → xs ≡ ys
 same_data e = cc
-
-notice_unended : (subject : Subject) → is_notice subject ≡ true → is_reply subject ≡ false
-notice_unended Answered e = true_false e refl
-notice_unended Refused e = true_false e refl
-notice_unended _ e = refl
 
 module _ (g : Grounded) (steady : IsSteady g.state) (y stamp : ℕ) (letter : Letter) (seq : ℕ) (bytes : List ℕ) (says : letter.body ≡ body.Data seq bytes) where
   open g use {setting, w as u}
@@ -71,8 +64,7 @@ module _ (g : Grounded) (steady : IsSteady g.state) (y stamp : ℕ) (letter : Le
       absurd cc
   job_shows done d runs h =
       let s = said (sender (own_place setting u y)) stamp 0 done.posts letter h in
-      let never : NeverRetired (own_place setting u y) (owns_of u y) = never_retired g steady y runs in
-      true_false (ap is_looked (sym s.body ∙ says)) (mute_data (Handled u y) (own_place setting u y) (owns_of u y) never done d tt s.post s.there)
+      true_false (ap is_looked (sym s.body ∙ says)) (mute_data (Handled u y) (own_place setting u y) (owns_of u y) done d (λ of_read. of_read) s.post s.there)
 
   pub shows : (what : Step) (acted : Acted) → Serving setting u y what acted → In letter (stamped stamp acted.letters) → S
   shows what acted serving h = elim (serves_sent setting u y stamp what acted serving letter h) [

@@ -3,10 +3,10 @@
 use Rattle.law_run.proofs.Imports.{[], ◌&&◌, ◌++◌, ◌∙◌, ◌∷◌, ◌≡◌, ◌≤◌, ◌⊎◌, AliveIn, AreCopies, AreTwins, Body, Both, Cell, Command, Handled, HasProperTuples}
 use Rattle.law_run.proofs.Imports.{HasStage, IsHeldBy, IsLast, IsLinked, IsPrefix, IsStaged, Join, LinkRow, List, None, Only, Option, Pair, PairOk, PairState}
 use Rattle.law_run.proofs.Imports.{Pending, Setting, Some, Store, about, alive_on, alone_authority, alone_not_both, ap, arith, at, at-empty, authority}
-use Rattle.law_run.proofs.Imports.{blank_joins_in, both_last, both_row, both_since, by_bool, cell_cmp, chain_in, chosen_log, chosen_state, far, front_itself}
-use Rattle.law_run.proofs.Imports.{front_more, front_on, half, half_store, has_proposed, has_server, held_as_flag, holds_since, in_both, inl, inr}
-use Rattle.law_run.proofs.Imports.{is_alone_on, is_clients, is_in, is_lead, is_second, is_the_one, kept, lead, led_by, linked_alive, linked_between, live}
-use Rattle.law_run.proofs.Imports.{live_stage, none_some, one_before, one_row, op_there, own_below, own_plain, own_steady, owns_of, pair_at, pair_of}
+use Rattle.law_run.proofs.Imports.{blank_joins_in, both_last, both_row, both_since, by_bool, cell_cmp, chain_in, chosen_log, chosen_state, counted, far}
+use Rattle.law_run.proofs.Imports.{front_itself, front_more, front_on, half, half_store, has_proposed, has_server, held_as_flag, holds_since, in_both, inl}
+use Rattle.law_run.proofs.Imports.{inr, is_alone_on, is_clients, is_in, is_lead, is_second, is_the_one, kept, lead, led_by, linked_alive, linked_between}
+use Rattle.law_run.proofs.Imports.{live, live_stage, none_some, one_before, one_row, op_there, own_below, own_plain, own_steady, owns_of, pair_at, pair_of}
 use Rattle.law_run.proofs.Imports.{place_by, place_of_later, place_touched, places_up, primary_is_one, reached_here, ready_chosen, refl, retired_second}
 use Rattle.law_run.proofs.Imports.{rows_later, runs_now, second, second_by, secondary_is_one, server_state, serves, so_alone, so_both, stage_at, stage_facts}
 use Rattle.law_run.proofs.Imports.{subst, sym, true, true_false, ℕ}
@@ -14,6 +14,7 @@ use Rattle.law_copies.specs.Pair.{Known}
 use Rattle.law_run.proofs.FirstIsOneAhead.{unfollowed_equal}
 use Rattle.law_run.proofs.BlankedServeNothing.{more_joins}
 use Rattle.law_run.proofs.RunScenes.{Grounded}
+use Rattle.law_moves.proofs.MoveWorlds.{top_last}
 
 -- ### What is remembered of a place
 
@@ -100,13 +101,7 @@ module _ (g : Grounded) where
 
   -- nobody who serves the link has been further
   pub chosen_last : (cell : Cell) (row : LinkRow) → IsLinked setting chosen cell row → IsLast ground.good.reached setting chosen cell row
-  chosen_last cell row is = elim (ground.good.reaching.by cell) [
-    | inl none ↦ omega (arith, none)
-    | inr r ↦
-        let up = places_up setting chosen firm.plain r.front chosen cell r.row row r.prefix (front_itself chosen) r.linked is in
-        let spot = r.at in
-        omega arith
-  ]
+  chosen_last cell row is = top_last setting ground.records chosen (counted setting w) firm.plain ground.good cell row is
 
   pub chosen_twins : (cell : Cell) (row : LinkRow) → IsLinked setting chosen cell row → row.state ≡ Both → AliveIn (chosen_state setting w) cell
       → AreTwins chosen_store ground.good.visits (place_by setting chosen row) cell row.primary row.secondary

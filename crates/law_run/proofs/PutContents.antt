@@ -1,8 +1,8 @@
 -- Where nothing is chosen: a put of the copy that counts gives a block the bytes of its write, a fill changes no content, and neither does what
 -- leaves the chains that count.
-use Rattle.law_run.proofs.Imports.{◌&&◌, ◌<◌, ◌||◌, ◌∙◌, ◌≡◌, ◌≢◌, AliveIn, AreDisks, Bool, Cell, Chain, DiskRow, In, IsFrozen, IsOwn, IsRising, Key, List}
-use Rattle.law_run.proofs.Imports.{None, Option, Pending, Plain, Some, State, Store, Stored, ap, arith, at, authority, blank_joins_in, bytes_of, cell_cmp}
-use Rattle.law_run.proofs.Imports.{cell_of, cell_same, chain_apart, chain_in, chain_put, chains_with, change_by, chosen_log, chosen_state, counted, entry_at}
+use Rattle.law_run.proofs.Imports.{◌&&◌, ◌<◌, ◌∙◌, ◌≡◌, ◌≢◌, AliveIn, AreDisks, Bool, Cell, Chain, DiskRow, In, IsFrozen, IsOwn, IsRising, Key, List, None}
+use Rattle.law_run.proofs.Imports.{Option, Pending, Plain, Some, State, Store, Stored, ap, arith, at, authority, blank_joins_in, bytes_of, cell_cmp, cell_of}
+use Rattle.law_run.proofs.Imports.{cell_same, chain_apart, chain_in, chain_put, chains_with, change_by, chosen_log, chosen_state, counted, entry_at}
 use Rattle.law_run.proofs.Imports.{entry_before, entry_by, entry_of, epoch_at, false, first_entry, inl, inr, is_some, kept, named_cell, nat_cmp, old_cell}
 use Rattle.law_run.proofs.Imports.{option_and_then, put, refl, replay, same_cell_or_apart, stage_at, state_after, subst, sym, true, ℕ}
 use Rattle.law_run.proofs.FillsComeInTurn.{fill_there}
@@ -19,6 +19,7 @@ use Rattle.law_run.proofs.OpenWritesAreOnDisks.{Placed, placed_given}
 use Rattle.law_run.proofs.EventsOfServerSteps.{ServerStep, TakesTold, ends_of, frozen_same, grounded, joined_now, joined_then, kept_here, later_world, new}
 use Rattle.law_run.proofs.EventsOfServerSteps.{own_after, same_entry, plain_chosen}
 use Rattle.law_run.proofs.ContentChanges.{block_there}
+use Rattle.law_state.proofs.NewMapLinks.{or_true}
 
 module _ (this : ServerStep) (same : chosen_log this.setting (later_world this) ≡ chosen_log this.setting this.w) where
   open ends_of this use {v, chosen, own, here}
@@ -297,8 +298,9 @@ module _ (this : ServerStep) (same : chosen_log this.setting (later_world this) 
     fill_here e = record {
       has = has_content_is this.setting this.w this.along.firm disk.row disk.there e cell.block
           ∙ (λ i. has_over (between i) (counts_same (named_cell disk.row cell.block) i) (was_of (named_cell disk.row cell.block) e) (is_some (frozen_here i)))
-          ∙ over_frozen (is_some (authority (chosen_state this.setting v) (named_cell disk.row cell.block))) (was_of (named_cell disk.row cell.block) e)
-          (now_of (named_cell disk.row cell.block) e)
+          ∙ ap (λ b. is_some (authority (chosen_state this.setting v) (named_cell disk.row cell.block)) && b)
+          (or_true (is_some (was_of (named_cell disk.row cell.block) e)) true refl
+          ∙ sym (or_true (is_some (now_of (named_cell disk.row cell.block) e)) true refl))
           ∙ sym (λ i. has_over (between i) (is_some (authority (chosen_state this.setting v) (named_cell disk.row cell.block)))
           (now_of (named_cell disk.row cell.block) e) (is_some (frozen_here i)))
           ∙ sym (now_has_is disk.row disk.there e cell.block);
@@ -310,13 +312,6 @@ module _ (this : ServerStep) (same : chosen_log this.setting (later_world this) 
           ∙ sym (λ i. bytes_of (entry_over (between i) (now_of (sym named i) e) (before_fill e i)))
           ∙ sym (now_is disk.row disk.there e cell.block);
     }
-      where
-        over_frozen : (c : Bool) (one other : Option Stored) → (c && (is_some one || true)) ≡ (c && (is_some other || true))
-        over_frozen true None None = refl
-        over_frozen true None (Some y) = refl
-        over_frozen true (Some x) None = refl
-        over_frozen true (Some x) (Some y) = refl
-        over_frozen false one other = refl
 
     pub fill_given : AreGiven this
     fill_given row h b = inl (λ e. stays_by row e b (elim (same_cell_or_apart (named_cell row b) cell) [

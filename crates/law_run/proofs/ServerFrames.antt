@@ -30,14 +30,15 @@ pub data AreKept (this : ServerStep) : Type 0 where
 module _ (this : ServerStep) (k : Plain) where
   open ends_of this use {v, own}
 
+  -- the client's write of this number has had its bytes, where it is open
+  abbrev pub Held : ℕ → ℕ → Type 0
+  Held c seq = IsOpen (this.w.clients c) seq → is_held k c ≡ true
+
   -- what a server's own part shows after the step, where the machine goes on to k
   pub record OwnFollow (after : PairState) : Type 0 where
-    pub finished : (c : ℕ) (last : Finished) → Runs this → at nat_cmp after.pairs.finished c ≡ Some last → last.ending ≡ ending.Written
-        → IsOpen (this.w.clients c) last.seq → is_held k c ≡ true
+    pub finished : (c : ℕ) (last : Finished) → Runs this → at nat_cmp after.pairs.finished c ≡ Some last → last.ending ≡ ending.Written → Held c last.seq
     pub as_lead : (cell : Cell) (op : Pending) → Runs this → at cell_cmp after.pairs.pending cell ≡ Some op
-        → is_clients op.kind ≡ true → HasCounted this.setting this.w this.n cell op (chain_in after.store.chains cell)
-        → IsOpen (this.w.clients op.client) op.seq
-        → is_held k op.client ≡ true
+        → is_clients op.kind ≡ true → HasCounted this.setting this.w this.n cell op (chain_in after.store.chains cell) → Held op.client op.seq
     pub as_second : joined_now this this.n ≡ joined_then this this.n → (cell : Cell) (p : ℕ) (op : Pending) (row : LinkRow)
         → IsSharing (grounded this) p cell row
         → row.primary ≡ p → row.secondary ≡ this.n → at cell_cmp (owns_of this.w p).pairs.pending cell ≡ Some op
@@ -49,8 +50,7 @@ module _ (this : ServerStep) (k : Plain) where
 
   -- what it sends ends a write as written only where that has had its bytes
   abbrev pub SaysOk : Type 0
-  SaysOk = (letter : Letter) → In letter (letters this) → (c seq : ℕ) → letter.to ≡ actor.Client c → letter.body ≡ body.Written seq
-      → IsOpen (this.w.clients c) seq → is_held k c ≡ true
+  SaysOk = (letter : Letter) → In letter (letters this) → (c seq : ℕ) → letter.to ≡ actor.Client c → letter.body ≡ body.Written seq → Held c seq
 
   -- an operation that is put where the copy counts after the step was put where it counted before, or has had its bytes
   abbrev pub CountsOk : Type 0
@@ -71,7 +71,7 @@ module _ (this : ServerStep) (k : Plain) where
     runs_here i e on = ap (λ (x : Server). x.life.running) (sym (ap v.servers e ∙ server_now)) ∙ on
 
     finished : (i c : ℕ) (last : Finished) → (v.servers i).life.running ≡ true → at nat_cmp (owns_of v i).pairs.finished c ≡ Some last
-        → last.ending ≡ ending.Written → IsOpen (this.w.clients c) last.seq → is_held k c ≡ true
+        → last.ending ≡ ending.Written → Held c last.seq
     finished i c last on is how still = elim (same_or_apart i this.n) [
       | inl e ↦ job.finished c last (runs_here i e on)
           (sym (ap (λ (h : PairState). at nat_cmp h.pairs.finished c) (ap (owns_of v) e ∙ own_now this)) ∙ is) how still
@@ -94,8 +94,7 @@ module _ (this : ServerStep) (k : Plain) where
 
     was_shared : (cell : Cell) (op : Pending) (row : LinkRow) → Leaves this.setting this.n (this.w.servers this.n) this.acted.server
         → at cell_cmp (new this).pairs.pending cell ≡ Some op → IsLinked this.setting this.acted.server.log.applied cell row
-        → row.state ≡ Both
-        → WasShared cell row
+        → row.state ≡ Both → WasShared cell row
     was_shared cell op row (As_it_was pending applied) is linked both = same_before cell row applied linked both
     was_shared cell op row (In_place applied seat) is linked both = same_before cell row applied linked both
     was_shared cell op row (Boots runs inc none) is linked both =
@@ -199,8 +198,7 @@ module _ (this : ServerStep) (k : Plain) where
 
     -- the operations of this server
     mine : (cell : Cell) (op : Pending) → (v.servers this.n).life.running ≡ true → at cell_cmp (owns_of v this.n).pairs.pending cell ≡ Some op
-        → is_clients op.kind ≡ true → HasCounted this.setting v this.n cell op (chain_now this.n cell) → IsOpen (this.w.clients op.client) op.seq
-        → is_held k op.client ≡ true
+        → is_clients op.kind ≡ true → HasCounted this.setting v this.n cell op (chain_now this.n cell) → Held op.client op.seq
     mine cell op on there clients counted still = by counted
       where
         runs : Runs this
@@ -237,8 +235,7 @@ module _ (this : ServerStep) (k : Plain) where
 
     -- those of another server
     theirs : (i : ℕ) → i ≢ this.n → (cell : Cell) (op : Pending) → (v.servers i).life.running ≡ true → at cell_cmp (owns_of v i).pairs.pending cell ≡ Some op
-        → is_clients op.kind ≡ true → HasCounted this.setting v i cell op (chain_now i cell) → IsOpen (this.w.clients op.client) op.seq
-        → is_held k op.client ≡ true
+        → is_clients op.kind ≡ true → HasCounted this.setting v i cell op (chain_now i cell) → Held op.client op.seq
     theirs i ne cell op on there clients counted still = by counted
       where
         runs : (this.w.servers i).life.running ≡ true
@@ -294,8 +291,7 @@ module _ (this : ServerStep) (k : Plain) where
         ]
 
     pending : (i : ℕ) (cell : Cell) (op : Pending) → (v.servers i).life.running ≡ true → at cell_cmp (owns_of v i).pairs.pending cell ≡ Some op
-        → is_clients op.kind ≡ true → HasCounted this.setting v i cell op (chain_now i cell) → IsOpen (this.w.clients op.client) op.seq
-        → is_held k op.client ≡ true
+        → is_clients op.kind ≡ true → HasCounted this.setting v i cell op (chain_now i cell) → Held op.client op.seq
     pending i cell op on is clients counted still = elim (same_or_apart i this.n) [
       | inl e ↦ subst (λ j. (v.servers j).life.running ≡ true → at cell_cmp (owns_of v j).pairs.pending cell ≡ Some op
           → HasCounted this.setting v j cell op (chain_now j cell) → is_held k op.client ≡ true) (sym e)
@@ -325,16 +321,14 @@ module _ (this : ServerStep) (k : Plain) where
 
   module _ (onward : Onward this.m k) where
     pub kept_finished : (this.w.servers this.n).life.running ≡ true → (after : PairState) → after.pairs.finished ≡ own.pairs.finished
-        → (c : ℕ) (last : Finished) → at nat_cmp after.pairs.finished c ≡ Some last → last.ending ≡ ending.Written
-        → IsOpen (this.w.clients c) last.seq → is_held k c ≡ true
+        → (c : ℕ) (last : Finished) → at nat_cmp after.pairs.finished c ≡ Some last → last.ending ≡ ending.Written → Held c last.seq
     kept_finished runs after finished c last is how still =
         held_onward this.m k c onward (this.follow.finished this.n c last runs (ap (λ t. at nat_cmp t c) (sym finished) ∙ is) how still)
 
     pub kept_pending : (this.w.servers this.n).life.running ≡ true → (after : PairState) → after.pairs.pending ≡ own.pairs.pending
         → (cell : Cell) → chain_in after.store.chains cell ≡ chain_in own.store.chains cell → (op : Pending)
         → at cell_cmp after.pairs.pending cell ≡ Some op → is_clients op.kind ≡ true
-        → HasCounted this.setting this.w this.n cell op (chain_in after.store.chains cell)
-        → IsOpen (this.w.clients op.client) op.seq → is_held k op.client ≡ true
+        → HasCounted this.setting this.w this.n cell op (chain_in after.store.chains cell) → Held op.client op.seq
     kept_pending runs after pending cell chain op is clients counted still =
         let was : at cell_cmp own.pairs.pending cell ≡ Some op = ap (λ t. at cell_cmp t cell) (sym pending) ∙ is in
         held_onward this.m k op.client onward (this.follow.pending this.n cell op runs was clients

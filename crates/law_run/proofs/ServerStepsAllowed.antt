@@ -1,10 +1,10 @@
 -- What the machine is told of a server's step is allowed, and keeps it tied to the world.
 use Rattle.law_run.proofs.Imports.{[], ◌+◌, ◌||◌, ◌∙◌, ◌≡◌, ◌⊎◌, Acted, AreStepsFrom, Body, By_ballot, By_entry, By_job, By_read, Cell, Did, Ends, Fails}
 use Rattle.law_run.proofs.Imports.{Goes, Handled, In, IsSeatedOrMute, Job, JobContext, JobResult, Letter, Line, List, Log, NeverRetired, None, Not_here}
-use Rattle.law_run.proofs.Imports.{Option, PairState, Pairs, Pending, Plain, Post, Sender, Serving, Shows, Some, Stays, Store, Wakes, Worked, World, ap, at}
-use Rattle.law_run.proofs.Imports.{awake, ballot_store, cell_cmp, chain_in, chosen_log, chosen_same, copying_on, crossed, did_stores, down_posts, false}
-use Rattle.law_run.proofs.Imports.{in_none, inl, inr, is_some, is_under_way, letters_of, named_cell, own_place, owns_of, proposed_pairs, raised, refl, rev_of}
-use Rattle.law_run.proofs.Imports.{said, sender, served_so, server_state, servers_of, settling, stamped, stopped_so, subst, sym, true, true_false}
+use Rattle.law_run.proofs.Imports.{Option, PairState, Pairs, Pending, Plain, Post, Sender, Serving, Shows, Some, Stays, Store, StoresSo, Wakes, Worked, World}
+use Rattle.law_run.proofs.Imports.{ap, at, awake, ballot_store, cell_cmp, chain_in, chosen_log, chosen_same, copying_on, crossed, did_stores, down_posts}
+use Rattle.law_run.proofs.Imports.{false, in_none, inl, inr, is_some, is_under_way, letters_of, named_cell, own_place, owns_of, proposed_pairs, raised, refl}
+use Rattle.law_run.proofs.Imports.{rev_of, said, sender, served_so, server_state, servers_of, settling, stamped, stopped_so, subst, sym, true, true_false}
 use Rattle.law_run.proofs.Imports.{without_rev, ℕ}
 use Rattle.law_run.proofs.GroundGives.{never_retired}
 use Rattle.law_run.proofs.NotHere.{not_here_told}
@@ -129,7 +129,10 @@ module _ (at : ServesAt) where
           let this = step_of _ serving next in
           quiet_looks this (λ letter i.
           let s = said (sender here) at.stamp 0 done.posts letter i in
-          ap is_looked s.body ∙ mute_data hears here own (never runs) done d tt s.post s.there)
+          ap is_looked s.body ∙ mute_data hears here own done d (λ of_read. of_read) s.post s.there)
+
+      stores : (done : JobResult) → IsSeatedOrMute here own done → Did hears here own done → StoresSo hears here own done.own.store.chains
+      stores = did_stores hears here own (never runs)
 
       job_told : (done : JobResult) → IsSeatedOrMute here own done → Did hears here own done → (queue : List Job) → Told (goes log done queue)
       job_told done seated did queue serving next same later =
@@ -137,8 +140,8 @@ module _ (at : ServesAt) where
           let says : (k : Plain) → Onward at.m k → SaysOk this k = λ k onward letter i c seq to says still.
           let s = said (sender here) at.stamp 0 done.posts letter i in
           did_says this k runs onward (never runs) done did s.post s.there c seq (sym s.to ∙ to) (sym s.body ∙ says) still in
-          assembled this (stored_told this same runs says (did_stores hears here own (never runs) done seated did)
-          (λ k onward held. did_job this k runs onward (never runs) done seated did held refl))
+          assembled this (stored_told this same runs says (stores done seated did)
+          (λ k onward held. did_job this k runs onward (never runs) done did (stores done seated did) held refl))
           (job_looks done did queue serving next same later)
 
       -- the server stops once its commit is made
@@ -146,8 +149,8 @@ module _ (at : ServesAt) where
       job_stopped done seated did serving next same later =
           let this = step_of _ serving next in
           let says : (k : Plain) → Onward at.m k → SaysOk this k = λ k onward. unended_says this (without_rev here) downs refl downs_end k in
-          assembled this (stored_told this same runs says (did_stores hears here own (never runs) done seated did)
-          (λ k onward held. did_job this k runs onward (never runs) done seated did held refl))
+          assembled this (stored_told this same runs says (stores done seated did)
+          (λ k onward held. did_job this k runs onward (never runs) done did (stores done seated did) held refl))
           (unended_looks this (without_rev here) downs refl downs_end)
 
     -- ### Other steps
