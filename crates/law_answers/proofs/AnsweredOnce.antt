@@ -3,8 +3,8 @@ use Rattle.law_answers.proofs.Imports.{[], ◌++◌, ◌+◌, ◌∙◌, ◌∷�
 use Rattle.law_answers.proofs.Imports.{Client, Follows, Goes_on, Heard, In, IsAnswered, IsMoment, IsOpenLine, Is_told, Judges, Line, List, MayActor, None}
 use Rattle.law_answers.proofs.Imports.{Option, Reaction, Reads, Record, Run, Script, Setting, Some, StaysOpen, Step, StepResult, Table, Turned, World, after}
 use Rattle.law_answers.proofs.Imports.{all_put_apart, answer_of, answers_in, ap, arith, at, at-empty, at_apart, by_bool, by_run, client_state, client_step}
-use Rattle.law_answers.proofs.Imports.{client_turns, fold, front_legal, inl, inr, is_answered, is_call, is_some, last_moment, lines_of, moment_more, nat_cmp}
-use Rattle.law_answers.proofs.Imports.{next_line, none_some, refl, same_or_apart, same_some, setting_of, slice_get, start, step, stepped, subst, sym, true}
+use Rattle.law_answers.proofs.Imports.{client_turns, fold, inl, inr, is_answered, is_call, is_some, last_moment, lines_of, moment_more, nat_cmp, next_line}
+use Rattle.law_answers.proofs.Imports.{none_some, prefix_legal, refl, same_or_apart, same_some, setting_of, slice_get, start, step, stepped, subst, sym, true}
 use Rattle.law_answers.proofs.Imports.{true_false, with_answer, with_given, world_after, ℕ}
 use Rattle.law_answers.proofs.LinesHavePlaces.{line_at, one_client, one_place}
 use Rattle.petal_msg.specs.declared.letter.Actor.TheVariants as actor
@@ -252,21 +252,21 @@ module _ (setting : Setting) (rise : AreRising setting.lines) where
   pub told_start : AreTold (start setting) []
   told_start number h = true_false h (ap is_some (at-empty nat_cmp number))
 
-  pub open_line : (front : List Record) (own : Record) → AreStepsFrom setting (start setting) (front ++ own ∷ []) → (number : ℕ) (given : Answer)
-      → own.answer ≡ Some (number, given) → IsOpenLine lines front number
-  open_line front own legal number given e =
-      let parts = front_legal setting (start setting) front (own ∷ []) legal in
-      let w = world_after setting (start setting) front in
-      let ahead = ahead_after (start setting) front ahead_start parts.0 in
-      let told = told_after (start setting) [] front ahead_start told_start parts.0 in
+  pub open_line : (prefix : List Record) (own : Record) → AreStepsFrom setting (start setting) (prefix ++ own ∷ []) → (number : ℕ) (given : Answer)
+      → own.answer ≡ Some (number, given) → IsOpenLine lines prefix number
+  open_line prefix own legal number given e =
+      let parts = prefix_legal setting (start setting) prefix (own ∷ []) legal in
+      let w = world_after setting (start setting) prefix in
+      let ahead = ahead_after (start setting) prefix ahead_start parts.0 in
+      let told = told_after (start setting) [] prefix ahead_start told_start parts.0 in
       let fresh = (stepped_is w own ahead parts.1.0).new (number, given) (sym parts.1.0.answer ∙ e) in
       record {
         line = fresh.line;
         there = fresh.there;
         is = fresh.is;
-        open_yet = by_bool (is_answered front number) (λ yes. absurd (fresh.new (told number yes).given)) (λ no. no);
+        open_yet = by_bool (is_answered prefix number) (λ yes. absurd (fresh.new (told number yes).given)) (λ no. no);
       }
 
-pub once : (script : Script) (front : List Record) (own : Record) → AreRising script.lines → AreSteps script (front ++ own ∷ [])
-    → (number : ℕ) (given : Answer) → own.answer ≡ Some (number, given) → IsOpenLine script.lines front number
-once script front own rise legal = open_line (setting_of script) rise front own legal
+pub once : (script : Script) (prefix : List Record) (own : Record) → AreRising script.lines → AreSteps script (prefix ++ own ∷ [])
+    → (number : ℕ) (given : Answer) → own.answer ≡ Some (number, given) → IsOpenLine script.lines prefix number
+once script prefix own rise legal = open_line (setting_of script) rise prefix own legal

@@ -3,23 +3,22 @@ use Rattle.law_answers.proofs.Imports.{[], ◌++◌, ◌+◌, ◌<◌, ◌==◌,
 use Rattle.law_answers.proofs.Imports.{Bool, By_verdict, By_witness, CauseOf, Client, Command, Ending, Ends, Fails_it, Firm, Goes_on, HasProperTuples}
 use Rattle.law_answers.proofs.Imports.{HasVerdict, HasWitness, Has_no_space, Heard, In, IsJudged, IsPrefix, IsReason, IsSeenAs, Is_settled, Is_told, Judges}
 use Rattle.law_answers.proofs.Imports.{Line, List, MayActor, None, OneMore, Option, Reaction, Reads, Request, Run, Setting, Shown, Sight, Some, Starts_it}
-use Rattle.law_answers.proofs.Imports.{State, Step, Stops_at, Stops_it, Turned, WasTold, Witness, World, after, answer_of, ap, append_assoc, arith}
+use Rattle.law_answers.proofs.Imports.{State, Step, Stops_at, Stops_it, Turned, WasTold, Witness, World, after, answer_of, ap, append_assoc, arith, asker}
 use Rattle.law_answers.proofs.Imports.{asking_after, at_moment, between, both_true, by_test, chosen_log, chosen_state, client_state, client_step}
-use Rattle.law_answers.proofs.Imports.{client_turns, command_of, false, firm_in, firm_then, first_at_start, first_state, follows_in, front_on, history_grows}
-use Rattle.law_answers.proofs.Imports.{in_get, is_in, is_read, is_snap, is_witness, is_write, latest, length, length-append, lines_of, log_below, log_plain}
-use Rattle.law_answers.proofs.Imports.{log_steady, longer, may_answer, named, next_line, none_some, put_same, reacts, refl, refusal, same_numbers, same_some}
-use Rattle.law_answers.proofs.Imports.{setting_of, slice_get, state_after, state_at, stays_sent, step, stepped_in, subst, suc, sym, take, take-append_seam}
-use Rattle.law_answers.proofs.Imports.{true, true_false, verdict_for, zero, ℕ}
+use Rattle.law_answers.proofs.Imports.{client_turns, command_of, false, firm_in, firm_then, first_at_start, first_state, follows_in, history_grows, in_get}
+use Rattle.law_answers.proofs.Imports.{is_in, is_read, is_snap, is_witness, is_write, latest, length, length-append, lines_of, log_below, log_plain}
+use Rattle.law_answers.proofs.Imports.{log_steady, longer, may_answer, named, next_line, none_some, prefix_on, put_same, reacts, refl, refusal, same_numbers}
+use Rattle.law_answers.proofs.Imports.{same_some, setting_of, slice_get, state_after, state_at, stays_sent, step, stepped_in, subst, suc, sym, take}
+use Rattle.law_answers.proofs.Imports.{take-append_seam, true, true_false, verdict_for, zero, ℕ}
 use Rattle.law_answers.proofs.Lines.{IsOpenFor, open_for}
 use Rattle.law_answers.proofs.AnswersFitRequests.{verdict_said, cause_fits, read_may, refusal_fits, verdict_fits, write_may}
 use Rattle.law_answers.proofs.AnsweredOnce.{WasAnswered, was_answered}
 use Rattle.law_answers.specs.AskedCommands.{AreAsked}
-use Rattle.law_state.specs.Plain.{asker}
 use Rattle.law_answers.proofs.LinesHavePlaces.{line_at, one_client, one_place}
 use Rattle.law_answers.proofs.CommandsWereAsked.{commands_are_asked}
 use Rattle.law_answers.proofs.OldNumbersStayOld.{judged_low}
 use Rattle.law_answers.proofs.Verdicts.{has_at, judged_at_once, judged_first, judged_made, placed_before, placed_first}
-use Rattle.law_answers.proofs.RequestsStayDone.{plain_front}
+use Rattle.law_answers.proofs.RequestsStayDone.{plain_prefix}
 use Rattle.law_answers.proofs.KnownDisksAreServed.{never_unavailable}
 use Rattle.global_tables.specs.declared.disk.Verdict.TheVariants as verdict
 use Rattle.petal_msg.specs.declared.body.Body.TheVariants as body
@@ -28,7 +27,7 @@ use Rattle.petal_msg.specs.declared.operation.Ending.TheVariants as ending
 use Rattle.script_lines.specs.declared.answer.Answer.TheVariants as answer
 use Rattle.script_lines.specs.declared.request.Request.TheVariants as request
 
--- ### Fronts of a list
+-- ### Prefixes of a list
 
 get_next : {X : Type 0} (xs : List X) (x : X) (ys : List X) → slice_get (xs ++ x ∷ ys) (length xs) ≡ Some x
 get_next [] x ys = refl
@@ -145,12 +144,12 @@ module _ (setting : Setting) (last : World) (plain : HasProperTuples setting.ser
   judged_cause c before after asked given o was_told part judged = caused_by c asked given o (by judged.reason)
     where
       upto : List Command
-      upto = judged.front ++ judged.entry ∷ []
+      upto = judged.prefix ++ judged.entry ∷ []
 
       whole : chosen_log setting last ≡ upto ++ (judged.rest ++ part.later)
       whole =
-          part.is ∙ ap (λ log. log ++ part.later) judged.lies ∙ append_assoc judged.front (judged.entry ∷ judged.rest) part.later
-          ∙ sym (append_assoc judged.front (judged.entry ∷ []) (judged.rest ++ part.later))
+          part.is ∙ ap (λ log. log ++ part.later) judged.lies ∙ append_assoc judged.prefix (judged.entry ∷ judged.rest) part.later
+          ∙ sym (append_assoc judged.prefix (judged.entry ∷ []) (judged.rest ++ part.later))
 
       upto_state : state_at setting last (length upto) ≡ state_after setting.servers upto
       upto_state = ap (state_after setting.servers) (ap (take (length upto)) whole ∙ take-append_seam upto (judged.rest ++ part.later))
@@ -164,15 +163,15 @@ module _ (setting : Setting) (last : World) (plain : HasProperTuples setting.ser
           (own_command c asked o) (ap (λ (s : State). verdict_for asked.seq (latest s c)) upto_state ∙ so))
       by (By_witness none is so) =
           let w = witness_is c asked.seq judged.entry is in
-          let many : length upto ≡ length judged.front + 1 = length-append judged.front (judged.entry ∷ []) in
-          let state : state_at setting last (length judged.front + 1) ≡ state_after setting.servers upto =
+          let many : length upto ≡ length judged.prefix + 1 = length-append judged.prefix (judged.entry ∷ []) in
+          let state : state_at setting last (length judged.prefix + 1) ≡ state_after setting.servers upto =
           ap (state_at setting last) (sym many) ∙ upto_state in
-          let there : slice_get (chosen_log setting last) (length judged.front) ≡ Some judged.entry =
-          ap (λ log. slice_get log (length judged.front)) (whole ∙ append_assoc judged.front (judged.entry ∷ []) (judged.rest ++ part.later))
-          ∙ get_next judged.front judged.entry (judged.rest ++ part.later) in
+          let there : slice_get (chosen_log setting last) (length judged.prefix) ≡ Some judged.entry =
+          ap (λ log. slice_get log (length judged.prefix)) (whole ∙ append_assoc judged.prefix (judged.entry ∷ []) (judged.rest ++ part.later))
+          ∙ get_next judged.prefix judged.entry (judged.rest ++ part.later) in
           subst (λ k. CauseOf setting last c asked.seq asked.request k given) (sym none)
           (witness_causes c asked.seq asked.request given (record {
-            place = length judged.front;
+            place = length judged.prefix;
             turn = w.0;
             told = asked.saw_missing;
             why = was_told;
@@ -243,11 +242,11 @@ module _ (setting : Setting) (last : World) (plain : HasProperTuples setting.ser
 
 -- ### Histories
 
-take_front : (log : List Command) (k : ℕ) → IsPrefix (take k log) log
-take_front [] zero = record { later = []; is = refl }
-take_front [] (suc k) = record { later = []; is = refl }
-take_front (e ∷ log) zero = record { later = e ∷ log; is = refl }
-take_front (e ∷ log) (suc k) = let rest = take_front log k in record { later = rest.later; is = ap (λ xs. e ∷ xs) rest.is }
+take_prefix : (log : List Command) (k : ℕ) → IsPrefix (take k log) log
+take_prefix [] zero = record { later = []; is = refl }
+take_prefix [] (suc k) = record { later = []; is = refl }
+take_prefix (e ∷ log) zero = record { later = e ∷ log; is = refl }
+take_prefix (e ∷ log) (suc k) = let rest = take_prefix log k in record { later = rest.later; is = ap (λ xs. e ∷ xs) rest.is }
 
 -- in view of the log at a history's end
 module _ (run : Run) where
@@ -274,8 +273,8 @@ module _ (run : Run) where
 
     was_told : (c : ℕ) (asked : Asked) → (w.clients c).asked ≡ Some asked → asked.saw_missing ≡ true → WasTold last c asked.seq
     was_told c asked e told =
-        let t = ((asking_after script m.front sound it.prior.legal).known.ways c asked e).told told in
-        record { letter = t.1.letter; sent = stays_sent run m.front (m.own ∷ m.following) m.is t.1.letter t.1.there; to = t.1.to; is = t.1.is }
+        let t = ((asking_after script m.prefix sound it.prior.legal).known.ways c asked e).told told in
+        record { letter = t.1.letter; sent = stays_sent run m.prefix (m.own ∷ m.following) m.is t.1.letter t.1.there; to = t.1.to; is = t.1.is }
 
     by_step : (who : Actor) (what : Step) → MayActor who what setting w → Firm setting (step who what setting w m.own.stamp).world
         → IsPrefix (chosen_log setting (step who what setting w m.own.stamp).world) (chosen_log setting last)
@@ -287,14 +286,14 @@ module _ (run : Run) where
         let v = (reacts w c m.own.stamp reacted).world in
         let applied = subst (λ (client : Client). IsPrefix client.applied (chosen_log setting v)) (put_same w.clients c reacted.client) (firm.clients c) in
         turn_caused setting last plain_end commands (Heard w (actor.Client c)) c (w.clients c) _ reacted
-        (open_for script m.front sound it.prior.legal c) (was_told c) (front_on _ (chosen_log setting v) _ applied grown)
+        (open_for script m.prefix sound it.prior.legal c) (was_told c) (prefix_on _ (chosen_log setting v) _ applied grown)
         (client_turns setting w c what may.1).turned number given e
 
     cause_of : HasCause setting last plain_end commands number given
     cause_of =
         by_step m.own.actor m.own.step (follows_in it).may.may (firm_then it)
         (subst (λ (v : World). IsPrefix (chosen_log setting v) (chosen_log setting last)) (stepped_in it)
-        (history_grows script records sound legal (longer it).records m.following (m.is ∙ sym (append_assoc m.front (m.own ∷ []) m.following))))
+        (history_grows script records sound legal (longer it).records m.following (m.is ∙ sym (append_assoc m.prefix (m.own ∷ []) m.following))))
         (sym (follows_in it).answer ∙ m.answered)
 
   has_cause : (number : ℕ) (given : Answer) → In (number, given) last.answers → HasCause setting last plain_end commands number given
@@ -339,13 +338,13 @@ module _ (run : Run) where
           answer.Unavailable h.so)
       cause_never c seq asked None h =
           let whole = chosen_log setting last in
-          let front = take (h.place + 1) whole in
-          let proper : HasProperTuples script.servers front = plain_front script.servers whole (h.place + 1) plain_end in
-          let table = log_plain script.servers front proper in
+          let prefix = take (h.place + 1) whole in
+          let proper : HasProperTuples script.servers prefix = plain_prefix script.servers whole (h.place + 1) plain_end in
+          let table = log_plain script.servers prefix proper in
           let many = table.many in
-          let upto = log_below script.servers [] front proper (record { later = front; is = refl }) in
-          let below = log_below script.servers front whole plain_end (take_front whole (h.place + 1)) in
-          never_unavailable script.servers (state_at setting last (h.place + 1)) table (log_steady script.servers front proper)
+          let upto = log_below script.servers [] prefix proper (record { later = prefix; is = refl }) in
+          let below = log_below script.servers prefix whole plain_end (take_prefix whole (h.place + 1)) in
+          never_unavailable script.servers (state_at setting last (h.place + 1)) table (log_steady script.servers prefix proper)
           (λ n low.
           let one = subst (λ k. n < k) many low in
           between (first_state script.servers) (state_at setting last (h.place + 1)) (chosen_state setting last) n 1 (upto.ages n) (below.ages n)

@@ -1,9 +1,9 @@
 -- A client's step of a history, as its open request, its letters and its answer see it.
 use Rattle.law_answers.proofs.Imports.{[], if◌then◌else◌, ◌+◌, ◌∙◌, ◌∷◌, ◌≡◌, ◌≤◌, Actor, Asked, Begins, Body, Bool, Call, Cell, Client, Deliver, Ends}
 use Rattle.law_answers.proofs.Imports.{Goes_on, Heard, In, IsAsked, Is_told, Judges, Letter, List, MayActor, MayClient, Reaction, Reads, Setting, Shown, Some}
-use Rattle.law_answers.proofs.Imports.{Step, Tick, Turned, Turning, World, ap, arith, client_sender, client_state, client_step, client_turns, false}
-use Rattle.law_answers.proofs.Imports.{front_long, inl, inr, is_ask, is_call, is_read, length, next_line, put_apart, put_same, reacts, refl, said}
-use Rattle.law_answers.proofs.Imports.{same_or_apart, state_after, step, subst, sym, true, true_false, turned_asks, ℕ}
+use Rattle.law_answers.proofs.Imports.{Step, Tick, Turned, Turning, World, ap, arith, client_sender, client_state, client_step, client_turns, false, inl, inr}
+use Rattle.law_answers.proofs.Imports.{is_ask, is_call, is_read, length, next_line, prefix_long, put_apart, put_same, reacts, refl, said, same_or_apart}
+use Rattle.law_answers.proofs.Imports.{state_after, step, subst, sym, true, true_false, turned_asks, ℕ}
 use Rattle.law_answers.proofs.ClientReadSteps.{As_before, Asks, HasWay, Is_called, Later, OnWay, Turns, Was_open, turned_answers, turned_asks_read}
 use Rattle.law_answers.proofs.ClientReadSteps.{turned_way}
 use Rattle.law_answers.proofs.OldMapByRevision.{Stays, heard_stays, tick_stays}
@@ -75,7 +75,7 @@ module _ (setting : Setting) (w : World) (c : ℕ) where
       → (new : Asked) → (reacted_to what).client.asked ≡ Some new → HasWay (Delivers what) setting.lines c (w.clients c) new (is_call what)
   own_way what may asked new is =
       let t = turns_so what may in
-      let long = front_long (w.clients c).applied (reacted_to what).client.applied t.grows in
+      let long = prefix_long (w.clients c).applied (reacted_to what).client.applied t.grows in
       has_way_as what (w.clients c) new (is_call what)
       (turned_way (H what) setting.lines c (w.clients c) new setting.servers (is_call what) (reacted_to what) t.turned (stays_so what may)
       (λ old e. let low = (asked old e).reached in omega arith) is)

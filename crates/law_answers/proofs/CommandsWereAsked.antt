@@ -1,9 +1,8 @@
 -- Each command of the chosen log that carries a request out was asked for: it is that of a line.
 use Rattle.law_answers.proofs.Imports.{◌+◌, ◌∙◌, ◌≡◌, AreSteps, Caught, Command, Drained, IsOfLives, IsSound, Join, Leave, Line, List, Moved, Record, Request}
-use Rattle.law_answers.proofs.Imports.{Script, Setting, Some, WasWanted, World, ap, chosen_is_called_for, chosen_log, command_of, inl, inr, lines_of}
+use Rattle.law_answers.proofs.Imports.{Script, Setting, Some, WasWanted, World, ap, asker, chosen_is_called_for, chosen_log, command_of, inl, inr, lines_of}
 use Rattle.law_answers.proofs.Imports.{none_some, refl, same_some, setting_of, slice_get, start, subst, sym, world_after, ℕ}
 use Rattle.law_answers.specs.AskedCommands.{IsAsked, AreAsked}
-use Rattle.law_state.specs.Plain.{asker}
 use Rattle.script_lines.specs.declared.request.Request.TheVariants as request
 
 -- the command of a request names its client and number

@@ -1,18 +1,14 @@
 -- What one entry makes of what clients were told of their last commands: its command tells one client, where it is new, and each fence that
 -- passes tells the client that waits for it.
-use Rattle.law_answers.proofs.Imports.{if◌then◌else◌, ◌<◌, ◌==◌, ◌∙◌, ◌≡◌, ◌≢◌, ◌≤◌, ◌⊎◌, Answer, Bool, Command, Fence, FenceKind}
-use Rattle.law_answers.proofs.Imports.{HasProperTuple, Latest, List, None, Option, Region, Some, Verdict}
-use Rattle.law_answers.proofs.Imports.{Whole, act, ap, arith, by_test, cases_lt, confirmed}
-use Rattle.law_answers.proofs.Imports.{effect, false, frozen, get_set_beside, get_set_here, inl, inr, is_new, latest, length, length-set}
-use Rattle.law_answers.proofs.Imports.{nat_lt, nat_tests, none_some}
-use Rattle.law_answers.proofs.Imports.{number_itself, one_passed, passed, refl, same_numbers, same_or_apart, same_some, settled, settled_keeps, slice_get}
-use Rattle.law_answers.proofs.Imports.{slice_get_past, subst, suc, sym, told, true, true_false, unwrap_or, verdict_answer, verdict_for, with_disk, with_fence}
-use Rattle.law_answers.proofs.Imports.{with_move, ℕ}
+use Rattle.law_answers.proofs.Imports.{if◌then◌else◌, ◌<◌, ◌==◌, ◌∙◌, ◌≡◌, ◌≢◌, ◌≤◌, ◌⊎◌, Answer, Bool, Command, Fence, FenceKind, HasProperTuple}
+use Rattle.law_answers.proofs.Imports.{IsSettledState, Latest, List, Makes, None, Option, Outcome, Queues, Region, Some, Tells, Unchanged, Verdict, Whole}
+use Rattle.law_answers.proofs.Imports.{act, ap, arith, asker, by_test, cases_lt, confirmed, effect, false, frozen, get_set_beside, get_set_here, inl, inr}
+use Rattle.law_answers.proofs.Imports.{is_new, latest, length, length-set, nat_lt, nat_tests, none_some, number_itself, one_passed, outcome, passed, refl}
+use Rattle.law_answers.proofs.Imports.{same_numbers, same_or_apart, same_some, settled, settled_keeps, slice_get, slice_get_past, subst, suc, sym, told, true}
+use Rattle.law_answers.proofs.Imports.{true_false, unwrap_or, verdict_answer, verdict_for, with_disk, with_fence, with_move, ℕ}
 use Rattle.spec_state.specs.State.{State}
 use Rattle.spec_state.specs.Command.{after}
-use Rattle.law_state.proofs.EntryOutcomes.{Begins, Makes, Outcome, Queues, Tells, Unchanged, outcome}
-use Rattle.law_state.specs.Plain.{asker}
-use Rattle.law_state.specs.Tables.{IsSettledState}
+use Rattle.law_state.proofs.EntryOutcomes.{Begins}
 use Rattle.global_tables.specs.declared.disk.Verdict.TheVariants as verdict
 use Rattle.script_lines.specs.declared.answer.Answer.TheVariants as answer
 

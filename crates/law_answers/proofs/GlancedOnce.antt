@@ -1,7 +1,7 @@
 -- No line is glanced at twice: once a server was shown for it, it is not glanced at again.
 use Rattle.law_answers.proofs.Imports.{[], ◌++◌, ◌∙◌, ◌∷◌, ◌≡◌, Actor, Answer, AreRising, AreSteps, Bool, Glance, In, IsMoment, IsSound, Letter, Line, List}
 use Rattle.law_answers.proofs.Imports.{MayActor, MayClient, MayGlance, MayServer, Record, Run, Script, Server, Setting, Some, Step, World, after, ap}
-use Rattle.law_answers.proofs.Imports.{append_assoc, at_moment, by_test, false, follows_in, front_legal, in-append, inl, inr, longer, names, refl, run_of}
+use Rattle.law_answers.proofs.Imports.{append_assoc, at_moment, by_test, false, follows_in, in-append, inl, inr, longer, names, prefix_legal, refl, run_of}
 use Rattle.law_answers.proofs.Imports.{setting_in, setting_of, shown, start, stays_sent, step, stepped_in, subst, sym, true, world_after, ℕ}
 use Rattle.law_answers.specs.Glances.{HasGlance}
 use Rattle.law_answers.proofs.Glances.{glanced_before, was_glanced}
@@ -9,7 +9,7 @@ use Rattle.petal_msg.specs.declared.body.Body.TheVariants as body
 use Rattle.petal_msg.specs.declared.letter.Actor.TheVariants as actor
 
 -- where an element of a list lies
-lies_in : (x : Record) (xs : List Record) → In x xs → (front : List Record) × (following : List Record) × (xs ≡ front ++ x ∷ following)
+lies_in : (x : Record) (xs : List Record) → In x xs → (prefix : List Record) × (following : List Record) × (xs ≡ prefix ++ x ∷ following)
 unfolding In
 lies_in x [] i = absurd i
 lies_in x (y ∷ ys) (inl e) = ([], ys, ap (λ k. k ∷ ys) (sym e))
@@ -60,7 +60,7 @@ was_said run number round at is =
       running = s.running;
       inc = s.inc;
       full = s.full;
-      there = stays_sent run (longer it).records at.following (at.is ∙ sym (append_assoc at.front (at.own ∷ []) at.following)) s.letter
+      there = stays_sent run (longer it).records at.following (at.is ∙ sym (append_assoc at.prefix (at.own ∷ []) at.following)) s.letter
           (subst (λ (v : World). In s.letter v.sent) (sym (stepped_in it)) s.there);
       is = s.is;
     }
@@ -71,15 +71,15 @@ module _ (script : Script) (sound : IsSound script) (rise : AreRising script.lin
   abbrev setting : Setting
   setting = setting_of script
 
-  one_glance : (line : Line) (m : ℕ) → In line script.lines → (names line.request).server ≡ Some m → (front : List Record) (own : Record)
+  one_glance : (line : Line) (m : ℕ) → In line script.lines → (names line.request).server ≡ Some m → (prefix : List Record) (own : Record)
       (middle : List Record) (other : Record) (following : List Record) (round later : ℕ)
-      → AreSteps script (front ++ own ∷ (middle ++ other ∷ following)) → own.step ≡ Glance line.number round
+      → AreSteps script (prefix ++ own ∷ (middle ++ other ∷ following)) → own.step ≡ Glance line.number round
       → other.step ≡ Glance line.number later → ⊥
-  one_glance line m there named front own middle other following round later legal is again =
-      let done = front ++ own ∷ middle in
-      let parts = front_legal setting (start setting) done (other ∷ following)
-      (subst (AreSteps script) (sym (append_assoc front (own ∷ middle) (other ∷ following))) legal) in
-      let s = was_said (run_of script sound done parts.0) line.number round (record { front = front; own = own; following = middle; is = refl }) is in
+  one_glance line m there named prefix own middle other following round later legal is again =
+      let done = prefix ++ own ∷ middle in
+      let parts = prefix_legal setting (start setting) done (other ∷ following)
+      (subst (AreSteps script) (sym (append_assoc prefix (own ∷ middle) (other ∷ following))) legal) in
+      let s = was_said (run_of script sound done parts.0) line.number round (record { prefix = prefix; own = own; following = middle; is = refl }) is in
       let g = glances_at setting line.number other.actor other.step later
       (world_after setting (start setting) done) again parts.1.0.may.may in
       glanced_before script done sound rise parts.0 line m there named s.letter s.round s.running s.inc s.full s.there s.is g.0 later g.1
@@ -92,16 +92,16 @@ module _ (script : Script) (sound : IsSound script) (rise : AreRising script.lin
       record {
         moment = g.moment;
         so = g.so;
-        once = λ other round i again. elim (in-append other g.front g.following i) [
+        once = λ other round i again. elim (in-append other g.prefix g.following i) [
           | inl before ↦
-              let r = lies_in other g.front before in
+              let r = lies_in other g.prefix before in
               one_glance line n there named r.0 other r.1 g.own g.following round 0
               (subst (AreSteps script)
               (g.is ∙ ap (λ xs. xs ++ g.own ∷ g.following) r.2 ∙ append_assoc r.0 (other ∷ r.1) (g.own ∷ g.following)) legal)
               again g.so.what
           | inr after ↦
               let r = lies_in other g.following after in
-              one_glance line n there named g.front g.own r.0 other r.1 0 round
-              (subst (AreSteps script) (g.is ∙ ap (λ xs. g.front ++ g.own ∷ xs) r.2) legal) g.so.what again
+              one_glance line n there named g.prefix g.own r.0 other r.1 0 round
+              (subst (AreSteps script) (g.is ∙ ap (λ xs. g.prefix ++ g.own ∷ xs) r.2) legal) g.so.what again
         ];
       }

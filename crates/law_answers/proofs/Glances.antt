@@ -5,10 +5,10 @@ use Rattle.law_answers.proofs.Imports.{Blanked, Bool, Boot, Booted, Call, Client
 use Rattle.law_answers.proofs.Imports.{IsGlanceDue, IsMoment, IsSeenAs, IsSettleGlance, IsSound, Is_told, Judges, Letter, Line, List, MayActor, MayGlance}
 use Rattle.law_answers.proofs.Imports.{MayServer, None, Option, Reaction, Reads, Record, Script, Server, Setting, Shown, Some, StaysOpen, Step, Stop, StopIn}
 use Rattle.law_answers.proofs.Imports.{Stopped, Tick, Turned, Work, WorkEnd, World, acts, all_put, answer_of, ap, append-nil, append_assoc, arith, by_test}
-use Rattle.law_answers.proofs.Imports.{client_state, client_step, client_turns, controls, false, front_legal, glanced_in, here_of, in-append, inl, inr}
-use Rattle.law_answers.proofs.Imports.{lines_of, names, next_line, none_some, operator, put_apart, put_same, reacts, refl, same_numbers, same_some}
-use Rattle.law_answers.proofs.Imports.{server_state, server_step, setting_of, shown, slice_get, start, stays, step, subst, sym, true, true_false, world_after}
-use Rattle.law_answers.proofs.Imports.{world_more, ℕ}
+use Rattle.law_answers.proofs.Imports.{client_state, client_step, client_turns, controls, false, glanced_in, here_of, in-append, inl, inr, lines_of, names}
+use Rattle.law_answers.proofs.Imports.{next_line, none_some, operator, prefix_legal, put_apart, put_same, reacts, refl, same_numbers, same_some, server_state}
+use Rattle.law_answers.proofs.Imports.{server_step, setting_of, shown, slice_get, start, stays, step, subst, sym, true, true_false, world_after, world_more}
+use Rattle.law_answers.proofs.Imports.{ℕ}
 use Rattle.law_answers.proofs.Lines.{open_last, IsOpenFor, asks_to_boot, line_of, open_for}
 use Rattle.law_answers.proofs.ClientHistorySteps.{step_seq}
 use Rattle.law_answers.proofs.AnsweredOnce.{in_answers, pair_is}
@@ -41,7 +41,7 @@ module _ (script : Script) (records : List Record) (sound : IsSound script) (ris
   pub record Glanced (line : Line) (n : ℕ) (given : Answer) : Type 0 where
     pub moment : IsMoment records
     pub open moment use *
-    pub so : IsGlance setting (world_after setting (start setting) front) own line n given
+    pub so : IsGlance setting (world_after setting (start setting) prefix) own line n given
 
   -- the operator's line at this place has this number
   record IsOperators (number place : ℕ) : Type 0 where
@@ -83,19 +83,19 @@ module _ (script : Script) (records : List Record) (sound : IsSound script) (ris
 
   -- ### One step
 
-  module _ (front : List Record) (own : Record) (following : List Record) (lies : records ≡ front ++ own ∷ following)
-      (kept : Kept (world_after setting (start setting) front)) where
+  module _ (prefix : List Record) (own : Record) (following : List Record) (lies : records ≡ prefix ++ own ∷ following)
+      (kept : Kept (world_after setting (start setting) prefix)) where
     abbrev w : World
-    w = world_after setting (start setting) front
+    w = world_after setting (start setting) prefix
 
-    front_is_legal : AreSteps script front
-    front_is_legal = (front_legal setting (start setting) front (own ∷ following) (subst (AreSteps script) lies legal)).0
+    prefix_is_legal : AreSteps script prefix
+    prefix_is_legal = (prefix_legal setting (start setting) prefix (own ∷ following) (subst (AreSteps script) lies legal)).0
 
     opened : (c : ℕ) (asked : Asked) → (w.clients c).asked ≡ Some asked → IsOpenFor lines c asked
-    opened = open_for script front sound front_is_legal
+    opened = open_for script prefix sound prefix_is_legal
 
     newest : (c : ℕ) (asked : Asked) → (w.clients c).asked ≡ Some asked → asked.seq ≡ (w.clients c).seq
-    newest = open_last script front sound front_is_legal
+    newest = open_last script prefix sound prefix_is_legal
 
     -- ### A server's step
 
@@ -173,7 +173,7 @@ module _ (script : Script) (records : List Record) (sound : IsSound script) (ris
           glance = λ m given named seen.
               let at = glanced_at o.line.request n m _ _ done named in
               record {
-                moment = record { front = front; own = own; following = following; is = lies };
+                moment = record { prefix = prefix; own = own; following = following; is = lies };
                 so = record {
                   asked = may.asked;
                   opened = line_of lines w may.asked o may.opened;
@@ -267,7 +267,7 @@ module _ (script : Script) (records : List Record) (sound : IsSound script) (ris
           boots = asks;
           fresh = may.opened.first;
           fails = λ rests. record {
-            moment = record { front = front; own = own; following = following; is = lies };
+            moment = record { prefix = prefix; own = own; following = following; is = lies };
             server = n;
             asked = may.asked;
             line = o.line;
@@ -492,13 +492,13 @@ module _ (script : Script) (records : List Record) (sound : IsSound script) (ris
     record_keeps (actor.Server n) what who does may = server_keeps n what who does may.1
     record_keeps (actor.Client c) what who does may = client_keeps c what may
 
-  kept_after : (front later : List Record) → records ≡ front ++ later → Kept (world_after setting (start setting) front)
+  kept_after : (prefix later : List Record) → records ≡ prefix ++ later → Kept (world_after setting (start setting) prefix)
       → Kept (world_after setting (start setting) records)
-  kept_after front [] is kept = subst (λ done. Kept (world_after setting (start setting) done)) (sym (is ∙ append-nil front)) kept
-  kept_after front (own ∷ later) is kept =
-      let may = (front_legal setting (start setting) front (own ∷ later) (subst (AreSteps script) is legal)).1.0.may.may in
-      kept_after (front ++ own ∷ []) later (is ∙ sym (append_assoc front (own ∷ []) later))
-      (subst Kept (sym (world_more setting (start setting) front own)) (record_keeps front own later is kept own.actor own.step refl refl may))
+  kept_after prefix [] is kept = subst (λ done. Kept (world_after setting (start setting) done)) (sym (is ∙ append-nil prefix)) kept
+  kept_after prefix (own ∷ later) is kept =
+      let may = (prefix_legal setting (start setting) prefix (own ∷ later) (subst (AreSteps script) is legal)).1.0.may.may in
+      kept_after (prefix ++ own ∷ []) later (is ∙ sym (append_assoc prefix (own ∷ []) later))
+      (subst Kept (sym (world_more setting (start setting) prefix own)) (record_keeps prefix own later is kept own.actor own.step refl refl may))
 
   start_kept : Kept (start setting)
   unfolding In

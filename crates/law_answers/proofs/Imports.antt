@@ -1,18 +1,17 @@
 -- The names that this crate takes from others, in one place.
 pub use Rattle.law_state.specs.Imports.{Both, Caught, Cell, Command, DiskRow, DiskView, Drained, Fence, IsPrefix, Join, Leave, LinkRow, MakeDisk, Moved}
-pub use Rattle.law_state.specs.Imports.{PairState, Record, Region, Server, Setting, Snap, Snapshot, StartMove, State, Whole, Witness, World, cell_asked}
-pub use Rattle.law_state.specs.Imports.{cell_link, chosen_log, chosen_state, disk_at, find, is_in, is_up_as, leads_link, leaving, may_join, named, servers_of}
-pub use Rattle.law_state.specs.Imports.{serves, snapshot_named, state_after}
+pub use Rattle.law_state.specs.Imports.{PairState, Record, Region, Server, Setting, Snap, Snapshot, StartMove, State, Whole, World, cell_asked, cell_link}
+pub use Rattle.law_state.specs.Imports.{chosen_log, chosen_state, disk_at, find, is_in, is_up_as, leads_link, leaving, named, servers_of, serves}
+pub use Rattle.law_state.specs.Imports.{snapshot_named, state_after}
 unfoldable pub use Rattle.law_state.specs.Imports.{In, at}
 pub use Rattle.law_state.proofs.Imports.{[], if◌then◌else◌, ◌&&◌, ◌++◌, ◌+◌, ◌<◌, ◌==◌, ◌||◌, ◌∙◌, ◌∷◌, ◌≡◌, ◌≢◌, ◌≤◌, ◌⊎◌, Bool, FenceKind, Latest, List}
-pub use Rattle.law_state.proofs.Imports.{None, Option, Some, Verdict, act, ap, append-nil, append_assoc, arith, both_true, by_bool, by_test, completes, cond}
+pub use Rattle.law_state.proofs.Imports.{None, Option, Some, Verdict, Witness, act, ap, append-nil, append_assoc, arith, both_true, by_bool, by_test, cond}
 pub use Rattle.law_state.proofs.Imports.{confirmed, effect, false, filter, first, fold-append, following, frozen, in-append, in_both, in_former, in_later}
-pub use Rattle.law_state.proofs.Imports.{inl, inr, is_new, is_some, is_taken, is_the_one, latest, lead, length, length-append, length-set, links_of, map}
-pub use Rattle.law_state.proofs.Imports.{move_fenced, move_of, moved_by, nat_le, nat_lists_same, nat_lt, nat_tests, none_some, not, not_true, note}
-pub use Rattle.law_state.proofs.Imports.{number_itself, option_map, option_map_or, passed, range_with_len, readable, refl, replicate, row_fenced, row_frozen}
-pub use Rattle.law_state.proofs.Imports.{row_moving, same_numbers, same_or_apart, same_some, second, servers_in, settled, slice_get, slice_get_past}
-pub use Rattle.law_state.proofs.Imports.{slice_get_within, some_or_none, subst, suc, sym, told, true, true_false, unwrap_or, view-effect, with_disk}
-pub use Rattle.law_state.proofs.Imports.{with_fence, with_move, zero, ℕ}
+pub use Rattle.law_state.proofs.Imports.{inl, inr, is_new, is_some, is_taken, is_the_one, latest, lead, length, length-append, length-set, map, move_fenced}
+pub use Rattle.law_state.proofs.Imports.{nat_le, nat_lists_same, nat_lt, nat_tests, none_some, not, not_true, number_itself, option_map, option_map_or}
+pub use Rattle.law_state.proofs.Imports.{passed, range_with_len, readable, refl, replicate, row_fenced, row_frozen, row_moving, same_numbers, same_or_apart}
+pub use Rattle.law_state.proofs.Imports.{same_some, second, servers_in, settled, slice_get, slice_get_past, slice_get_within, some_or_none, subst, suc, sym}
+pub use Rattle.law_state.proofs.Imports.{told, true, true_false, unwrap_or, view-effect, with_disk, with_fence, with_move, zero, ℕ}
 pub use Rattle.law_log.proofs.Imports.{Acted, Actor, After, Answer, AreSteps, AreStepsFrom, Arm, Asked, Before, Blank, Body, Boot, Call, Client, CommitEnd}
 pub use Rattle.law_log.proofs.Imports.{Deliver, Ending, Firm, Glance, HasProperTuple, HasProperTuples, IsSettledState, IsSound, Job, JobContext, JobResult}
 pub use Rattle.law_log.proofs.Imports.{Key, Learning, Letter, Line, Log, LogDone, MayActor, MayClient, MayServer, Moving, Pending, Post, Reaction, Request}
@@ -22,39 +21,39 @@ pub use Rattle.law_log.proofs.Imports.{client_step, command_of, down_posts, ende
 pub use Rattle.law_log.proofs.Imports.{glance_sender, glances, goes_out, goes_out_where, goes_the_old_way, hears, hears_any, hears_of, here_of, holds_link}
 pub use Rattle.law_log.proofs.Imports.{is_eq, is_from_in, is_log_job, is_logged, is_overfull, is_read, is_second, is_settled, is_witness, is_write, job_done}
 pub use Rattle.law_log.proofs.Imports.{judged, judged_by, known, lines_of, link_named, log_plain, moved_as, nat_cmp, nat_cmp_total, next_entries, next_line}
-pub use Rattle.law_log.proofs.Imports.{next_place, pending_on, post_of, post_to, proposed, put_apart, put_same, raised, reacts, readers, replies, rests}
-pub use Rattle.law_log.proofs.Imports.{rev_of, rounds, sees, sees_for, sees_from, sender, sends_or_proposes, server_state, server_step, setting_of, settles}
-pub use Rattle.law_log.proofs.Imports.{silent, stages, stamped, start, stays, stays_open, stepped, stopped, stops, subject_of, takes_all, takes_entries}
-pub use Rattle.law_log.proofs.Imports.{takes_entry, then_goes_out, tick_posts, tied_itself, to_propose, verdict_for, voter_of, wakes, wanted_by, way_now}
-pub use Rattle.law_log.proofs.Imports.{with_sight, witnessed, worked, works, world_after, wrong_rev}
+pub use Rattle.law_log.proofs.Imports.{next_place, pending_on, post_of, proposed, put_apart, put_same, raised, reacts, readers, replies, rests, rev_of}
+pub use Rattle.law_log.proofs.Imports.{rounds, sees, sees_for, sees_from, sender, sends_or_proposes, server_state, server_step, setting_of, settles, silent}
+pub use Rattle.law_log.proofs.Imports.{stages, stamped, start, stays, stays_open, stepped, stopped, stops, subject_of, takes_all, takes_entries, takes_entry}
+pub use Rattle.law_log.proofs.Imports.{then_goes_out, tick_posts, tied_itself, to_propose, verdict_for, voter_of, wakes, wanted_by, way_now, with_sight}
+pub use Rattle.law_log.proofs.Imports.{witnessed, worked, works, world_after, wrong_rev}
 unfoldable pub use Rattle.law_log.proofs.Imports.{applies, does, goes_on, handles, heard, hears_log, learns, log_does, next_retired, nobody, number, on_ask}
 unfoldable pub use Rattle.law_log.proofs.Imports.{on_news, on_pair_full, on_pax, on_propose, on_read, on_replicate, on_replicated, on_reserve, on_reserved}
 unfoldable pub use Rattle.law_log.proofs.Imports.{on_write, put_at, refusal, repairs, starts, step, sweeps, ticked}
 pub use Rattle.law_steps.specs.Imports.{Finished, Glanced, Paired, Refused, Sender, Subject, bytes_of, cell_cmp, crossed, entry_at, letters_of, live}
 pub use Rattle.law_steps.specs.Imports.{settled_by}
-pub use Rattle.law_steps.proofs.Imports.{ByBoth, ByNone, ByOne, Copies, Follows, Greater, HasDied, IsSteady, Less, Logged, Pairs, at-empty, between}
-pub use Rattle.law_steps.proofs.Imports.{by_settled, clock_of, either_of, found_at, front_itself, front_long, front_on, front_plain, has_stage, history_grows}
-pub use Rattle.law_steps.proofs.Imports.{in_once, in_up, insert_entry, is_asked, is_at, is_clients, is_none, log_below, log_rev, log_roles, log_steady}
-pub use Rattle.law_steps.proofs.Imports.{logged, lookup, match_ordering, none_of, one_front, or_true, settling}
+pub use Rattle.law_steps.proofs.Imports.{ByBoth, ByNone, ByOne, Copies, Follows, Greater, IsRetired, IsSteady, Less, Pairs, at-empty, between, by_settled}
+pub use Rattle.law_steps.proofs.Imports.{clock_of, either_of, found_at, has_stage, history_grows, in_once, in_up, insert_entry, is_at, is_none, log_below}
+pub use Rattle.law_steps.proofs.Imports.{log_rev, log_roles, log_steady, logged, lookup, match_ordering, one_prefix, or_true, prefix_itself, prefix_long}
+pub use Rattle.law_steps.proofs.Imports.{prefix_on, prefix_plain, settling, was_true}
 unfoldable pub use Rattle.law_steps.proofs.Imports.{put, without}
 pub use Rattle.law_jobs.specs.Imports.{Did, FoundNoSlot, IsBusy, IsHeldBack, IsNewFill, IsReadable, IsRefusal}
-pub use Rattle.law_jobs.proofs.Imports.{◌-◌, A_slot, An_entry_to_move, Asks, By_read, Handled, IsMoment, Not_here, Rests, Shows, Was, always_firm, at_apart}
-pub use Rattle.law_jobs.proofs.Imports.{at_same, front_legal, last_moment, moment_more, own_place, retired_second, was_same, with_answer, world_more}
-pub use Rattle.law_copies.specs.Imports.{IsRising, no_pairs}
-pub use Rattle.law_copies.proofs.Imports.{Asks_slot, At, By_ballot, By_entry, By_job, Effect, Ends_fill, Fails, Goes, IsLinked, May, Moves, Moves_on, OneMore}
-pub use Rattle.law_copies.proofs.Imports.{Read_asked, Run, Serving, Stays, Wakes, Worked, Write_asked, applied, at_row, before_part, both_row, by_run}
-pub use Rattle.law_copies.proofs.Imports.{cases_lt, did_count, firm_in, first_state, in_get, in_map, job_keeps, letters_of_job, longer, more_of}
-pub use Rattle.law_copies.proofs.Imports.{primary_is_one, put_rises, rests_in, run_of, said, served_so, setting_in, shown_so, since, stepped_in, stopped_so}
-pub use Rattle.law_copies.proofs.Imports.{turned_asks, without_rev}
+pub use Rattle.law_jobs.proofs.Imports.{◌-◌, A_slot, An_entry_to_move, Asks, By_ballot, By_entry, By_job, By_read, Fails, Goes, Handled, IsMoment, Not_here}
+pub use Rattle.law_jobs.proofs.Imports.{Rests, Serving, Shows, Stays, Wakes, Was, Worked, always_firm, at_apart, at_same, is_aside, last_moment, moment_more}
+pub use Rattle.law_jobs.proofs.Imports.{own_place, prefix_legal, proposed_pairs, retired_second, was_same, with_answer, world_more}
+pub use Rattle.law_copies.specs.Imports.{IsRising, is_clients, no_pairs}
+pub use Rattle.law_copies.proofs.Imports.{Asks_slot, At, Effect, Ends_fill, For_a_fill, For_a_write, May, Moves, Moves_on, OneMore, Run, applied, at_row}
+pub use Rattle.law_copies.proofs.Imports.{before_part, both_row, by_run, cases_lt, did_count, firm_in, first_state, in_get, in_map, job_keeps, letters_of_job}
+pub use Rattle.law_copies.proofs.Imports.{longer, more_of, primary_is_one, put_rises, rests_in, run_of, said, served_so, setting_in, shown_so, since}
+pub use Rattle.law_copies.proofs.Imports.{stepped_in, stopped_so, turned_asks, without_rev}
 pub use Rattle.law_requests.specs.Imports.{line_by}
 pub use Rattle.law_requests.proofs.Imports.{A_read, A_write, Anew, Answered, As_it_was, Begins, Blanks_it, By_operation, By_verdict, By_witness, Fails_it}
-pub use Rattle.law_requests.proofs.Imports.{For_a_fill, For_a_write, Goes_on, Had_no_slot, HasCome, HasEnded, Has_no_space, Heard, IsFinishedFor, IsJudged}
-pub use Rattle.law_requests.proofs.Imports.{IsReason, IsSame, IsSeatedOrMute, IsSeenAs, Is_declined, Is_new, Is_settled, Is_told, Judges, Of_the_log, Reads}
-pub use Rattle.law_requests.proofs.Imports.{Repeats, Says, Shown, Starts_it, StaysOpen, Stood, Stops_at, Stops_it, Turned, after, both_leads, did_come}
-pub use Rattle.law_requests.proofs.Imports.{did_finish, is_refused, lead_is, names, own_steady, proposed_pairs, runs_now, write_refusal}
+pub use Rattle.law_requests.proofs.Imports.{Goes_on, Had_no_slot, HasCome, HasEnded, Has_no_space, Heard, IsFinishedFor, IsJudged, IsReason, IsSame}
+pub use Rattle.law_requests.proofs.Imports.{IsSeatedOrMute, IsSeenAs, Is_declined, Is_new, Is_settled, Is_told, Judges, Of_the_log, Reads, Repeats, Says}
+pub use Rattle.law_requests.proofs.Imports.{Shown, Starts_it, StaysOpen, Stood, Stops_at, Stops_it, Turned, after, both_leads, did_come, did_finish}
+pub use Rattle.law_requests.proofs.Imports.{is_notice, is_refused, lead_is, names, own_steady, runs_now, serves_sent, write_refusal}
 pub use Rattle.law_moves.specs.Imports.{IsServing}
-pub use Rattle.law_moves.proofs.Imports.{stage_facts, to_server}
-pub use Rattle.law_answers.specs.Imports.{Event, Look, Read, accepted, asked_by, look_for, old_data, operator, reads_old}
+pub use Rattle.law_moves.proofs.Imports.{stage_facts}
+pub use Rattle.law_answers.specs.Imports.{Event, Look, Read, accepted, asked_by, asker, look_for, old_data, operator, reads_old}
 pub use Rattle.std.proofs.Common.{take}
 pub use Rattle.std.proofs.Math.Seq.{take-append_seam}
 pub use Rattle.std.proofs.lemmas.Grind.{flat_map-append}
@@ -67,7 +66,7 @@ pub use Rattle.law_jobs.proofs.LettersWereSent.{WasSent, answers_in, sent_since,
 pub use Rattle.law_jobs.proofs.OperationsCome.{finished_of}
 pub use Rattle.law_jobs.proofs.Runs.{at_moment, firm_then, follows_in, grown_then}
 pub use Rattle.law_jobs.specs.Effects.{HearsNone, Is_full}
-pub use Rattle.law_jobs.specs.Sayings.{Has_no_slot, to_client}
+pub use Rattle.law_jobs.specs.Sayings.{Has_no_slot, to_client, to_server}
 pub use Rattle.law_log.proofs.CopyJobsLeaveLog.{calm_mends}
 pub use Rattle.law_log.proofs.FillJobsLeaveLog.{calm_sweeps}
 pub use Rattle.law_log.proofs.FirstIncarnationsStay.{unbooted}
@@ -75,7 +74,6 @@ pub use Rattle.law_log.proofs.LogInHistories.{chosen_is_called_for, who_runs_is_
 pub use Rattle.law_log.proofs.PairJobsLeaveLog.{IsCalm, IsDated, dated_again}
 pub use Rattle.law_log.proofs.PairLettersLeaveLog.{calm_handles, calm_stages, calm_where_in, dated_copies_again}
 pub use Rattle.law_log.specs.ProposedCommands.{IsOfLives, NoneBoots, WasWanted}
-pub use Rattle.law_moves.proofs.JobsChangeOneChain.{NeverRetired}
 pub use Rattle.law_requests.proofs.LeadJobsKeepRequests.{job_tells}
 pub use Rattle.law_requests.proofs.RequestsInHistories.{asking_after}
 pub use Rattle.law_requests.proofs.ServerStepsKeepRequests.{SaysOk, Scene}
@@ -83,7 +81,6 @@ pub use Rattle.law_requests.specs.AskedRequests.{IsAsked}
 pub use Rattle.law_requests.specs.KnownRequests.{Lives}
 pub use Rattle.law_run.proofs.ContentsAsked.{reader_serves, reads_old_is}
 pub use Rattle.law_run.proofs.DataLetters.{mute_data}
-pub use Rattle.law_run.proofs.GroundGives.{never_retired}
 pub use Rattle.law_run.proofs.GroundInHistories.{footing_after}
 pub use Rattle.law_run.proofs.Machine.{or_former}
 pub use Rattle.law_run.proofs.OldReads.{same_data, same_seq}
@@ -91,27 +88,29 @@ pub use Rattle.law_run.proofs.ReadsLookWhereSent.{is_looked, one_client, some_fi
 pub use Rattle.law_run.proofs.RunScenes.{Grounded}
 pub use Rattle.law_run.proofs.SearchesFindData.{HasData, in_data, some_data}
 pub use Rattle.law_run.specs.MachineTies.{Ground, Named}
-pub use Rattle.law_state.proofs.Caughts.{act_caught}
 pub use Rattle.law_state.proofs.CellsByLinkRows.{both_first, both_reader}
 pub use Rattle.law_state.proofs.DiskRowChanges.{here_now}
 pub use Rattle.law_state.proofs.Disks.{first_at_start}
 pub use Rattle.law_state.proofs.EntriesOnlyAdd.{acting}
+pub use Rattle.law_state.proofs.EntryOutcomes.{Makes, Outcome, Queues, Tells, Unchanged, act_make, outcome}
 pub use Rattle.law_state.proofs.Fences.{IsRequeued, IsUnsettled, get_after, head_get, ready_by, requeued_awaiting, requeued_itself, requeued_reported}
 pub use Rattle.law_state.proofs.FencesPass.{here_row, one_passed, passed_beside, passed_here, passing, region_beside, region_here, settled_keeps}
-pub use Rattle.law_state.proofs.ListLookups.{find_after, find_front, find_here, get_set_beside, get_set_here, text_itself}
+pub use Rattle.law_state.proofs.ListLookups.{find_after, find_here, find_prefix, get_set_beside, get_set_here, text_itself}
 pub use Rattle.law_state.proofs.LoneHolders.{lead_first, second_both}
 pub use Rattle.law_state.proofs.Moments.{first_moment, moment_later}
-pub use Rattle.law_state.proofs.MovesOfDisks.{IsNoting, act_moved, act_note, act_start}
+pub use Rattle.law_state.proofs.MovesOfDisks.{act_start}
 pub use Rattle.law_state.proofs.NamedCells.{asked_takes}
 pub use Rattle.law_state.proofs.Owners.{disk_at_is}
 pub use Rattle.law_state.specs.LinkRows.{IsBetween}
+pub use Rattle.law_state.specs.Steady.{IsLinked}
 pub use Rattle.law_state.specs.Tables.{IsFence, IsForSnapshot, IsGrown, IsLaterDisk, Of_disk, Of_region}
 pub use Rattle.law_steps.proofs.ClientLetters.{is_ask}
 pub use Rattle.law_steps.proofs.ClientStepKinds.{Turning, client_turns, is_call}
 pub use Rattle.law_steps.proofs.KindsInHistories.{firm_after}
 pub use Rattle.law_steps.proofs.Letters.{Said, one_post, said as said_in}
-pub use Rattle.law_steps.proofs.LettersOfSteps.{asked_aside, is_aside, is_notice, logged_notice, notice_aside, serves_sent}
+pub use Rattle.law_steps.proofs.LettersOfSteps.{asked_aside, logged_notice, notice_aside}
 pub use Rattle.law_steps.proofs.LogJobs.{LogFrame, applied_entry, applied_none, ask_logged, ballot_logged, letter_frame_of, start_frame_of}
+pub use Rattle.law_steps.proofs.Records.{heads, tails}
 pub use Rattle.law_steps.proofs.ServerStepKinds.{server_serves}
 pub use Rattle.law_steps.specs.DidClient.{Ends, answer_of}
 pub use Rattle.law_steps.specs.DidStep.{IsIdle, Goes as Serves_on, Ends as Stops_so, served}
@@ -126,4 +125,3 @@ pub use Rattle.spec_rules.specs.Clients.{Sight as Shown_by, is_unread, read_refu
 pub use Rattle.spec_rules.specs.Jobs.{shown}
 pub use Rattle.spec_rules.specs.World.{Blanked, Booted, Boots, Control, Deed, IsAnswered, IsDone, IsFree, IsGlanceDue, IsSettleGlance, MayDeliver, MayGlance}
 pub use Rattle.spec_rules.specs.World.{MayStop, StepResult, Stopped, Stops, controls, glanced_in, state_at}
-pub use Rattle.spec_state.specs.Command.{mover_in}

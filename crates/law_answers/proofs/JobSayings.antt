@@ -1,9 +1,8 @@
 -- What a job of a server says of two matters: nothing of either, or that its letter had another revision; and what a tick says.
-use Rattle.law_answers.proofs.Imports.{if◌then◌else◌, ◌==◌, ◌≡◌, ◌≢◌, Actor, In, IsCalm, Job, JobContext, JobResult, Letter, None, Option, PairState}
-use Rattle.law_answers.proofs.Imports.{Post, Server, Some, arith, ask_logged, asked_by, at_other_rev, ballot_logged, by_test, calm_handles, calm_mends}
-use Rattle.law_answers.proofs.Imports.{calm_stages, calm_sweeps, calm_where_in, dated_again, dated_copies_again, does, handles, is_from_in, is_in}
-use Rattle.law_answers.proofs.Imports.{nat_tests, not, not_true, one_post, refl, repairs, silent, stages, sweeps, tick_posts, true, voter_of, wrong_rev, ℕ}
-use Rattle.law_state.proofs.TestFacts.{was_true}
+use Rattle.law_answers.proofs.Imports.{if◌then◌else◌, ◌==◌, ◌≡◌, ◌≢◌, Actor, In, IsCalm, Job, JobContext, JobResult, Letter, None, Option, PairState, Post}
+use Rattle.law_answers.proofs.Imports.{Server, Some, arith, ask_logged, asked_by, at_other_rev, ballot_logged, by_test, calm_handles, calm_mends, calm_stages}
+use Rattle.law_answers.proofs.Imports.{calm_sweeps, calm_where_in, dated_again, dated_copies_again, does, handles, is_from_in, is_in, nat_tests, not}
+use Rattle.law_answers.proofs.Imports.{not_true, one_post, refl, repairs, silent, stages, sweeps, tick_posts, true, voter_of, was_true, wrong_rev, ℕ}
 use Rattle.law_answers.proofs.LettersMuteOfRevisions.{IsMute, AreMute, M, both_mute, calm_mute, dated_mute, logged_mute, none_mute}
 use Rattle.petal_msg.specs.declared.body.Body.TheVariants as body
 use Rattle.petal_msg.specs.declared.letter.Actor.TheVariants as actor

@@ -5,7 +5,7 @@ use Rattle.law_answers.proofs.Imports.{IsSeatedOrMute, IsSteady, Is_declined, Is
 use Rattle.law_answers.proofs.Imports.{Post, Refused, Repeats, Some, Stood, Table, Was, Work, World, ap, arith, at, both_first, both_leads, both_row, by_bool}
 use Rattle.law_answers.proofs.Imports.{cell_cmp, chosen_log, did_come, did_count, did_finish, ended, false, finished_of, first, in_both, in_once, inl, inr}
 use Rattle.law_answers.proofs.Imports.{is_clients, is_in, is_logged, is_second, is_the_one, lead_first, leads_link, letters_of_job, live, moved_as, none_some}
-use Rattle.law_answers.proofs.Imports.{one_client, one_front, own_place, own_steady, pending_on, put, refl, retired_second, same_some, second, second_both}
+use Rattle.law_answers.proofs.Imports.{one_client, one_prefix, own_place, own_steady, pending_on, put, refl, retired_second, same_some, second, second_both}
 use Rattle.law_answers.proofs.Imports.{state_after, subject_of, subst, sym, to_client, to_server, true, was_same, ℕ}
 use Rattle.law_answers.proofs.SlotLetters.{Duty, no_duty, is_of_slots, not_full, logged_not_full, TellsNone, JobRefuses, Scene, still, moved_not_full}
 use Rattle.law_answers.proofs.SlotLetters.{one_server}
@@ -59,8 +59,8 @@ module _ (R S : ℕ → ℕ → Type 0) (scene : Scene R S) where
       let d = refusals.declined h.letter op.op op.cell h.sent h.is in
       let k = d.by in
       let mine : k.server ≡ n = one_server (sym d.to ∙ h.own) in
-      let same : k.front ≡ (w.servers n).log.applied =
-      one_front k.front (w.servers n).log.applied (chosen_log scene.setting w) k.stands (scene.firm.servers n) (k.long ∙ h.at) in
+      let same : k.prefix ≡ (w.servers n).log.applied =
+      one_prefix k.prefix (w.servers n).log.applied (chosen_log scene.setting w) k.stands (scene.firm.servers n) (k.long ∙ h.at) in
       let seated : is_in here.state n k.inc ≡ true =
       subst (λ i. is_in here.state i k.inc ≡ true) mine
       (subst (λ log. is_in (state_after scene.setting.servers log) k.server k.inc ≡ true) same k.seated) in
@@ -146,8 +146,8 @@ module _ (R S : ℕ → ℕ → Type 0) (scene : Scene R S) where
         → TellsNone S scene.setting w n (to_server to (body.PairFull number cell)) number cell
     declines number cell to h s no_room first_is =
         let asked = refusals.reserves h.letter number cell h.sent h.is in
-        let same : asked.front ≡ (w.servers n).log.applied =
-        one_front asked.front (w.servers n).log.applied (chosen_log scene.setting w) asked.stands (scene.firm.servers n)
+        let same : asked.prefix ≡ (w.servers n).log.applied =
+        one_prefix asked.prefix (w.servers n).log.applied (chosen_log scene.setting w) asked.stands (scene.firm.servers n)
         (asked.long ∙ h.at) in
         let leads : first here.state cell ≡ Some asked.server =
         subst (λ log. first (state_after scene.setting.servers log) cell ≡ Some asked.server) same asked.leads in

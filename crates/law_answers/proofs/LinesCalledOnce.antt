@@ -1,6 +1,6 @@
 -- A line is called once.
 use Rattle.law_answers.proofs.Imports.{[], ◌++◌, ◌+◌, ◌∙◌, ◌∷◌, ◌≡◌, ◌≤◌, Actor, AreRising, AreSteps, AreStepsFrom, At, Call, Client, IsMoment, Line, List}
-use Rattle.law_answers.proofs.Imports.{MayActor, Record, Script, Setting, Some, World, ap, arith, front_legal, lines_of, put_same, setting_of, slice_get}
+use Rattle.law_answers.proofs.Imports.{MayActor, Record, Script, Setting, Some, World, ap, arith, lines_of, prefix_legal, put_same, setting_of, slice_get}
 use Rattle.law_answers.proofs.Imports.{start, step, stepped, subst, sym, world_after, ℕ}
 use Rattle.law_answers.proofs.ListPositions.{one_moment}
 use Rattle.law_answers.proofs.LinesHavePlaces.{one_client, one_place}
@@ -40,35 +40,35 @@ module _ (script : Script) (rise : AreRising script.lines) (records : List Recor
   abbrev setting : Setting
   setting = setting_of script
 
-  parts : (m : IsMoment records) → AreStepsFrom setting (start setting) m.front × AreStepsFrom setting (At script m.front) (m.own ∷ m.following)
-  parts m = front_legal setting (start setting) m.front (m.own ∷ m.following) (subst (AreSteps script) m.is legal)
+  parts : (m : IsMoment records) → AreStepsFrom setting (start setting) m.prefix × AreStepsFrom setting (At script m.prefix) (m.own ∷ m.following)
+  parts m = prefix_legal setting (start setting) m.prefix (m.own ∷ m.following) (subst (AreSteps script) m.is legal)
 
   call_at : (m : IsMoment records) (number : ℕ) → m.own.step ≡ Call number
-      → IsCall setting (At script m.front) (stepped setting (At script m.front) m.own).world number
+      → IsCall setting (At script m.prefix) (stepped setting (At script m.prefix) m.own).world number
   call_at m number what =
       let may = (parts m).1.0.may.may in
-      subst (λ x. IsCall setting (At script m.front) (step m.own.actor x setting (At script m.front) m.own.stamp).world number) (sym what)
-      (step_calls setting (At script m.front) m.own.actor m.own.stamp number (subst (λ x. MayActor m.own.actor x setting (At script m.front)) what may))
+      subst (λ x. IsCall setting (At script m.prefix) (step m.own.actor x setting (At script m.prefix) m.own.stamp).world number) (sym what)
+      (step_calls setting (At script m.prefix) m.own.actor m.own.stamp number (subst (λ x. MayActor m.own.actor x setting (At script m.prefix)) what may))
 
-  not_again : (x y : IsMoment records) (between : List Record) → y.front ≡ x.front ++ x.own ∷ between → (number : ℕ) → x.own.step ≡ Call number
+  not_again : (x y : IsMoment records) (between : List Record) → y.prefix ≡ x.prefix ++ x.own ∷ between → (number : ℕ) → x.own.step ≡ Call number
       → y.own.step ≡ Call number → ⊥
   not_again x y between is number first again =
-      let v = (stepped setting (At script x.front) x.own).world in
+      let v = (stepped setting (At script x.prefix) x.own).world in
       let one = call_at x number first in
       let two = call_at y number again in
-      let same = one_client script.lines rise one.client two.client ((At script x.front).clients one.client).seq
-      ((At script y.front).clients two.client).seq one.line two.line one.is two.is (one.number_is ∙ sym two.number_is) in
-      let two_is : slice_get (lines_of script.lines one.client) ((At script y.front).clients one.client).seq ≡ Some two.line =
-      subst (λ c. slice_get (lines_of script.lines c) ((At script y.front).clients c).seq ≡ Some two.line) (sym same) two.is in
-      let place = one_place script.lines rise one.client ((At script x.front).clients one.client).seq ((At script y.front).clients one.client).seq
+      let same = one_client script.lines rise one.client two.client ((At script x.prefix).clients one.client).seq
+      ((At script y.prefix).clients two.client).seq one.line two.line one.is two.is (one.number_is ∙ sym two.number_is) in
+      let two_is : slice_get (lines_of script.lines one.client) ((At script y.prefix).clients one.client).seq ≡ Some two.line =
+      subst (λ c. slice_get (lines_of script.lines c) ((At script y.prefix).clients c).seq ≡ Some two.line) (sym same) two.is in
+      let place = one_place script.lines rise one.client ((At script x.prefix).clients one.client).seq ((At script y.prefix).clients one.client).seq
       one.line two.line one.is two_is (one.number_is ∙ sym two.number_is) in
-      let way = front_legal setting (start setting) x.front (x.own ∷ between) (subst (AreSteps script) is (parts y).0) in
-      let on : (v.clients one.client).seq ≤ ((At script y.front).clients one.client).seq =
+      let way = prefix_legal setting (start setting) x.prefix (x.own ∷ between) (subst (AreSteps script) is (parts y).0) in
+      let on : (v.clients one.client).seq ≤ ((At script y.prefix).clients one.client).seq =
       subst (λ (u : World). (v.clients one.client).seq ≤ (u.clients one.client).seq)
-      (sym (ap (At script) is ∙ world_split setting (start setting) x.front x.own between)) (seq_along setting v between way.1.1 one.client) in
+      (sym (ap (At script) is ∙ world_split setting (start setting) x.prefix x.own between)) (seq_along setting v between way.1.1 one.client) in
       let next = one.next in
       omega arith
 
-  pub called_once : (x y : IsMoment records) (number : ℕ) → x.own.step ≡ Call number → y.own.step ≡ Call number → x.front ≡ y.front
+  pub called_once : (x y : IsMoment records) (number : ℕ) → x.own.step ≡ Call number → y.own.step ≡ Call number → x.prefix ≡ y.prefix
   called_once x y number first again =
-      (one_moment x y (λ between is. not_again x y between is number first again) (λ between is. not_again y x between is number again first)).front_is
+      (one_moment x y (λ between is. not_again x y between is number first again) (λ between is. not_again y x between is number again first)).prefix_is

@@ -14,7 +14,7 @@ module _ (run : Run) (rise : AreRising run.script.lines) (m : IsMoment run.recor
   setting = setting_of script
 
   abbrev w : World
-  w = world_after setting (start setting) m.front
+  w = world_after setting (start setting) m.prefix
 
   abbrev next : World
   next = (stepped setting w m.own).world
@@ -26,14 +26,14 @@ module _ (run : Run) (rise : AreRising run.script.lines) (m : IsMoment run.recor
       record { answer = a.other; bytes = a.bytes; given = a.answered; between = a.between; after = a.is }
   by_letter letter there number (By_turning seq given says is number_is) =
       let f = found setting next m.following false (record { letter = letter; seq = seq }) given is in
-      let way = further m (record { front = f.front; own = f.own; following = f.following; is = f.is }) in
+      let way = further m (record { prefix = f.prefix; own = f.own; following = f.following; is = f.is }) in
       let a = accepted_by run rise way f.letter f.sent given.0 f.has.accepts in
       subst (IsAnsweredAfter records m) number_is (record {
         answer = a.other;
         bytes = a.bytes;
         given = a.answered;
-        between = f.front ++ f.own ∷ a.between;
-        after = a.is ∙ append_assoc m.front (m.own ∷ f.front) (f.own ∷ a.between);
+        between = f.prefix ++ f.own ∷ a.between;
+        after = a.is ∙ append_assoc m.prefix (m.own ∷ f.prefix) (f.own ∷ a.between);
       })
 
   pub look_answered : (look : ℕ × Event) → In look (looks_at setting records m) → IsAnsweredAfter records m look.0

@@ -75,7 +75,7 @@ module _ (setting : Setting) (w : World) where
       still (actor.Server n) what n runs (sym (ap full_of idle.same) ∙ full)
   serves_cause n what _ (Goes _ _ queue runs (By_ballot log started posts same starts says) queued works) on full =
       still (actor.Server n) what n runs (sym (ballot_full (server_state setting w n) (w.servers n).own started) ∙ full)
-  serves_cause n what _ (Goes _ _ queue runs (By_entry log entry plus front) queued works) on full =
+  serves_cause n what _ (Goes _ _ queue runs (By_entry log entry plus prefix) queued works) on full =
       still (actor.Server n) what n runs
       (sym (ap (λ (c : Copies). c.full)
       (settling (own_place setting w n) entry (crossed (server_state setting w n) entry (w.servers n).own)).copies) ∙ full)
@@ -121,7 +121,7 @@ was_told run n number cell heard =
     record {
       moment = was.moment;
       sent = was.sent;
-      reason = subst (λ k. HadNoRoom (setting_in run) (At run.script was.front) was.own.actor was.own.step k number cell)
+      reason = subst (λ k. HadNoRoom (setting_in run) (At run.script was.prefix) was.own.actor was.own.step k number cell)
           (one_server (sym t.to ∙ heard.own)) t.reason;
     }
 

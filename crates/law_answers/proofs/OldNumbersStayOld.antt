@@ -1,12 +1,11 @@
 -- Along a plain log each state tells as many clients, and a client's number that is old stays so.
 use Rattle.law_answers.proofs.Imports.{[], ◌<◌, ◌∙◌, ◌∷◌, ◌≡◌, ◌≤◌, Answer, Command, HasProperTuple, HasProperTuples, IsSettledState, List, Some, ap, arith}
-use Rattle.law_answers.proofs.Imports.{cases_lt, false, fold-append, get_within, in_get, inl, inr, is_new, latest, length, log_plain, none_some, refl}
+use Rattle.law_answers.proofs.Imports.{asker, cases_lt, false, fold-append, get_within, in_get, inl, inr, is_new, latest, length, log_plain, none_some, refl}
 use Rattle.law_answers.proofs.Imports.{slice_get, state_after, subst, suc, take, verdict_for, zero, ℕ}
 use Rattle.spec_state.specs.State.{State, start}
 use Rattle.spec_state.specs.Command.{after}
-use Rattle.law_state.specs.Plain.{asker}
 use Rattle.law_answers.proofs.EntriesTellClients.{many_after, none_past, old_after, old_following}
-use Rattle.law_answers.proofs.RequestsStayDone.{plain_front, take_next}
+use Rattle.law_answers.proofs.RequestsStayDone.{plain_prefix, take_next}
 
 module _ (servers : ℕ) (log : List Command) (plain : HasProperTuples servers log) where
   -- the state before a place
@@ -17,7 +16,7 @@ module _ (servers : ℕ) (log : List Command) (plain : HasProperTuples servers l
   at_next k e is = ap (state_after servers) (take_next log k e is) ∙ fold-append after (start servers) (take k log) (e ∷ [])
 
   pub plain_at : (k : ℕ) → IsSettledState servers (at k)
-  plain_at k = log_plain servers (take k log) (plain_front servers log k plain)
+  plain_at k = log_plain servers (take k log) (plain_prefix servers log k plain)
 
   pub entry_plain : (k : ℕ) (e : Command) → slice_get log k ≡ Some e → HasProperTuple servers e
   entry_plain k e is = plain e (in_get log k e is)

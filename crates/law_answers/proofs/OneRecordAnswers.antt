@@ -54,15 +54,15 @@ answered_since run m number given e =
     let it = at_moment run m in
     since (λ run. IsAnswered (after run).answers number) (λ it old.
     subst (λ given. IsAnswered given number) (sym (answers_in it)) (answered_more it.own.answer (after it.prior).answers number old))
-    run (longer it).records m.following (m.is ∙ sym (append_assoc m.front (m.own ∷ []) m.following)) (λ legal.
+    run (longer it).records m.following (m.is ∙ sym (append_assoc m.prefix (m.own ∷ []) m.following)) (λ legal.
     subst (λ given. IsAnswered given number) (sym (answers_in it))
     (subst (λ o. IsAnswered (with_answer o (after it.prior).answers) number) (sym e) (answered_first number given (after it.prior).answers)))
 
 -- the world after a record and others
-pub world_split : (setting : Setting) (w : World) (front : List Record) (own : Record) (later : List Record)
-    → world_after setting w (front ++ own ∷ later) ≡ world_after setting (stepped setting (world_after setting w front) own).world later
+pub world_split : (setting : Setting) (w : World) (prefix : List Record) (own : Record) (later : List Record)
+    → world_after setting w (prefix ++ own ∷ later) ≡ world_after setting (stepped setting (world_after setting w prefix) own).world later
 world_split setting w [] own later = refl
-world_split setting w (x ∷ front) own later = world_split setting (stepped setting w x).world front own later
+world_split setting w (x ∷ prefix) own later = world_split setting (stepped setting w x).world prefix own later
 
 pub deliver_is : (one other : Letter) → Deliver one ≡ Deliver other → one ≡ other
 deliver_is one other e = cc
@@ -74,15 +74,15 @@ module _ (run : Run) where
   setting = setting_of script
 
   pub answers_at : (m : IsMoment records) (number : ℕ) (bytes : List ℕ) → m.own.answer ≡ Some (number, answer.Data bytes)
-      → Answers script.lines (At script m.front) m.own number bytes
+      → Answers script.lines (At script m.prefix) m.own number bytes
   answers_at m number bytes e =
       let it = at_moment run m in
       let follows = follows_in it in
-      let k = who_answers setting (At script m.front) m.own.actor m.own.step m.own.stamp follows.may.may number bytes (sym follows.answer ∙ e) in
+      let k = who_answers setting (At script m.prefix) m.own.actor m.own.step m.own.stamp follows.may.may number bytes (sym follows.answer ∙ e) in
       let a = k.so in
-      let asks = asked_at script sound m.front it.prior.legal k.client a.asked a.is in
-      let comes : MayDeliver (At script m.front) (actor.Client k.client) a.told.letter =
-      subst (λ x. MayClient x setting (At script m.front) k.client) a.told.is k.may in
+      let asks = asked_at script sound m.prefix it.prior.legal k.client a.asked a.is in
+      let comes : MayDeliver (At script m.prefix) (actor.Client k.client) a.told.letter =
+      subst (λ x. MayClient x setting (At script m.prefix) k.client) a.told.is k.may in
       record {
         client = k.client;
         who = k.who_is;
@@ -100,56 +100,56 @@ module _ (run : Run) where
 
   module _ (rise : AreRising script.lines) where
     -- once the line has been answered it is not answered again
-    not_again : (m : IsMoment records) (front : List Record) (own : Record) (between : List Record) → m.front ≡ front ++ own ∷ between → (number : ℕ)
+    not_again : (m : IsMoment records) (prefix : List Record) (own : Record) (between : List Record) → m.prefix ≡ prefix ++ own ∷ between → (number : ℕ)
         (one two : Answer) → own.answer ≡ Some (number, one) → m.own.answer ≡ Some (number, two) → ⊥
-    not_again m front own between is number one two first again =
+    not_again m prefix own between is number one two first again =
         let it = at_moment run m in
         let later = follows_in it in
-        let fresh = stepped_is setting rise (At script m.front) m.own
-        (ahead_after setting rise (start setting) m.front (ahead_start setting rise) it.prior.legal) later in
+        let fresh = stepped_is setting rise (At script m.prefix) m.own
+        (ahead_after setting rise (start setting) m.prefix (ahead_start setting rise) it.prior.legal) later in
         (fresh.new (number, two) (sym later.answer ∙ again)).new
-        (answered_since it.prior (record { front = front; own = own; following = between; is = is }) number one first)
+        (answered_since it.prior (record { prefix = prefix; own = own; following = between; is = is }) number one first)
 
     -- two records that answer one line are one
     one_answer : (x y : IsMoment records) (number : ℕ) (one two : Answer) → x.own.answer ≡ Some (number, one) → y.own.answer ≡ Some (number, two)
         → AreOne x y
     one_answer x y number one two first again =
-        one_moment x y (λ between same. not_again y x.front x.own between same number one two first again)
-        (λ between same. not_again x y.front y.own between same number two one again first)
+        one_moment x y (λ between same. not_again y x.prefix x.own between same number one two first again)
+        (λ between same. not_again x y.prefix y.own between same number two one again first)
 
     -- the record that accepts a letter which was sent here
     pub record IsAcceptedBy (m : IsMoment records) (letter : Letter) (number : ℕ) : Type 0 where
       pub other : IsMoment records
       pub between : List Record
-      pub is : other.front ≡ m.front ++ m.own ∷ between
+      pub is : other.prefix ≡ m.prefix ++ m.own ∷ between
       pub bytes : List ℕ
       pub answered : other.own.answer ≡ Some (number, answer.Data bytes)
-      pub so : Answers script.lines (At script other.front) other.own number bytes
+      pub so : Answers script.lines (At script other.prefix) other.own number bytes
       pub letter_is : letter ≡ so.letter
 
     pub accepted_by : (m : IsMoment records) (letter : Letter) → In letter m.own.sent → (number : ℕ) → accepted m.following letter ≡ Some number
         → IsAcceptedBy m letter number
     accepted_by m letter i number f =
         let k = accepted_in m.following letter number f in
-        let y = further m (record { front = k.front; own = k.own; following = k.following; is = k.is }) in
+        let y = further m (record { prefix = k.prefix; own = k.own; following = k.following; is = k.is }) in
         let a = answers_at y number k.so.bytes k.so.answers in
         let other_is : k.so.other ≡ a.letter = deliver_is k.so.other a.letter (sym k.so.what ∙ a.what) in
         let fine = (at_moment run y).prior.legal in
         record {
           other = y;
-          between = k.front;
+          between = k.prefix;
           is = refl;
           bytes = k.so.bytes;
           answered = k.so.answers;
           so = a;
-          letter_is = (named_at script sound y.front fine).unique letter a.letter (sent_after script sound m.front m.own k.front fine letter i) a.sent
+          letter_is = (named_at script sound y.prefix fine).unique letter a.letter (sent_after script sound m.prefix m.own k.prefix fine letter i) a.sent
               (subst (λ l. same_name letter l ≡ true) other_is k.so.same);
         }
 
     -- ### The line's answer
 
     module _ (m : IsMoment records) (number : ℕ) (bytes : List ℕ) (answered : m.own.answer ≡ Some (number, answer.Data bytes)) where
-      abbrev pub the_answer : Answers script.lines (At script m.front) m.own number bytes
+      abbrev pub the_answer : Answers script.lines (At script m.prefix) m.own number bytes
       the_answer = answers_at m number bytes answered
 
       -- data for the read of the same number and client are accepted for the same line

@@ -1,9 +1,9 @@
 -- Answers of greater lines stand after.
 use Rattle.law_answers.proofs.Imports.{[], ◌++◌, ◌<◌, ◌∙◌, ◌∷◌, ◌≡◌, Answer, AnsweredComeFirst, AreRising, AreSteps, AreStepsFrom, Greater, In, IsAnswered}
 use Rattle.law_answers.proofs.Imports.{Line, List, None, Option, Record, Script, Setting, Some, Table, World, answer_line, answers_of, ap, arith, at, by_bool}
-use Rattle.law_answers.proofs.Imports.{cond, false, flat_map, flat_map-append, fold, fold-append, front_legal, inl, inr, insert_entry, is_answered, is_at}
-use Rattle.law_answers.proofs.Imports.{is_eq, is_some, lookup, match_ordering, nat_cmp, nat_cmp_total, nat_tests, put, refl, setting_of, start, stepped}
-use Rattle.law_answers.proofs.Imports.{subst, sym, text_of, tied_itself, true, with_given, world_after, ℕ}
+use Rattle.law_answers.proofs.Imports.{cond, false, flat_map, flat_map-append, fold, fold-append, inl, inr, insert_entry, is_answered, is_at, is_eq, is_some}
+use Rattle.law_answers.proofs.Imports.{lookup, match_ordering, nat_cmp, nat_cmp_total, nat_tests, prefix_legal, put, refl, setting_of, start, stepped, subst}
+use Rattle.law_answers.proofs.Imports.{sym, text_of, tied_itself, true, with_given, world_after, ℕ}
 use Rattle.law_answers.proofs.AnsweredOnce.{Ahead, answered_more, stepped_is, ahead_after, told_after, ahead_start, told_start}
 
 -- ### Tables
@@ -76,15 +76,16 @@ module _ (setting : Setting) (rise : AreRising setting.lines) where
       ∙ following a (with_given b own.answer) v later s.ahead still legal.1
 
   -- where what is answered comes first, its table is before what has no answer
-  comes_before : (front : List Record) → AreStepsFrom setting (start setting) front → AnsweredComeFirst lines front
-      → IsBefore (answers_of front) (world_after setting (start setting) front)
-  comes_before front legal first line there none row i =
-      let told = told_after setting rise (start setting) [] front (ahead_start setting rise)
+  comes_before : (prefix : List Record) → AreStepsFrom setting (start setting) prefix → AnsweredComeFirst lines prefix
+      → IsBefore (answers_of prefix) (world_after setting (start setting) prefix)
+  comes_before prefix legal first line there none row i =
+      let told = told_after setting rise (start setting) [] prefix (ahead_start setting rise)
       (told_start setting rise) legal in
-      let found = row_found (answers_of front) row i in
+      let found = row_found (answers_of prefix) row i in
       let one = told row.0 found in
-      let no : is_answered front line.number ≡ false = by_bool (is_answered front line.number) (λ yes. absurd (none (told line.number yes).given)) (λ no. no) in
-      let lt = first one.line line one.there there (ap (is_answered front) one.is ∙ found) no in
+      let no : is_answered prefix line.number ≡ false =
+      by_bool (is_answered prefix line.number) (λ yes. absurd (none (told line.number yes).given)) (λ no. no) in
+      let lt = first one.line line one.there there (ap (is_answered prefix) one.is ∙ found) no in
       let same = one.is in
       omega arith
 
@@ -92,21 +93,21 @@ module _ (setting : Setting) (rise : AreRising setting.lines) where
   append_nil [] = refl
   append_nil (row ∷ rows) = ap (λ more. row ∷ more) (append_nil rows)
 
-  joins : (front back : List Record) → AreStepsFrom setting (start setting) (front ++ back) → AnsweredComeFirst lines front
-      → answers_of (front ++ back) ≡ answers_of front ++ answers_of back
-  joins front back legal first =
-      let parts = front_legal setting (start setting) front back legal in
-      let ahead = ahead_after setting rise (start setting) front (ahead_start setting rise) parts.0 in
-      fold-append (λ rows own. with_given rows own.answer) [] front back
-      ∙ ap (λ rows. fold (λ rows own. with_given rows own.answer) rows back) (sym (append_nil (answers_of front)))
-      ∙ following (answers_of front) [] (world_after setting (start setting) front) back ahead (comes_before front parts.0 first) parts.1
+  joins : (prefix suffix : List Record) → AreStepsFrom setting (start setting) (prefix ++ suffix) → AnsweredComeFirst lines prefix
+      → answers_of (prefix ++ suffix) ≡ answers_of prefix ++ answers_of suffix
+  joins prefix suffix legal first =
+      let parts = prefix_legal setting (start setting) prefix suffix legal in
+      let ahead = ahead_after setting rise (start setting) prefix (ahead_start setting rise) parts.0 in
+      fold-append (λ rows own. with_given rows own.answer) [] prefix suffix
+      ∙ ap (λ rows. fold (λ rows own. with_given rows own.answer) rows suffix) (sym (append_nil (answers_of prefix)))
+      ∙ following (answers_of prefix) [] (world_after setting (start setting) prefix) suffix ahead (comes_before prefix parts.0 first) parts.1
 
-pub answers_join : (script : Script) (front back : List Record) → AreRising script.lines → AreSteps script (front ++ back)
-    → AnsweredComeFirst script.lines front → answers_of (front ++ back) ≡ answers_of front ++ answers_of back
-answers_join script front back rise legal first = joins (setting_of script) rise front back legal first
+pub answers_join : (script : Script) (prefix suffix : List Record) → AreRising script.lines → AreSteps script (prefix ++ suffix)
+    → AnsweredComeFirst script.lines prefix → answers_of (prefix ++ suffix) ≡ answers_of prefix ++ answers_of suffix
+answers_join script prefix suffix rise legal first = joins (setting_of script) rise prefix suffix legal first
 
-pub text_joins : (script : Script) (front back : List Record) → AreRising script.lines → AreSteps script (front ++ back)
-    → AnsweredComeFirst script.lines front → text_of (front ++ back) ≡ text_of front ++ text_of back
-text_joins script front back rise legal first =
-    ap (λ rows. flat_map (λ row. answer_line row.0 row.1) rows) (answers_join script front back rise legal first)
-    ∙ flat_map-append (λ (row : ℕ × Answer). answer_line row.0 row.1) (answers_of front) (answers_of back)
+pub text_joins : (script : Script) (prefix suffix : List Record) → AreRising script.lines → AreSteps script (prefix ++ suffix)
+    → AnsweredComeFirst script.lines prefix → text_of (prefix ++ suffix) ≡ text_of prefix ++ text_of suffix
+text_joins script prefix suffix rise legal first =
+    ap (λ rows. flat_map (λ row. answer_line row.0 row.1) rows) (answers_join script prefix suffix rise legal first)
+    ∙ flat_map-append (λ (row : ℕ × Answer). answer_line row.0 row.1) (answers_of prefix) (answers_of suffix)

@@ -1,6 +1,6 @@
 -- Whoever may read a cell by its own state, and runs, serves the cell's link by what is chosen, too.
-use Rattle.law_answers.proofs.Imports.{◌∙◌, ◌≡◌, Cell, Grounded, HasDied, IsServing, LinkRow, Some, State, ap, cell_link, chosen_log, chosen_state, inl, inr}
-use Rattle.law_answers.proofs.Imports.{is_in, log_roles, none_some, readable, reader_serves, runs_now, same_some, server_state, serves, subst, sym, true}
+use Rattle.law_answers.proofs.Imports.{◌∙◌, ◌≡◌, Cell, Grounded, IsRetired, IsServing, LinkRow, Some, State, ap, cell_link, chosen_log, chosen_state, inl}
+use Rattle.law_answers.proofs.Imports.{inr, is_in, log_roles, none_some, readable, reader_serves, runs_now, same_some, server_state, serves, subst, sym, true}
 use Rattle.law_answers.proofs.Imports.{true_false, ℕ}
 use Rattle.law_answers.specs.ReadLinks.{IsUnlost}
 
@@ -14,7 +14,7 @@ serving_unlost state n cell s = record {
     served : (row : LinkRow) → cell_link state cell ≡ Some row → serves n row row.state ≡ true
     served row is = subst (λ (r : LinkRow). serves n r r.state ≡ true) (same_some (sym s.is ∙ is)) s.so
 
-died_unlost : (state : State) (n : ℕ) (cell : Cell) → HasDied state cell → IsUnlost state n cell
+died_unlost : (state : State) (n : ℕ) (cell : Cell) → IsRetired state cell → IsUnlost state n cell
 died_unlost state n cell died = record {
   served = λ row is. none_some died.0 is;
   kept = λ row is lost. none_some died.0 is;

@@ -62,14 +62,14 @@ module _ (run : Run) (rise : AreRising run.script.lines) where
   abbrev At : List Record → World
   At rs = world_after setting (start setting) rs
 
-  legal_at : (m : IsMoment records) → AreSteps script m.front
+  legal_at : (m : IsMoment records) → AreSteps script m.prefix
   legal_at m = (at_moment run m).prior.legal
 
   -- what the laws below know of the world before this moment
   abbrev grounded_at : IsMoment records → Grounded
   grounded_at m =
-      let st = stands_after script m.front sound (legal_at m) in
-      record { setting = setting; state = st.state; w = At m.front; firm = st.ground.ready.firm; ground = st.ground }
+      let st = stands_after script m.prefix sound (legal_at m) in
+      record { setting = setting; state = st.state; w = At m.prefix; firm = st.ground.ready.firm; ground = st.ground }
 
   -- ### Replies
 
@@ -77,42 +77,42 @@ module _ (run : Run) (rise : AreRising run.script.lines) where
   record IsReplied (m : IsMoment records) (letter : Letter) : Type 0 where
     server : ℕ
     who : m.own.actor ≡ actor.Server server
-    reply : IsReply setting (At m.front) server m.own.stamp m.own.sent letter
+    reply : IsReply setting (At m.prefix) server m.own.stamp m.own.sent letter
 
   replied : (m : IsMoment records) (letter : Letter) → In letter m.own.sent → (seq : ℕ) → answers_read letter.body ≡ Some seq → IsReplied m letter
   replied m letter i seq is =
       let of = replies_are letter.body seq is in
-      by of.1 (sent_by script sound m.front m.own m.following (subst (AreSteps script) m.is run.legal) letter i of.0)
+      by of.1 (sent_by script sound m.prefix m.own m.following (subst (AreSteps script) m.is run.legal) letter i of.0)
     where
-      by : is_ask letter.body ≡ false → IsSentFrom setting (At m.front) m.own letter → IsReplied m letter
+      by : is_ask letter.body ≡ false → IsSentFrom setting (At m.prefix) m.own letter → IsReplied m letter
       by none (From_server n who r) = record { server = n; who = who; reply = r }
-      by none (From_client c who may j) = true_false (own_says setting (At m.front) c m.own.step may m.own.stamp letter j) none
+      by none (From_client c who may j) = true_false (own_says setting (At m.prefix) c m.own.step may m.own.stamp letter j) none
 
   -- it was sent by one record
   one_sender : (letter : Letter) (seq : ℕ) → answers_read letter.body ≡ Some seq → (x y : IsMoment records) → In letter x.own.sent → In letter y.own.sent
       → AreOne x y
   one_sender letter seq is x y i j = one_moment x y (λ between same. not_twice x y between same i j) (λ between same. not_twice y x between same j i)
     where
-      not_twice : (x y : IsMoment records) (between : List Record) → y.front ≡ x.front ++ x.own ∷ between → In letter x.own.sent → In letter y.own.sent → ⊥
+      not_twice : (x y : IsMoment records) (between : List Record) → y.prefix ≡ x.prefix ++ x.own ∷ between → In letter x.own.sent → In letter y.own.sent → ⊥
       not_twice x y between same i j =
           let r = replied y letter j seq is in
-          sent_once script sound x.front x.own between (subst (AreSteps script) same (legal_at y)) y.own
+          sent_once script sound x.prefix x.own between (subst (AreSteps script) same (legal_at y)) y.own
           (subst (λ rs. Follows setting (At rs) y.own) same (follows_in (at_moment run y))) letter r.server i r.who r.reply.«from» r.reply.at
 
   -- the read was called before the server handled it
   reply_called : (m : IsMoment records) (letter : Letter) → IsReplied m letter → (client seq : ℕ) → letter.to ≡ actor.Client client
-      → answers_read letter.body ≡ Some seq → (line : Line) → line_by script.lines client seq ≡ Some line → line.client ≡ client → IsCalledIn m.front line
+      → answers_read letter.body ≡ Some seq → (line : Line) → line_by script.lines client seq ≡ Some line → line.client ≡ client → IsCalledIn m.prefix line
   reply_called m letter r client seq to is line by_line mine =
       let c = one_client (sym r.reply.to ∙ to) in
       let k = same_some (sym r.reply.is ∙ is) in
-      let called = read_called script sound m.front (legal_at m) r.server r.reply.client r.reply.seq
+      let called = read_called script sound m.prefix (legal_at m) r.server r.reply.client r.reply.seq
       r.reply.cell r.reply.epoch r.reply.readable.asked line ((λ j. line_by script.lines (c j) (k j)) ∙ by_line) in
       record { call = called.call; there = called.there; who = called.who ∙ ap actor.Client (c ∙ sym mine); what = called.what }
 
   -- ### One answer
 
   module _ (m : IsMoment records) (number : ℕ) (bytes : List ℕ) (answered : m.own.answer ≡ Some (number, answer.Data bytes)) where
-    abbrev a : Answers script.lines (At m.front) m.own number bytes
+    abbrev a : Answers script.lines (At m.prefix) m.own number bytes
     a = the_answer run rise m number bytes answered
 
     abbrev n : ℕ
@@ -122,7 +122,7 @@ module _ (run : Run) (rise : AreRising run.script.lines) where
     reply_is = ap answers_read a.says
 
     -- where its data were sent
-    abbrev w : WasSent m.front a.letter
+    abbrev w : WasSent m.prefix a.letter
     w = was_sent (at_moment run m).prior a.letter a.sent
 
     abbrev s : IsMoment records
@@ -167,47 +167,48 @@ module _ (run : Run) (rise : AreRising run.script.lines) where
         one_sender a.letter a.seq reply_is x s (subst (λ l. In l x.own.sent) (letter_of x letter i acc) i) w.sent
 
     abbrev is_old : Bool
-    is_old = reads_old setting (At s.front) s.own.actor
+    is_old = reads_old setting (At s.prefix) s.own.actor
 
-    old_as : (x : IsMoment records) → AreOne x s → reads_old setting (At x.front) x.own.actor ≡ is_old
-    old_as x same = λ i. reads_old setting (At (same.front_is i)) (same.own_is i).actor
+    old_as : (x : IsMoment records) → AreOne x s → reads_old setting (At x.prefix) x.own.actor ≡ is_old
+    old_as x same = λ i. reads_old setting (At (same.prefix_is i)) (same.own_is i).actor
 
     -- what a search by the old map has found
     record IsFoundBy (x : IsMoment records) (letter : Letter) (seq : ℕ) : Type 0 where
       turned : List Record
       turning : Record
       between : List Record
-      is : s.front ≡ (x.front ++ x.own ∷ turned) ++ turning ∷ between
-      so : turns letter (At (x.front ++ x.own ∷ turned)) turning (stepped setting (At (x.front ++ x.own ∷ turned)) turning).world ≡ true
+      is : s.prefix ≡ (x.prefix ++ x.own ∷ turned) ++ turning ∷ between
+      so : turns letter (At (x.prefix ++ x.own ∷ turned)) turning (stepped setting (At (x.prefix ++ x.own ∷ turned)) turning).world ≡ true
       to : letter.to ≡ actor.Client a.client
       rev : letter.rev ≡ a.letter.rev
       seq_is : seq ≡ a.seq
       old : is_old ≡ true
 
     search_found : (x : IsMoment records) (letter : Letter) (seq : ℕ) (given : ℕ × List ℕ)
-        → old_data setting (stepped setting (At x.front) x.own).world x.following (record { letter = letter; seq = seq }) false ≡ Some given
+        → old_data setting (stepped setting (At x.prefix) x.own).world x.following (record { letter = letter; seq = seq }) false ≡ Some given
         → given.0 ≡ number → IsFoundBy x letter seq
     search_found x letter seq given is number_is =
-        let next = (stepped setting (At x.front) x.own).world in
+        let next = (stepped setting (At x.prefix) x.own).world in
         let f = found setting next x.following false (record { letter = letter; seq = seq }) given is in
-        let y = further x (record { front = f.front; own = f.own; following = f.following; is = f.is }) in
+        let y = further x (record { prefix = f.prefix; own = f.own; following = f.following; is = f.is }) in
         let acc : accepted f.following f.letter ≡ Some number = f.has.accepts ∙ ap Some number_is in
         let same = sent_here y f.letter f.sent acc in
         let letter_is = letter_of y f.letter f.sent acc in
-        by f.front f.turn (sym same.front_is) (f.has.to ∙ ap (λ (l : Letter). l.to) letter_is ∙ a.to) (f.has.rev ∙ ap (λ (l : Letter). l.rev) letter_is)
+        by f.prefix f.turn (sym same.prefix_is) (f.has.to ∙ ap (λ (l : Letter). l.to) letter_is ∙ a.to) (f.has.rev ∙ ap (λ (l : Letter). l.rev) letter_is)
         (same_seq (sym f.has.says ∙ ap (λ (l : Letter). l.body) letter_is ∙ a.says))
-        (sym (old_as y same) ∙ ap (λ u. reads_old setting u f.own.actor) (world_split setting (start setting) x.front x.own f.front) ∙ f.old)
+        (sym (old_as y same) ∙ ap (λ u. reads_old setting u f.own.actor) (world_split setting (start setting) x.prefix x.own f.prefix) ∙ f.old)
       where
-        by : (rs : List Record) → (false ≡ true) ⊎ HasTurn setting (stepped setting (At x.front) x.own).world rs letter
-            → s.front ≡ x.front ++ x.own ∷ rs → letter.to ≡ actor.Client a.client → letter.rev ≡ a.letter.rev → seq ≡ a.seq → is_old ≡ true
+        by : (rs : List Record) → (false ≡ true) ⊎ HasTurn setting (stepped setting (At x.prefix) x.own).world rs letter
+            → s.prefix ≡ x.prefix ++ x.own ∷ rs → letter.to ≡ actor.Client a.client → letter.rev ≡ a.letter.rev → seq ≡ a.seq → is_old ≡ true
             → IsFoundBy x letter seq
         by rs (inl never) same to rev seq_is old = true_false never refl
         by rs (inr t) same to rev seq_is old = record {
-          turned = t.front;
+          turned = t.prefix;
           turning = t.own;
           between = t.following;
-          is = same ∙ ap (λ xs. x.front ++ x.own ∷ xs) t.is ∙ sym (append_assoc x.front (x.own ∷ t.front) (t.own ∷ t.following));
-          so = subst (λ u. turns letter u t.own (stepped setting u t.own).world ≡ true) (sym (world_split setting (start setting) x.front x.own t.front)) t.so;
+          is = same ∙ ap (λ xs. x.prefix ++ x.own ∷ xs) t.is ∙ sym (append_assoc x.prefix (x.own ∷ t.prefix) (t.own ∷ t.following));
+          so = subst (λ u. turns letter u t.own (stepped setting u t.own).world ≡ true)
+              (sym (world_split setting (start setting) x.prefix x.own t.prefix)) t.so;
           to = to;
           rev = rev;
           seq_is = seq_is;
@@ -220,27 +221,27 @@ module _ (run : Run) (rise : AreRising run.script.lines) where
     Once = IsLookedAtOnce setting records a.line look m
 
     told_at : (other : IsMoment records) (l : ℕ × Event) → In l (looks_at setting records other)
-        → IsToldBy setting (At other.front) (stepped setting (At other.front) other.own).world other.own other.following l.0
-    told_at other l i = told_by setting (At other.front) (stepped setting (At other.front) other.own).world other.own other.following l i
+        → IsToldBy setting (At other.prefix) (stepped setting (At other.prefix) other.own).world other.own other.following l.0
+    told_at other l i = told_by setting (At other.prefix) (stepped setting (At other.prefix) other.own).world other.own other.following l i
 
-    only_new : is_old ≡ false → (other : IsMoment records) (l : ℕ × Event) → In l (looks_at setting records other) → l.0 ≡ n → other.front ≡ s.front
+    only_new : is_old ≡ false → (other : IsMoment records) (l : ℕ × Event) → In l (looks_at setting records other) → l.0 ≡ n → other.prefix ≡ s.prefix
     only_new off other l i same = by (told_at other l i).letter (told_at other l i).there (told_at other l i).tells
       where
         by : (letter : Letter) → In letter other.own.sent
-            → TellsIt setting (At other.front) (stepped setting (At other.front) other.own).world other.own.actor other.following letter l.0
-            → other.front ≡ s.front
+            → TellsIt setting (At other.prefix) (stepped setting (At other.prefix) other.own).world other.own.actor other.following letter l.0
+            → other.prefix ≡ s.prefix
         by letter there (By_data seq xs says new acc) =
-            (sent_here other letter there (acc ∙ ap Some (same ∙ a.number_is))).front_is
+            (sent_here other letter there (acc ∙ ap Some (same ∙ a.number_is))).prefix_is
         by letter there (By_turning seq given says is number_is) =
             true_false (search_found other letter seq given is (number_is ∙ same ∙ a.number_is)).old off
 
     new_way : is_old ≡ false → Once
     new_way off =
-        let next = (stepped setting (At s.front) s.own).world in
+        let next = (stepped setting (At s.prefix) s.own).world in
         record {
           moment = s;
-          told = one_look setting (At s.front) next s.own s.following a.letter n look events s_reply.reply.alone
-              (ap (letter_looks setting (At s.front) next s.own.actor s.following a.letter) a.says
+          told = one_look setting (At s.prefix) next s.own s.following a.letter n look events s_reply.reply.alone
+              (ap (letter_looks setting (At s.prefix) next s.own.actor s.following a.letter) a.says
               ∙ ap (λ b. if b then [] else look_beside script.lines (accepted s.following a.letter) bytes) off
               ∙ ap (λ o. look_beside script.lines o bytes) accepted_here) one_event;
           alone = λ other ne. none_of_line n (looks_at setting records other) (λ l i same. ne (ap length (only_new off other l i same)));
@@ -254,45 +255,45 @@ module _ (run : Run) (rise : AreRising run.script.lines) where
     -- ### Where they were
 
     -- the client had turned to the old map
-    turned : is_old ≡ true → WasTurned setting s.front a.client a.seq a.letter.rev
+    turned : is_old ≡ true → WasTurned setting s.prefix a.client a.seq a.letter.rev
     turned on =
         let r = s_reply.reply in
         let leaves = sym (reads_old_is (grounded_at s) s_reply.server r.client r.seq r.cell r.epoch r.readable.asked)
-        ∙ ap (reads_old setting (At s.front)) (sym s_reply.who) ∙ on in
-        let t = read_turned script sound s.front (legal_at s) s_reply.server r.client r.seq r.cell r.epoch r.readable.asked leaves in
+        ∙ ap (reads_old setting (At s.prefix)) (sym s_reply.who) ∙ on in
+        let t = read_turned script sound s.prefix (legal_at s) s_reply.server r.client r.seq r.cell r.epoch r.readable.asked leaves in
         let c = one_client (sym r.to ∙ a.to) in
         let k = same_some (sym r.is ∙ reply_is) in
-        let rev = r.rev ∙ log_rev script.servers ((At s.front).servers s_reply.server).log.applied in
-        subst (WasTurned setting s.front a.client a.seq) (sym rev)
-        (subst (λ q. WasTurned setting s.front a.client q (rev_of ((At s.front).servers s_reply.server).log)) k
-        (subst (λ d. WasTurned setting s.front d r.seq (rev_of ((At s.front).servers s_reply.server).log)) c t))
+        let rev = r.rev ∙ log_rev script.servers ((At s.prefix).servers s_reply.server).log.applied in
+        subst (WasTurned setting s.prefix a.client a.seq) (sym rev)
+        (subst (λ q. WasTurned setting s.prefix a.client q (rev_of ((At s.prefix).servers s_reply.server).log)) k
+        (subst (λ d. WasTurned setting s.prefix d r.seq (rev_of ((At s.prefix).servers s_reply.server).log)) c t))
 
     module _ (on : is_old ≡ true) where
-      abbrev t : WasTurned setting s.front a.client a.seq a.letter.rev
+      abbrev t : WasTurned setting s.prefix a.client a.seq a.letter.rev
       t = turned on
 
       abbrev not_here : Letter
       not_here = t.letter
 
       abbrev turn_at : IsMoment records
-      turn_at = sooner s (record { front = t.front; own = t.own; following = t.following; is = t.is })
+      turn_at = sooner s (record { prefix = t.prefix; own = t.own; following = t.following; is = t.is })
 
-      comes : MayDeliver (At t.front) (actor.Client a.client) not_here
-      comes = subst (λ x. MayClient x setting (At t.front) a.client) t.turn.what
-          (subst (λ x. MayActor x t.own.step setting (At t.front)) t.turn.who (follows_in (at_moment run turn_at)).may.may).1
+      comes : MayDeliver (At t.prefix) (actor.Client a.client) not_here
+      comes = subst (λ x. MayClient x setting (At t.prefix) a.client) t.turn.what
+          (subst (λ x. MayActor x t.own.step setting (At t.prefix)) t.turn.who (follows_in (at_moment run turn_at)).may.may).1
 
       -- where the letter was sent that made it turn
-      abbrev u : WasSent t.front not_here
+      abbrev u : WasSent t.prefix not_here
       u = was_sent (at_moment run turn_at).prior not_here comes.sent
 
       abbrev between_o : List Record
       between_o = u.following ++ t.own ∷ t.following
 
-      s_front_is : s.front ≡ u.front ++ u.own ∷ between_o
-      s_front_is = t.is ∙ ap (λ rs. rs ++ t.own ∷ t.following) u.is ∙ append_assoc u.front (u.own ∷ u.following) (t.own ∷ t.following)
+      s_prefix_is : s.prefix ≡ u.prefix ++ u.own ∷ between_o
+      s_prefix_is = t.is ∙ ap (λ rs. rs ++ t.own ∷ t.following) u.is ∙ append_assoc u.prefix (u.own ∷ u.following) (t.own ∷ t.following)
 
       abbrev o : IsMoment records
-      o = sooner s (record { front = u.front; own = u.own; following = between_o; is = s_front_is })
+      o = sooner s (record { prefix = u.prefix; own = u.own; following = between_o; is = s_prefix_is })
 
       abbrev reply_n : answers_read not_here.body ≡ Some a.seq
       reply_n = ap answers_read t.turn.said
@@ -301,25 +302,25 @@ module _ (run : Run) (rise : AreRising run.script.lines) where
       o_reply = replied o not_here u.sent a.seq reply_n
 
       abbrev next : World
-      next = (stepped setting (At o.front) o.own).world
+      next = (stepped setting (At o.prefix) o.own).world
 
       abbrev told : NotThere
       told = record { letter = not_here; seq = a.seq }
 
-      world_s : world_after setting next between_o ≡ At s.front
-      world_s = sym (world_split setting (start setting) o.front o.own between_o) ∙ ap At (sym s_front_is)
+      world_s : world_after setting next between_o ≡ At s.prefix
+      world_s = sym (world_split setting (start setting) o.prefix o.own between_o) ∙ ap At (sym s_prefix_is)
 
-      world_t : world_after setting next u.following ≡ At t.front
-      world_t = sym (world_split setting (start setting) u.front u.own u.following) ∙ ap At (sym u.is)
+      world_t : world_after setting next u.following ≡ At t.prefix
+      world_t = sym (world_split setting (start setting) u.prefix u.own u.following) ∙ ap At (sym u.is)
 
       turns_there : HasTurn setting next between_o not_here
       turns_there = record {
-        front = u.following;
+        prefix = u.following;
         own = t.own;
         following = t.following;
         is = refl;
         so = subst (λ u. turns not_here u t.own (stepped setting u t.own).world ≡ true) (sym world_t)
-            (turn_is_seen script sound (At t.front) t.own not_here a.client a.seq a.letter.rev t.turn);
+            (turn_is_seen script sound (At t.prefix) t.own not_here a.client a.seq a.letter.rev t.turn);
       }
 
       has : HasData told s.following a.letter (n, bytes)
@@ -333,7 +334,7 @@ module _ (run : Run) (rise : AreRising run.script.lines) where
       given_is : (given : ℕ × List ℕ) → old_data setting next o.following told false ≡ Some given → (given.0 ≡ n) × (given.1 ≡ bytes)
       given_is given is =
           let f = found setting next o.following false told given is in
-          let y = further o (record { front = f.front; own = f.own; following = f.following; is = f.is }) in
+          let y = further o (record { prefix = f.prefix; own = f.own; following = f.following; is = f.is }) in
           let number_is = line_of y f.letter f.sent given.1 f.has.says (sym f.has.to ∙ comes.own) given.0 f.has.accepts in
           let letter_is = letter_of y f.letter f.sent (f.has.accepts ∙ ap Some number_is) in (
             number_is ∙ sym a.number_is,
@@ -348,45 +349,47 @@ module _ (run : Run) (rise : AreRising run.script.lines) where
       -- ### No other record tells a look
 
       turned_same : (other : IsMoment records) (letter : Letter) → In letter other.own.sent → (seq : ℕ) → letter.body ≡ body.NotHere seq
-          → IsFoundBy other letter seq → other.front ≡ o.front
-      turned_same other letter there seq said f = by (ordered t.front t.own t.following turned_front f.turning f.between (sym t.is ∙ f.is))
+          → IsFoundBy other letter seq → other.prefix ≡ o.prefix
+      turned_same other letter there seq said f = by (ordered t.prefix t.own t.following turned_prefix f.turning f.between (sym t.is ∙ f.is))
         where
-          turned_front : List Record
-          turned_front = other.front ++ other.own ∷ f.turned
+          turned_prefix : List Record
+          turned_prefix = other.prefix ++ other.own ∷ f.turned
 
-          turned_legal : AreSteps script (turned_front ++ f.turning ∷ f.between)
+          turned_legal : AreSteps script (turned_prefix ++ f.turning ∷ f.between)
           turned_legal = subst (AreSteps script) f.is (legal_at s)
 
-          fine : AreSteps script turned_front
-          fine = before_part script turned_front (f.turning ∷ f.between) turned_legal
+          fine : AreSteps script turned_prefix
+          fine = before_part script turned_prefix (f.turning ∷ f.between) turned_legal
 
-          k : IsTurnOf script sound (At turned_front) f.turning letter seq
-          k = turn_of script sound turned_front f.turning fine (follows_on script sound turned_front f.turning f.between turned_legal) letter seq
-              (sent_after script sound other.front other.own f.turned fine letter there) said f.so
+          k : IsTurnOf script sound (At turned_prefix) f.turning letter seq
+          k = turn_of script sound turned_prefix f.turning fine (follows_on script sound turned_prefix f.turning f.between turned_legal) letter seq
+              (sent_after script sound other.prefix other.own f.turned fine letter there) said f.so
 
-          turn_too : IsTurn setting (At turned_front) f.turning letter a.client a.seq a.letter.rev
+          turn_too : IsTurn setting (At turned_prefix) f.turning letter a.client a.seq a.letter.rev
           turn_too =
-              subst (λ d. IsTurn setting (At turned_front) f.turning letter d a.seq a.letter.rev) (one_client (sym k.to ∙ f.to))
-              (subst (λ q. IsTurn setting (At turned_front) f.turning letter k.client q a.letter.rev) f.seq_is
-              (subst (λ r. IsTurn setting (At turned_front) f.turning letter k.client seq r) f.rev k.turn))
+              subst (λ d. IsTurn setting (At turned_prefix) f.turning letter d a.seq a.letter.rev) (one_client (sym k.to ∙ f.to))
+              (subst (λ q. IsTurn setting (At turned_prefix) f.turning letter k.client q a.letter.rev) f.seq_is
+              (subst (λ r. IsTurn setting (At turned_prefix) f.turning letter k.client seq r) f.rev k.turn))
 
-          by : AreOrdered t.front t.own t.following turned_front f.turning f.between → other.front ≡ o.front
+          by : AreOrdered t.prefix t.own t.following turned_prefix f.turning f.between → other.prefix ≡ o.prefix
           by (Are_one same own_is rest) =
               let letter_is : letter ≡ not_here =
               deliver_is letter not_here (sym turn_too.what ∙ ap (λ (r : Record). r.step) (sym own_is) ∙ t.turn.what) in
-              (one_sender not_here a.seq reply_n other o (subst (λ l. In l other.own.sent) letter_is there) u.sent).front_is
-          by (Is_former between same rest) = absurd (turns_once script sound t.front t.own between f.turning (subst (AreSteps script) same fine) not_here letter
+              (one_sender not_here a.seq reply_n other o (subst (λ l. In l other.own.sent) letter_is there) u.sent).prefix_is
+          by (Is_former between same rest) =
+              absurd (turns_once script sound t.prefix t.own between f.turning (subst (AreSteps script) same fine) not_here letter
               a.client a.seq a.letter.rev t.turn (subst (λ rs. IsTurn setting (At rs) f.turning letter a.client a.seq a.letter.rev) same turn_too))
-          by (Is_latter between same rest) = absurd (turns_once script sound turned_front f.turning between t.own (subst (AreSteps script) same (legal_at turn_at)) letter
+          by (Is_latter between same rest) =
+              absurd (turns_once script sound turned_prefix f.turning between t.own (subst (AreSteps script) same (legal_at turn_at)) letter
               not_here a.client a.seq a.letter.rev turn_too
               (subst (λ rs. IsTurn setting (At rs) t.own not_here a.client a.seq a.letter.rev) same t.turn))
 
-      only_old : (other : IsMoment records) (l : ℕ × Event) → In l (looks_at setting records other) → l.0 ≡ n → other.front ≡ o.front
+      only_old : (other : IsMoment records) (l : ℕ × Event) → In l (looks_at setting records other) → l.0 ≡ n → other.prefix ≡ o.prefix
       only_old other l i same = by (told_at other l i).letter (told_at other l i).there (told_at other l i).tells
         where
           by : (letter : Letter) → In letter other.own.sent
-              → TellsIt setting (At other.front) (stepped setting (At other.front) other.own).world other.own.actor other.following letter l.0
-              → other.front ≡ o.front
+              → TellsIt setting (At other.prefix) (stepped setting (At other.prefix) other.own).world other.own.actor other.following letter l.0
+              → other.prefix ≡ o.prefix
           by letter there (By_data seq xs says off acc) =
               true_false on (sym (old_as other (sent_here other letter there (acc ∙ ap Some (same ∙ a.number_is)))) ∙ off)
           by letter there (By_turning seq given says is number_is) =
@@ -396,14 +399,14 @@ module _ (run : Run) (rise : AreRising run.script.lines) where
       old_way : Once
       old_way = record {
         moment = o;
-        told = one_look setting (At o.front) next o.own o.following not_here n look events o_reply.reply.alone
-            (ap (letter_looks setting (At o.front) next o.own.actor o.following not_here) t.turn.said ∙ search_is) one_event;
+        told = one_look setting (At o.prefix) next o.own o.following not_here n look events o_reply.reply.alone
+            (ap (letter_looks setting (At o.prefix) next o.own.actor o.following not_here) t.turn.said ∙ search_is) one_event;
         alone = λ other ne. none_of_line n (looks_at setting records other) (λ l i same. ne (ap length (only_old other l i same)));
         server = o_reply.server;
         who = o_reply.who;
         called = reply_called o not_here o_reply a.client a.seq comes.own reply_n a.line a.is in_lines.1;
         between = between_o ++ s.own ∷ w.following;
-        answered = w.is ∙ ap (λ rs. rs ++ s.own ∷ w.following) s_front_is ∙ append_assoc o.front (o.own ∷ between_o) (s.own ∷ w.following);
+        answered = w.is ∙ ap (λ rs. rs ++ s.own ∷ w.following) s_prefix_is ∙ append_assoc o.prefix (o.own ∷ between_o) (s.own ∷ w.following);
       }
 
     pub its_look : HasItsLook setting records m number bytes

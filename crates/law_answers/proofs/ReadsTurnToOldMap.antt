@@ -34,7 +34,7 @@ pub record WasTurned (setting : Setting) (records : List Record) (c seq rev : �
   pub moment : IsMoment records
   pub open moment use *
   pub letter : Letter
-  pub turn : IsTurn setting (world_after setting (start setting) front) own letter c seq rev
+  pub turn : IsTurn setting (world_after setting (start setting) prefix) own letter c seq rev
 
 -- a record of the history is the call of the line by the client
 pub record WasCalled (records : List Record) (c number : ℕ) : Type 0 where
@@ -193,34 +193,34 @@ module _ (it : OneMore) where
       by new at (Is_still was) = p.past new was at
       by new at (By_its_step who may way) = has new at (is_call own.step) way
 
-past_since : (run : Run) (front later : List Record) → run.records ≡ front ++ later → (c seq rev : ℕ) → IsPast (At run.script front) c seq rev
+past_since : (run : Run) (prefix later : List Record) → run.records ≡ prefix ++ later → (c seq rev : ℕ) → IsPast (At run.script prefix) c seq rev
     → IsPast (after run) c seq rev
-past_since run front later is c seq rev p =
+past_since run prefix later is c seq rev p =
     since (λ run. IsPast (after run) c seq rev) (λ it old. subst (λ u. IsPast u c seq rev) (sym (stepped_in it))
-    (past_next it c seq rev old)) run front later is (λ legal. p)
+    (past_next it c seq rev old)) run prefix later is (λ legal. p)
 
 module _ (script : Script) (sound : IsSound script) where
   abbrev of_script : Setting
   of_script = setting_of script
 
   -- a read does not turn to the old map a second time at one revision
-  pub turns_once : (front : List Record) (own : Record) (between : List Record) (other : Record) → AreSteps script (front ++ own ∷ between)
+  pub turns_once : (prefix : List Record) (own : Record) (between : List Record) (other : Record) → AreSteps script (prefix ++ own ∷ between)
       → (letter again : Letter) (c seq rev : ℕ)
-      → IsTurn of_script (At script front) own letter c seq rev → IsTurn of_script (At script (front ++ own ∷ between)) other again c seq rev → ⊥
-  turns_once front own between other legal letter again c seq rev one two =
-      let e = append_assoc front (own ∷ []) between in
-      let joined : AreSteps script ((front ++ own ∷ []) ++ between) = subst (AreSteps script) (sym e) legal in
-      let next = next_is script sound front own in
-      let after : IsAskedSo (At script (front ++ own ∷ [])) c seq rev true = subst (λ u. IsAskedSo u c seq rev true) (sym next) one.after in
-      let last = (asked_at script sound (front ++ own ∷ []) (before_part script (front ++ own ∷ []) between joined) c after.asked after.is).last in
+      → IsTurn of_script (At script prefix) own letter c seq rev → IsTurn of_script (At script (prefix ++ own ∷ between)) other again c seq rev → ⊥
+  turns_once prefix own between other legal letter again c seq rev one two =
+      let e = append_assoc prefix (own ∷ []) between in
+      let joined : AreSteps script ((prefix ++ own ∷ []) ++ between) = subst (AreSteps script) (sym e) legal in
+      let next = next_is script sound prefix own in
+      let after : IsAskedSo (At script (prefix ++ own ∷ [])) c seq rev true = subst (λ u. IsAskedSo u c seq rev true) (sym next) one.after in
+      let last = (asked_at script sound (prefix ++ own ∷ []) (before_part script (prefix ++ own ∷ []) between joined) c after.asked after.is).last in
       let at = after.seq_is in
-      let start_past : IsPast (At script (front ++ own ∷ [])) c seq rev = record {
+      let start_past : IsPast (At script (prefix ++ own ∷ [])) c seq rev = record {
         low = omega arith;
         past = λ asked is same.
             let it : after.asked ≡ asked = same_some (sym after.is ∙ is) in
             inr (ap (λ (a : Asked). a.rev) (sym it) ∙ after.rev_is, ap (λ (a : Asked). a.old_way) (sym it) ∙ after.way_is);
       } in
-      let end = past_since (run_of script sound (front ++ own ∷ between) legal) (front ++ own ∷ []) between (sym e) c seq rev start_past in
+      let end = past_since (run_of script sound (prefix ++ own ∷ between) legal) (prefix ++ own ∷ []) between (sym e) c seq rev start_past in
       elim (end.past two.before.asked two.before.is two.before.seq_is) [
         | inl lt ↦ (let r = two.before.rev_is in absurd (omega arith))
         | inr here ↦ true_false here.1 two.before.way_is
@@ -238,13 +238,14 @@ module _ (script : Script) (sound : IsSound script) where
     pub to : letter.to ≡ actor.Client client
     pub turn : IsTurn of_script w own letter client seq letter.rev
 
-  module _ (front : List Record) (own : Record) (legal : AreSteps script front) (follows : Follows of_script (At script front) own) (letter : Letter) (seq : ℕ)
-      (sent : In letter (At script front).sent) (said : letter.body ≡ body.NotHere seq) where
+  module _ (prefix : List Record) (own : Record) (legal : AreSteps script prefix) (follows : Follows of_script (At script prefix) own)
+      (letter : Letter) (seq : ℕ)
+      (sent : In letter (At script prefix).sent) (said : letter.body ≡ body.NotHere seq) where
     abbrev w : World
-    w = At script front
+    w = At script prefix
 
     abbrev next : World
-    next = (stepped of_script (At script front) own).world
+    next = (stepped of_script (At script prefix) own).world
 
     abbrev R : Type 0
     R = IsTurnOf w own letter seq
@@ -260,7 +261,7 @@ module _ (script : Script) (sound : IsSound script) where
       on_way old was same may (Turns told off' at way') =
           let comes : MayDeliver w (actor.Client c) told.letter = subst (λ x. MayClient x of_script w c) told.is may in
           let names : same_name letter told.letter ≡ true = sym (ap (delivers letter) told.is) ∙ d in
-          let one : letter ≡ told.letter = (named_at script sound front legal).unique letter told.letter sent comes.sent names in
+          let one : letter ≡ told.letter = (named_at script sound prefix legal).unique letter told.letter sent comes.sent names in
           let both : body.NotHere old.seq ≡ body.NotHere seq = sym told.said ∙ ap (λ (l : Letter). l.body) (sym one) ∙ said in
           let seq_is : old.seq ≡ seq = cc in
           let rev_is : letter.rev ≡ old.rev = ap (λ (l : Letter). l.rev) one ∙ told.at in
@@ -290,9 +291,9 @@ module _ (script : Script) (sound : IsSound script) where
     by_who (actor.Client c) who d off on =
         let o = open_old (next.clients c).asked on in
         by_way c who d off o.0 o.1 o.2
-        (step_way of_script w (asked_at script sound front legal) own.actor own.step own.stamp follows.may.may c o.0 o.1)
+        (step_way of_script w (asked_at script sound prefix legal) own.actor own.step own.stamp follows.may.may c o.0 o.1)
 
-    pub turn_of : turns letter (At script front) own (stepped of_script (At script front) own).world ≡ true → R
+    pub turn_of : turns letter (At script prefix) own (stepped of_script (At script prefix) own).world ≡ true → R
     turn_of e =
         let outer = both_true (delivers letter own.step && not (goes_old w own.actor)) (goes_old next own.actor) e in
         let inner = both_true (delivers letter own.step) (not (goes_old w own.actor)) outer.0 in

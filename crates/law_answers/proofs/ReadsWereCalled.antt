@@ -1,8 +1,8 @@
 -- A read that a server handles was called before; and where it is of an old map, its client was turned to that map before.
 use Rattle.law_answers.proofs.Imports.{[], ◌++◌, ◌∙◌, ◌∷◌, ◌≡◌, AreSteps, Body, Bool, Call, Cell, Client, Command, DiskView, Handled, HasProperTuples, In}
 use Rattle.law_answers.proofs.Imports.{IsPrefix, IsSound, Letter, Line, List, MayClient, Record, Script, Setting, Some, Step, World, ap, append_assoc, arith}
-use Rattle.law_answers.proofs.Imports.{asked_takes, by_bool, cell_asked, chosen_log, false, find, front_on, front_plain, history_grows, in_former, length}
-use Rattle.law_answers.proofs.Imports.{line_by, log_plain, log_rev, none_some, one_front, put_same, reacts, refl, rev_of, run_of, same_some, setting_of}
+use Rattle.law_answers.proofs.Imports.{asked_takes, by_bool, cell_asked, chosen_log, false, find, history_grows, in_former, length, line_by, log_plain}
+use Rattle.law_answers.proofs.Imports.{log_rev, none_some, one_prefix, prefix_on, prefix_plain, put_same, reacts, refl, rev_of, run_of, same_some, setting_of}
 use Rattle.law_answers.proofs.Imports.{stage_facts, start, state_after, step, stepped, subst, sym, true, true_false, was_sent, world_after, ℕ}
 use Rattle.spec_rules.specs.State.{leaving}
 use Rattle.law_answers.proofs.ClientReadSteps.{Asks}
@@ -42,10 +42,10 @@ turned_in : (setting : Setting) (records done following : List Record) → recor
     → WasTurned setting records c seq rev
 turned_in setting records done following e c seq rev t = record {
   moment = record {
-    front = t.front;
+    prefix = t.prefix;
     own = t.own;
     following = t.following ++ following;
-    is = e ∙ ap (λ rs. rs ++ following) t.is ∙ append_assoc t.front (t.own ∷ t.following) following;
+    is = e ∙ ap (λ rs. rs ++ following) t.is ∙ append_assoc t.prefix (t.own ∷ t.following) following;
   };
   letter = t.letter;
   turn = t.turn;
@@ -64,35 +64,35 @@ module _ (script : Script) (sound : IsSound script) where
 
   -- where a read that has come to a server was sent
   record IsSource (records : List Record) (client seq : ℕ) (cell : Cell) (rev : ℕ) : Type 0 where
-    front : List Record
+    prefix : List Record
     own : Record
     following : List Record
-    is : records ≡ (front ++ own ∷ []) ++ following
-    legal : AreSteps script (front ++ own ∷ [])
-    so : IsSentFor setting (At (front ++ own ∷ [])) client seq cell rev
+    is : records ≡ (prefix ++ own ∷ []) ++ following
+    legal : AreSteps script (prefix ++ own ∷ [])
+    so : IsSentFor setting (At (prefix ++ own ∷ [])) client seq cell rev
 
   source : (records : List Record) → AreSteps script records → (letter : Letter) → In letter (At records).sent → (client seq : ℕ) (cell : Cell)
       (epoch : ℕ) → letter.body ≡ body.Read client seq cell epoch → IsSource records client seq cell letter.rev
   source records legal letter i client seq cell epoch says =
       let s = was_sent (run_of script sound records legal) letter i in
-      let there : AreSteps script (s.front ++ s.own ∷ s.following) = subst (AreSteps script) s.is legal in
+      let there : AreSteps script (s.prefix ++ s.own ∷ s.following) = subst (AreSteps script) s.is legal in
       let of_read : is_of_read letter.body ≡ true = ap is_of_read says in
-      let so = by s.front s.own (sent_by script sound s.front s.own s.following there letter s.sent of_read) in
+      let so = by s.prefix s.own (sent_by script sound s.prefix s.own s.following there letter s.sent of_read) in
       record {
-        front = s.front;
+        prefix = s.prefix;
         own = s.own;
         following = s.following;
-        is = s.is ∙ sym (append_assoc s.front (s.own ∷ []) s.following);
-        legal = legal_upto script sound s.front s.own s.following there;
-        so = subst (λ u. IsSentFor setting u client seq cell letter.rev) (sym (next_is script sound s.front s.own)) so;
+        is = s.is ∙ sym (append_assoc s.prefix (s.own ∷ []) s.following);
+        legal = legal_upto script sound s.prefix s.own s.following there;
+        so = subst (λ u. IsSentFor setting u client seq cell letter.rev) (sym (next_is script sound s.prefix s.own)) so;
       }
     where
-      by : (front : List Record) (own : Record) → IsSentFrom setting (At front) own letter
-          → IsSentFor setting (stepped setting (At front) own).world client seq cell letter.rev
-      by front own (From_server n who r) = no_reply letter.body client seq cell epoch r.seq says r.is
-      by front own (From_client c who may j) =
-          subst (λ a. IsSentFor setting (step a own.step setting (At front) own.stamp).world client seq cell letter.rev) (sym who)
-          (client_sent setting (At front) c own.step own.stamp may letter j client seq cell epoch says)
+      by : (prefix : List Record) (own : Record) → IsSentFrom setting (At prefix) own letter
+          → IsSentFor setting (stepped setting (At prefix) own).world client seq cell letter.rev
+      by prefix own (From_server n who r) = no_reply letter.body client seq cell epoch r.seq says r.is
+      by prefix own (From_client c who may j) =
+          subst (λ a. IsSentFor setting (step a own.step setting (At prefix) own.stamp).world client seq cell letter.rev) (sym who)
+          (client_sent setting (At prefix) c own.step own.stamp may letter j client seq cell epoch says)
 
   -- ### It was called
 
@@ -102,12 +102,12 @@ module _ (script : Script) (sound : IsSound script) where
   read_called records legal n client seq cell epoch h line is =
       let s = source records legal h.letter h.sent client seq cell epoch h.is in
       let asks = s.so.asks in
-      let k = was_called (run_of script sound (s.front ++ s.own ∷ []) s.legal) client asks.asked asks.is in
-      let of = asked_at script sound (s.front ++ s.own ∷ []) s.legal client asks.asked asks.is in
+      let k = was_called (run_of script sound (s.prefix ++ s.own ∷ []) s.legal) client asks.asked asks.is in
+      let of = asked_at script sound (s.prefix ++ s.own ∷ []) s.legal client asks.asked asks.is in
       let line_is : of.line ≡ line = same_some (sym of.is ∙ ap (line_by script.lines client) asks.seq_is ∙ is) in
       record {
         call = k.call;
-        there = subst (In k.call) (sym s.is) (in_former k.call (s.front ++ s.own ∷ []) s.following k.there);
+        there = subst (In k.call) (sym s.is) (in_former k.call (s.prefix ++ s.own ∷ []) s.following k.there);
         who = k.who;
         what = k.what ∙ ap Call (of.number ∙ ap (λ (l : Line). l.number) line_is);
       }
@@ -138,7 +138,7 @@ module _ (script : Script) (sound : IsSound script) where
       → WasTurned setting records client seq (rev_of ((At records).servers n).log)
   read_turned records legal n client seq cell epoch h leaves =
       let s = source records legal h.letter h.sent client seq cell epoch h.is in
-      let done = s.front ++ s.own ∷ [] in
+      let done = s.prefix ++ s.own ∷ [] in
       let asks = s.so.asks in
       let mine = ((At done).clients client).applied in
       let firm = (stands_after script done sound s.legal).ground.ready.firm in
@@ -146,12 +146,12 @@ module _ (script : Script) (sound : IsSound script) where
       let grows : IsPrefix (chosen_log setting (At done)) (chosen_log setting (At records)) =
       history_grows script records sound legal done s.following s.is in
       let log_is : mine ≡ ((At records).servers n).log.applied =
-      one_front mine ((At records).servers n).log.applied (chosen_log setting (At records))
-      (front_on mine (chosen_log setting (At done)) (chosen_log setting (At records)) (firm.clients client) grows) (firm_now.servers n)
+      one_prefix mine ((At records).servers n).log.applied (chosen_log setting (At records))
+      (prefix_on mine (chosen_log setting (At done)) (chosen_log setting (At records)) (firm.clients client) grows) (firm_now.servers n)
       (sym s.so.long ∙ h.at) in
       let leaves_then : leaving (state_after script.servers mine) cell ≡ true =
       ap (λ log. leaving (state_after script.servers log) cell) log_is ∙ leaves in
-      let plain = front_plain script.servers mine (chosen_log setting (At done)) firm.plain (firm.clients client) in
+      let plain = prefix_plain script.servers mine (chosen_log setting (At done)) firm.plain (firm.clients client) in
       let way = old_way_of mine plain cell asks.name asks.disk asks.block asks.asked.old_way asks.found asks.cell_is leaves_then in
       let t = was_turned (run_of script sound done s.legal) client asks.asked asks.is way in
       let rev_is : asks.asked.rev ≡ rev_of ((At records).servers n).log = asks.rev_is ∙ log_rev script.servers mine ∙ ap length log_is in

@@ -1,9 +1,9 @@
 -- Why a server refuses, or tells that no slot is free: what was so in the job in which it said so.
 use Rattle.law_answers.proofs.Imports.{◌∙◌, ◌≡◌, Actor, An_entry_to_move, Asks, Body, Bool, Cell, Ending, FoundNoSlot, Handled, HasEnded, In, IsBusy}
 use Rattle.law_answers.proofs.Imports.{IsHeldBack, IsNewFill, IsRefusal, Is_declined, JobContext, Key, Letter, Moving, OneMore, PairState, Pending, Post}
-use Rattle.law_answers.proofs.Imports.{Setting, Some, Step, Work, World, after, ap, at, by_bool, cell_cmp, cell_of, ended, false, first, free_of, inl}
-use Rattle.law_answers.proofs.Imports.{inr, is_aside, is_logged, is_refused, is_second, letters_of_job, logged_notice, notice_aside, own_place, refl}
-use Rattle.law_answers.proofs.Imports.{rests_in, setting_in, subject_of, subst, sym, true, true_false, ℕ}
+use Rattle.law_answers.proofs.Imports.{Setting, Some, Step, Work, World, after, ap, at, by_bool, cell_cmp, cell_of, ended, false, first, free_of, inl, inr}
+use Rattle.law_answers.proofs.Imports.{is_aside, is_logged, is_refused, is_second, letters_of_job, logged_notice, notice_aside, own_place, refl, rests_in}
+use Rattle.law_answers.proofs.Imports.{setting_in, subject_of, subst, sym, true, true_false, ℕ}
 use Rattle.law_steps.specs.DidLead.{Of_the_log}
 use Rattle.law_jobs.specs.Sayings.{Says}
 use Rattle.law_answers.specs.FullCauses.{LacksRoom}

@@ -1,7 +1,7 @@
 -- The records of a legal history: what each follows on, and where a letter was sent.
 use Rattle.law_answers.proofs.Imports.{[], ◌++◌, ◌∙◌, ◌∷◌, ◌≡◌, Acted, Actor, AreSteps, Asked, At, Blank, Firm, Follows, Grounded, In, IsAsked, IsSound}
 use Rattle.law_answers.proofs.Imports.{Letter, List, MayActor, MayClient, Named, Record, Script, Setting, Some, Step, World, acts, ap, append_assoc, arith}
-use Rattle.law_answers.proofs.Imports.{asking_after, before_part, clock_of, front_legal, own_steady, reacts, refl, run_of, sent_since, server_serves}
+use Rattle.law_answers.proofs.Imports.{asking_after, before_part, clock_of, own_steady, prefix_legal, reacts, refl, run_of, sent_since, server_serves}
 use Rattle.law_answers.proofs.Imports.{server_state, server_step, setting_of, start, step, stepped, subst, sym, true, true_false, world_more, ℕ}
 use Rattle.law_answers.proofs.OneReplyEachRead.{IsReply, Is_apart, IsSentBy, Replies, is_of_read, sends}
 use Rattle.law_answers.proofs.LawsBelow.{Stands, stands_after}
@@ -45,18 +45,18 @@ module _ (script : Script) (sound : IsSound script) where
   abbrev setting_now : Setting
   setting_now = setting_of script
 
-  pub follows_on : (front : List Record) (own : Record) (following : List Record) → AreSteps script (front ++ own ∷ following)
-      → Follows setting_now (At script front) own
-  follows_on front own following legal = (front_legal setting_now (start setting_now) front (own ∷ following) legal).1.0
+  pub follows_on : (prefix : List Record) (own : Record) (following : List Record) → AreSteps script (prefix ++ own ∷ following)
+      → Follows setting_now (At script prefix) own
+  follows_on prefix own following legal = (prefix_legal setting_now (start setting_now) prefix (own ∷ following) legal).1.0
 
-  pub legal_upto : (front : List Record) (own : Record) (following : List Record) → AreSteps script (front ++ own ∷ following)
-      → AreSteps script (front ++ own ∷ [])
-  legal_upto front own following legal =
-      before_part script (front ++ own ∷ []) following (subst (AreSteps script) (sym (append_assoc front (own ∷ []) following)) legal)
+  pub legal_upto : (prefix : List Record) (own : Record) (following : List Record) → AreSteps script (prefix ++ own ∷ following)
+      → AreSteps script (prefix ++ own ∷ [])
+  legal_upto prefix own following legal =
+      before_part script (prefix ++ own ∷ []) following (subst (AreSteps script) (sym (append_assoc prefix (own ∷ []) following)) legal)
 
   -- the world after one more
-  pub next_is : (front : List Record) (own : Record) → At script (front ++ own ∷ []) ≡ (stepped setting_now (At script front) own).world
-  next_is front own = world_more setting_now (start setting_now) front own
+  pub next_is : (prefix : List Record) (own : Record) → At script (prefix ++ own ∷ []) ≡ (stepped setting_now (At script prefix) own).world
+  next_is prefix own = world_more setting_now (start setting_now) prefix own
 
   pub asked_at : (records : List Record) → AreSteps script records → (c : ℕ) (asked : Asked) → ((At script records).clients c).asked ≡ Some asked
       → IsAsked script.lines c ((At script records).clients c) asked
@@ -66,28 +66,29 @@ module _ (script : Script) (sound : IsSound script) where
   named_at records legal = (stands_after script records sound legal).ground.named
 
   -- what a record sent stays sent
-  pub sent_after : (front : List Record) (own : Record) (between : List Record) → AreSteps script (front ++ own ∷ between) → (letter : Letter)
-      → In letter own.sent → In letter (At script (front ++ own ∷ between)).sent
-  sent_after front own between legal letter i =
-      sent_since (run_of script sound (front ++ own ∷ between) legal) (record { front = front; own = own; following = between; is = refl }) letter i
+  pub sent_after : (prefix : List Record) (own : Record) (between : List Record) → AreSteps script (prefix ++ own ∷ between) → (letter : Letter)
+      → In letter own.sent → In letter (At script (prefix ++ own ∷ between)).sent
+  sent_after prefix own between legal letter i =
+      sent_since (run_of script sound (prefix ++ own ∷ between) legal) (record { prefix = prefix; own = own; following = between; is = refl }) letter i
 
-  pub sent_by : (front : List Record) (own : Record) (following : List Record) → AreSteps script (front ++ own ∷ following) → (letter : Letter)
-      → In letter own.sent → is_of_read letter.body ≡ true → IsSentFrom setting_now (At script front) own letter
-  sent_by front own following legal letter i of_read =
-      let follows = follows_on front own following legal in
-      let firm : Firm setting_now (stepped setting_now (At script front) own).world =
-      subst (Firm setting_now) (next_is front own)
-      (stands_after script (front ++ own ∷ []) sound (legal_upto front own following legal)).ground.ready.firm in
-      step_sends setting_now (At script front) (stands_after script front sound (before_part script front (own ∷ following) legal)) own.actor own.step own.stamp
+  pub sent_by : (prefix : List Record) (own : Record) (following : List Record) → AreSteps script (prefix ++ own ∷ following) → (letter : Letter)
+      → In letter own.sent → is_of_read letter.body ≡ true → IsSentFrom setting_now (At script prefix) own letter
+  sent_by prefix own following legal letter i of_read =
+      let follows = follows_on prefix own following legal in
+      let firm : Firm setting_now (stepped setting_now (At script prefix) own).world =
+      subst (Firm setting_now) (next_is prefix own)
+      (stands_after script (prefix ++ own ∷ []) sound (legal_upto prefix own following legal)).ground.ready.firm in
+      step_sends setting_now (At script prefix)
+      (stands_after script prefix sound (before_part script prefix (own ∷ following) legal)) own.actor own.step own.stamp
       follows.may.may firm own refl refl refl follows.sent letter (subst (In letter) follows.sent i) of_read
 
   -- no reply is sent twice
-  pub sent_once : (front : List Record) (own : Record) (between : List Record) → AreSteps script (front ++ own ∷ between) → (other : Record)
-      → Follows setting_now (At script (front ++ own ∷ between)) other → (letter : Letter) (n : ℕ) → In letter own.sent
+  pub sent_once : (prefix : List Record) (own : Record) (between : List Record) → AreSteps script (prefix ++ own ∷ between) → (other : Record)
+      → Follows setting_now (At script (prefix ++ own ∷ between)) other → (letter : Letter) (n : ℕ) → In letter own.sent
       → other.actor ≡ actor.Server n → letter.«from» ≡ actor.Server n → letter.stamp ≡ other.stamp → ⊥
-  sent_once front own between fine other later letter n i who from_is at =
-      let done = front ++ own ∷ between in
-      let early = (named_at done fine).early letter (sent_after front own between fine letter i) in
+  sent_once prefix own between fine other later letter n i who from_is at =
+      let done = prefix ++ own ∷ between in
+      let early = (named_at done fine).early letter (sent_after prefix own between fine letter i) in
       let lt = later.stamp in
       let clock : clock_of (At script done) letter.«from» ≡ clock_of (At script done) other.actor = ap (clock_of (At script done)) (from_is ∙ sym who) in
       omega arith

@@ -1,7 +1,7 @@
 -- What a server's step has to show so that each refusal has its reason.
 use Rattle.law_answers.proofs.Imports.{◌<◌, ◌∙◌, ◌≡◌, ◌≤◌, ◌⊎◌, Acted, Body, Cell, Finished, In, IsPrefix, Letter, Pending, Server, Setting, Some, Step, Was}
-use Rattle.law_answers.proofs.Imports.{World, acts, all_put, ap, arith, at, cell_cmp, chosen_log, first, front_on, in-append, inl, inr, is_clients, is_in}
-use Rattle.law_answers.proofs.Imports.{length, nat_cmp, put_same, server_state, stamped, subst, sym, true, was_same, ℕ}
+use Rattle.law_answers.proofs.Imports.{World, acts, all_put, ap, arith, at, cell_cmp, chosen_log, first, in-append, inl, inr, is_clients, is_in, length}
+use Rattle.law_answers.proofs.Imports.{nat_cmp, prefix_on, put_same, server_state, stamped, subst, sym, true, was_same, ℕ}
 use Rattle.law_answers.specs.Refusals.{IsDeclined, IsNumbered, Refusals}
 use Rattle.law_answers.proofs.SlotLetters.{WereRefused}
 use Rattle.petal_msg.specs.declared.body.Body.TheVariants as body
@@ -64,8 +64,8 @@ still_numbered setting w v grows on letter number cell k =
     record {
       server = k.server;
       inc = k.inc;
-      front = k.front;
-      stands = front_on k.front _ _ k.stands grows;
+      prefix = k.prefix;
+      stands = prefix_on k.prefix _ _ k.stands grows;
       long = k.long;
       seated = k.seated;
       leads = k.leads;
@@ -117,8 +117,8 @@ module _ (R S : ℕ → ℕ → Type 0) (it : WereRefused R S) (n stamp : ℕ) (
       record {
         server = n;
         inc = (w.servers n).life.inc;
-        front = (w.servers n).log.applied;
-        stands = front_on (w.servers n).log.applied _ _ (firm.servers n) grows;
+        prefix = (w.servers n).log.applied;
+        stands = prefix_on (w.servers n).log.applied _ _ (firm.servers n) grows;
         long = a.long;
         seated = a.seated;
         leads = a.leads;

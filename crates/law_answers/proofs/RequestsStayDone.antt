@@ -1,7 +1,7 @@
 -- What requests with commands ask for, and what a state goes on to say of it: a disk, a snapshot, or that a disk is on the move.
 use Rattle.law_answers.proofs.Imports.{[], if◌then◌else◌, ◌++◌, ◌∙◌, ◌∷◌, ◌≡◌, Bool, Command, DiskRow, Fence, HasProperTuples, In, IsFence, IsGrown}
 use Rattle.law_answers.proofs.Imports.{IsLaterDisk, IsUnsettled, Latest, List, MakeDisk, None, Of_disk, Of_region, Option, Region, Request, Snap, Snapshot}
-use Rattle.law_answers.proofs.Imports.{Some, StartMove, Whole, ap, command_of, disk_at, disk_at_is, false, find_after, find_front, find_here, found_at}
+use Rattle.law_answers.proofs.Imports.{Some, StartMove, Whole, ap, command_of, disk_at, disk_at_is, false, find_after, find_here, find_prefix, found_at}
 use Rattle.law_answers.proofs.Imports.{has_made, head_get, here_row, inl, inr, is_some, move_fenced, named, nat_lists_same, none_some, one_passed, option_map}
 use Rattle.law_answers.proofs.Imports.{option_map_or, passed_beside, passed_here, passing, ready_by, refl, region_beside, region_here, replicate, row_fenced}
 use Rattle.law_answers.proofs.Imports.{row_frozen, same_or_apart, same_some, settled, settled_keeps, slice_get, snapshot_named, some_or_none, suc, sym, take}
@@ -11,7 +11,7 @@ use Rattle.global_tables.specs.Disk.{same_name}
 use Rattle.spec_state.specs.State.{State}
 use Rattle.script_lines.specs.declared.request.Request.TheVariants as request
 
--- ### Fronts of a log
+-- ### Prefixes of a log
 
 pub in_take : {X : Type 0} (x : X) (xs : List X) (k : ℕ) → In x (take k xs) → In x xs
 unfolding In
@@ -21,8 +21,8 @@ in_take x (y ∷ xs) zero h = absurd h
 in_take x (y ∷ xs) (suc k) (inl is) = inl is
 in_take x (y ∷ xs) (suc k) (inr later) = inr (in_take x xs k later)
 
-pub plain_front : (servers : ℕ) (log : List Command) (k : ℕ) → HasProperTuples servers log → HasProperTuples servers (take k log)
-plain_front servers log k plain command h = plain command (in_take command log k h)
+pub plain_prefix : (servers : ℕ) (log : List Command) (k : ℕ) → HasProperTuples servers log → HasProperTuples servers (take k log)
+plain_prefix servers log k plain command h = plain command (in_take command log k h)
 
 pub take_next : {X : Type 0} (xs : List X) (k : ℕ) (x : X) → slice_get xs k ≡ Some x → take (suc k) xs ≡ take k xs ++ x ∷ []
 take_next [] k x e = none_some refl e
@@ -56,13 +56,13 @@ named_on servers s t p q g name row e =
 
 pub last_found : {A : Type 0} (p : A → Bool) (xs : List A) (y : A) → p y ≡ true → is_some (find p (xs ++ y ∷ [])) ≡ true
 last_found p xs y is = elim (some_or_none (find p xs)) [
-  | inl found ↦ ap is_some (find_front p xs (y ∷ []) found.0 found.1)
+  | inl found ↦ ap is_some (find_prefix p xs (y ∷ []) found.0 found.1)
   | inr none ↦ ap is_some (find_after p xs (y ∷ []) none) ∙ ap (λ (b : Bool). is_some (if b then Some y else None)) is
 ]
 
 pub still_found : {A : Type 0} (p : A → Bool) (xs ys : List A) → is_some (find p xs) ≡ true → is_some (find p (xs ++ ys)) ≡ true
 still_found p xs ys h = elim (some_or_none (find p xs)) [
-  | inl found ↦ ap is_some (find_front p xs ys found.0 found.1)
+  | inl found ↦ ap is_some (find_prefix p xs ys found.0 found.1)
   | inr none ↦ true_false h (ap is_some none)
 ]
 

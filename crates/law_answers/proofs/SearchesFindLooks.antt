@@ -36,19 +36,19 @@ accepting letter own _ number is e = none_some refl e
 
 -- one of these records does so
 pub record IsAccepted (records : List Record) (letter : Letter) (number : ℕ) : Type 0 where
-  pub front : List Record
+  pub prefix : List Record
   pub own : Record
   pub following : List Record
-  pub is : records ≡ front ++ own ∷ following
+  pub is : records ≡ prefix ++ own ∷ following
   pub so : IsAccepting letter own number
 
 pub accepted_in : (records : List Record) (letter : Letter) (number : ℕ) → accepted records letter ≡ Some number → IsAccepted records letter number
 accepted_in [] letter number e = none_some refl e
 accepted_in (own ∷ later) letter number e = elim (some_first (accepts letter own.step own.answer) (accepted later letter) number e) [
-  | inl now ↦ record { front = []; own = own; following = later; is = refl; so = accepting letter own own.step number refl now }
+  | inl now ↦ record { prefix = []; own = own; following = later; is = refl; so = accepting letter own own.step number refl now }
   | inr on ↦
       let k = accepted_in later letter number on in
-      record { front = own ∷ k.front; own = k.own; following = k.following; is = ap (λ rs. own ∷ rs) k.is; so = k.so }
+      record { prefix = own ∷ k.prefix; own = k.own; following = k.following; is = ap (λ rs. own ∷ rs) k.is; so = k.so }
 ]
 
 all_true : (a b c : Bool) → a ≡ true → b ≡ true → c ≡ true → (a && b && c) ≡ true
@@ -71,44 +71,44 @@ first_some None two k e = (k, e)
 first_some (Some n) two k e = (n, refl)
 
 -- where a record delivers the letter and answers with data, one accepts it
-pub is_accepted : (front : List Record) (own : Record) (following : List Record) (letter : Letter) (number : ℕ) (bytes : List ℕ)
+pub is_accepted : (prefix : List Record) (own : Record) (following : List Record) (letter : Letter) (number : ℕ) (bytes : List ℕ)
     → own.step ≡ Deliver letter → own.answer ≡ Some (number, answer.Data bytes)
-    → (k : ℕ) × (accepted (front ++ own ∷ following) letter ≡ Some k)
+    → (k : ℕ) × (accepted (prefix ++ own ∷ following) letter ≡ Some k)
 is_accepted [] own following letter number bytes what answers =
     let now : accepts letter own.step own.answer ≡ Some number =
     (λ i. accepts letter (what i) (answers i)) ∙ ap (λ b. if b then Some number else None) (name_itself letter) in
     (number, ap (λ o. first_of o (accepted following letter)) now)
-is_accepted (x ∷ front) own following letter number bytes what answers =
-    let k = is_accepted front own following letter number bytes what answers in
-    first_some (accepts letter x.step x.answer) (accepted (front ++ own ∷ following) letter) k.0 k.1
+is_accepted (x ∷ prefix) own following letter number bytes what answers =
+    let k = is_accepted prefix own following letter number bytes what answers in
+    first_some (accepts letter x.step x.answer) (accepted (prefix ++ own ∷ following) letter) k.0 k.1
 
 -- ### The data that a read gets by the old map
 
 module _ (setting : Setting) where
   -- with one of these records the client turns to the old map
   pub record HasTurn (w : World) (records : List Record) (letter : Letter) : Type 0 where
-    pub front : List Record
+    pub prefix : List Record
     pub own : Record
     pub following : List Record
-    pub is : records ≡ front ++ own ∷ following
-    pub so : turns letter (world_after setting w front) own (stepped setting (world_after setting w front) own).world ≡ true
+    pub is : records ≡ prefix ++ own ∷ following
+    pub so : turns letter (world_after setting w prefix) own (stepped setting (world_after setting w prefix) own).world ≡ true
 
   turn_later : (w : World) (own : Record) (records : List Record) (letter : Letter) → HasTurn (stepped setting w own).world records letter
       → HasTurn w (own ∷ records) letter
   turn_later w own records letter t =
-      record { front = own ∷ t.front; own = t.own; following = t.following; is = ap (λ rs. own ∷ rs) t.is; so = t.so }
+      record { prefix = own ∷ t.prefix; own = t.own; following = t.following; is = ap (λ rs. own ∷ rs) t.is; so = t.so }
 
   -- which letter has the data that the search found: a step sent it that read the old map, and the client had turned before
   pub record IsFound (w : World) (records : List Record) (turned : Bool) (told : NotThere) (given : ℕ × List ℕ) : Type 0 where
-    pub front : List Record
+    pub prefix : List Record
     pub own : Record
     pub following : List Record
-    pub is : records ≡ front ++ own ∷ following
+    pub is : records ≡ prefix ++ own ∷ following
     pub letter : Letter
     pub sent : In letter own.sent
-    pub old : reads_old setting (world_after setting w front) own.actor ≡ true
+    pub old : reads_old setting (world_after setting w prefix) own.actor ≡ true
     pub has : HasData told following letter given
-    pub turn : (turned ≡ true) ⊎ HasTurn w front told.letter
+    pub turn : (turned ≡ true) ⊎ HasTurn w prefix told.letter
 
   pub found : (w : World) (records : List Record) (turned : Bool) (told : NotThere) (given : ℕ × List ℕ)
       → old_data setting w records told turned ≡ Some given → IsFound w records turned told given
@@ -123,7 +123,7 @@ module _ (setting : Setting) where
             let k = in_data told later own.sent given
             (sym (ap (λ b. if b then data_among told later own.sent else None) t) ∙ now) in
             record {
-              front = [];
+              prefix = [];
               own = own;
               following = later;
               is = refl;
@@ -137,7 +137,7 @@ module _ (setting : Setting) where
         | inr on ↦
             let k = found next later (turned || turns told.letter w own next) told given on in
             record {
-              front = own ∷ k.front;
+              prefix = own ∷ k.prefix;
               own = k.own;
               following = k.following;
               is = ap (λ rs. own ∷ rs) k.is;
@@ -146,10 +146,10 @@ module _ (setting : Setting) where
               old = k.old;
               has = k.has;
               turn = elim k.turn [
-                | inr t ↦ inr (turn_later w own k.front told.letter t)
+                | inr t ↦ inr (turn_later w own k.prefix told.letter t)
                 | inl t ↦ elim (either_of turned (turns told.letter w own next) t) [
                   | inl before ↦ inl before
-                  | inr now ↦ inr (record { front = []; own = own; following = k.front; is = refl; so = now })
+                  | inr now ↦ inr (record { prefix = []; own = own; following = k.prefix; is = refl; so = now })
                 ]
               ];
             }
@@ -187,10 +187,10 @@ module _ (setting : Setting) where
       (subst (λ (l : Letter). HasSome (data_of told later l l.body)) e (given, is))
 
   -- where a step sent the data that had read the old map, after the client had turned
-  pub finds : (w : World) (front : List Record) (own : Record) (following : List Record) (turned : Bool) (told : NotThere) (letter : Letter)
-      (given : ℕ × List ℕ) → reads_old setting (world_after setting w front) own.actor ≡ true → In letter own.sent → HasData told following letter given
-      → (turned ≡ true) ⊎ HasTurn w front told.letter
-      → HasSome (old_data setting w (front ++ own ∷ following) told turned)
+  pub finds : (w : World) (prefix : List Record) (own : Record) (following : List Record) (turned : Bool) (told : NotThere) (letter : Letter)
+      (given : ℕ × List ℕ) → reads_old setting (world_after setting w prefix) own.actor ≡ true → In letter own.sent → HasData told following letter given
+      → (turned ≡ true) ⊎ HasTurn w prefix told.letter
+      → HasSome (old_data setting w (prefix ++ own ∷ following) told turned)
   finds w [] own following turned told letter given old i d turn =
       first_has (if turned && reads_old setting w own.actor then data_among told following own.sent else None) _
       (subst (λ b. HasSome (if b then data_among told following own.sent else None))
@@ -198,33 +198,33 @@ module _ (setting : Setting) where
     where
       now : (turned ≡ true) ⊎ HasTurn w [] told.letter → turned ≡ true
       now (inl t) = t
-      now (inr t) = absurd (none t.front t.is)
+      now (inr t) = absurd (none t.prefix t.is)
         where
           none : (rs : List Record) → [] ≡ rs ++ t.own ∷ t.following → ⊥
           none [] e = cc
           none (r ∷ rs) e = cc
-  finds w (x ∷ front) own following turned told letter given old i d turn =
+  finds w (x ∷ prefix) own following turned told letter given old i d turn =
       let next = (stepped setting w x).world in
-      second_has (if turned && reads_old setting w x.actor then data_among told (front ++ own ∷ following) x.sent else None)
-      (old_data setting next (front ++ own ∷ following) told (turned || turns told.letter w x next))
-      (finds next front own following (turned || turns told.letter w x next) told letter given old i d (on turn))
+      second_has (if turned && reads_old setting w x.actor then data_among told (prefix ++ own ∷ following) x.sent else None)
+      (old_data setting next (prefix ++ own ∷ following) told (turned || turns told.letter w x next))
+      (finds next prefix own following (turned || turns told.letter w x next) told letter given old i d (on turn))
     where
-      on : (turned ≡ true) ⊎ HasTurn w (x ∷ front) told.letter
-          → ((turned || turns told.letter w x (stepped setting w x).world) ≡ true) ⊎ HasTurn (stepped setting w x).world front told.letter
+      on : (turned ≡ true) ⊎ HasTurn w (x ∷ prefix) told.letter
+          → ((turned || turns told.letter w x (stepped setting w x).world) ≡ true) ⊎ HasTurn (stepped setting w x).world prefix told.letter
       on (inl t) = inl (or_former turned _ t)
-      on (inr t) = by t.front t.is t.so
+      on (inr t) = by t.prefix t.is t.so
         where
-          by : (rs : List Record) → x ∷ front ≡ rs ++ t.own ∷ t.following
+          by : (rs : List Record) → x ∷ prefix ≡ rs ++ t.own ∷ t.following
               → turns told.letter (world_after setting w rs) t.own (stepped setting (world_after setting w rs) t.own).world ≡ true
-              → ((turned || turns told.letter w x (stepped setting w x).world) ≡ true) ⊎ HasTurn (stepped setting w x).world front told.letter
+              → ((turned || turns told.letter w x (stepped setting w x).world) ≡ true) ⊎ HasTurn (stepped setting w x).world prefix told.letter
           by [] e so =
               let same : x ≡ t.own = cc in
               inl (or_true turned _ (subst (λ (r : Record). turns told.letter w r (stepped setting w r).world ≡ true) (sym same) so))
           by (r ∷ rs) e so =
               let same : x ≡ r = cc in
-              let rest : front ≡ rs ++ t.own ∷ t.following = cc in
+              let rest : prefix ≡ rs ++ t.own ∷ t.following = cc in
               inr (record {
-                front = rs;
+                prefix = rs;
                 own = t.own;
                 following = t.following;
                 is = rest;

@@ -42,6 +42,6 @@ told_lead run n number cell heard =
       moment = was.moment;
       sent = was.sent;
       to = heard.own;
-      reason = subst (λ k. SecondHadNone (setting_in run) (At run.script was.front) was.own.actor was.own.step k number cell)
+      reason = subst (λ k. SecondHadNone (setting_in run) (At run.script was.prefix) was.own.actor was.own.step k number cell)
           (one_server (sym t.to ∙ heard.own)) t.reason;
     }

@@ -4,12 +4,11 @@ use Rattle.law_answers.proofs.Imports.{Client, Command, Ends, Glance, Goes_on, H
 use Rattle.law_answers.proofs.Imports.{Letter, Line, List, MayActor, None, OneMore, Option, Reaction, Reads, Record, Run, Script, Server, Setting, Shown}
 use Rattle.law_answers.proofs.Imports.{Shown_by, Some, State, Step, Table, Turned, WasSent, World, after, all_put, always_firm, ap, arith, at, at-empty}
 use Rattle.law_answers.proofs.Imports.{at_apart, at_moment, at_row, at_same, both_true, by_run, by_test, client_state, client_step, client_turns, false}
-use Rattle.law_answers.proofs.Imports.{firm_after, follows_in, front_plain, inl, inr, is_settled, last_moment, length, length-append, length-map, log_plain}
-use Rattle.law_answers.proofs.Imports.{log_rev, longer, map, nat_cmp, nat_cmp_total, nat_le, nat_tests, next_line, none_some, not, operator, put_rises, refl}
-use Rattle.law_answers.proofs.Imports.{rounds, run_of, same_numbers, same_or_apart, same_some, server_state, servers_of, setting_in, setting_of, settles}
-use Rattle.law_answers.proofs.Imports.{shown, slice_get, start, state_after, step, stepped_in, subst, suc, sym, true, true_false, was_sent, with_sight}
-use Rattle.law_answers.proofs.Imports.{world_after, zero, ℕ}
-use Rattle.law_state.proofs.TestFacts.{was_true}
+use Rattle.law_answers.proofs.Imports.{firm_after, follows_in, inl, inr, is_settled, last_moment, length, length-append, length-map, log_plain, log_rev}
+use Rattle.law_answers.proofs.Imports.{longer, map, nat_cmp, nat_cmp_total, nat_le, nat_tests, next_line, none_some, not, operator, prefix_plain, put_rises}
+use Rattle.law_answers.proofs.Imports.{refl, rounds, run_of, same_numbers, same_or_apart, same_some, server_state, servers_of, setting_in, setting_of}
+use Rattle.law_answers.proofs.Imports.{settles, shown, slice_get, start, state_after, step, stepped_in, subst, suc, sym, true, true_false, was_sent, was_true}
+use Rattle.law_answers.proofs.Imports.{with_sight, world_after, zero, ℕ}
 use Rattle.law_answers.proofs.AnsweredOnce.{pair_is, was_answered}
 use Rattle.law_answers.proofs.ListPositions.{sooner}
 use Rattle.law_answers.proofs.LinesHavePlaces.{line_at}
@@ -215,13 +214,13 @@ module _ (script : Script) (sound : IsSound script) where
   seen_by done le s = record { at = s.at; so = s.so; known = λ on. let at_most = s.known on in omega arith }
 
   -- a state of more entries is of no earlier revision
-  revs_grow : (front more : List Command) → IsPrefix front more
-      → (state_after setting.servers front).rev ≤ (state_after setting.servers more).rev
-  revs_grow front more prefix =
-      let one = log_rev setting.servers front in
+  revs_grow : (prefix more : List Command) → IsPrefix prefix more
+      → (state_after setting.servers prefix).rev ≤ (state_after setting.servers more).rev
+  revs_grow prefix more is_prefix =
+      let one = log_rev setting.servers prefix in
       let other = log_rev setting.servers more in
-      let longer : length more ≡ length (front ++ prefix.later) = ap (λ (l : List Command). length l) prefix.is in
-      let split : length (front ++ prefix.later) ≡ length front + length prefix.later = length-append front prefix.later in
+      let longer : length more ≡ length (prefix ++ is_prefix.later) = ap (λ (l : List Command). length l) is_prefix.is in
+      let split : length (prefix ++ is_prefix.later) ≡ length prefix + length is_prefix.later = length-append prefix is_prefix.later in
       omega arith
 
   -- what is kept after these records
@@ -232,9 +231,9 @@ module _ (script : Script) (sound : IsSound script) where
 
   -- ### One record more
 
-  module _ (records : List Record) (m : IsMoment records) (legal : AreSteps script m.front) (kept : Kept (W m.front) m.front) where
+  module _ (records : List Record) (m : IsMoment records) (legal : AreSteps script m.prefix) (kept : Kept (W m.prefix) m.prefix) where
     abbrev done : List Record
-    done = m.front
+    done = m.prefix
 
     abbrev own : Record
     own = m.own
@@ -372,7 +371,7 @@ module _ (script : Script) (sound : IsSound script) where
       servers_are : servers_of state ≡ setting.servers
       servers_are =
           let firm = firm_after setting (start setting) done (always_firm script done sound legal) in
-          (log_plain setting.servers client.applied (front_plain setting.servers client.applied _ firm.plain (firm.clients c))).many
+          (log_plain setting.servers client.applied (prefix_plain setting.servers client.applied _ firm.plain (firm.clients c))).many
 
       module _ (who : own.actor ≡ actor.Client c) (asked : Asked) (is : client.asked ≡ Some asked) (sight : Shown_by)
           (has : HasSight w c sight)

@@ -1,8 +1,7 @@
 -- Which letters tell of a want of slots, or ask for one, and what a job has to show of those that it sends.
-use Rattle.law_answers.proofs.Imports.{◌<◌, ◌∙◌, ◌≡◌, ◌≤◌, ◌⊎◌, Answered, Body, Bool, Cell, Ending, Finished, Firm, In, Key, Letter, List, PairState}
-use Rattle.law_answers.proofs.Imports.{Paired, Pending, Post, Rests, Setting, Some, Subject, Was, World, ap, at, cell_cmp, false, first, inl, is_clients}
-use Rattle.law_answers.proofs.Imports.{is_in, is_logged, length, moved_as, nat_cmp, refl, server_state, subject_of, sym, true, true_false, was_same}
-use Rattle.law_answers.proofs.Imports.{ℕ}
+use Rattle.law_answers.proofs.Imports.{◌<◌, ◌∙◌, ◌≡◌, ◌≤◌, ◌⊎◌, Answered, Body, Bool, Cell, Ending, Finished, Firm, In, Key, Letter, List, PairState, Paired}
+use Rattle.law_answers.proofs.Imports.{Pending, Post, Rests, Setting, Some, Subject, Was, World, ap, at, cell_cmp, false, first, inl, is_clients, is_in}
+use Rattle.law_answers.proofs.Imports.{is_logged, length, moved_as, nat_cmp, refl, server_state, subject_of, sym, true, true_false, was_same, ℕ}
 use Rattle.law_answers.specs.Refusals.{IsNumbered, Refusals}
 use Rattle.petal_msg.specs.declared.body.Body.TheVariants as body
 use Rattle.petal_msg.specs.declared.letter.Actor.TheVariants as actor

@@ -1,13 +1,13 @@
 -- By each step, of a client or of a server, every refusal goes on to have its reason.
-use Rattle.law_answers.proofs.Imports.{[], ◌<◌, ◌∙◌, ◌∷◌, ◌≡◌, ◌≤◌, ◌⊎◌, Acted, Actor, Blank, Body, Bool, By_ballot, By_entry, By_job, Command}
-use Rattle.law_answers.proofs.Imports.{Fails, Finished, Firm, Glanced, Heard, In, IsIdle, IsPrefix, Job, JobResult, Letter, List, Log, MayActor, Option}
-use Rattle.law_answers.proofs.Imports.{PairState, Pairs, Post, Reaction, Rests, Said, Sender, Server, Serves_on, Serving, Setting, Some, Stays, Step}
-use Rattle.law_answers.proofs.Imports.{Stops_so, Turned, Wakes, Work, Worked, World, ap, arith, at, at-empty, awake, blanked, by_settled, cell_cmp}
-use Rattle.law_answers.proofs.Imports.{chosen_log, client_sender, client_state, client_step, client_turns, crossed, down_posts, false, in-append, inl, inr}
-use Rattle.law_answers.proofs.Imports.{is_ask, is_call, is_logged, length, letters_of, log_rev, map, nat_cmp, next_line, no_pairs, none_some, own_place}
-use Rattle.law_answers.proofs.Imports.{own_steady, post_of, proposed, proposed_pairs, raised, reacts, refl, said, sender, served, served_so, server_serves}
-use Rattle.law_answers.proofs.Imports.{server_state, servers_of, settled_by, shown_so, silent, stamped, stays, step, stopped, stopped_so, subject_of, subst}
-use Rattle.law_answers.proofs.Imports.{sym, true, true_false, turned_asks, wakes, was_same, without_rev, ℕ}
+use Rattle.law_answers.proofs.Imports.{[], ◌<◌, ◌∙◌, ◌∷◌, ◌≡◌, ◌≤◌, ◌⊎◌, Acted, Actor, Blank, Body, Bool, By_ballot, By_entry, By_job, Command, Fails}
+use Rattle.law_answers.proofs.Imports.{Finished, Firm, Glanced, Heard, In, IsIdle, IsPrefix, Job, JobResult, Letter, List, Log, MayActor, Option, PairState}
+use Rattle.law_answers.proofs.Imports.{Pairs, Post, Reaction, Rests, Said, Sender, Server, Serves_on, Serving, Setting, Some, Stays, Step, Stops_so, Turned}
+use Rattle.law_answers.proofs.Imports.{Wakes, Work, Worked, World, ap, arith, at, at-empty, awake, blanked, by_settled, cell_cmp, chosen_log, client_sender}
+use Rattle.law_answers.proofs.Imports.{client_state, client_step, client_turns, crossed, down_posts, false, in-append, inl, inr, is_ask, is_call, is_logged}
+use Rattle.law_answers.proofs.Imports.{length, letters_of, log_rev, map, nat_cmp, next_line, no_pairs, none_some, own_place, own_steady, post_of, proposed}
+use Rattle.law_answers.proofs.Imports.{proposed_pairs, raised, reacts, refl, said, sender, served, served_so, server_serves, server_state, servers_of}
+use Rattle.law_answers.proofs.Imports.{settled_by, shown_so, silent, stamped, stays, step, stopped, stopped_so, subject_of, subst, sym, true, true_false}
+use Rattle.law_answers.proofs.Imports.{turned_asks, wakes, was_same, without_rev, ℕ}
 use Rattle.law_answers.proofs.SlotLetters.{Duty, JobRefuses, Scene, WereRefused, is_of_slots, not_full}
 use Rattle.law_answers.proofs.RefusalFrames.{IsDue, GoesOn, StepRefuses, still_declined, still_numbered, still_on, step_refusals}
 use Rattle.law_answers.specs.Refusals.{HadNoSlot, Refusals}
@@ -111,7 +111,7 @@ module _ (R S : ℕ → ℕ → Type 0) (it : WereRefused R S) (n stamp : ℕ) w
             by = record {
               server = k.server;
               inc = k.inc;
-              front = k.front;
+              prefix = k.prefix;
               stands = k.stands;
               long = k.long ∙ t.revision ∙ long;
               seated = k.seated;
@@ -230,7 +230,7 @@ module _ (R S : ℕ → ℕ → Type 0) (it : WereRefused R S) (n stamp : ℕ) w
       (λ c seq h. inr h) done did seat) _ refl refl
   worked_on runs _ _ (By_ballot log started posts same starts says) =
       job_on S _ posts (ballot_refuses runs started posts says) _ refl refl
-  worked_on runs _ _ (By_entry log entry plus front) = job_on S _ [] (entry_refuses runs entry) _ refl refl
+  worked_on runs _ _ (By_entry log entry plus prefix) = job_on S _ [] (entry_refuses runs entry) _ refl refl
 
   module _ (what : Step) (now : (c seq : ℕ) → HadNoSlot setting w (actor.Server n) what c seq → S c seq) where
     now_work : what ≡ Work work_end.Done → (c seq : ℕ) → HadNoSlot setting w (actor.Server n) (Work work_end.Done) c seq → S c seq
@@ -245,7 +245,7 @@ module _ (R S : ℕ → ℕ → Type 0) (it : WereRefused R S) (n stamp : ℕ) w
     goes_refuse _ _ queue runs (By_ballot log started posts same starts says) works =
         of_job log (record { own = proposed (server_state setting w n) here.own started; posts = posts; jobs = [] }) queue runs
         (ballot_refuses runs started posts says)
-    goes_refuse _ _ queue runs (By_entry log entry plus front) works =
+    goes_refuse _ _ queue runs (By_entry log entry plus prefix) works =
         of_job log (silent (settled_by (own_place setting w n) entry (crossed (server_state setting w n) entry here.own))) queue runs
         (entry_refuses runs entry)
 

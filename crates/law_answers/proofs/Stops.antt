@@ -3,8 +3,8 @@
 use Rattle.law_answers.proofs.Imports.{[], ◌++◌, ◌<◌, ◌∙◌, ◌∷◌, ◌≡◌, ◌⊎◌, Acted, Actor, AreSteps, Blank, Boot, Call, Deliver, In, IsMoment, IsSound, Job}
 use Rattle.law_answers.proofs.Imports.{JobContext, List, MayActor, MayServer, MayStop, NoneBoots, Record, Request, Script, Server, Setting, Step, Stop}
 use Rattle.law_answers.proofs.Imports.{StopIn, Work, WorkEnd, World, acts, ap, append_assoc, arith, by_bool, by_test, chosen_log, chosen_state, false}
-use Rattle.law_answers.proofs.Imports.{first_at_start, first_moment, first_state, front_legal, inl, inr, is_in, is_log_job, is_overfull, job_done}
-use Rattle.law_answers.proofs.Imports.{moment_later, nat_lt, nat_tests, operator, own_place, put_apart, put_at, put_same, refl, same_or_apart, server_state}
+use Rattle.law_answers.proofs.Imports.{first_at_start, first_moment, first_state, inl, inr, is_in, is_log_job, is_overfull, job_done, moment_later, nat_lt}
+use Rattle.law_answers.proofs.Imports.{nat_tests, operator, own_place, prefix_legal, put_apart, put_at, put_same, refl, same_or_apart, server_state}
 use Rattle.law_answers.proofs.Imports.{server_step, setting_of, start, step, stepped, subst, sym, true, true_false, unbooted, who_runs_is_in, works}
 use Rattle.law_answers.proofs.Imports.{world_after, ℕ}
 use Rattle.law_answers.specs.Lines.{AsksToStop}
@@ -79,8 +79,8 @@ module _ (setting : Setting) (w : World) (n : ℕ) (told : MayStop w n → IsRea
 record Ceases (setting : Setting) (w : World) (records : List Record) (n : ℕ) : Type 0 where
   moment : IsMoment records
   open moment use *
-  ran : ((world_after setting w front).servers n).life.running ≡ true
-  since : StaysDown setting (stepped setting (world_after setting w front) own).world following n
+  ran : ((world_after setting w prefix).servers n).life.running ≡ true
+  since : StaysDown setting (stepped setting (world_after setting w prefix) own).world following n
 
 -- who stays down does not run at first
 down_now : (setting : Setting) (w : World) (records : List Record) (n : ℕ) → StaysDown setting w records n → (w.servers n).life.running ≡ false
@@ -118,10 +118,10 @@ stops_for_a_reason script records sound legal n low rests =
     elim (ceases setting (start setting) records n rests) [
       | inl down ↦ true_false ran (down_now setting (start setting) records n down)
       | inr c ↦
-          let w = world_after setting (start setting) c.front in
-          let parts = front_legal setting (start setting) c.front (c.own ∷ c.following) (subst (AreSteps script) c.is legal) in
+          let w = world_after setting (start setting) c.prefix in
+          let parts = prefix_legal setting (start setting) c.prefix (c.own ∷ c.following) (subst (AreSteps script) c.is legal) in
           let down = down_now setting (stepped setting w c.own).world c.following n c.since in
-          let s = step_why setting w n (told_by_line script c.front sound parts.0 n) c.ran c.own.actor c.own.step c.own.stamp
+          let s = step_why setting w n (told_by_line script c.prefix sound parts.0 n) c.ran c.own.actor c.own.step c.own.stamp
           parts.1.0.may.may down in
           record {
             moment = c.moment;
@@ -153,29 +153,29 @@ all_run script records sound legal lines itself n low = by_bool (last.servers n)
     by : HasReasonToStop setting (start setting) records n → ⊥
     by h = elim h.why [
       | Was_told asked line step asks given ↦ no_line_stops line.request n asks (lines line given.there)
-      | Device_failed end step ↦ itself h.front h.own h.following n h.is (record { stops = h.stops; works = ap is_of_a_job step })
-      | Device_stopped end step ↦ itself h.front h.own h.following n h.is (record { stops = h.stops; works = ap is_of_a_job step })
-      | Journal_full first rest step queue full ↦ itself h.front h.own h.following n h.is (record { stops = h.stops; works = ap is_of_a_job step })
+      | Device_failed end step ↦ itself h.prefix h.own h.following n h.is (record { stops = h.stops; works = ap is_of_a_job step })
+      | Device_stopped end step ↦ itself h.prefix h.own h.following n h.is (record { stops = h.stops; works = ap is_of_a_job step })
+      | Journal_full first rest step queue full ↦ itself h.prefix h.own h.following n h.is (record { stops = h.stops; works = ap is_of_a_job step })
     ]
 
 -- ### Where no server stops, none boots
 
-none_itself_before : (setting : Setting) (w : World) (front following : List Record) → NoneStopsByItself setting w (front ++ following)
-    → NoneStopsByItself setting w front
-none_itself_before setting w front following none one own other n is stops =
+none_itself_before : (setting : Setting) (w : World) (prefix following : List Record) → NoneStopsByItself setting w (prefix ++ following)
+    → NoneStopsByItself setting w prefix
+none_itself_before setting w prefix following none one own other n is stops =
     none one own (other ++ following) n (ap (λ records. records ++ following) is ∙ append_assoc one (own ∷ other) following) stops
 
 record IsPart (own : Record) (records : List Record) : Type 0 where
-  front : List Record
+  prefix : List Record
   following : List Record
-  is : records ≡ front ++ own ∷ following
+  is : records ≡ prefix ++ own ∷ following
 
 part_of : (own : Record) (records : List Record) → In own records → IsPart own records
 unfolding In
 part_of own [] there = absurd there
-part_of own (first ∷ later) (inl e) = record { front = []; following = later; is = ap (λ r. r ∷ later) (sym e) }
+part_of own (first ∷ later) (inl e) = record { prefix = []; following = later; is = ap (λ r. r ∷ later) (sym e) }
 part_of own (first ∷ later) (inr there) =
-    let p = part_of own later there in record { front = first ∷ p.front; following = p.following; is = ap (λ rs. first ∷ rs) p.is }
+    let p = part_of own later there in record { prefix = first ∷ p.prefix; following = p.following; is = ap (λ rs. first ∷ rs) p.is }
 
 -- a server that boots did not run
 was_down : (setting : Setting) (w : World) (who : Actor) (end : WorkEnd) → MayActor who (Boot end) setting w
@@ -188,12 +188,12 @@ none_boots : (script : Script) (records : List Record) → IsSound script → Ar
 none_boots script records sound legal lines itself own there end is =
     let setting = setting_of script in
     let p = part_of own records there in
-    let parts = front_legal setting (start setting) p.front (own ∷ p.following) (subst (AreSteps script) p.is legal) in
-    let w = world_after setting (start setting) p.front in
-    let none = none_itself_before setting (start setting) p.front (own ∷ p.following)
+    let parts = prefix_legal setting (start setting) p.prefix (own ∷ p.following) (subst (AreSteps script) p.is legal) in
+    let w = world_after setting (start setting) p.prefix in
+    let none = none_itself_before setting (start setting) p.prefix (own ∷ p.following)
     (subst (NoneStopsByItself setting (start setting)) p.is itself) in
     let down = was_down setting w own.actor end (subst (λ what. MayActor own.actor what setting w) is parts.1.0.may.may) in
-    true_false (all_run script p.front sound parts.0 lines none down.0 down.1) down.2
+    true_false (all_run script p.prefix sound parts.0 lines none down.0 down.1) down.2
 
 -- so every server still is In as its first incarnation
 pub all_in : (script : Script) (records : List Record) → IsSound script → AreSteps script records → NoneIsStopped script.lines

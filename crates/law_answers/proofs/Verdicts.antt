@@ -1,11 +1,10 @@
 -- Where a plain log gives a client its verdict: by the client's own command, of which the state before its place says what the verdict says;
 -- and a snapshot that waits there is taken once its fence passes.
-use Rattle.law_answers.proofs.Imports.{◌+◌, ◌<◌, ◌∙◌, ◌≡◌, ◌≢◌, ◌≤◌, ◌⊎◌, Answer, Command, DiskRow, Fence, HasProperTuples, IsForSnapshot}
-use Rattle.law_answers.proofs.Imports.{IsRequeued, IsUnsettled, List, MakeDisk, None, Of_disk, Of_region, Option, Region}
-use Rattle.law_answers.proofs.Imports.{Request, Snap, Snapshot, Some, StartMove, Verdict, Whole, act}
-use Rattle.law_answers.proofs.Imports.{act_start, acting, ap, arith, cases_lt, command_of, effect, false, following, get_after, get_last}
-use Rattle.law_answers.proofs.Imports.{get_within, has_made, head_get, here_now, inl, inr, is_moving, is_name_taken, is_new, is_none, is_snap, is_some}
-use Rattle.law_answers.proofs.Imports.{is_taken, lacks_disk, latest, length, named, none_some, one_passed, option_map_or, passed}
+use Rattle.law_answers.proofs.Imports.{◌+◌, ◌<◌, ◌∙◌, ◌≡◌, ◌≢◌, ◌≤◌, ◌⊎◌, Answer, Command, DiskRow, Fence, HasProperTuples, IsForSnapshot, IsRequeued}
+use Rattle.law_answers.proofs.Imports.{IsUnsettled, List, MakeDisk, None, Of_disk, Of_region, Option, Region, Request, Snap, Snapshot, Some, StartMove}
+use Rattle.law_answers.proofs.Imports.{Verdict, Whole, act, act_make, act_start, acting, ap, arith, asker, cases_lt, command_of, effect, false, following}
+use Rattle.law_answers.proofs.Imports.{get_after, get_last, get_within, has_made, head_get, here_now, inl, inr, is_moving, is_name_taken, is_new, is_none}
+use Rattle.law_answers.proofs.Imports.{is_snap, is_some, is_taken, lacks_disk, latest, length, named, none_some, one_passed, option_map_or, passed}
 use Rattle.law_answers.proofs.Imports.{passed_here, passing, ready_by, refl, requeued_awaiting, requeued_itself, requeued_reported, row_frozen, row_moving}
 use Rattle.law_answers.proofs.Imports.{same_some, servers_in, settled, settled_keeps, slice_get, slice_get_within, snapshot_named, some_or_none, state_after}
 use Rattle.law_answers.proofs.Imports.{subst, suc, sym, take, text_itself, told, true, true_false, unwrap_or, verdict_answer, verdict_for, view-effect}
@@ -14,8 +13,6 @@ use Rattle.global_tables.specs.Disk.{same_name}
 use Rattle.spec_state.specs.State.{State}
 use Rattle.spec_state.specs.Command.{after}
 use Rattle.law_state.proofs.Fences.{Acted}
-use Rattle.law_state.proofs.EntryOutcomes.{act_make}
-use Rattle.law_state.specs.Plain.{asker}
 use Rattle.law_answers.proofs.CommandsWereAsked.{asker_of}
 use Rattle.law_answers.proofs.EntriesTellClients.{told_answers, judged_last, judged_old, old_now, onward_new, passed_old, passed_or, passed_stays}
 use Rattle.law_answers.proofs.EntriesTellClients.{settled_old, told_old, told_or, told_stays}

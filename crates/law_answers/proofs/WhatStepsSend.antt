@@ -1,9 +1,8 @@
 -- What a step sends: the letters of a job that a server did; and else what is of the agreed log, shows a glance, or asks for a read or a write.
 use Rattle.law_answers.proofs.Imports.{◌∙◌, ◌≡◌, ◌⊎◌, Actor, Blank, Did, Firm, Handled, In, IsIdle, JobResult, Letter, MayActor, OneMore, Rests, Said}
-use Rattle.law_answers.proofs.Imports.{Setting, Step, Work, World, after, ap, asked_aside, client_sender, client_state, client_step, client_turns}
-use Rattle.law_answers.proofs.Imports.{firm_in, firm_then, follows_in, inl, inr, is_aside, is_ask, is_call, next_line, notice_aside, own_place}
-use Rattle.law_answers.proofs.Imports.{own_steady, refl, rests_in, said, sender, server_serves, serves_sent, setting_in, step, subject_of, subst, true}
-use Rattle.law_answers.proofs.Imports.{turned_asks, ℕ}
+use Rattle.law_answers.proofs.Imports.{Setting, Step, Work, World, after, ap, asked_aside, client_sender, client_state, client_step, client_turns, firm_in}
+use Rattle.law_answers.proofs.Imports.{firm_then, follows_in, inl, inr, is_aside, is_ask, is_call, next_line, notice_aside, own_place, own_steady, refl}
+use Rattle.law_answers.proofs.Imports.{rests_in, said, sender, server_serves, serves_sent, setting_in, step, subject_of, subst, true, turned_asks, ℕ}
 use Rattle.petal_msg.specs.declared.letter.Actor.TheVariants as actor
 use Rattle.spec_rules.specs.declared.step.WorkEnd.TheVariants as work_end
 

@@ -1,6 +1,5 @@
 -- That the commands of a log that carry requests out were asked for.
-use Rattle.law_answers.specs.Imports.{Command, In, Line, command_of, lines_of}
-use Rattle.law_state.specs.Plain.{asker}
+use Rattle.law_answers.specs.Imports.{Command, In, Line, asker, command_of, lines_of}
 use Rattle.std.specs.Prelude.{◌+◌, ◌≡◌, List, Some, slice_get, ℕ}
 
 -- the client's line of this number asks for the command. The lines of a client are its requests, counted from 1

@@ -20,6 +20,6 @@ pub record HasReasonToFail (setting : Setting) (w : World) (records : List Recor
   pub line : Line
   pub number_is : line.number ≡ number
   pub boots : AsksToBoot line.request server
-  pub given : IsLineOf setting.lines (world_after setting w front) asked line
+  pub given : IsLineOf setting.lines (world_after setting w prefix) asked line
   pub who : own.actor ≡ actor.Server server
-  pub why : IsReasonToFail (world_after setting w front) server own.step
+  pub why : IsReasonToFail (world_after setting w prefix) server own.step

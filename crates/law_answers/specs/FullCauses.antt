@@ -34,7 +34,7 @@ pub record WasTold (setting : Setting) (records : List Record) (letter : Letter)
   pub moment : IsMoment records
   pub open moment use *
   pub sent : In letter own.sent
-  pub reason : HadNoRoom setting (world_after setting (start setting) front) own.actor own.step holder number cell
+  pub reason : HadNoRoom setting (world_after setting (start setting) prefix) own.actor own.step holder number cell
 
 -- one of these records tells of a job of the server, as this incarnation
 pub record HasJob (setting : Setting) (records : List Record) (server inc : ℕ) : Type 0 where
@@ -42,25 +42,25 @@ pub record HasJob (setting : Setting) (records : List Record) (server inc : ℕ)
   pub open moment use *
   pub who : own.actor ≡ actor.Server server
   pub works : own.step ≡ Work work_end.Done
-  pub runs : ((world_after setting (start setting) front).servers server).life.running ≡ true
-  pub lives : ((world_after setting (start setting) front).servers server).life.inc ≡ inc
+  pub runs : ((world_after setting (start setting) prefix).servers server).life.running ≡ true
+  pub lives : ((world_after setting (start setting) prefix).servers server).life.inc ≡ inc
 
 -- after these records the server is told that the copy which is under way on a cell finds no slot for its next entry; and of the earlier step
 -- that sent the letter
-pub record HearsCopyFull (setting : Setting) (front : List Record) (server : ℕ) : Type 0 where
+pub record HearsCopyFull (setting : Setting) (prefix : List Record) (server : ℕ) : Type 0 where
   pub cell : Cell
   pub copy : Copying
-  pub copying : copying_on ((world_after setting (start setting) front).servers server).own cell ≡ Some copy
+  pub copying : copying_on ((world_after setting (start setting) prefix).servers server).own cell ≡ Some copy
   pub trimmed : copy.trimmed ≡ true
-  pub left : copy.index < length (chain_in ((world_after setting (start setting) front).servers server).own.store.chains cell)
-  pub heard : Handled (world_after setting (start setting) front) server (body.SyncFull copy.op cell)
-  pub told : WasTold setting front heard.letter server copy.op cell
+  pub left : copy.index < length (chain_in ((world_after setting (start setting) prefix).servers server).own.store.chains cell)
+  pub heard : Handled (world_after setting (start setting) prefix) server (body.SyncFull copy.op cell)
+  pub told : WasTold setting prefix heard.letter server copy.op cell
 
 -- such a job, in which the server heard it
 pub record HasEndedFull (setting : Setting) (records : List Record) (server inc : ℕ) : Type 0 where
   pub job : HasJob setting records server inc
   pub open job use *
-  pub full : HearsCopyFull setting front server
+  pub full : HearsCopyFull setting prefix server
   pub open full use *
 
 -- ### Entries that move
@@ -82,7 +82,7 @@ pub record WasToldBySecond (setting : Setting) (records : List Record) (letter :
   pub open moment use *
   pub sent : In letter own.sent
   pub to : letter.to ≡ actor.Server lead
-  pub reason : SecondHadNone setting (world_after setting (start setting) front) own.actor own.step lead number cell
+  pub reason : SecondHadNone setting (world_after setting (start setting) prefix) own.actor own.step lead number cell
 
 -- the world after these records
 abbrev pub world_at : Setting → List Record → World
@@ -105,7 +105,7 @@ pub record WasDeclined (setting : Setting) (records : List Record) (letter : Let
   pub moment : IsMoment records
   pub open moment use *
   pub sent : In letter own.sent
-  pub reason : HadNoFill setting front own.actor own.step key
+  pub reason : HadNoFill setting prefix own.actor own.step key
 
 -- such a job, in which the server heard that there is no slot for the next entry of a link
 -- that it is to move; and of the earlier step that sent the letter
@@ -114,10 +114,10 @@ pub record HasFilledFull (setting : Setting) (records : List Record) (server inc
   pub open job use *
   pub key : Key
   pub row : LinkRow
-  pub next : IsNextKey (own_place setting (world_after setting (start setting) front) server)
-      ((world_after setting (start setting) front).servers server).own key row
-  pub heard : Handled (world_after setting (start setting) front) server (body.FillFull key)
-  pub told : WasDeclined setting front heard.letter key
+  pub next : IsNextKey (own_place setting (world_after setting (start setting) prefix) server)
+      ((world_after setting (start setting) prefix).servers server).own key row
+  pub heard : Handled (world_after setting (start setting) prefix) server (body.FillFull key)
+  pub told : WasDeclined setting prefix heard.letter key
 
 -- ### Either
 
@@ -129,4 +129,4 @@ pub data HasFoundNone (setting : Setting) (records : List Record) (server inc : 
 -- one of the line's glances found a server to which this had happened before, as this incarnation
 pub record HasFullServer (setting : Setting) (records : List Record) (line : ℕ) : Type 0 where
   pub found : HasFoundFull setting (start setting) records line
-  pub full : HasFoundNone setting found.at.front found.server ((world_after setting (start setting) found.at.front).servers found.server).life.inc
+  pub full : HasFoundNone setting found.at.prefix found.server ((world_after setting (start setting) found.at.prefix).servers found.server).life.inc

@@ -28,5 +28,5 @@ pub record IsGlance (setting : Setting) (w : World) (own : Record) (line : Line)
 pub record HasGlance (setting : Setting) (w : World) (records : List Record) (line : Line) (server : ℕ) (given : Answer) : Type 0 where
   pub moment : IsMoment records
   pub open moment use *
-  pub so : IsGlance setting (world_after setting w front) own line server given
-  pub once : (other : Record) (round : ℕ) → In other (front ++ following) → other.step ≢ Glance line.number round
+  pub so : IsGlance setting (world_after setting w prefix) own line server given
+  pub once : (other : Record) (round : ℕ) → In other (prefix ++ following) → other.step ≢ Glance line.number round

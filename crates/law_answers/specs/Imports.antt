@@ -1,6 +1,6 @@
 -- The names that this crate takes from others, in one place.
-pub use Rattle.law_state.specs.Imports.{Cell, Command, IsPrefix, LinkRow, Lost, MakeDisk, PairState, Record, Server, Setting, Snap, StartMove, State, World}
-pub use Rattle.law_state.specs.Imports.{cell_link, chosen_log, chosen_state, is_in, is_lead, serves, state_after}
+pub use Rattle.law_state.specs.Imports.{Cell, Command, IsPrefix, LinkRow, Lost, PairState, Record, Server, Setting, State, World, cell_link, chosen_log}
+pub use Rattle.law_state.specs.Imports.{chosen_state, is_in, is_lead, serves, state_after}
 unfoldable pub use Rattle.law_state.specs.Imports.{In, at}
 pub use Rattle.law_steps.specs.Imports.{Actor, Answer, Asked, Body, Boot, Copying, Entry, Finished, Job, JobContext, Key, LastCopy, Letter, Line, Moving}
 pub use Rattle.law_steps.specs.Imports.{Pending, Step, Work, bytes_of, cell_cmp, cell_of, chain_in, coming, command_of, copying_on, entry_at, first, free_of}
@@ -9,6 +9,7 @@ pub use Rattle.law_jobs.specs.Imports.{FoundNoSlot, IsBusy, IsHeldBack, IsNewFil
 pub use Rattle.law_copies.specs.Imports.{is_clients, world_after}
 pub use Rattle.law_requests.specs.Imports.{done_to, line_by}
 pub use Rattle.law_state.specs.Moments.{IsMoment}
+pub use Rattle.law_state.specs.Plain.{asker}
 pub use Rattle.law_steps.specs.DidStep.{Handled, own_place}
 pub use Rattle.petal_msg.specs.Kinds.{asked_by}
 pub use Rattle.script_lines.specs.declared.answer.Answer.TheVariants.{Data}

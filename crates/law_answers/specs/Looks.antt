@@ -36,7 +36,7 @@ record_looks setting w next own later = flat_map (λ letter. letter_looks settin
 -- those that the record of this moment tells
 abbrev pub looks_at : Setting → (records : List Record) → IsMoment records → List (ℕ × Event)
 looks_at setting records moment =
-    let w = world_after setting (start setting) moment.front in
+    let w = world_after setting (start setting) moment.prefix in
     record_looks setting w (stepped setting w moment.own).world moment.own moment.following
 
 -- those of the line of this number
@@ -62,12 +62,12 @@ pub record IsLookedAtOnce (setting : Setting) (records : List Record) (line : Li
   pub moment : IsMoment records
   pub open moment use *
   pub told : looks_for setting records moment line.number ≡ (line.number, look) ∷ []
-  pub alone : (other : IsMoment records) → length other.front ≢ length front → looks_for setting records other line.number ≡ []
+  pub alone : (other : IsMoment records) → length other.prefix ≢ length prefix → looks_for setting records other line.number ≡ []
   pub server : ℕ
   pub who : own.actor ≡ actor.Server server
-  pub called : IsCalledIn front line
+  pub called : IsCalledIn prefix line
   pub between : List Record
-  pub answered : answer.front ≡ front ++ own ∷ between
+  pub answered : answer.prefix ≡ prefix ++ own ∷ between
 
 -- a record after this moment answers the line of this number with data
 pub record IsAnsweredAfter (records : List Record) (moment : IsMoment records) (number : ℕ) : Type 0 where
@@ -75,7 +75,7 @@ pub record IsAnsweredAfter (records : List Record) (moment : IsMoment records) (
   pub bytes : List ℕ
   pub given : answer.own.answer ≡ Some (number, Data bytes)
   pub between : List Record
-  pub after : answer.front ≡ moment.front ++ moment.own ∷ between
+  pub after : answer.prefix ≡ moment.prefix ++ moment.own ∷ between
 
 -- the line of this number is a read of the client that the record answers with these bytes, and it is looked at once, with these bytes
 pub record HasItsLook (setting : Setting) (records : List Record) (answer : IsMoment records) (number : ℕ) (bytes : List ℕ) : Type 0 where

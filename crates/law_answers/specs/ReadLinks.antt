@@ -18,7 +18,7 @@ pub record IsReadFrom (setting : Setting) (records : List Record) (answer : IsMo
   pub moment : IsMoment records
   pub open moment use *
   pub between : List Record
-  pub answered : answer.front ≡ front ++ own ∷ between
+  pub answered : answer.prefix ≡ prefix ++ own ∷ between
   pub client : ℕ
   pub seq : ℕ
   pub letter : Letter
@@ -29,10 +29,10 @@ pub record IsReadFrom (setting : Setting) (records : List Record) (answer : IsMo
   pub who : own.actor ≡ actor.Server server
   pub cell : Cell
   pub epoch : ℕ
-  pub handled : Handled (world_after setting (start setting) front) server (Read client seq cell epoch)
+  pub handled : Handled (world_after setting (start setting) prefix) server (Read client seq cell epoch)
   pub line : Line
   pub line_is : line_by setting.lines client seq ≡ Some line
   pub number_is : line.number ≡ number
-  pub called : IsCalledIn front line
-  pub bytes_are : bytes ≡ bytes_of (entry_at (chain_in ((world_after setting (start setting) front).servers server).own.store.chains cell) epoch)
-  pub link : IsUnlost (chosen_state setting (world_after setting (start setting) front)) server cell
+  pub called : IsCalledIn prefix line
+  pub bytes_are : bytes ≡ bytes_of (entry_at (chain_in ((world_after setting (start setting) prefix).servers server).own.store.chains cell) epoch)
+  pub link : IsUnlost (chosen_state setting (world_after setting (start setting) prefix)) server cell

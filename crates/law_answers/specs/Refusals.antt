@@ -31,7 +31,7 @@ pub data HadNoSlot (setting : Setting) (w : World) (who : Actor) (what : Step) (
 pub record WasRefused (setting : Setting) (records : List Record) (client seq : ℕ) : Type 0 where
   pub moment : IsMoment records
   pub open moment use *
-  pub reason : HadNoSlot setting (world_after setting (start setting) front) own.actor own.step client seq
+  pub reason : HadNoSlot setting (world_after setting (start setting) prefix) own.actor own.step client seq
 
 -- the request that the client has open, which this line's answer ends
 pub record IsOpenFor (w : World) (client line : ℕ) : Type 0 where
@@ -93,11 +93,11 @@ pub record FoundNothing (setting : Setting) (w : World) (who to : Actor) (seq : 
 pub record IsNumbered (setting : Setting) (w : World) (letter : Letter) (number : ℕ) (cell : Cell) : Type 0 where
   pub server : ℕ
   pub inc : ℕ
-  pub front : List Command
-  pub stands : IsPrefix front (chosen_log setting w)
-  pub long : length front ≡ letter.rev
-  pub seated : is_in (state_after setting.servers front) server inc ≡ true
-  pub leads : first (state_after setting.servers front) cell ≡ Some server
+  pub prefix : List Command
+  pub stands : IsPrefix prefix (chosen_log setting w)
+  pub long : length prefix ≡ letter.rev
+  pub seated : is_in (state_after setting.servers prefix) server inc ≡ true
+  pub leads : first (state_after setting.servers prefix) cell ≡ Some server
   pub begun : inc ≤ (w.servers server).life.inc
   pub given : (w.servers server).life.inc ≡ inc → number < (w.servers server).own.pairs.next
 

@@ -28,4 +28,4 @@ pub record HasReason (setting : Setting) (w : World) (records : List Record) (le
   pub moment : IsMoment records
   pub open moment use *
   pub sent : In letter own.sent
-  pub so : IsOtherRev setting (world_after setting w front) own letter seq
+  pub so : IsOtherRev setting (world_after setting w prefix) own letter seq

@@ -19,17 +19,17 @@ pub record HasGlanceAt (setting : Setting) (w : World) (records : List Record) (
 -- and the server ran then as this, or not; where it ran, it was at no later revision than this one
 pub record HasShown (setting : Setting) (w : World) (records : List Record) (line round server : ℕ) (shown : Option ℕ) (rev : ℕ) : Type 0 where
   pub at : HasGlanceAt setting w records line round server
-  pub so : shown ≡ runs_as ((world_after setting w at.front).servers server)
-  pub known : ((world_after setting w at.front).servers server).life.running ≡ true
-      → (server_state setting (world_after setting w at.front) server).rev ≤ rev
+  pub so : shown ≡ runs_as ((world_after setting w at.prefix).servers server)
+  pub known : ((world_after setting w at.prefix).servers server).life.running ≡ true
+      → (server_state setting (world_after setting w at.prefix) server).rev ≤ rev
 
 -- one of the line's glances found a server that ran, and which remembered that a slot was wanting, for its last copy or the last entry that it was to move
 pub record HasFoundFull (setting : Setting) (w : World) (records : List Record) (line : ℕ) : Type 0 where
   pub round : ℕ
   pub server : ℕ
   pub at : HasGlanceAt setting w records line round server
-  pub runs : ((world_after setting w at.front).servers server).life.running ≡ true
-  pub full : ((world_after setting w at.front).servers server).own.copies.full ≡ true
+  pub runs : ((world_after setting w at.prefix).servers server).life.running ≡ true
+  pub full : ((world_after setting w at.prefix).servers server).own.copies.full ≡ true
 
 -- at one of the records the operator had seen each server in one round of the line's glances, none of them at a later revision than its
 -- own was then; and as these showed them, all was settled by the operator's state
@@ -41,8 +41,8 @@ pub record WasSettled (setting : Setting) (w : World) (records : List Record) (l
   pub shown : List (Option ℕ)
   pub all : length shown ≡ setting.servers
   pub each : (server : ℕ) (seen : Option ℕ) → slice_get shown server ≡ Some seen
-      → HasShown setting w front line round server seen (client_state setting (world_after setting w front) operator).rev
-  pub settled : is_settled (client_state setting (world_after setting w front) operator) shown ≡ true
+      → HasShown setting w prefix line round server seen (client_state setting (world_after setting w prefix) operator).rev
+  pub settled : is_settled (client_state setting (world_after setting w prefix) operator) shown ≡ true
 
 -- a settle is answered `ok` where all was settled, and `nospace` where a slot was wanting, and nothing else
 abbrev pub HasSettled : Setting → World → List Record → (line : ℕ) → Answer → Type 0

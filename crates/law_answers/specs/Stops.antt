@@ -32,9 +32,9 @@ StaysDown setting w (own ∷ later) n = ((w.servers n).life.running ≡ false) �
 pub record HasReasonToStop (setting : Setting) (w : World) (records : List Record) (n : ℕ) : Type 0 where
   pub moment : IsMoment records
   pub open moment use *
-  pub stops : Stops setting (world_after setting w front) own n
-  pub why : IsReasonToStop setting (world_after setting w front) n own.step
-  pub since : StaysDown setting (stepped setting (world_after setting w front) own).world following n
+  pub stops : Stops setting (world_after setting w prefix) own n
+  pub why : IsReasonToStop setting (world_after setting w prefix) n own.step
+  pub since : StaysDown setting (stepped setting (world_after setting w prefix) own).world following n
 
 -- ### Where no server stops
 
@@ -62,5 +62,5 @@ pub record StopsByItself (setting : Setting) (w : World) (own : Record) (n : ℕ
 -- in none of these steps does a server stop by itself
 abbrev pub NoneStopsByItself : Setting → World → List Record → Type 0
 NoneStopsByItself setting w records =
-    (front : List Record) (own : Record) (following : List Record) (n : ℕ) → records ≡ front ++ own ∷ following
-    → StopsByItself setting (world_after setting w front) own n → ⊥
+    (prefix : List Record) (own : Record) (following : List Record) (n : ℕ) → records ≡ prefix ++ own ∷ following
+    → StopsByItself setting (world_after setting w prefix) own n → ⊥

@@ -34,13 +34,13 @@ pub use refusals::{
 
 /// Each answer is of a line of the script that no earlier record answered.
 pub fn no_line_is_answered_twice()
-    ensures { (script : Script) (front : List Record) (own : Record) → AreRising script.lines → AreSteps script (front ++ own ∷ [])
-        → (number : ℕ) (given : Answer) → own.answer ≡ Some (number, given) → IsOpenLine script.lines front number }
+    ensures { (script : Script) (prefix : List Record) (own : Record) → AreRising script.lines → AreSteps script (prefix ++ own ∷ [])
+        → (number : ℕ) (given : Answer) → own.answer ≡ Some (number, given) → IsOpenLine script.lines prefix number }
 {}
 
-/// Where the front of a history answers the first lines, its answers are a front of all answers, and so is its text.
+/// Where the prefix of a history answers the first lines, its answers are a prefix of all answers, and so is its text.
 pub fn phases_come_one_after_the_other()
     ensures answers { (script : Script) → JoinsAnswers script }
-    ensures text { (script : Script) (front back : List Record) → AreRising script.lines → AreSteps script (front ++ back)
-        → AnsweredComeFirst script.lines front → text_of (front ++ back) ≡ text_of front ++ text_of back }
+    ensures text { (script : Script) (prefix suffix : List Record) → AreRising script.lines → AreSteps script (prefix ++ suffix)
+        → AnsweredComeFirst script.lines prefix → text_of (prefix ++ suffix) ≡ text_of prefix ++ text_of suffix }
 {}

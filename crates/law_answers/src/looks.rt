@@ -45,7 +45,7 @@ pub fn each_look_is_answered()
 /// A line is called once: two records that call it are one.
 pub fn a_line_is_called_once()
     ensures { (script : Script) (records : List Record) → AreRising script.lines → AreSteps script records
-        → (one other : IsMoment records) (number : ℕ) → one.own.step ≡ Call number → other.own.step ≡ Call number → one.front ≡ other.front }
+        → (one other : IsMoment records) (number : ℕ) → one.own.step ≡ Call number → other.own.step ≡ Call number → one.prefix ≡ other.prefix }
 {}
 
 /// The letter that is accepted for such a line was sent by a server that handled the read of the line, with the bytes of its own entry of the cell;

@@ -21,32 +21,32 @@ ghost use Rattle.law_answers.specs.FullCauses.{HadNoFill, HasFoundNone};
 /// neither free nor left over on the cell, when it was asked for one for this request's operation, which was new to it. Or the line is a
 /// settle, and one of its glances found a server that remembered a want of slots, as `a_full_copy_found_no_slot` has it.
 pub fn nospace_has_a_reason()
-    ensures { (script : Script) (front : List Record) (own : Record) → IsSound script → AreSteps script (front ++ own ∷ []) → (client line : ℕ)
-        → own.actor ≡ Client client → own.answer ≡ Some (line, NoSpace) → HasReason (setting_of script) front client line }
+    ensures { (script : Script) (prefix : List Record) (own : Record) → IsSound script → AreSteps script (prefix ++ own ∷ []) → (client line : ℕ)
+        → own.actor ≡ Client client → own.answer ≡ Some (line, NoSpace) → HasReason (setting_of script) prefix client line }
 {}
 
 /// A letter that says that a block is busy is sent by the block's lead, in the step that found another operation pending on
 /// it, or a copy of it under way.
 pub fn a_busy_block_has_another_operation()
-    ensures { (script : Script) (front : List Record) (own : Record)
-        → IsSound script → AreSteps script (front ++ own ∷ []) → (letter : Letter) (seq : ℕ) → In letter own.sent → letter.body ≡ BlockBusy seq
-        → FoundBusy (setting_of script) (world_after (setting_of script) (start (setting_of script)) front) own.actor seq }
+    ensures { (script : Script) (prefix : List Record) (own : Record)
+        → IsSound script → AreSteps script (prefix ++ own ∷ []) → (letter : Letter) (seq : ℕ) → In letter own.sent → letter.body ≡ BlockBusy seq
+        → FoundBusy (setting_of script) (world_after (setting_of script) (start (setting_of script)) prefix) own.actor seq }
 {}
 
 /// A letter that says that a request is held is sent in the step that handled the request, by a server by whose own state a fence holds the
 /// cell's writes, or its reads; or by the cell's lead, which has started a ballot for the Caught of the cell's link.
 pub fn a_held_request_has_a_reason()
-    ensures { (script : Script) (front : List Record) (own : Record) → IsSound script → AreSteps script (front ++ own ∷ [])
+    ensures { (script : Script) (prefix : List Record) (own : Record) → IsSound script → AreSteps script (prefix ++ own ∷ [])
         → (letter : Letter) (seq : ℕ) → In letter own.sent → letter.body ≡ Held seq
-        → FoundHeld (setting_of script) (world_after (setting_of script) (start (setting_of script)) front) own.actor seq }
+        → FoundHeld (setting_of script) (world_after (setting_of script) (start (setting_of script)) prefix) own.actor seq }
 {}
 
 /// A letter that says that the new map has nothing is sent in the step that handled the client's read, by a server that may read the cell,
 /// which is coming by its own state, and whose reads no fence holds; and whose chain has no entry at the read's epoch or below.
 pub fn not_here_has_a_reason()
-    ensures { (script : Script) (front : List Record) (own : Record)
-        → IsSound script → AreSteps script (front ++ own ∷ []) → (letter : Letter) (seq : ℕ) → In letter own.sent → letter.body ≡ NotHere seq
-        → FoundNothing (setting_of script) (world_after (setting_of script) (start (setting_of script)) front) own.actor letter.to seq }
+    ensures { (script : Script) (prefix : List Record) (own : Record)
+        → IsSound script → AreSteps script (prefix ++ own ∷ []) → (letter : Letter) (seq : ℕ) → In letter own.sent → letter.body ≡ NotHere seq
+        → FoundNothing (setting_of script) (world_after (setting_of script) (start (setting_of script)) prefix) own.actor letter.to seq }
 {}
 
 /// A letter that says that there is no slot for an entry that moves is sent by the lead of the new map's cell, in a job in which it handled
@@ -54,9 +54,9 @@ pub fn not_here_has_a_reason()
 /// the letter in an earlier step, in which it was asked for a slot for this operation, which was new to it, and had none: neither free nor left
 /// over on the cell.
 pub fn a_full_fill_found_no_slot()
-    ensures { (script : Script) (front : List Record) (own : Record) → IsSound script → AreSteps script (front ++ own ∷ []) → (letter : Letter) (key : Key)
+    ensures { (script : Script) (prefix : List Record) (own : Record) → IsSound script → AreSteps script (prefix ++ own ∷ []) → (letter : Letter) (key : Key)
         → In letter own.sent → letter.body ≡ FillFull key
-        → HadNoFill (setting_of script) front own.actor own.step key }
+        → HadNoFill (setting_of script) prefix own.actor own.step key }
 {}
 
 /// Where a running server remembers that a slot was wanting, it heard so in a job of this life: while a copy of its was under way and waited for

@@ -11,7 +11,7 @@ use Rattle.law_copies.specs.Visits.{AliveIn, with_stores}
 use Rattle.law_copies.proofs.CopiesGround.{Ground}
 use Rattle.law_copies.proofs.AtSeat.{AtSeat, IsAtWork}
 use Rattle.law_copies.proofs.AtStep.{AtStep, IsStep, at_step}
-use Rattle.law_copies.proofs.ServedAtLaterFronts.{AllStarted}
+use Rattle.law_copies.proofs.ServedAtLaterPrefixes.{AllStarted}
 use Rattle.petal_msg.specs.declared.body.Body.TheVariants as body
 
 -- what a job, or a ballot that is started, keeps by itself

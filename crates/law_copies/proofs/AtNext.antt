@@ -1,6 +1,6 @@
 -- One entry more of the chosen log, and what is so of the world and of the log before it.
 use Rattle.law_copies.proofs.Imports.{[], if◌then◌else◌, ◌++◌, ◌==◌, ◌∷◌, ◌≡◌, ◌⊎◌, Caught, Cell, Command, HasProperTuples, IsPrefix, List, None, Record}
-use Rattle.law_copies.proofs.Imports.{Setting, State, Store, WasStarted, World, blank_joins_in, false, front_on, is_in, joins_blank, server_state, start}
+use Rattle.law_copies.proofs.Imports.{Setting, State, Store, WasStarted, World, blank_joins_in, false, is_in, joins_blank, prefix_on, server_state, start}
 use Rattle.law_copies.proofs.Imports.{state_after, true, world_after, ℕ}
 use Rattle.law_copies.specs.GoodCopies.{Good}
 use Rattle.law_copies.specs.Pair.{HaveMarks}
@@ -14,12 +14,12 @@ pub record IsAfter (setting : Setting) (records : List Record) (top : List Comma
 
 pub following_on : (setting : Setting) (records : List Record) (top more : List Command) (w : World) → IsPrefix top more → IsAfter setting records top w
     → IsAfter setting records more w
-following_on setting records top more w prefix following = record {
-  now = λ n. front_on _ top more (following.now n) prefix;
-  ever = λ before later is n. front_on _ top more (following.ever before later is n) prefix;
+following_on setting records top more w is_prefix following = record {
+  now = λ n. prefix_on _ top more (following.now n) is_prefix;
+  ever = λ before later is n. prefix_on _ top more (following.ever before later is n) is_prefix;
 }
 
--- what is kept of this front of the log, with these visits and places that count
+-- what is kept of this prefix of the log, with these visits and places that count
 pub record IsGrownTo (setting : Setting) (records : List Record) (w : World) (visits : Visits) (reached : Cell → ℕ) (log : List Command) : Type 0 where
   pub good : Good setting records log w
   pub visits_are : (n place : ℕ) (cell : Cell) → good.visits n place cell ≡ visits n place cell

@@ -6,7 +6,7 @@ use Rattle.law_copies.proofs.Imports.{inr, joins_blank, joins_grow, joins_on, ma
 use Rattle.law_copies.proofs.Imports.{state_after, sym, touches, true, true_false, ℕ}
 use Rattle.spec_state.specs.State.{start}
 use Rattle.law_copies.specs.Visits.{IsLinked, place_by, store_by}
-use Rattle.law_copies.proofs.PlacesByFronts.{fronts_meet, place_of_later}
+use Rattle.law_copies.proofs.PlacesByPrefixes.{prefixes_meet, place_of_later}
 
 -- the entry touches each link of the server
 joins_touch : (s : State) (entry : Command) (n : ℕ) (row : LinkRow) → has_server n row ≡ true → joins_blank s entry n ≡ true
@@ -44,54 +44,54 @@ joins_places s (entry ∷ entries) n row has =
     omega arith))
 
 module _ (setting : Setting) where
-  -- between two fronts, there are at least as many new places of the link
-  pub joins_by_places : (front more : List Command) (row : LinkRow) (n : ℕ) → IsPrefix front more → has_server n row ≡ true
-      → blank_joins_in setting more n + place_by setting front row ≤ blank_joins_in setting front n + place_by setting more row
-  joins_by_places front more row n prefix has =
-      let s = state_after setting.servers front in
-      let places = places_of_both setting.servers front more row prefix in
-      let joins : blank_joins_in setting more n ≡ blank_joins_in setting front n + blank_joins_from s prefix.later n =
-      ap (λ log. blank_joins_from (start setting.servers) log n) prefix.is ∙ joins_on n (start setting.servers) front prefix.later in
-      let le = joins_places s prefix.later n row has in
+  -- between two prefixes, there are at least as many new places of the link
+  pub joins_by_places : (prefix more : List Command) (row : LinkRow) (n : ℕ) → IsPrefix prefix more → has_server n row ≡ true
+      → blank_joins_in setting more n + place_by setting prefix row ≤ blank_joins_in setting prefix n + place_by setting more row
+  joins_by_places prefix more row n is_prefix has =
+      let s = state_after setting.servers prefix in
+      let places = places_of_both setting.servers prefix more row is_prefix in
+      let joins : blank_joins_in setting more n ≡ blank_joins_in setting prefix n + blank_joins_from s is_prefix.later n =
+      ap (λ log. blank_joins_from (start setting.servers) log n) is_prefix.is ∙ joins_on n (start setting.servers) prefix is_prefix.later in
+      let le = joins_places s is_prefix.later n row has in
       omega arith
 
   module _ (whole : List Command) (plain : HasProperTuples setting.servers whole) where
-    joins_at_up : (front more : List Command) (cell : Cell) (row now : LinkRow) (n : ℕ) → IsPrefix front more → IsPrefix more whole
-        → IsLinked setting front cell row → IsLinked setting more cell now → has_server n row ≡ true
-        → place_by setting front row ≡ place_by setting more now
-        → blank_joins_in setting front n ≡ blank_joins_in setting more n
-    joins_at_up front more cell row now n one two is end has same =
-        let le = joins_by_places front more row n one has in
-        let up = joins_grow setting.servers front more n one in
-        let counted = place_of_later setting whole plain front more more cell row now one two is end in
+    joins_at_up : (prefix more : List Command) (cell : Cell) (row now : LinkRow) (n : ℕ) → IsPrefix prefix more → IsPrefix more whole
+        → IsLinked setting prefix cell row → IsLinked setting more cell now → has_server n row ≡ true
+        → place_by setting prefix row ≡ place_by setting more now
+        → blank_joins_in setting prefix n ≡ blank_joins_in setting more n
+    joins_at_up prefix more cell row now n one two is end has same =
+        let le = joins_by_places prefix more row n one has in
+        let up = joins_grow setting.servers prefix more n one in
+        let counted = place_of_later setting whole plain prefix more more cell row now one two is end in
         omega arith
 
     -- at one place of a link each of its servers has as many
-    pub joins_at : (front more : List Command) (cell : Cell) (row now : LinkRow) (n : ℕ) → IsPrefix front whole → IsPrefix more whole
-        → IsLinked setting front cell row → IsLinked setting more cell now → has_server n row ≡ true → has_server n now ≡ true
-        → place_by setting front row ≡ place_by setting more now
-        → blank_joins_in setting front n ≡ blank_joins_in setting more n
-    joins_at front more cell row now n one two is end has has_now same = elim (fronts_meet front more whole one two) [
-      | inl p ↦ joins_at_up front more cell row now n p two is end has same
-      | inr p ↦ sym (joins_at_up more front cell now row n p one end is has_now (sym same))
+    pub joins_at : (prefix more : List Command) (cell : Cell) (row now : LinkRow) (n : ℕ) → IsPrefix prefix whole → IsPrefix more whole
+        → IsLinked setting prefix cell row → IsLinked setting more cell now → has_server n row ≡ true → has_server n now ≡ true
+        → place_by setting prefix row ≡ place_by setting more now
+        → blank_joins_in setting prefix n ≡ blank_joins_in setting more n
+    joins_at prefix more cell row now n one two is end has has_now same = elim (prefixes_meet prefix more whole one two) [
+      | inl p ↦ joins_at_up prefix more cell row now n p two is end has same
+      | inr p ↦ sym (joins_at_up more prefix cell now row n p one end is has_now (sym same))
     ]
 
     -- and so one store
-    pub store_at : (stores : ℕ → ℕ → Store) (front more : List Command) (cell : Cell) (row now : LinkRow) (n : ℕ) → IsPrefix front whole
-        → IsPrefix more whole → IsLinked setting front cell row → IsLinked setting more cell now → has_server n row ≡ true
-        → has_server n now ≡ true → place_by setting front row ≡ place_by setting more now
-        → store_by setting stores front n ≡ store_by setting stores more n
-    store_at stores front more cell row now n one two is end has has_now same =
-        ap (stores n) (joins_at front more cell row now n one two is end has has_now same)
+    pub store_at : (stores : ℕ → ℕ → Store) (prefix more : List Command) (cell : Cell) (row now : LinkRow) (n : ℕ) → IsPrefix prefix whole
+        → IsPrefix more whole → IsLinked setting prefix cell row → IsLinked setting more cell now → has_server n row ≡ true
+        → has_server n now ≡ true → place_by setting prefix row ≡ place_by setting more now
+        → store_by setting stores prefix n ≡ store_by setting stores more n
+    store_at stores prefix more cell row now n one two is end has has_now same =
+        ap (stores n) (joins_at prefix more cell row now n one two is end has has_now same)
 
-    -- with fewer of them a front is at an earlier place
-    pub joins_earlier : (front more : List Command) (cell : Cell) (row now : LinkRow) (n : ℕ) → IsPrefix front whole → IsPrefix more whole
-        → IsLinked setting front cell row → IsLinked setting more cell now → has_server n row ≡ true → has_server n now ≡ true
-        → blank_joins_in setting front n < blank_joins_in setting more n → place_by setting front row < place_by setting more now
-    joins_earlier front more cell row now n one two is end has has_now lt = elim (fronts_meet front more whole one two) [
+    -- with fewer of them a prefix is at an earlier place
+    pub joins_earlier : (prefix more : List Command) (cell : Cell) (row now : LinkRow) (n : ℕ) → IsPrefix prefix whole → IsPrefix more whole
+        → IsLinked setting prefix cell row → IsLinked setting more cell now → has_server n row ≡ true → has_server n now ≡ true
+        → blank_joins_in setting prefix n < blank_joins_in setting more n → place_by setting prefix row < place_by setting more now
+    joins_earlier prefix more cell row now n one two is end has has_now lt = elim (prefixes_meet prefix more whole one two) [
       | inl p ↦
-          let le = joins_by_places front more row n p has in
-          let counted = place_of_later setting whole plain front more more cell row now p two is end in
+          let le = joins_by_places prefix more row n p has in
+          let counted = place_of_later setting whole plain prefix more more cell row now p two is end in
           omega arith
-      | inr p ↦ let up = joins_grow setting.servers more front n p in absurd (omega arith)
+      | inr p ↦ let up = joins_grow setting.servers more prefix n p in absurd (omega arith)
     ]

@@ -1,11 +1,11 @@
 -- An entry that counts as a Join with an empty store: of which server it is, and what becomes of the server's links.
 use Rattle.law_copies.proofs.Imports.{[], if◌then◌else◌, ◌&&◌, ◌++◌, ◌<◌, ◌==◌, ◌||◌, ◌∙◌, ◌∷◌, ◌≡◌, ◌≢◌, Bool, Both, Cell, Chain, Command, Join, LinkRow}
 use Rattle.law_copies.proofs.Imports.{LinkState, List, Lost, None, Only, Setting, State, Store, ap, append-nil, at-empty, blank_joins_in, blanked_state}
-use Rattle.law_copies.proofs.Imports.{both_true, by_bool, cell_cmp, chain_in, counts_joins, false, front_itself, has_server, inl, inr, joined_counts}
-use Rattle.law_copies.proofs.Imports.{joins_blank, may_join, needs_full_copy, number_itself, refl, row_blanked, row_joined, same_numbers, slice_get}
-use Rattle.law_copies.proofs.Imports.{state_after, subst, sym, true, true_false, unwrap_or, ℕ}
+use Rattle.law_copies.proofs.Imports.{both_true, by_bool, cell_cmp, chain_in, counts_joins, false, has_server, inl, inr, joined_counts, joins_blank, may_join}
+use Rattle.law_copies.proofs.Imports.{needs_full_copy, number_itself, prefix_itself, refl, row_blanked, row_joined, same_numbers, slice_get, state_after}
+use Rattle.law_copies.proofs.Imports.{subst, sym, true, true_false, unwrap_or, ℕ}
 use Rattle.law_copies.specs.CopyProgress.{IsCovered, Is_equal, Is_to_be_copied}
-use Rattle.law_copies.proofs.ServedAtLaterFronts.{same_only}
+use Rattle.law_copies.proofs.ServedAtLaterPrefixes.{same_only}
 
 -- the entry is the server's Join with an empty store, which acts
 pub record IsBlankJoin (here : State) (entry : Command) (n : ℕ) : Type 0 where
@@ -46,7 +46,7 @@ module _ (setting : Setting) (top : List Command) (entry : Command) (n : ℕ) wh
       let j = blank_join (state_after setting.servers top) entry n on in
       joined_counts setting.servers top (top ++ entry ∷ []) n j.inc (record {
         until = top;
-        following = front_itself top;
+        following = prefix_itself top;
         stands = record { later = []; is = ap (λ c. top ++ c ∷ []) j.is ∙ sym (append-nil (top ++ Join n j.inc true ∷ [])) };
         may = j.may;
       })

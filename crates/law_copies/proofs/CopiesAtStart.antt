@@ -27,7 +27,7 @@ start_good setting =
     record {
       visits = visits;
       reached = reached;
-      reaching = record { below = λ front cell row n own prefix is serving visit. none_some refl visit; by = λ cell. inl refl };
+      reaching = record { below = λ prefix cell row n own is_prefix is serving visit. none_some refl visit; by = λ cell. inl refl };
       stores = stores;
       now = λ n. refl;
       here = λ n cell row is seat alive. none_some (start_unlinked setting.servers cell) is;
@@ -45,17 +45,17 @@ start_good setting =
       filled = λ n cell there. none_some (at-empty cell_cmp cell) there;
       copied = λ n cell last there. none_some (at-empty cell_cmp cell) there;
       marks = λ n when cell op on there. none_some (at-empty cell_cmp cell) there;
-      both = λ front cell row prefix is both. record {
-        twins = λ alive last. new_twins (λ n. empty_store setting.slots) visits (place_by setting front row) cell row.primary row.secondary (λ n. refl) refl;
+      both = λ prefix cell row is_prefix is both. record {
+        twins = λ alive last. new_twins (λ n. empty_store setting.slots) visits (place_by setting prefix row) cell row.primary row.secondary (λ n. refl) refl;
       };
-      alone = λ front cell row holder whole prefix is alone.
-          new_alone setting top stores visits reached front cell row holder (λ n. refl) (λ alive. Is_equal refl)
+      alone = λ prefix cell row holder whole is_prefix is alone.
+          new_alone setting top stores visits reached prefix cell row holder (λ n. refl) (λ alive. Is_equal refl)
           (λ alive all_of. inl (no_chain setting.slots cell));
       revs = λ letter i. absurd i;
       letters = λ letter i. absurd i;
       lives = λ letter i. absurd i;
       pages = λ letter i. absurd i;
-      started = λ holder inc whole front cell row prefix is alive alone seat was. true_false was.minded
+      started = λ holder inc whole prefix cell row is_prefix is alive alone seat was. true_false was.minded
           (ap (λ u. is_flagged ((world_after setting (start setting) u).servers holder).own (id_of row)) (none_before_none was.before was.later was.is)
           ∙ ap (λ o. option_map_or (λ (p : Progress). p.caught) o false) (at-empty link_cmp (id_of row)));
     }

@@ -2,15 +2,15 @@
 use Rattle.law_copies.proofs.Imports.{[], if◌then◌else◌, ◌++◌, ◌∙◌, ◌∷◌, ◌≡◌, ◌≤◌, AreSteps, BeforeBlank, Blank, Blanks, Cell, Happens, In, IsPrefix, IsSound}
 use Rattle.law_copies.proofs.Imports.{List, Option, Post, Reaction, Record, Script, Serves, Setting, Some, State, Store, Turns, World, acts, always_firm, ap}
 use Rattle.law_copies.proofs.Imports.{arith, before_part, below_itself, blank_joins_in, blanked, by_bool, by_run, chosen_log, chosen_state, client_sender}
-use Rattle.law_copies.proofs.Imports.{counted, counted_by, false, front_itself, front_on, history_grows, history_is_firm, in-append, inl, inr, is_between}
-use Rattle.law_copies.proofs.Imports.{kept, kept_store, last_happens, letters_of, none_some, number_itself, put_apart, put_at, put_same, reacts, refl, run_of}
-use Rattle.law_copies.proofs.Imports.{same_or_apart, setting_of, split_last, stamped, start, stays, subject_of, subst, sym, true_false, turned_asks}
+use Rattle.law_copies.proofs.Imports.{counted, counted_by, false, history_grows, history_is_firm, in-append, inl, inr, is_between, kept, kept_store}
+use Rattle.law_copies.proofs.Imports.{last_happens, letters_of, none_some, number_itself, prefix_itself, prefix_on, put_apart, put_at, put_same, reacts, refl}
+use Rattle.law_copies.proofs.Imports.{run_of, same_or_apart, setting_of, split_last, stamped, start, stays, subject_of, subst, sym, true_false, turned_asks}
 use Rattle.law_copies.proofs.Imports.{with_store, world_after, ℕ}
 use Rattle.law_copies.proofs.StoreHistories.{join_empty, join_own}
 use Rattle.law_copies.specs.GoodCopies.{Good}
 use Rattle.law_copies.specs.Visits.{is_at}
 use Rattle.law_copies.proofs.AtStep.{IsStep, at_step}
-use Rattle.law_copies.proofs.FramesKeepFronts.{store_itself}
+use Rattle.law_copies.proofs.FramesKeepPrefixes.{store_itself}
 use Rattle.law_copies.proofs.KeptEntryByEntry.{IsFurther, grow}
 use Rattle.law_copies.proofs.AtNext.{IsAfter}
 use Rattle.law_copies.proofs.MuteLettersTellNothing.{asked_mute}
@@ -46,7 +46,7 @@ module _ (it : OneMore) where
             (put_apart w.servers k (blanked (w.servers k)) n ne i).own.store);
         plain = known.firm.plain;
         before = known.firm.servers;
-        onward = front_itself (w.servers k).log.applied;
+        onward = prefix_itself (w.servers k).log.applied;
         within = known.firm.servers k;
         blanks = λ n none. elim (same_or_apart n k) [
           | inl e ↦ none_some none (ap (put_at w.before_blank k (Some mine)) e ∙ put_same w.before_blank k (Some mine))
@@ -75,7 +75,7 @@ module _ (it : OneMore) where
         others = λ n ne. refl;
         plain = known.firm.plain;
         before = known.firm.servers;
-        onward = front_itself (w.servers 0).log.applied;
+        onward = prefix_itself (w.servers 0).log.applied;
         within = known.firm.servers 0;
         blanks = λ n none. none;
       } in
@@ -134,7 +134,7 @@ module _ (script : Script) (records : List Record) (own : Record) (sound : IsSou
       | inl whole ↦ subst (λ rs. IsPrefix ((world_after setting (start setting) rs).servers n).log.applied (chosen_log setting w)) (sym whole) (now n)
       | inr more ↦ (
           let legal_there = before_part script before more.0 (subst (AreSteps script) more.1 legal_before) in
-          front_on _ (chosen_log setting (world_after setting (start setting) before)) (chosen_log setting w)
+          prefix_on _ (chosen_log setting (world_after setting (start setting) before)) (chosen_log setting w)
           ((history_is_firm script before sound legal_there).servers n)
           (history_grows script records sound legal_before before more.0 more.1))
     ];
@@ -150,7 +150,7 @@ module _ (script : Script) (records : List Record) (own : Record) (sound : IsSou
         started = known.started;
         empty = λ n more. join_empty script records own n sound legal more;
         own = λ n more. join_own script records own n sound legal more;
-        begun = λ n inc front prefix up. in_begun script all sound legal n inc front prefix up;
+        begun = λ n inc prefix is_prefix up. in_begun script all sound legal n inc prefix is_prefix up;
       }
 
   -- one record more

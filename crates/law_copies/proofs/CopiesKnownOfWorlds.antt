@@ -6,7 +6,7 @@ use Rattle.law_copies.proofs.Imports.{state_after, true, who_is_in_has_begun, wo
 use Rattle.law_copies.specs.WaitingStores.{IsOwn}
 use Rattle.law_copies.proofs.StoreHistories.{in_counts, in_own}
 use Rattle.law_copies.specs.GoodCopies.{Good}
-use Rattle.law_copies.proofs.ServedAtLaterFronts.{AllStarted}
+use Rattle.law_copies.proofs.ServedAtLaterPrefixes.{AllStarted}
 
 -- what is known of a world of a legal history: its log; each stopped server may boot, and is not In as its next incarnation; what rests;
 -- the ballots of the Caughts that are chosen; and that the store of a server that is In as itself counts
@@ -17,9 +17,9 @@ pub record IsKnown (setting : Setting) (records : List Record) (w : World) : Typ
   pub rests : Rests setting w
   pub started : AllStarted setting records w
   pub real : (n : ℕ) → (w.servers n).life.running ≡ true → is_in (server_state setting w n) n (w.servers n).life.inc ≡ true → IsOwn setting w n
-  pub counts : (n : ℕ) (front : List Command) → IsPrefix front (chosen_log setting w)
-      → is_in (state_after setting.servers front) n (w.servers n).life.inc ≡ true
-      → blank_joins_in setting front n ≡ blank_joins_in setting (chosen_log setting w) n
+  pub counts : (n : ℕ) (prefix : List Command) → IsPrefix prefix (chosen_log setting w)
+      → is_in (state_after setting.servers prefix) n (w.servers n).life.inc ≡ true
+      → blank_joins_in setting prefix n ≡ blank_joins_in setting (chosen_log setting w) n
 
 -- a history gets one record more: what is known of the world before it, and what was good of it by the stores that count
 pub record OneMore : Type 0 where
@@ -39,15 +39,15 @@ abbrev pub before_of : OneMore → Before
 before_of it = record { top = chosen_log it.setting it.w; before = counted it.setting it.w }
 
 -- an incarnation that was ever In has begun
-pub in_begun : (script : Script) (records : List Record) → IsSound script → AreSteps script records → (n inc : ℕ) (front : List Command)
-    → IsPrefix front (chosen_log (setting_of script) (world_after (setting_of script) (start (setting_of script)) records))
-    → is_in (state_after script.servers front) n inc ≡ true → inc ≤ ((world_after (setting_of script) (start (setting_of script)) records).servers n).life.inc
-in_begun script records sound legal n inc front prefix up =
+pub in_begun : (script : Script) (records : List Record) → IsSound script → AreSteps script records → (n inc : ℕ) (prefix : List Command)
+    → IsPrefix prefix (chosen_log (setting_of script) (world_after (setting_of script) (start (setting_of script)) records))
+    → is_in (state_after script.servers prefix) n inc ≡ true → inc ≤ ((world_after (setting_of script) (start (setting_of script)) records).servers n).life.inc
+in_begun script records sound legal n inc prefix is_prefix up =
     let setting = setting_of script in
     let w = world_after setting (start setting) records in
     by_bool (is_in (chosen_state setting w) n inc)
     (λ now. let begun = who_is_in_has_begun script records sound legal n inc now in omega arith)
-    (λ gone. elim (out_has_stopped script records sound legal n inc front prefix up gone) [
+    (λ gone. elim (out_has_stopped script records sound legal n inc prefix is_prefix up gone) [
       | inl rests ↦ (let le = rests.1 in omega arith)
       | inr past ↦ omega arith
     ])
@@ -69,5 +69,5 @@ known_after script records sound legal =
       rests = rests_after setting (start setting) records (always_firm script records sound legal) (start_rests script) legal;
       started = chosen_caught_was script records sound legal;
       real = λ n runs seat. in_own script records n sound legal runs seat;
-      counts = λ n front prefix seat. in_counts script records n front sound legal prefix seat;
+      counts = λ n prefix is_prefix seat. in_counts script records n prefix sound legal is_prefix seat;
     }

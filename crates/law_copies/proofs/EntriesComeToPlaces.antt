@@ -2,18 +2,18 @@
 use Rattle.law_copies.proofs.Imports.{[], ◌++◌, ◌+◌, ◌∙◌, ◌∷◌, ◌≡◌, ◌≤◌, ◌⊎◌, Both, Busy, By_caught, By_join, By_leave, Caught, Cell, Command, HasProperTuple}
 use Rattle.law_copies.proofs.Imports.{HasProperTuples, HasStarted, In, IsCaughtBy, IsPrefix, IsSteady, LastCopy, LinkRow, List, None, PairState, Pairs}
 use Rattle.law_copies.proofs.Imports.{Pending, Some, Stale, State, StaysSo, after, alone_not_both, ap, arith, at, both_before, by_bool, cell_cmp, cell_link}
-use Rattle.law_copies.proofs.Imports.{chain_in, chosen_log, copying_on, crossed, false, front_itself, front_more, front_plain, has_mark, held_as_flag, id_of}
-use Rattle.law_copies.proofs.Imports.{in_later, in_once, inl, inr, is_in, is_the_one, last_copy, left_not_both, left_row, length, link_cmp, link_led_by, live}
-use Rattle.law_copies.proofs.Imports.{live_stage, log_entry_stays, log_steady, log_touched, mark_on, nat_cmp, no_progress, none_some, option_and_then}
-use Rattle.law_copies.proofs.Imports.{other_of, pending_on, refl, row_lead, row_named, same_or_apart, same_some, server_state, some_or_none, stage_at}
+use Rattle.law_copies.proofs.Imports.{chain_in, chosen_log, copying_on, crossed, false, has_mark, held_as_flag, id_of, in_later, in_once, inl, inr, is_in}
+use Rattle.law_copies.proofs.Imports.{is_the_one, last_copy, left_not_both, left_row, length, link_cmp, link_led_by, live, live_stage, log_entry_stays}
+use Rattle.law_copies.proofs.Imports.{log_steady, log_touched, mark_on, nat_cmp, no_progress, none_some, option_and_then, other_of, pending_on, prefix_itself}
+use Rattle.law_copies.proofs.Imports.{prefix_more, prefix_plain, refl, row_lead, row_named, same_or_apart, same_some, server_state, some_or_none, stage_at}
 use Rattle.law_copies.proofs.Imports.{stage_live, state_after, subst, sym, touches, true, true_false, unwrap_or, ℕ}
 use Rattle.law_copies.specs.GoodCopies.{IsUnheard}
 use Rattle.law_copies.specs.Pair.{HaveMarks}
 use Rattle.law_copies.specs.Visits.{AliveIn, IsLinked, place_by, with_stores}
 use Rattle.law_copies.proofs.AtEntry.{AtEntry}
 use Rattle.law_copies.proofs.NewcomersRememberNothing.{IsFresh}
-use Rattle.law_copies.proofs.ServedAtLaterFronts.{same_only}
-use Rattle.law_copies.proofs.PlacesByFronts.{below_at, linked_alive, place_of_later, place_touched, place_untouched, places_up, rows_later, state_next}
+use Rattle.law_copies.proofs.ServedAtLaterPrefixes.{same_only}
+use Rattle.law_copies.proofs.PlacesByPrefixes.{below_at, linked_alive, place_of_later, place_touched, place_untouched, places_up, rows_later, state_next}
 use Rattle.law_copies.proofs.RolesOfWorkers.{cell_map}
 use Rattle.law_copies.proofs.WorkedCell.{above_none}
 use Rattle.law_copies.proofs.LeftByEntry.{KeepsAll, lives_on, cell_never, link_never, touched_fresh, untouched_keeps, left_fresh, left_keeps, left_copied}
@@ -24,8 +24,8 @@ use Rattle.law_copies.proofs.LeftByEntry.{left_unheard}
 module _ (it : AtEntry) where
   open it use {setting, w, stores, k, server, good, step, firm, rests, runs, entry, more, left}
 
-  abbrev front : List Command
-  front = (w.servers k).log.applied
+  abbrev prefix : List Command
+  prefix = (w.servers k).log.applied
 
   abbrev next : List Command
   next = server.log.applied
@@ -40,30 +40,30 @@ module _ (it : AtEntry) where
   abbrev new : PairState
   new = server.own
 
-  step_on : IsPrefix front next
-  step_on = subst (IsPrefix front) (sym more) (front_more front entry)
+  step_on : IsPrefix prefix next
+  step_on = subst (IsPrefix prefix) (sym more) (prefix_more prefix entry)
 
   plain_next : HasProperTuples setting.servers next
-  plain_next = front_plain setting.servers next (chosen_log setting w) firm.plain step.within
+  plain_next = prefix_plain setting.servers next (chosen_log setting w) firm.plain step.within
 
-  plain_front : HasProperTuples setting.servers front
-  plain_front = front_plain setting.servers front (chosen_log setting w) firm.plain (firm.servers k)
+  plain_prefix : HasProperTuples setting.servers prefix
+  plain_prefix = prefix_plain setting.servers prefix (chosen_log setting w) firm.plain (firm.servers k)
 
   plain_entry : HasProperTuple setting.servers entry
   unfolding In
-  plain_entry = plain_next entry (subst (In entry) (sym more) (in_later entry front (entry ∷ []) (inl refl)))
+  plain_entry = plain_next entry (subst (In entry) (sym more) (in_later entry prefix (entry ∷ []) (inl refl)))
 
-  steady_front : IsSteady earlier
-  steady_front = log_steady setting.servers front plain_front
+  steady_prefix : IsSteady earlier
+  steady_prefix = log_steady setting.servers prefix plain_prefix
 
   next_is : state_after setting.servers next ≡ after earlier entry
-  next_is = ap (state_after setting.servers) more ∙ state_next setting front entry
+  next_is = ap (state_after setting.servers) more ∙ state_next setting prefix entry
 
   row_then : (cell : Cell) (now : LinkRow) → IsLinked setting next cell now → cell_link (after earlier entry) cell ≡ Some now
   row_then cell now end = sym (ap (λ (s : State). cell_link s cell) next_is) ∙ end
 
   stages_up : (cell : Cell) → stage_at earlier cell ≤ stage_at (state_after setting.servers next) cell
-  stages_up cell = (below_at setting next plain_next front next step_on (front_itself next)).stages cell
+  stages_up cell = (below_at setting next plain_next prefix next step_on (prefix_itself next)).stages cell
 
   pub alive_before : (cell : Cell) → AliveIn (state_after setting.servers next) cell → AliveIn earlier cell
   alive_before cell alive = let le = stages_up cell in omega arith
@@ -72,7 +72,7 @@ module _ (it : AtEntry) where
   unborn : (cell : Cell) → AliveIn earlier cell → cell_link earlier cell ≡ None → stage_at earlier cell ≡ 0
   unborn cell alive none = elim (same_or_apart (stage_at earlier cell) 0) [
     | inl zero ↦ zero
-    | inr ne ↦ none_some none (steady_front.lives cell (stage_live earlier cell (above_none (stage_at earlier cell) ne) alive)).is
+    | inr ne ↦ none_some none (steady_prefix.lives cell (stage_live earlier cell (above_none (stage_at earlier cell) ne) alive)).is
   ]
 
   -- nothing is pending there on a link that its Caught puts in Both: the holder had its ballot in mind, and the other server does not lead
@@ -82,18 +82,18 @@ module _ (it : AtEntry) where
       let staged = (rests.pending k).staged cell op there in
       let seated = rests.seated k cell op runs there in
       let on = stage_live earlier cell staged.born alive in
-      elim (link_led_by earlier steady_front cell k (is_the_one (option_and_then (row_lead earlier) (cell_link earlier cell)) k (staged.leads on))) [
+      elim (link_led_by earlier steady_prefix cell k (is_the_one (option_and_then (row_lead earlier) (cell_link earlier cell)) k (staged.leads on))) [
         | inl b ↦ alone_not_both row acts.holder acts.alone (ap (λ (r : LinkRow). r.state) (same_some (sym is ∙ b.0.is)) ∙ b.0.so)
         | inr held ↦
             let mine : acts.holder ≡ k = same_only (sym acts.alone ∙ ap (λ (r : LinkRow). r.state) (same_some (sym is ∙ held.is)) ∙ held.so) in
             let inc_is : acts.inc ≡ (w.servers k).life.inc =
             in_once earlier k acts.inc (w.servers k).life.inc (subst (λ n. is_in earlier n acts.inc ≡ true) mine acts.holds) seated in
-            let stands : IsPrefix (front ++ Caught row.map row.link acts.holder acts.inc (other_of acts.holder row) acts.other_inc ∷ [])
+            let stands : IsPrefix (prefix ++ Caught row.map row.link acts.holder acts.inc (other_of acts.holder row) acts.other_inc ∷ [])
             (chosen_log setting w) =
-            subst (λ (x : Command). IsPrefix (front ++ x ∷ []) (chosen_log setting w)) acts.is
+            subst (λ (x : Command). IsPrefix (prefix ++ x ∷ []) (chosen_log setting w)) acts.is
             (subst (λ f. IsPrefix f (chosen_log setting w)) more step.within) in
-            let started = firm.started front row.map row.link acts.holder acts.inc (other_of acts.holder row) acts.other_inc stands in
-            let mine_started = subst (λ n. HasStarted w.servers n acts.inc (length front) (id_of row)) mine started in
+            let started = firm.started prefix row.map row.link acts.holder acts.inc (other_of acts.holder row) acts.other_inc stands in
+            let mine_started = subst (λ n. HasStarted w.servers n acts.inc (length prefix) (id_of row)) mine started in
             elim mine_started [
               | inl past ↦ absurd (omega (arith, inc_is))
               | inr flag ↦ true_false (held_as_flag earlier old cell row is ∙ flag.1.flagged refl) (staged.unheld on)
@@ -116,8 +116,8 @@ module _ (it : AtEntry) where
 
   -- it stays at the place at which it was
   pub record StaysAt (cell : Cell) (now : LinkRow) : Type 0 where
-    pub linked : IsLinked setting front cell now
-    pub place : place_by setting next now ≡ place_by setting front now
+    pub linked : IsLinked setting prefix cell now
+    pub place : place_by setting next now ≡ place_by setting prefix now
     pub so : StaysSo cell now earlier (state_after setting.servers next)
     pub keeps : KeepsAll old new now cell
 
@@ -132,7 +132,7 @@ module _ (it : AtEntry) where
       record {
         unseen = unvisited (place_by setting next now) cell (λ own e.
             let b = good.been k (place_by setting next now) cell own e in
-            none_some none (linked_alive setting front plain_front b.front front cell b.row b.within (front_itself front) b.linked before).1);
+            none_some none (linked_alive setting prefix plain_prefix b.prefix prefix cell b.row b.within (prefix_itself prefix) b.linked before).1);
         fresh = left_fresh earlier entry old new left now cell (record {
           last = cell_never earlier entry old old.pairs.last cell unheard.last;
           copying = cell_never earlier entry old old.copies.pending cell (elim (some_or_none (copying_on old cell)) [
@@ -153,17 +153,17 @@ module _ (it : AtEntry) where
   comes_touched : (cell : Cell) (row now : LinkRow) → IsLinked setting next cell now → AliveIn (state_after setting.servers next) cell
       → cell_link earlier cell ≡ Some row → touches earlier entry row ≡ true → ComesTo cell now
   comes_touched cell row now end alive is on =
-      let so = rows_later setting next plain_next front next cell row now step_on (front_itself next) is end in
+      let so = rows_later setting next plain_next prefix next cell row now step_on (prefix_itself next) is end in
       let id_same : id_of now ≡ id_of row = (λ i. record { map = so.map i; link = so.link i }) in
       let fresh = touched_fresh earlier entry old cell row is on in
       record {
         unseen = unvisited (place_by setting next now) cell (λ own e.
             let b = good.been k (place_by setting next now) cell own e in
             let at = b.at in
-            let le = places_up setting front plain_front b.front front cell b.row row b.within (front_itself front) b.linked is in
-            let later_place = place_of_later setting next plain_next front next next cell row now step_on (front_itself next) is end in
-            let one : place_by setting next row ≡ place_by setting front row + 1 = ap (λ f. place_by setting f row) more
-            ∙ place_touched setting front entry row on in
+            let le = places_up setting prefix plain_prefix b.prefix prefix cell b.row row b.within (prefix_itself prefix) b.linked is in
+            let later_place = place_of_later setting next plain_next prefix next next cell row now step_on (prefix_itself next) is end in
+            let one : place_by setting next row ≡ place_by setting prefix row + 1 = ap (λ f. place_by setting f row) more
+            ∙ place_touched setting prefix entry row on in
             absurd (omega arith));
         fresh = left_fresh earlier entry old new left now cell (record {
           last = fresh.last;
@@ -171,7 +171,7 @@ module _ (it : AtEntry) where
           last_copy = fresh.last_copy;
           pages = ap (λ id. unwrap_or (at link_cmp (crossed earlier entry old).copies.progress id) no_progress) id_same ∙ fresh.pages;
         });
-        free = λ both. no_pending cell (λ op there. elim (log_touched setting.servers front entry cell row plain_front plain_entry is on) [
+        free = λ both. no_pending cell (λ op there. elim (log_touched setting.servers prefix entry cell row plain_prefix plain_entry is on) [
           | By_leave left at seats ↦ left_not_both (other_of left.server row) row.state
               (sym (left_row row left.server left.one_of) ∙ ap (λ (r : LinkRow). r.state) (same_some (sym at ∙ row_then cell now end)) ∙ both)
           | By_join joined at apart seats ↦ absurd (apart (both_before joined.server joined.blank row
@@ -182,7 +182,7 @@ module _ (it : AtEntry) where
 
   stays_so : (cell : Cell) (row now : LinkRow) → IsLinked setting next cell now → cell_link earlier cell ≡ Some row → touches earlier entry row ≡ false
       → StaysSo cell row earlier (after earlier entry)
-  stays_so cell row now end is off = elim (log_entry_stays setting.servers front entry cell row plain_front plain_entry is off) [
+  stays_so cell row now end is off = elim (log_entry_stays setting.servers prefix entry cell row plain_prefix plain_entry is off) [
     | inl so ↦ so
     | inr died ↦ none_some died.0 (row_then cell now end)
   ]
@@ -197,7 +197,7 @@ module _ (it : AtEntry) where
       let stays = lives_on earlier entry cell (omega arith) (omega arith) in
       subst (StaysAt cell) same (record {
         linked = is;
-        place = ap (λ f. place_by setting f row) more ∙ place_untouched setting front entry row off;
+        place = ap (λ f. place_by setting f row) more ∙ place_untouched setting prefix entry row off;
         so = subst (StaysSo cell row earlier) (sym next_is) so;
         keeps = left_keeps earlier entry old new left row cell (untouched_keeps earlier entry old cell row is off stays
             (row_named (after earlier entry) cell row so.same));
@@ -219,7 +219,7 @@ module _ (it : AtEntry) where
       let unheard = good.unheard k cell (omega arith) in
       left_unheard earlier entry old new left (state_after setting.servers next) cell unheard.bare unheard.last
       (λ none. unheard.pages (elim (some_or_none (cell_link earlier cell)) [
-        | inl h ↦ none_some none (linked_alive setting next plain_next front next cell h.0 step_on (front_itself next) h.1 (omega arith)).1
+        | inl h ↦ none_some none (linked_alive setting next plain_next prefix next cell h.0 step_on (prefix_itself next) h.1 (omega arith)).1
         | inr gone ↦ gone
       ]))
 

@@ -1,9 +1,9 @@
 -- What is kept after an entry that a server applies.
-use Rattle.law_copies.proofs.Imports.{[], ◌++◌, ◌<◌, ◌==◌, ◌∙◌, ◌∷◌, ◌≡◌, ◌≢◌, ◌≤◌, ◌⊎◌, Body, Bool, Both, Cell, Command, In, IsMarked, IsPrefix}
-use Rattle.law_copies.proofs.Imports.{IsRising, IsToBeCopied, Letter, LinkRow, List, None, Only, Option, PairState, Pairs, Pending, Progress, Record, Some}
-use Rattle.law_copies.proofs.Imports.{StaysSo, Store, World, about, ap, arith, at, cell_cmp, chain_in, chosen_log, false, front_plain, has_mark, has_server}
-use Rattle.law_copies.proofs.Imports.{id_of, inc_of, inl, inr, is_flagged, is_in, is_some, length, log_steady, mark_on, nat_cmp, none_some, option_map_or}
-use Rattle.law_copies.proofs.Imports.{other_between, other_of, pending_on, primary_is_one, refl, same_or_apart, same_some, secondary_is_one, server_state}
+use Rattle.law_copies.proofs.Imports.{[], ◌++◌, ◌<◌, ◌==◌, ◌∙◌, ◌∷◌, ◌≡◌, ◌≢◌, ◌≤◌, ◌⊎◌, Body, Bool, Both, Cell, Command, In, IsMarked, IsPrefix, IsRising}
+use Rattle.law_copies.proofs.Imports.{IsToBeCopied, Letter, LinkRow, List, None, Only, Option, PairState, Pairs, Pending, Progress, Record, Some, StaysSo}
+use Rattle.law_copies.proofs.Imports.{Store, World, about, ap, arith, at, cell_cmp, chain_in, chosen_log, false, has_mark, has_server, id_of, inc_of, inl}
+use Rattle.law_copies.proofs.Imports.{inr, is_flagged, is_in, is_some, length, log_steady, mark_on, nat_cmp, none_some, option_map_or, other_between}
+use Rattle.law_copies.proofs.Imports.{other_of, pending_on, prefix_plain, primary_is_one, refl, same_or_apart, same_some, secondary_is_one, server_state}
 use Rattle.law_copies.proofs.Imports.{state_after, state_in, subst, sym, true, ℕ}
 use Rattle.law_copies.specs.CopyProgress.{AreAlike, AreCopying, IsPage, IsTold, links_of}
 use Rattle.law_copies.specs.GoodCopies.{AloneOk, BothOk, SaidOk, StaysLeft, pair_at}
@@ -14,15 +14,15 @@ use Rattle.law_copies.proofs.VisitsAfterSteps.{then_of, IsAt, IsThen, KeepsFlags
 use Rattle.law_copies.proofs.AtEntry.{AtEntry, step_of}
 use Rattle.law_copies.proofs.BlankJoinsMakePlaces.{joins_at}
 use Rattle.law_copies.proofs.LeftByEntry.{KeepsAll}
-use Rattle.law_copies.proofs.FramesKeepFronts.{LeavesStore, alike_same, filled_framed, left_on, marked_back, other_is_one, pair_same, recalled_on}
+use Rattle.law_copies.proofs.FramesKeepPrefixes.{LeavesStore, alike_same, filled_framed, left_on, marked_back, other_is_one, pair_same, recalled_on}
 use Rattle.law_copies.proofs.NewcomersRememberNothing.{IsFresh, fresh_alike, fresh_first, fresh_first_known, fresh_holder, fresh_holder_told, fresh_other}
 use Rattle.law_copies.proofs.NewcomersRememberNothing.{fresh_other_told, fresh_second}
 use Rattle.law_copies.proofs.NewPlaces.{twins_lacking, twins_of, twins_recalled}
 use Rattle.law_copies.proofs.UnequalIsMarked.{AreRecalled}
-use Rattle.law_copies.proofs.ServedAtLaterFronts.{holder_is_one}
-use Rattle.law_copies.proofs.PlacesByFronts.{one_row}
+use Rattle.law_copies.proofs.ServedAtLaterPrefixes.{holder_is_one}
+use Rattle.law_copies.proofs.PlacesByPrefixes.{one_row}
 use Rattle.law_copies.proofs.StepsLeaveCopies.{stores_leave}
-use Rattle.law_copies.proofs.StepsKeepCopies.{GoesOn, IsSoundOwn, IsTrue, KeepsFronts, good_after}
+use Rattle.law_copies.proofs.StepsKeepCopies.{GoesOn, IsSoundOwn, IsTrue, KeepsPrefixes, good_after}
 use Rattle.law_copies.proofs.UnchangedCells.{holder_stays, other_stays, stays_alike, PairGoes, goes_on, goes_same}
 use Rattle.law_copies.proofs.EntriesComeToPlaces as entering
 
@@ -56,8 +56,8 @@ module _ (it : AtEntry) where
   leaves_own : (cell : Cell) → LeavesStore old.store new.store cell
   leaves_own cell = record { chain = ap (λ t. chain_in t cell) left.chains; marks = λ kind. ap (has_mark (mark_on kind cell)) left.marks }
 
-  leaves : (front : List Command) (n : ℕ) (cell : Cell) → LeavesStore (olds front n) (news front n) cell
-  leaves front n cell = stores_leave (step_of it) cell (leaves_own cell) front n
+  leaves : (prefix : List Command) (n : ℕ) (cell : Cell) → LeavesStore (olds prefix n) (news prefix n) cell
+  leaves prefix n cell = stores_leave (step_of it) cell (leaves_own cell) prefix n
 
   apart_visit : (n place : ℕ) (cell : Cell) → n ≢ k → visits n place cell ≡ good.visits n place cell
   apart_visit = visited_apart (step_of it)
@@ -98,45 +98,45 @@ module _ (it : AtEntry) where
         | inr two ↦ subst (λ n. inc_of (state_in setting.servers server.log) n ≡ inc_of (server_state setting w k) n) two.0 so.primary
       ]
 
-  same_row : (front : List Command) (cell : Cell) (row : LinkRow) → IsPrefix front top → IsLinked setting front cell row
-      → (there : IsAt setting k server (place_by setting front row) cell) → there.row ≡ row
-  same_row front cell row prefix is there =
-      one_row setting top step.plain front server.log.applied cell row there.row prefix step.within is there.linked there.at
+  same_row : (prefix : List Command) (cell : Cell) (row : LinkRow) → IsPrefix prefix top → IsLinked setting prefix cell row
+      → (there : IsAt setting k server (place_by setting prefix row) cell) → there.row ≡ row
+  same_row prefix cell row is_prefix is there =
+      one_row setting top step.plain prefix server.log.applied cell row there.row is_prefix step.within is there.linked there.at
 
-  -- where it is there, its store is the one that counts by the front
-  store_there : (front : List Command) (cell : Cell) (row : LinkRow) → IsPrefix front top → IsLinked setting front cell row → has_server k row ≡ true
-      → IsAt setting k server (place_by setting front row) cell → news front k ≡ new.store
-  store_there front cell row prefix is has there =
-      let has_there : has_server k there.row ≡ true = ap (has_server k) (same_row front cell row prefix is there) ∙ has in
-      stored_by (step_of it) front
-      (joins_at setting top step.plain front server.log.applied cell row there.row k prefix step.within is there.linked has has_there there.at
+  -- where it is there, its store is the one that counts by the prefix
+  store_there : (prefix : List Command) (cell : Cell) (row : LinkRow) → IsPrefix prefix top → IsLinked setting prefix cell row → has_server k row ≡ true
+      → IsAt setting k server (place_by setting prefix row) cell → news prefix k ≡ new.store
+  store_there prefix cell row is_prefix is has there =
+      let has_there : has_server k there.row ≡ true = ap (has_server k) (same_row prefix cell row is_prefix is there) ∙ has in
+      stored_by (step_of it) prefix
+      (joins_at setting top step.plain prefix server.log.applied cell row there.row k is_prefix step.within is there.linked has has_there there.at
       ∙ counts there.seat)
 
-  arriving_here : (front : List Command) (cell : Cell) (row : LinkRow) → IsPrefix front top → IsLinked setting front cell row → has_server k row ≡ true
-      → Arrives k (place_by setting front row) cell row
-  arriving_here front cell row prefix is has = elim (visited_by (step_of it) k (place_by setting front row) cell) [
-    | inl same ↦ stands_there k (place_by setting front row) cell row same
+  arriving_here : (prefix : List Command) (cell : Cell) (row : LinkRow) → IsPrefix prefix top → IsLinked setting prefix cell row → has_server k row ≡ true
+      → Arrives k (place_by setting prefix row) cell row
+  arriving_here prefix cell row is_prefix is has = elim (visited_by (step_of it) k (place_by setting prefix row) cell) [
+    | inl same ↦ stands_there k (place_by setting prefix row) cell row same
     | inr now ↦ (
         let there = now.there in
-        let one = same_row front cell row prefix is there in
+        let one = same_row prefix cell row is_prefix is there in
         let end = subst (IsLinked setting server.log.applied cell) one there.linked in
-        let place : place_by setting front row ≡ place_by setting server.log.applied row = there.at ∙ ap (place_by setting server.log.applied) one in
+        let place : place_by setting prefix row ≡ place_by setting server.log.applied row = there.at ∙ ap (place_by setting server.log.applied) one in
         elim (entering.comes_or_stays it cell row end there.alive) [
-          | inl c ↦ arriving_by k (place_by setting front row) cell row None (Some new) (ap (λ p. good.visits k p cell) place ∙ c.unseen) now.is
+          | inl c ↦ arriving_by k (place_by setting prefix row) cell row None (Some new) (ap (λ p. good.visits k p cell) place ∙ c.unseen) now.is
               (Has_come c.fresh (λ both. ap (λ (p : Pairs). at cell_cmp p.pending cell) left.pairs ∙ c.free both))
           | inr s ↦ (
               let h = good.here k cell row s.linked (seat_before row cell has s.so there.seat) (alive_there cell there.alive) in
-              arriving_by k (place_by setting front row) cell row (Some old) (Some new)
+              arriving_by k (place_by setting prefix row) cell row (Some old) (Some new)
               (ap (λ p. good.visits k p cell) (place ∙ s.place) ∙ h.is ∙ ap Some h.same) now.is (Has_stayed s.keeps))
         ])
   ]
 
-  arriving : (front : List Command) (cell : Cell) (row : LinkRow) → IsPrefix front top → IsLinked setting front cell row → (n : ℕ)
-      → has_server n row ≡ true → Arrives n (place_by setting front row) cell row
-  arriving front cell row prefix is n has = elim (same_or_apart n k) [
-    | inl e ↦ subst (λ m. Arrives m (place_by setting front row) cell row) (sym e)
-        (arriving_here front cell row prefix is (subst (λ m. has_server m row ≡ true) e has))
-    | inr ne ↦ stands_there n (place_by setting front row) cell row (apart_visit n (place_by setting front row) cell ne)
+  arriving : (prefix : List Command) (cell : Cell) (row : LinkRow) → IsPrefix prefix top → IsLinked setting prefix cell row → (n : ℕ)
+      → has_server n row ≡ true → Arrives n (place_by setting prefix row) cell row
+  arriving prefix cell row is_prefix is n has = elim (same_or_apart n k) [
+    | inl e ↦ subst (λ m. Arrives m (place_by setting prefix row) cell row) (sym e)
+        (arriving_here prefix cell row is_prefix is (subst (λ m. has_server m row ≡ true) e has))
+    | inr ne ↦ stands_there n (place_by setting prefix row) cell row (apart_visit n (place_by setting prefix row) cell ne)
   ]
 
   -- ### In Both
@@ -168,45 +168,45 @@ module _ (it : AtEntry) where
     was_pending _ _ (Has_come fresh free) op there = none_some (free both) there
     was_pending _ _ (Has_stayed keeps) op there = sym keeps.keeps.rest.pending ∙ there
 
-  module _ (front : List Command) (cell : Cell) (row : LinkRow) (prefix : IsPrefix front top) (is : IsLinked setting front cell row)
+  module _ (prefix : List Command) (cell : Cell) (row : LinkRow) (is_prefix : IsPrefix prefix top) (is : IsLinked setting prefix cell row)
       (both : row.state ≡ Both) where
     abbrev at_place : ℕ
-    at_place = place_by setting front row
+    at_place = place_by setting prefix row
 
     first_arrives : Arrives row.primary at_place cell row
-    first_arrives = arriving front cell row prefix is row.primary (primary_is_one row row.primary refl)
+    first_arrives = arriving prefix cell row is_prefix is row.primary (primary_is_one row row.primary refl)
 
-    pair_goes : PairGoes (pair_at (olds front) good.visits at_place cell row.primary row.secondary)
-        (pair_at (news front) visits at_place cell row.primary row.secondary)
+    pair_goes : PairGoes (pair_at (olds prefix) good.visits at_place cell row.primary row.secondary)
+        (pair_at (news prefix) visits at_place cell row.primary row.secondary)
     pair_goes =
-        let one = olds front row.primary in
-        let two = olds front row.secondary in
+        let one = olds prefix row.primary in
+        let two = olds prefix row.secondary in
         let first = visits row.primary at_place cell in
         let was = good.visits row.secondary at_place cell in
         let second = visits row.secondary at_place cell in
         goes_on (first_goes cell row both one (half was two) (good.visits row.primary at_place cell) first first_arrives)
         (goes_same _ _ (second_goes cell row both two (half first one) was second
-        (arriving front cell row prefix is row.secondary (secondary_is_one row row.secondary refl))
-        ∙ pair_same first second one two (news front row.primary) (news front row.secondary) cell (leaves front row.primary cell).chain
-        (leaves front row.secondary cell).chain))
+        (arriving prefix cell row is_prefix is row.secondary (secondary_is_one row row.secondary refl))
+        ∙ pair_same first second one two (news prefix row.primary) (news prefix row.secondary) cell (leaves prefix row.primary cell).chain
+        (leaves prefix row.secondary cell).chain))
 
-    first_recalled : AreRecalled (half (good.visits row.primary at_place cell) (olds front row.primary)) cell
-        → AreRecalled (half (visits row.primary at_place cell) (news front row.primary)) cell
+    first_recalled : AreRecalled (half (good.visits row.primary at_place cell) (olds prefix row.primary)) cell
+        → AreRecalled (half (visits row.primary at_place cell) (news prefix row.primary)) cell
     first_recalled recalled op there =
-        let was = was_pending cell row both (olds front row.primary) new (good.visits row.primary at_place cell) (visits row.primary at_place cell)
+        let was = was_pending cell row both (olds prefix row.primary) new (good.visits row.primary at_place cell) (visits row.primary at_place cell)
         first_arrives op there in
-        recalled_on (olds front row.primary) (news front row.primary) cell op (leaves front row.primary cell) (recalled op was)
+        recalled_on (olds prefix row.primary) (news prefix row.primary) cell op (leaves prefix row.primary cell) (recalled op was)
 
-  pub both_entered : (front : List Command) (cell : Cell) (row : LinkRow) → IsPrefix front top → IsLinked setting front cell row → row.state ≡ Both
-      → BothOk setting top next_stores visits reached front cell row
-  both_entered front cell row prefix is both = record {
+  pub both_entered : (prefix : List Command) (cell : Cell) (row : LinkRow) → IsPrefix prefix top → IsLinked setting prefix cell row → row.state ≡ Both
+      → BothOk setting top next_stores visits reached prefix cell row
+  both_entered prefix cell row is_prefix is both = record {
     twins = λ lives last.
-        let place = place_by setting front row in
-        let twins = (good.both front cell row prefix is both).twins lives (let more = up cell in omega arith) in
-        let goes = pair_goes front cell row prefix is both in
-        twins_of (news front) visits place cell row.primary row.secondary (goes.ok twins.pair)
-        (first_recalled front cell row prefix is both (twins_recalled (olds front) good.visits place cell row.primary row.secondary twins))
-        (goes.lacks (twins_lacking (olds front) good.visits place cell row.primary row.secondary twins));
+        let place = place_by setting prefix row in
+        let twins = (good.both prefix cell row is_prefix is both).twins lives (let more = up cell in omega arith) in
+        let goes = pair_goes prefix cell row is_prefix is both in
+        twins_of (news prefix) visits place cell row.primary row.secondary (goes.ok twins.pair)
+        (first_recalled prefix cell row is_prefix is both (twins_recalled (olds prefix) good.visits place cell row.primary row.secondary twins))
+        (goes.lacks (twins_lacking (olds prefix) good.visits place cell row.primary row.secondary twins));
   }
 
   -- ### Alone
@@ -246,102 +246,105 @@ module _ (it : AtEntry) where
       alike = λ a b h. h;
     }
 
-  module _ (front : List Command) (cell : Cell) (row : LinkRow) (holder : ℕ) (whole : Bool) (prefix : IsPrefix front top)
-      (is : IsLinked setting front cell row) (alone : row.state ≡ Only holder whole) where
+  module _ (prefix : List Command) (cell : Cell) (row : LinkRow) (holder : ℕ) (whole : Bool) (is_prefix : IsPrefix prefix top)
+      (is : IsLinked setting prefix cell row) (alone : row.state ≡ Only holder whole) where
     abbrev place : ℕ
-    place = place_by setting front row
+    place = place_by setting prefix row
 
     abbrev other : ℕ
     other = other_of holder row
 
     holds : has_server holder row ≡ true
-    holds = holder_is_one (state_after setting.servers front) (log_steady setting.servers front (front_plain setting.servers front top step.plain prefix))
+    holds = holder_is_one (state_after setting.servers prefix)
+        (log_steady setting.servers prefix (prefix_plain setting.servers prefix top step.plain is_prefix))
         holder cell row is alone
 
     abbrev links : ℕ
-    links = links_of (state_after setting.servers front) cell.map
+    links = links_of (state_after setting.servers prefix) cell.map
 
     alone_goes : AloneGoes links cell row (good.visits holder place cell) (good.visits other place cell) (visits holder place cell) (visits other place cell)
     alone_goes =
         let one = holder_goes links cell row (good.visits other place cell) (good.visits holder place cell) (visits holder place cell)
-        (arriving front cell row prefix is holder holds) in
+        (arriving prefix cell row is_prefix is holder holds) in
         let two = other_goes links cell row (visits holder place cell) (good.visits other place cell) (visits other place cell)
-        (arriving front cell row prefix is other (other_is_one row holder)) in
+        (arriving prefix cell row is_prefix is other (other_is_one row holder)) in
         record {
           copying = λ h. two.copying (one.copying h);
           told = λ h said of t. two.told (one.copying h) said of (one.told h said of t);
           alike = one.alike;
         }
 
-    -- a visit is as it was, or it is the server's own part as it is then, with the store that counts by the front
+    -- a visit is as it was, or it is the server's own part as it is then, with the store that counts by the prefix
     visit_so : (n : ℕ) (own : PairState) → has_server n row ≡ true → visits n place cell ≡ Some own
-        → (good.visits n place cell ≡ Some own) ⊎ (own.store ≡ news front n)
+        → (good.visits n place cell ≡ Some own) ⊎ (own.store ≡ news prefix n)
     visit_so n own has e = elim (visited_by (step_of it) n place cell) [
       | inl same ↦ inl (sym same ∙ e)
       | inr now ↦ inr (ap (λ (o : PairState). o.store) (same_some (sym e ∙ now.is))
-          ∙ sym (store_there front cell row prefix is (subst (λ m. has_server m row ≡ true) now.who has) now.there) ∙ ap (news front) (sym now.who))
+          ∙ sym (store_there prefix cell row is_prefix is (subst (λ m. has_server m row ≡ true) now.who has) now.there) ∙ ap (news prefix) (sym now.who))
     ]
 
     keeps_left : AliveIn (state_after setting.servers top) cell → (own : PairState) → visits holder place cell ≡ Some own →
         ((p : ℕ) → place < p → visits other p cell ≡ None)
-        → StaysLeft row cell own (news front holder)
+        → StaysLeft row cell own (news prefix holder)
     keeps_left lives own e beyond = elim (visit_so holder own holds e) [
       | inl was ↦
-          left_on row cell own (olds front holder) (news front holder) (leaves front holder cell)
-          ((good.alone front cell row holder whole prefix is alone).stays lives own was
+          left_on row cell own (olds prefix holder) (news prefix holder) (leaves prefix holder cell)
+          ((good.alone prefix cell row holder whole is_prefix is alone).stays lives own was
           (λ p lt. none_before (step_of it) other p cell (beyond p lt)))
       | inr now ↦ (λ marked. subst (λ a. IsMarked a cell) now marked, λ all copied. subst (λ a. IsToBeCopied row a cell) now all)
     ]
 
-    pub alone_entered : AloneOk setting top next_stores visits reached front cell row holder
+    pub alone_entered : AloneOk setting top next_stores visits reached prefix cell row holder
     alone_entered =
-        let ok = good.alone front cell row holder whole prefix is alone in
+        let ok = good.alone prefix cell row holder whole is_prefix is alone in
         record {
           copying = alone_goes.copying ok.copying;
           beside = λ lives last.
               let beside = ok.beside lives (let more = up cell in omega arith) in
               record {
-                alike = alike_same row cell (olds front holder) (olds front other) (news front holder) (news front other) (visits holder place cell)
-                    (leaves front holder cell) (leaves front other cell) (alone_goes.alike (olds front holder) (olds front other) beside.alike);
+                alike = alike_same row cell (olds prefix holder) (olds prefix other) (news prefix holder) (news prefix other) (visits holder place cell)
+                    (leaves prefix holder cell) (leaves prefix other cell) (alone_goes.alike (olds prefix holder) (olds prefix other) beside.alike);
                 still = λ own e. elim (visit_so other own (other_is_one row holder) e) [
-                  | inl was ↦ beside.still own was ∙ sym (leaves front other cell).chain
+                  | inl was ↦ beside.still own was ∙ sym (leaves prefix other cell).chain
                   | inr now ↦ ap (λ (s : Store). chain_in s.chains cell) now
                 ];
               };
           stays = keeps_left;
-          unfilled = λ lives all_of. filled_framed (step_of it) front cell holder other
-              (leaves front other cell).chain (ok.unfilled lives all_of);
+          unfilled = λ lives all_of. filled_framed (step_of it) prefix cell holder other
+              (leaves prefix other cell).chain (ok.unfilled lives all_of);
         }
 
     some_goes : is_some (good.visits other place cell) ≡ true → is_some (visits other place cell) ≡ true
     some_goes = some_after (step_of it) other place cell
 
-    page_goes : (after block : Option ℕ) → IsPage cell (olds front other) (good.visits other place cell) after block
-        → IsPage cell (news front other) (visits other place cell) after block
+    page_goes : (after block : Option ℕ) → IsPage cell (olds prefix other) (good.visits other place cell) after block
+        → IsPage cell (news prefix other) (visits other place cell) after block
     page_goes after block page = record {
       met = some_goes page.met;
-      least = λ ahead upto marked. page.least ahead upto (marked_back (olds front other) (news front other) cell (leaves front other cell) marked);
+      least = λ ahead upto marked. page.least ahead upto (marked_back (olds prefix other) (news prefix other) cell (leaves prefix other cell) marked);
     }
 
-  pub said_entered : (letter : Letter) → In letter w.sent → (front : List Command) (cell : Cell) (row : LinkRow) → IsPrefix front top
-      → length front ≡ letter.rev → IsLinked setting front cell row → AliveIn (state_after setting.servers front) cell
-      → SaidOk setting top next_stores visits reached front letter.body cell row
-  said_entered letter there front cell row prefix long is alive =
-      let old_said = good.letters letter there front cell row prefix long is alive in
+  pub said_entered : (letter : Letter) → In letter w.sent → (prefix : List Command) (cell : Cell) (row : LinkRow) → IsPrefix prefix top
+      → length prefix ≡ letter.rev → IsLinked setting prefix cell row → AliveIn (state_after setting.servers prefix) cell
+      → SaidOk setting top next_stores visits reached prefix letter.body cell row
+  said_entered letter there prefix cell row is_prefix long is alive =
+      let old_said = good.letters letter there prefix cell row is_prefix long is alive in
       record {
-        both = λ lives both last of. (pair_goes front cell row prefix is both).known letter.body
+        both = λ lives both last of. (pair_goes prefix cell row is_prefix is both).known letter.body
             (old_said.both lives both (let more = up cell in omega arith) of);
         alone = λ holder whole alone of.
-            (alone_goes front cell row holder whole prefix is alone).told (good.alone front cell row holder whole prefix is alone).copying letter.body of
+            (alone_goes prefix cell row holder whole is_prefix is alone).told
+            (good.alone prefix cell row holder whole is_prefix is alone).copying letter.body of
             (old_said.alone holder whole alone of);
         page = λ lives holder whole after block alone said last.
-            page_goes front cell row holder whole prefix is alone after block
+            page_goes prefix cell row holder whole is_prefix is alone after block
             (old_said.page lives holder whole after block alone said (let more = up cell in omega arith));
-        met = λ holder whole after block alone said. some_goes front cell row holder whole prefix is alone (old_said.met holder whole after block alone said);
+        met = λ holder whole after block alone said.
+            some_goes prefix cell row holder whole is_prefix is alone (old_said.met holder whole after block alone said);
       }
 
-  entered_fronts : KeepsFronts (step_of it)
-  entered_fronts = record { both = both_entered; alone = alone_entered; said = said_entered }
+  entered_prefixes : KeepsPrefixes (step_of it)
+  entered_prefixes = record { both = both_entered; alone = alone_entered; said = said_entered }
 
   -- a server that stays at the place of a link forgets nothing of it
   entered_flags : KeepsFlags (step_of it)
@@ -350,7 +353,7 @@ module _ (it : AtEntry) where
         | inl c ↦ none_some c.unseen visit
         | inr s ↦ (
             let has = holder_is_one (state_in setting.servers server.log)
-            (log_steady setting.servers server.log.applied (front_plain setting.servers server.log.applied top step.plain step.within)) k cell row is alone in
+            (log_steady setting.servers server.log.applied (prefix_plain setting.servers server.log.applied top step.plain step.within)) k cell row is alone in
             let h = good.here k cell row s.linked (seat_before row cell has s.so seat) (alive_there cell alive) in
             let was : own ≡ old = same_some (sym visit ∙ ap (λ p. good.visits k p cell) s.place ∙ h.is ∙ ap Some h.same) in
             ap (λ p. option_map_or (λ (x : Progress). x.caught) p false) s.keeps.pages
@@ -372,4 +375,4 @@ module _ (it : AtEntry) where
   pub entered_good : (own : Record) → IsThen setting (records ++ own ∷ []) v
       → ((letter : Letter) → In letter v.sent → In letter w.sent ⊎ IsTrue setting top next_stores visits reached letter)
       → GoesOn setting records top top u v good own
-  entered_good own then_is sent = good_after (step_of it) own then_is entered_flags own_sound entered_fronts sent
+  entered_good own then_is sent = good_after (step_of it) own then_is entered_flags own_sound entered_prefixes sent

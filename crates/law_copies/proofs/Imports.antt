@@ -1,8 +1,8 @@
 -- The names that this crate takes from others, in one place.
-pub use Rattle.law_state.specs.Imports.{Both, Caught, Cell, Command, Drained, IsPrefix, Join, Leave, LinkId, LinkRow, LinkState, Lost, MakeDisk, Moved, Only}
-pub use Rattle.law_state.specs.Imports.{PairState, Progress, Record, Server, Setting, Snap, StartMove, State, Witness, World, after, blank_joins_from}
-pub use Rattle.law_state.specs.Imports.{cell_link, chosen_log, chosen_state, has_server, inc_of, is_in, is_lead, is_up, leads_link, link_at, link_cmp}
-pub use Rattle.law_state.specs.Imports.{may_join, other_of, owner, places_from, row_blanked, row_left, serves, state_after, tuple_of}
+pub use Rattle.law_state.specs.Imports.{Both, Caught, Cell, Command, IsPrefix, Join, Leave, LinkId, LinkRow, LinkState, Lost, Only, PairState, Progress}
+pub use Rattle.law_state.specs.Imports.{Record, Server, Setting, State, World, after, blank_joins_from, cell_link, chosen_log, chosen_state, has_server}
+pub use Rattle.law_state.specs.Imports.{inc_of, is_in, is_lead, is_up, leads_link, link_at, link_cmp, may_join, other_of, owner, places_from, row_blanked}
+pub use Rattle.law_state.specs.Imports.{row_left, serves, state_after, tuple_of}
 unfoldable pub use Rattle.law_state.specs.Imports.{In, at}
 pub use Rattle.law_state.proofs.Imports.{[], ◌&&◌, ◌++◌, ◌+◌, ◌<◌, ◌==◌, ◌∙◌, ◌∷◌, ◌≡◌, ◌≢◌, ◌≤◌, ◌⊎◌, Bool, List, None, Option, Some, ap, append-nil}
 pub use Rattle.law_state.proofs.Imports.{append_assoc, arith, blanked_state, both, both_true, by_bool, by_test, cond, drop, false, filter, first, fold-append}
@@ -26,25 +26,26 @@ pub use Rattle.law_steps.specs.Imports.{Busy, IsBelow, MarkKind, Nothing, Paired
 pub use Rattle.law_steps.specs.Imports.{epochs_beyond, epochs_of, follows, holder_of, least, letters_of, live, marked_blocks, marks, operation, puts}
 pub use Rattle.law_steps.specs.Imports.{settled_by, stage_at, unmarks, with_copying, with_last, with_paired, with_pending, with_reserved, without_entry}
 pub use Rattle.law_steps.specs.Imports.{without_mark_on}
-pub use Rattle.law_steps.proofs.Imports.{ByBoth, ByNone, ByOne, Chain, Copies, Greater, HasDied, HasStarted, IsCaughtStill, IsSteady, Less, Logged, Mark}
-pub use Rattle.law_steps.proofs.Imports.{Ordering, Pairs, Store, alone_row, at-empty, at-where, below_itself, blocks_left, cell_apart, cell_cmp_same}
-pub use Rattle.law_steps.proofs.Imports.{cell_cmp_total, cell_gone, cell_gone_apart, cell_same, dies, either_false, ends_cell, ends_link, found_at}
-pub use Rattle.law_steps.proofs.Imports.{front_itself, front_long, front_more, front_on, front_plain, history_grows, history_is_firm, in_once, is_asked}
-pub use Rattle.law_steps.proofs.Imports.{is_at, is_clients, is_kept_on, is_link_under_way, is_none, is_on, lesser, log_alone, log_below, log_steady, lookup}
-pub use Rattle.law_steps.proofs.Imports.{max, needs_full_copy, next_block, no_copies, none_of, one_front, out_has_stopped, progress_beside, progress_here}
+pub use Rattle.law_steps.proofs.Imports.{ByBoth, ByNone, ByOne, Chain, Copies, Greater, HasStarted, IsCaughtStill, IsRetired, IsSteady, Less, Logged, Mark}
+pub use Rattle.law_steps.proofs.Imports.{Ordering, Pairs, Read_asked, Store, Write_asked, alone_row, at-empty, at-where, blocks_left, cell_apart}
+pub use Rattle.law_steps.proofs.Imports.{cell_cmp_same, cell_cmp_total, cell_gone, cell_gone_apart, cell_same, dies, either_false, ends_cell, ends_link}
+pub use Rattle.law_steps.proofs.Imports.{found_at, history_grows, history_is_firm, in_once, is_asked, is_at, is_kept_on, is_link_under_way, is_none, is_on}
+pub use Rattle.law_steps.proofs.Imports.{lesser, log_alone, log_below, log_steady, lookup, max, needs_full_copy, next_block, no_copies, none_of, one_prefix}
+pub use Rattle.law_steps.proofs.Imports.{out_has_stopped, prefix_itself, prefix_long, prefix_more, prefix_on, prefix_plain, progress_beside, progress_here}
 pub use Rattle.law_steps.proofs.Imports.{row_in_both, same_caught, same_id, same_place, settling, so_both, stage_most, stored_blocks, touches_cell, up_some}
-pub use Rattle.law_steps.proofs.Imports.{version_of, was_true, who_is_in_has_begun, with_mark_at, with_mark_on, with_ticket}
+pub use Rattle.law_steps.proofs.Imports.{version_of, was_true, who_is_in_has_begun, with_mark_at, with_mark_on}
 unfoldable pub use Rattle.law_steps.proofs.Imports.{put, without}
 pub use Rattle.law_jobs.specs.Imports.{Begins_copy, By_holder, By_lead, By_other, By_second, Closes, Closes_alone, Did, DidHolder, DidLead, DidOther}
 pub use Rattle.law_jobs.specs.Imports.{DidSecond, Finds_it_full, Follows, Gives_up, Goes_on_copying, Goes_on_retired, Goes_on_trimming, IsHeldWith, IsOfCopy}
 pub use Rattle.law_jobs.specs.Imports.{Is_copied_to, Marks, Marks_alone, Opens, Opens_alone, Opens_fill, Opens_fill_alone, Puts, Puts_alone, Puts_entry}
 pub use Rattle.law_jobs.specs.Imports.{Sets_apart, Taken, TakenCopy, Turns_page, Unmarks, Unmarks_alone, first_copy, first_last, progress}
-pub use Rattle.law_jobs.proofs.Imports.{As_it_is, As_told, Asks_page, Asks_to_trim, By_filler, By_read, By_sweep, Closes_copy, CopyStep, Copy_as_is}
-pub use Rattle.law_jobs.proofs.Imports.{Copy_synced, Copy_trimmed, Declines, Drops_entry, Handled, Happens, Is_trimmed, Promises, Refuses, Replies, Rests}
-pub use Rattle.law_jobs.proofs.Imports.{Sends, Tidies, TrimStep, Unmarks_copied, always_firm, at_apart, at_same, chains_at, is_mark, is_marked, last_happens}
-pub use Rattle.law_jobs.proofs.Imports.{mark_on, of_read, of_sweep, own_place, rests_after, row_named, same_cell_or_apart, same_mark, start_rests, taking}
-pub use Rattle.law_copies.specs.Imports.{AtRest, IsMarked, IsReady, IsRising, IsToBeCopied, WasStarted, blank_joins_in, is_between, kept_store, no_pairs}
-pub use Rattle.law_copies.specs.Imports.{one_put_ahead, with_store}
+pub use Rattle.law_jobs.proofs.Imports.{As_it_is, As_told, Asks_page, Asks_to_trim, Blanks, By_ballot, By_entry, By_filler, By_job, By_read, By_sweep}
+pub use Rattle.law_jobs.proofs.Imports.{Closes_copy, CopyStep, Copy_as_is, Copy_synced, Copy_trimmed, Declines, Drops_entry, Ends, Fails, Goes, Handled}
+pub use Rattle.law_jobs.proofs.Imports.{Happens, Is_trimmed, Promises, Rests, Sends, Serves, Serving, Stays, Tidies, TrimStep, Turns, Unmarks_copied, Wakes}
+pub use Rattle.law_jobs.proofs.Imports.{Worked, always_firm, at_apart, at_same, chains_at, is_mark, is_marked, last_happens, mark_on, of_read, of_sweep}
+pub use Rattle.law_jobs.proofs.Imports.{own_place, rests_after, row_named, same_cell_or_apart, same_mark, start_rests, taking}
+pub use Rattle.law_copies.specs.Imports.{AtRest, IsMarked, IsReady, IsRising, IsToBeCopied, WasStarted, blank_joins_in, is_between, is_clients, kept_store}
+pub use Rattle.law_copies.specs.Imports.{no_pairs, one_put_ahead, with_store}
 pub use Rattle.std.proofs.lemmas.Bool.{cases_lt}
 pub use Rattle.std.specs.Ordering.{ordering_then}
 pub use Rattle.busy_marks.proofs.Orders.{same_itself}
@@ -52,6 +53,7 @@ pub use Rattle.busy_marks.specs.Marks.{has_mark}
 pub use Rattle.law_jobs.proofs.ChainsApart.{chain_apart, chain_put, closed_pairs, closed_store, copied_chains, drop_apart, drop_none, gone_apart, gone_chain}
 pub use Rattle.law_jobs.proofs.ChainsApart.{page_chains}
 pub use Rattle.law_jobs.proofs.CountsGrow.{did_count}
+pub use Rattle.law_jobs.proofs.FillsByJobs.{Fills, Stood, Writes, did_come}
 pub use Rattle.law_jobs.proofs.JobsAreEffects.{at_keeps, effects_at, job_keeps}
 pub use Rattle.law_jobs.proofs.JobsKeepChains.{chains_keep}
 pub use Rattle.law_jobs.proofs.JobsSay.{letters_of_job}
@@ -68,10 +70,9 @@ pub use Rattle.law_log.proofs.LogInHistories.{chosen_caught_was}
 pub use Rattle.law_state.proofs.BlankJoins.{counts_joins, joined_counts, joins_grow, joins_on}
 pub use Rattle.law_state.proofs.Caughts.{alone_by}
 pub use Rattle.law_state.proofs.CaughtsMadeBoth.{left_not_both, left_row, log_both_place, log_lost, places_later, stays_row}
-pub use Rattle.law_state.proofs.CellsByLinkRows.{IsHeldBy as IsHeld, IsInBoth, first_by, link_led_by, retired_second, second_by}
+pub use Rattle.law_state.proofs.CellsByLinkRows.{IsInBoth, first_by, link_led_by, retired_second, second_by}
 pub use Rattle.law_state.proofs.EntriesOnlyAdd.{start_plain}
 pub use Rattle.law_state.proofs.EntriesTouchLinks.{log_entry_stays, log_touched, places_grow, places_of_both, places_on}
-pub use Rattle.law_state.proofs.Fronts.{front_within}
 pub use Rattle.law_state.proofs.GrownStates.{alone_not_both, lost_not_both, one_before}
 pub use Rattle.law_state.proofs.Incarnations.{joined_in, joined_once, joined_since}
 pub use Rattle.law_state.proofs.Joins.{both_before}
@@ -80,16 +81,15 @@ pub use Rattle.law_state.proofs.Leaves.{either_true, other_between}
 pub use Rattle.law_state.proofs.ListLookups.{get_in, in_get}
 pub use Rattle.law_state.proofs.LoneHolders.{IsBothRow, both_not_alone, both_row, second_secondary}
 pub use Rattle.law_state.proofs.NewMapLinks.{in_map}
+pub use Rattle.law_state.proofs.Prefixes.{below_itself, prefix_within}
 pub use Rattle.law_state.proofs.Roles.{primary_is_one, secondary_is_one}
 pub use Rattle.law_state.proofs.Steady.{linked, log_grown, tuple_on}
 pub use Rattle.law_state.specs.Joins.{HasJoinedSince}
 pub use Rattle.law_state.specs.LinkChanges.{By_caught, By_join, By_leave, IsCaughtBy, IsHeldStill, row_joined}
 pub use Rattle.law_state.specs.LinkRows.{IsLater}
-pub use Rattle.law_state.specs.Steady.{IsLinked}
 pub use Rattle.law_steps.proofs.ClientLetters.{turned_asks}
 pub use Rattle.law_steps.proofs.CopiesRest.{among_least, cell_left, in_none, on_row, same_cell}
 pub use Rattle.law_steps.proofs.CopyFrames.{of_holder}
-pub use Rattle.law_jobs.proofs.FillsByJobs.{Fills, Stood, Writes, did_come}
 pub use Rattle.law_steps.proofs.HeldBackForCaughts.{held_as_flag}
 pub use Rattle.law_steps.proofs.IdleServers.{logged_apart}
 pub use Rattle.law_steps.proofs.InvertLead.{is_copying}
@@ -101,17 +101,15 @@ pub use Rattle.law_steps.proofs.OperationsRest.{did_ready}
 pub use Rattle.law_steps.proofs.Records.{none_before_none, split_last}
 pub use Rattle.law_steps.proofs.Subjects.{of_ending, of_filler, of_lead, of_second, told_own}
 pub use Rattle.law_steps.proofs.TablesOfPuts.{at_row, put_rises, without_rises}
-pub use Rattle.law_steps.proofs.TakenUpAlone.{IsTaken}
-pub use Rattle.law_steps.proofs.Ties.{running_fronts, stays_alone, stays_both}
+pub use Rattle.law_steps.proofs.Ties.{running_prefixes, stays_alone, stays_both}
 pub use Rattle.law_steps.proofs.WakingGoesOn.{may_wake}
 pub use Rattle.law_steps.proofs.WhoLeads.{lead_links, led_by_link, live_stage, stage_live}
 pub use Rattle.law_steps.specs.DidSecond.{with_tickets}
-pub use Rattle.law_steps.specs.DidStep.{Blanks, By_ballot, By_entry, By_job, Ends, Fails, Goes, IsBallotFor, Serves, Serving, Starts, Stays, Turns, Wakes}
-pub use Rattle.law_steps.specs.DidStep.{Worked, served_so, shown_so, stopped_so, without_rev}
+pub use Rattle.law_steps.specs.DidStep.{IsBallotFor, Starts, served_so, shown_so, stopped_so, without_rev}
 pub use Rattle.law_steps.specs.Operations.{putting}
 pub use Rattle.law_steps.specs.ProposedCommands.{WasReturning}
 pub use Rattle.law_steps.specs.WakingServers.{AllMayWake}
-pub use Rattle.petal_msg.specs.Kinds.{Read_asked, Write_asked, is_paired}
+pub use Rattle.petal_msg.specs.Kinds.{is_paired}
 pub use Rattle.petal_msg.specs.declared.operation.FollowProgress.TheVariants.{Replicated, Reserved}
 pub use Rattle.spec_history.specs.Claims.{AreCovered, Covered, MarksFirst, TwoCopies, is_at_work}
 pub use Rattle.spec_rules.proofs.Applied.{rev_after}

@@ -1,8 +1,8 @@
 -- What a job, and a ballot that is started, keeps by itself.
 use Rattle.law_copies.proofs.Imports.{[], ◌∙◌, ◌≡◌, Both, Caught, Cell, Command, Did, Handled, In, IsSettledState, JobContext, JobResult, LinkId, LinkRow}
 use Rattle.law_copies.proofs.Imports.{List, None, Option, PairState, Post, Some, Starts, ap, arith, both, cell_link, chosen_log, did_count, eq_by_cmp, false}
-use Rattle.law_copies.proofs.Imports.{front_plain, holder_of, holds_link, id_of, inl, is_between, is_logged, link_cmp, link_named, log_plain, logged_apart}
-use Rattle.law_copies.proofs.Imports.{own_place, progress_beside, progress_on, proposed, refl, server_state, so_both, stage_live, subject_of, subst, sym}
+use Rattle.law_copies.proofs.Imports.{holder_of, holds_link, id_of, inl, is_between, is_logged, link_cmp, link_named, log_plain, logged_apart, own_place}
+use Rattle.law_copies.proofs.Imports.{prefix_plain, progress_beside, progress_on, proposed, refl, server_state, so_both, stage_live, subject_of, subst, sym}
 use Rattle.law_copies.proofs.Imports.{true, true_false, ℕ}
 use Rattle.law_copies.specs.Visits.{AliveIn}
 use Rattle.law_copies.specs.CopyProgress.{links_of}
@@ -39,7 +39,7 @@ module _ (it : AtSeat) where
 
   plain_here : IsSettledState setting.servers (server_state setting w k)
   plain_here = log_plain setting.servers (w.servers k).log.applied
-      (front_plain setting.servers (w.servers k).log.applied (chosen_log setting w) firm.plain (firm.servers k))
+      (prefix_plain setting.servers (w.servers k).log.applied (chosen_log setting w) firm.plain (firm.servers k))
 
   -- how many links the cell's map has, by its own entries
   abbrev links_at : Cell → ℕ

@@ -9,12 +9,12 @@ use Rattle.law_copies.specs.GoodCopies.{AreBeside, AreTwins, StaysLeft, pair_at}
 use Rattle.law_copies.specs.Pair.{Keeps, Known, PairOk, pair_of, Pair}
 use Rattle.law_copies.specs.LoneSteps.{HolderKeeps, IsLeftBy, OtherKeeps}
 use Rattle.law_copies.specs.Visits.{AliveIn, HasFilled, IsLinked, Visits, half, place_by, store_by}
-use Rattle.law_copies.proofs.PlacesByFronts.{has_filled_on}
+use Rattle.law_copies.proofs.PlacesByPrefixes.{has_filled_on}
 use Rattle.law_copies.proofs.AtJob.{AtJob, seat_at, step_at}
 use Rattle.law_copies.proofs.NewPlaces.{twins_lacking, twins_of, twins_recalled}
 use Rattle.law_copies.proofs.UnequalIsMarked.{AreRecalled}
-use Rattle.law_copies.proofs.FramesKeepFronts.{LeavesStore, alike_same, both_same, left_on, marks_back, store_same}
-use Rattle.law_copies.proofs.ServedAtLaterFronts.{holder_is_one, unseen_beyond}
+use Rattle.law_copies.proofs.FramesKeepPrefixes.{LeavesStore, alike_same, both_same, left_on, marks_back, store_same}
+use Rattle.law_copies.proofs.ServedAtLaterPrefixes.{holder_is_one, unseen_beyond}
 use Rattle.law_copies.proofs.CellChangesKeepCopies.{known_later}
 use Rattle.law_copies.proofs.OtherIsNotHolder.{other_apart}
 use Rattle.law_copies.proofs.PlacesBeforeJobs.{other_back}
@@ -29,8 +29,8 @@ module _ (it : AtJob) where
   abbrev pub top : List Command
   top = chosen_log setting w
 
-  abbrev pub front : List Command
-  front = (w.servers k).log.applied
+  abbrev pub prefix : List Command
+  prefix = (w.servers k).log.applied
 
   abbrev pub own : PairState
   own = (w.servers k).own
@@ -49,21 +49,21 @@ module _ (it : AtJob) where
 
   -- the stores by the server's own entries, before and then
   abbrev pub olds : ℕ → Store
-  olds = store_by setting good.stores front
+  olds = store_by setting good.stores prefix
 
   abbrev pub news : ℕ → Store
-  news = store_by setting (stored (step_at it)) front
+  news = store_by setting (stored (step_at it)) prefix
 
   -- the server's own one was its store, and is what the job leaves
   pub store_was : olds k ≡ own.store
   store_was = seated.own_store (seat_at it)
 
   pub store_now : news k ≡ done.own.store
-  store_now = stored_by (step_at it) front job.works.counts
+  store_now = stored_by (step_at it) prefix job.works.counts
       ∙ ap (λ (o : PairState). o.store) job.own_is
 
   pub store_apart : (n : ℕ) → n ≢ k → news n ≡ olds n
-  store_apart n ne = stored_apart (step_at it) n (blank_joins_in setting front n) ne
+  store_apart n ne = stored_apart (step_at it) n (blank_joins_in setting prefix n) ne
 
   pub leaves_apart : (n : ℕ) (cell : Cell) → n ≢ k → LeavesStore (olds n) (news n) cell
   leaves_apart n cell ne = store_same (olds n) (news n) cell (store_apart n ne)
@@ -71,8 +71,8 @@ module _ (it : AtJob) where
   pub visit_apart : (n place : ℕ) (cell : Cell) → n ≢ k → visits n place cell ≡ good.visits n place cell
   visit_apart = visited_apart (step_at it)
 
-  pub visit_now : (cell : Cell) (row : LinkRow) → IsLinked setting front cell row → AliveIn (server_state setting w k) cell
-      → visits k (place_by setting front row) cell ≡ Some done.own
+  pub visit_now : (cell : Cell) (row : LinkRow) → IsLinked setting prefix cell row → AliveIn (server_state setting w k) cell
+      → visits k (place_by setting prefix row) cell ≡ Some done.own
   visit_now cell row is alive =
       ap (λ f. visits k (place_by setting f row) cell) (sym job.applied)
       ∙ visited_here (step_at it) cell row
@@ -83,9 +83,9 @@ module _ (it : AtJob) where
       seat_now : is_in (state_in setting.servers server.log) k server.life.inc ≡ true
       seat_now = (λ i. is_in (state_after setting.servers (job.applied i)) k (job.inc i)) ∙ job.works.seat
 
-  module _ (cell : Cell) (row : LinkRow) (is : IsLinked setting front cell row) (alive : AliveIn (server_state setting w k) cell) where
+  module _ (cell : Cell) (row : LinkRow) (is : IsLinked setting prefix cell row) (alive : AliveIn (server_state setting w k) cell) where
     abbrev place : ℕ
-    place = place_by setting front row
+    place = place_by setting prefix row
 
     -- the cell is not retired by what is chosen, either
     abbrev IsAliveLast : Type 0
@@ -178,7 +178,8 @@ module _ (it : AtJob) where
       pub beside : IsAliveLast → good.reached cell ≤ place → AreBeside news visits place row cell holder other
       pub stays : IsAliveLast → (o : PairState) → visits holder place cell ≡ Some o → ((p : ℕ) → place < p → visits other p cell ≡ None)
           → StaysLeft row cell o (news holder)
-      pub unfilled : IsAliveLast → needs_full_copy row.state ≡ true → (chain_in (news other).chains cell ≡ []) ⊎ HasFilled setting top visits front cell holder other
+      pub unfilled : IsAliveLast → needs_full_copy row.state ≡ true
+          → (chain_in (news other).chains cell ≡ []) ⊎ HasFilled setting top visits prefix cell holder other
       pub page : IsAliveLast → (after block : Option ℕ) → IsPage cell (olds other) (good.visits other place cell) after block
           → IsPage cell (news other) (visits other place cell) after block
       pub pages : (post : Post) → In post done.posts → (after block : Option ℕ) → post.body ≡ body.Hello row.map row.link after block
@@ -190,9 +191,9 @@ module _ (it : AtJob) where
     is_now : visits k place cell ≡ Some done.own
     is_now = visit_now cell row is alive
 
-    filled_here : (h other : ℕ) (o : PairState) → visits h place cell ≡ Some o → HasFilled setting top visits front cell h other
+    filled_here : (h other : ℕ) (o : PairState) → visits h place cell ≡ Some o → HasFilled setting top visits prefix cell h other
     filled_here h other o visit =
-        record { more = front; within = firm.servers k; row = row; linked = is; joins = refl; own = o; visited = visit }
+        record { more = prefix; within = firm.servers k; row = row; linked = is; joins = refl; own = o; visited = visit }
 
     module _ (whole : Bool) (alone : row.state ≡ Only k whole) where
       abbrev o : ℕ
@@ -216,7 +217,7 @@ module _ (it : AtJob) where
           let was = subst (λ x. AreAlike row cell (olds k) (olds o) x) was_here old.alike in
           let alike = keeps_holder.alike (olds o) old.still
           (seated.pages_here (seat_at it) cell row is alive whole alone lives last)
-          (good.ever o (blank_joins_in setting front o) cell)
+          (good.ever o (blank_joins_in setting prefix o) cell)
           (subst (λ a. AreAlike row cell a (olds o) (Some own)) store_was was) in
           record {
             alike = subst (λ x. AreAlike row cell (news k) (news o) x) (sym is_now)
@@ -310,8 +311,8 @@ module _ (it : AtJob) where
       ]
 
       -- where the server's copy changed, the holder has been here
-      unfilled_now : (chain_in (olds k).chains cell ≡ []) ⊎ HasFilled setting top good.visits front cell h k
-          → (chain_in (news k).chains cell ≡ []) ⊎ HasFilled setting top visits front cell h k
+      unfilled_now : (chain_in (olds k).chains cell ≡ []) ⊎ HasFilled setting top good.visits prefix cell h k
+          → (chain_in (news k).chains cell ≡ []) ⊎ HasFilled setting top visits prefix cell h k
       unfilled_now (inr f) = inr (has_filled_on f f.within refl f.own (visit_apart h (place_by setting f.more f.row) cell h_apart ∙ f.visited))
       unfilled_now (inl empty) = elim keeps_other.changes [
         | inl chain ↦ inl (ap (λ (a : Store). chain_in a.chains cell) store_now ∙ chain
@@ -333,7 +334,7 @@ module _ (it : AtJob) where
             ((seated.alone_here (seat_at it) cell row is alive h whole alone).stays lives by (sym h_visit ∙ e)
             (λ p lt. ap (λ n. good.visits n p cell) other ∙ nones k p cell (beyond p lt)));
         unfilled = λ lives all. unfilled_now
-            (subst (λ n. (chain_in (olds n).chains cell ≡ []) ⊎ HasFilled setting top good.visits front cell h n) other
+            (subst (λ n. (chain_in (olds n).chains cell ≡ []) ⊎ HasFilled setting top good.visits prefix cell h n) other
             ((seated.alone_here (seat_at it) cell row is alive h whole alone).unfilled lives all));
         page = λ lives after block page. record {
           met = ap is_some is_now;

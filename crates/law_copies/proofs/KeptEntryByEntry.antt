@@ -1,16 +1,16 @@
--- What is kept of a front of the chosen log that no server was beyond is kept of the whole, entry by entry, by the stores that count then.
+-- What is kept of a prefix of the chosen log that no server was beyond is kept of the whole, entry by entry, by the stores that count then.
 use Rattle.law_copies.proofs.Imports.{[], if◌then◌else◌, ◌++◌, ◌<◌, ◌==◌, ◌∙◌, ◌∷◌, ◌≡◌, ◌≢◌, ◌≤◌, ◌⊎◌, Bool, Cell, Command, Firm, IsPrefix, Join, List, None}
 use Rattle.law_copies.proofs.Imports.{Record, Rests, Setting, State, Store, World, ap, append-nil, append_assoc, arith, blank_joins_in, by_bool, chosen_log}
-use Rattle.law_copies.proofs.Imports.{counted, counted_by, false, front_itself, front_more, front_on, front_plain, inl, inr, is_in, joined_in, joined_once}
-use Rattle.law_copies.proofs.Imports.{joins_blank, joins_grow, kept_by, kept_store, number_itself, refl, same_numbers, server_state, state_after, subst, sym}
-use Rattle.law_copies.proofs.Imports.{true, true_false, ℕ}
+use Rattle.law_copies.proofs.Imports.{counted, counted_by, false, inl, inr, is_in, joined_in, joined_once, joins_blank, joins_grow, kept_by, kept_store}
+use Rattle.law_copies.proofs.Imports.{number_itself, prefix_itself, prefix_more, prefix_on, prefix_plain, refl, same_numbers, server_state, state_after}
+use Rattle.law_copies.proofs.Imports.{subst, sym, true, true_false, ℕ}
 use Rattle.law_copies.specs.WaitingStores.{IsEmpty, IsOwn}
 use Rattle.law_copies.specs.GoodCopies.{Good, store_of}
 use Rattle.law_copies.specs.Pair.{HaveMarks}
 use Rattle.law_copies.specs.Visits.{Visits, with_stores}
-use Rattle.law_copies.proofs.NewEntryKeepsFronts.{grown_one}
+use Rattle.law_copies.proofs.NewEntryKeepsPrefixes.{grown_one}
 use Rattle.law_copies.proofs.AtNext.{AreRecounted, IsAfter, IsGrownTo, following_on}
-use Rattle.law_copies.proofs.ServedAtLaterFronts.{AllStarted}
+use Rattle.law_copies.proofs.ServedAtLaterPrefixes.{AllStarted}
 use Rattle.law_copies.proofs.BlankJoinsRenewLinks.{blank_join, counts_more, counts_same}
 
 -- what is known of a world at which more is chosen than these entries: the store of a server of which more Joins with an empty store count
@@ -21,7 +21,7 @@ pub record IsFurther (setting : Setting) (records : List Record) (v : World) (fi
   pub started : AllStarted setting records v
   pub empty : (n : ℕ) → blank_joins_in setting first n ≢ blank_joins_in setting (chosen_log setting v) n → IsEmpty (store_of v n)
   pub own : (n : ℕ) → blank_joins_in setting first n ≢ blank_joins_in setting (chosen_log setting v) n → IsOwn setting v n
-  pub begun : (n inc : ℕ) (front : List Command) → IsPrefix front (chosen_log setting v) → is_in (state_after setting.servers front) n inc ≡ true
+  pub begun : (n inc : ℕ) (prefix : List Command) → IsPrefix prefix (chosen_log setting v) → is_in (state_after setting.servers prefix) n inc ≡ true
       → inc ≤ (v.servers n).life.inc
 
 module _ (setting : Setting) (records : List Record) (v : World) (first : List Command) (further : IsFurther setting records v first) where
@@ -31,7 +31,7 @@ module _ (setting : Setting) (records : List Record) (v : World) (first : List C
   abbrev joins : List Command → ℕ → ℕ
   joins log n = blank_joins_in setting log n
 
-  -- the stores that count by a front after those first entries: once more Joins of a server count, its own
+  -- the stores that count by a prefix after those first entries: once more Joins of a server count, its own
   abbrev recounted_by : List Command → ℕ → Store
   recounted_by log n = if joins log n == joins first n then kept_by setting first v n else store_of v n
 
@@ -54,15 +54,15 @@ module _ (setting : Setting) (records : List Record) (v : World) (first : List C
     so_far = state_after setting.servers top
 
     apart_first : (n : ℕ) → joins_blank so_far entry n ≡ true → (log : List Command) → IsPrefix (top ++ entry ∷ []) log → joins first n < joins log n
-    apart_first n on log prefix =
+    apart_first n on log is_prefix =
         let low = joins_grow setting.servers first top n one in
         let more = counts_more setting top entry n on in
-        let high = joins_grow setting.servers (top ++ entry ∷ []) log n prefix in
+        let high = joins_grow setting.servers (top ++ entry ∷ []) log n is_prefix in
         omega arith
 
     not_first : (n : ℕ) → joins_blank so_far entry n ≡ true → (joins (top ++ entry ∷ []) n == joins first n) ≡ false
     not_first n on = by_bool (joins (top ++ entry ∷ []) n == joins first n)
-        (λ t. let lt = apart_first n on (top ++ entry ∷ []) (front_itself (top ++ entry ∷ [])) in
+        (λ t. let lt = apart_first n on (top ++ entry ∷ []) (prefix_itself (top ++ entry ∷ [])) in
         let e = same_numbers (joins (top ++ entry ∷ []) n) (joins first n) t in
         absurd (omega arith))
         (λ f. f)
@@ -73,13 +73,13 @@ module _ (setting : Setting) (records : List Record) (v : World) (first : List C
         (λ seat.
         let j = blank_join so_far entry n on in
         let stands : IsPrefix (top ++ Join n j.inc true ∷ []) chosen = subst (λ c. IsPrefix (top ++ c ∷ []) chosen) j.is two in
-        let plain = front_plain setting.servers (top ++ Join n j.inc true ∷ []) chosen further.firm.plain stands in
+        let plain = prefix_plain setting.servers (top ++ Join n j.inc true ∷ []) chosen further.firm.plain stands in
         let joined = joined_in setting.servers top (top ++ Join n j.inc true ∷ []) n j.inc true plain
-        (record { until = top; following = front_itself top; stands = front_itself (top ++ Join n j.inc true ∷ []); may = j.may }) in
+        (record { until = top; following = prefix_itself top; stands = prefix_itself (top ++ Join n j.inc true ∷ []); may = j.may }) in
         let low = further.begun n j.inc (top ++ Join n j.inc true ∷ []) stands joined in
         true_false j.may
         (joined_once setting.servers (v.servers n).log.applied top n (v.servers n).life.inc
-        (front_plain setting.servers top chosen further.firm.plain (front_on top _ chosen (front_more top entry) two)) (following.now n)
+        (prefix_plain setting.servers top chosen further.firm.plain (prefix_on top _ chosen (prefix_more top entry) two)) (following.now n)
         j.inc seat low))
         (λ out. out)
 
@@ -115,9 +115,9 @@ module _ (setting : Setting) (records : List Record) (v : World) (first : List C
       subst (λ log. IsGrownTo setting records (with_stores v (recounted_by log)) visits reached log) (sym (e ∙ append-nil top)) grown
   grow_by visits reached (entry ∷ more) top e one following grown =
       let onward : chosen ≡ (top ++ entry ∷ []) ++ more = e ∙ sym (append_assoc top (entry ∷ []) more) in
-      let prefix : IsPrefix (top ++ entry ∷ []) chosen = record { later = more; is = onward } in
-      grow_by visits reached more (top ++ entry ∷ []) onward (front_on first top (top ++ entry ∷ []) one (front_more top entry))
-      (following_on setting records top (top ++ entry ∷ []) v (front_more top entry) following)
+      let is_prefix : IsPrefix (top ++ entry ∷ []) chosen = record { later = more; is = onward } in
+      grow_by visits reached more (top ++ entry ∷ []) onward (prefix_on first top (top ++ entry ∷ []) one (prefix_more top entry))
+      (following_on setting records top (top ++ entry ∷ []) v (prefix_more top entry) following)
       (grown_one (record {
         setting = setting;
         records = records;
@@ -128,16 +128,16 @@ module _ (setting : Setting) (records : List Record) (v : World) (first : List C
         new = recounted_by (top ++ entry ∷ []);
         good = grown.good;
         following = following;
-        all = front_plain setting.servers (top ++ entry ∷ []) chosen further.firm.plain prefix;
+        all = prefix_plain setting.servers (top ++ entry ∷ []) chosen further.firm.plain is_prefix;
         started = λ of link holder inc other other_inc same. further.started top of link holder inc other other_inc
-            (subst (λ (x : Command). IsPrefix (top ++ x ∷ []) chosen) same prefix);
-        recounts = recounted top entry one prefix following grown.good;
+            (subst (λ (x : Command). IsPrefix (top ++ x ∷ []) chosen) same is_prefix);
+        recounts = recounted top entry one is_prefix following grown.good;
       }) visits reached grown.visits_are grown.reached_is)
 
-  -- what is kept of a front of the chosen log that no server was beyond is kept of the whole, by the stores that count then
+  -- what is kept of a prefix of the chosen log that no server was beyond is kept of the whole, by the stores that count then
   pub grow : (visits : Visits) (reached : Cell → ℕ) → IsPrefix first chosen → IsAfter setting records first v
       → IsGrownTo setting records (counted_by setting first v) visits reached first → IsGrownTo setting records (counted setting v) visits reached chosen
-  grow visits reached prefix following grown =
+  grow visits reached is_prefix following grown =
       subst (λ w. IsGrownTo setting records w visits reached chosen) (λ i. with_stores v (λ n. stores_chosen n i))
-      (grow_by visits reached prefix.later first prefix.is (front_itself first) following
+      (grow_by visits reached is_prefix.later first is_prefix.is (prefix_itself first) following
       (subst (λ w. IsGrownTo setting records w visits reached first) (λ i. with_stores v (λ n. sym (stores_first n) i)) grown))

@@ -3,16 +3,16 @@ use Rattle.law_copies.proofs.Imports.{◌+◌, ◌∙◌, ◌≡◌, ◌≢◌, 
 use Rattle.law_copies.proofs.Imports.{JobResult, Marks, Marks_alone, None, Opens, Opens_alone, Opens_fill, Opens_fill_alone, Option, PairState, Pending, Puts}
 use Rattle.law_copies.proofs.Imports.{Puts_alone, Some, Stage, Store, Taken, Unmarks, Unmarks_alone, about, ap, at, both_not_alone, cell_cmp, cell_gone}
 use Rattle.law_copies.proofs.Imports.{cell_of, cell_same, chain_in, chain_put, did_count, ends, false, fill_operation, gives_back, inl, inr, is_alone_on}
-use Rattle.law_copies.proofs.Imports.{lead_cell, live, marks, nat_cmp, of_ending, operation, put, puts, putting, refl, so_both, stage_live, subst}
-use Rattle.law_copies.proofs.Imports.{sym, taking, true, true_false, unmarks, version_of, with_mark_at, with_opened, with_paired, with_pending, with_reserved}
+use Rattle.law_copies.proofs.Imports.{lead_cell, live, marks, nat_cmp, of_ending, operation, put, puts, putting, refl, so_both, stage_live, subst, sym}
+use Rattle.law_copies.proofs.Imports.{taking, true, true_false, unmarks, version_of, with_mark_at, with_opened, with_paired, with_pending, with_reserved}
 use Rattle.law_copies.proofs.Imports.{without_pending}
 use Rattle.law_copies.specs.Pair.{pair_of, PairOk, Keeps, Known}
 use Rattle.law_copies.specs.Visits.{AliveIn}
 use Rattle.law_copies.proofs.CellInBoth.{CellInBoth}
 use Rattle.law_copies.proofs.WorkedCell.{rest_apart}
+use Rattle.law_copies.proofs.RolesOfWorkers.{IsSo, so_at, worked_or_apart}
 use Rattle.petal_msg.specs.declared.operation.Ending.TheVariants as ending
 use Rattle.law_copies.proofs.CellChangesKeepCopies as moves
-use Rattle.law_copies.proofs.RolesOfWorkers.{IsSo, so_at, worked_or_apart}
 
 module _ (it : CellInBoth) (second_own : PairState) (ok : PairOk (pair_of it.own second_own it.cell))
     (known : (said : Body) → it.heard said → (about said).cell ≡ Some it.cell → Known (pair_of it.own second_own it.cell) said) where

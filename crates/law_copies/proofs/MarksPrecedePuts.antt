@@ -55,7 +55,7 @@ module _ (run : Run) (cell : Cell) where
   worked_first k _ _ (By_ballot log started posts same starts logged) =
       same_first k (proposed (server_state setting w k) (w.servers k).own started)
       (ap (λ (o : PairState). o.store.chains) (sym (ballot_alike (server_state setting w k) (w.servers k).own started)))
-  worked_first k _ _ (By_entry log entry more front) =
+  worked_first k _ _ (By_entry log entry more prefix) =
       let own = crossed (server_state setting w k) entry (w.servers k).own in
       same_first k (settled_by (own_place setting w k) entry own) (settling (own_place setting w k) entry own).chains
 
@@ -73,9 +73,9 @@ module _ (run : Run) (cell : Cell) where
   happens_first state _ (Turns c stamp in_call reacted lt c_lt turned onward) = λ n. same_first n (w.servers n).own refl
 
 pub marks_first : (script : Script) (records : List Record) → IsSound script → AreSteps script records → MarksFirst script records
-marks_first script records sound legal front back own e n cell =
-    let it = more_of script sound front own (before_part script (front ++ own ∷ []) back
-    (subst (AreSteps script) (e ∙ sym (append_assoc front (own ∷ []) back)) legal)) in
+marks_first script records sound legal prefix suffix own e n cell =
+    let it = more_of script sound prefix own (before_part script (prefix ++ own ∷ []) suffix
+    (subst (AreSteps script) (e ∙ sym (append_assoc prefix (own ∷ []) suffix)) legal)) in
     let happens = happened_in it (chosen_state (setting_in it.prior) (after (longer it))) (below_itself _) in
     record {
       marked = λ runs on leads changed. happens_first it.prior cell _ (after (longer it)) happens n runs on leads

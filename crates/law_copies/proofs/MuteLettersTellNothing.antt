@@ -37,13 +37,13 @@ pub no_page : {B : Type 0} (said : Body) → is_between (subject_of said) ≡ fa
     → said ≡ body.Hello map link after block → B
 no_page said e map link after block is = true_false (ap (λ (b : Body). is_between (subject_of b)) is) e
 
-pub said_mute : (setting : Setting) (top : List Command) (stores : ℕ → ℕ → Store) (visits : Visits) (reached : Cell → ℕ) (front : List Command)
+pub said_mute : (setting : Setting) (top : List Command) (stores : ℕ → ℕ → Store) (visits : Visits) (reached : Cell → ℕ) (prefix : List Command)
     (said : Body) (cell : Cell)
-    (row : LinkRow) → is_between (subject_of said) ≡ false → SaidOk setting top stores visits reached front said cell row
-said_mute setting top stores visits reached front said cell row e = record {
-  both = λ alive both last of. known_mute (pair_at (store_by setting stores front) visits (place_by setting front row) cell row.primary row.secondary) said e;
+    (row : LinkRow) → is_between (subject_of said) ≡ false → SaidOk setting top stores visits reached prefix said cell row
+said_mute setting top stores visits reached prefix said cell row e = record {
+  both = λ alive both last of. known_mute (pair_at (store_by setting stores prefix) visits (place_by setting prefix row) cell row.primary row.secondary) said e;
   alone = λ holder whole alone of.
-      told_mute row (visits holder (place_by setting front row) cell) (visits (other_of holder row) (place_by setting front row) cell) said e;
+      told_mute row (visits holder (place_by setting prefix row) cell) (visits (other_of holder row) (place_by setting prefix row) cell) said e;
   page = λ alive holder whole after block alone is last. no_page said e row.map row.link after block is;
   met = λ holder whole after block alone is. no_page said e row.map row.link after block is;
 }

@@ -79,7 +79,8 @@ module _ (stores : ℕ → Store) (visits : Visits) (place : ℕ) (row now : Lin
   ]
 
 -- what covers the copies at one place covers them at the next one, at which the holder has heard of no block
-pub cover_again : (row now : LinkRow) (cell : Cell) (a b : Store) (visit : Option PairState) → (needs_full_copy row.state ≡ true → needs_full_copy now.state ≡ true)
+pub cover_again : (row now : LinkRow) (cell : Cell) (a b : Store) (visit : Option PairState)
+    → (needs_full_copy row.state ≡ true → needs_full_copy now.state ≡ true)
     → IsCovered row cell a b visit → IsCovered now cell a b None
 cover_again row now cell a b visit whole (Is_equal same) = Is_equal same
 cover_again row now cell a b visit whole (Is_marked_here marked) = Is_marked_here marked
@@ -101,15 +102,15 @@ new_twins stores visits place cell n m unseen same = record {
 }
 
 -- nobody has anything in memory of a place at which one server holds the link alone
-pub new_alone : (setting : Setting) (top : List Command) (stores : ℕ → ℕ → Store) (visits : Visits) (reached : Cell → ℕ) (front : List Command) (cell : Cell)
-    (row : LinkRow) (holder : ℕ) → ((k : ℕ) → visits k (place_by setting front row) cell ≡ None)
+pub new_alone : (setting : Setting) (top : List Command) (stores : ℕ → ℕ → Store) (visits : Visits) (reached : Cell → ℕ) (prefix : List Command) (cell : Cell)
+    (row : LinkRow) (holder : ℕ) → ((k : ℕ) → visits k (place_by setting prefix row) cell ≡ None)
     → (AliveIn (state_after setting.servers top) cell
-    → IsCovered row cell (store_by setting stores front holder) (store_by setting stores front (other_of holder row)) None)
+    → IsCovered row cell (store_by setting stores prefix holder) (store_by setting stores prefix (other_of holder row)) None)
     → (AliveIn (state_after setting.servers top) cell → needs_full_copy row.state ≡ true →
-    (chain_in (store_by setting stores front (other_of holder row)).chains cell ≡ [])
-    ⊎ HasFilled setting top visits front cell holder (other_of holder row))
-    → AloneOk setting top stores visits reached front cell row holder
-new_alone setting top stores visits reached front cell row holder unseen covered unfilled = record {
+    (chain_in (store_by setting stores prefix (other_of holder row)).chains cell ≡ [])
+    ⊎ HasFilled setting top visits prefix cell holder (other_of holder row))
+    → AloneOk setting top stores visits reached prefix cell row holder
+new_alone setting top stores visits reached prefix cell row holder unseen covered unfilled = record {
   copying = record {
     risen = λ own visited. none_some (unseen holder) visited;
     copying = λ own copy visited there. none_some (unseen holder) visited;
@@ -120,7 +121,7 @@ new_alone setting top stores visits reached front cell row holder unseen covered
   };
   beside = λ alive last. record {
     alike = record {
-      covered = subst (IsCovered row cell (store_by setting stores front holder) (store_by setting stores front (other_of holder row)))
+      covered = subst (IsCovered row cell (store_by setting stores prefix holder) (store_by setting stores prefix (other_of holder row)))
           (sym (unseen holder)) (covered alive);
       caught = λ own visited flagged. none_some (unseen holder) visited;
     };

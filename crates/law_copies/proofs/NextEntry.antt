@@ -1,13 +1,13 @@
 -- The chosen log has one entry more: what is known of the log then, how far cells are in it, and the stores that count by it.
 use Rattle.law_copies.proofs.Imports.{[], if◌then◌else◌, ◌==◌, ◌∙◌, ◌∷◌, ◌≡◌, ◌≤◌, Bool, Caught, Cell, Command, HasProperTuple, HasProperTuples, In, IsLater}
 use Rattle.law_copies.proofs.Imports.{IsPrefix, IsSteady, Join, Leave, LinkRow, List, None, PairState, Some, State, Store, after, ap, arith, blank_joins_in}
-use Rattle.law_copies.proofs.Imports.{by_bool, cell_link, chain_in, false, front_itself, front_more, front_on, front_plain, in_later, inl, inr, joins_blank}
-use Rattle.law_copies.proofs.Imports.{joins_grow, log_entry_stays, log_steady, none_some, number_itself, refl, same_numbers, same_some, some_or_none}
-use Rattle.law_copies.proofs.Imports.{stage_at, subst, sym, touches, true, ℕ}
+use Rattle.law_copies.proofs.Imports.{by_bool, cell_link, chain_in, false, in_later, inl, inr, joins_blank, joins_grow, log_entry_stays, log_steady}
+use Rattle.law_copies.proofs.Imports.{none_some, number_itself, prefix_itself, prefix_more, prefix_on, prefix_plain, refl, same_numbers, same_some}
+use Rattle.law_copies.proofs.Imports.{some_or_none, stage_at, subst, sym, touches, true, ℕ}
 use Rattle.law_copies.specs.Visits.{AliveIn, IsLinked, place_by, store_by}
 use Rattle.law_copies.proofs.AtNext.{AtNext, next_of}
-use Rattle.law_copies.proofs.PlacesByFronts.{alive_on, linked_between, place_of_later, place_touched, place_untouched, places_up, rows_later, state_next}
-use Rattle.law_copies.proofs.PlacesByFronts.{unborn}
+use Rattle.law_copies.proofs.PlacesByPrefixes.{alive_on, linked_between, place_of_later, place_touched, place_untouched, places_up, rows_later, state_next}
+use Rattle.law_copies.proofs.PlacesByPrefixes.{unborn}
 use Rattle.law_copies.proofs.BlankJoinsRenewLinks.{counts_more, no_blank_join, no_chains}
 
 module _ (it : AtNext) where
@@ -15,7 +15,7 @@ module _ (it : AtNext) where
   open next_of it use {next, here, then_state, stores}
 
   pub plain_top : HasProperTuples setting.servers top
-  plain_top = front_plain setting.servers top next all (front_more top entry)
+  plain_top = prefix_plain setting.servers top next all (prefix_more top entry)
 
   pub plain_entry : HasProperTuple setting.servers entry
   unfolding In
@@ -29,22 +29,23 @@ module _ (it : AtNext) where
   row_then cell now end = ap (λ (s : State). cell_link s cell) (sym (state_next setting top entry)) ∙ end
 
   pub later_then : (cell : Cell) (row now : LinkRow) → IsLinked setting top cell row → IsLinked setting next cell now → IsLater row now
-  later_then cell row now is end = rows_later setting next all top next cell row now (front_more top entry) (front_itself next) is end
+  later_then cell row now is end = rows_later setting next all top next cell row now (prefix_more top entry) (prefix_itself next) is end
 
   -- who was at a place of a cell that has a link then knew its link
   been_linked : (n place : ℕ) (cell : Cell) (own : PairState) → good.visits n place cell ≡ Some own → (now : LinkRow) → IsLinked setting next cell now
       → (row : LinkRow) × IsLinked setting top cell row
   been_linked n place cell own visited now end =
       let b = good.been n place cell own visited in
-      linked_between setting next all b.front top next cell b.row now (front_on b.front _ top b.within (following.now n)) (front_more top entry)
-      (front_itself next) b.linked end
+      linked_between setting next all b.prefix top next cell b.row now (prefix_on b.prefix _ top b.within (following.now n)) (prefix_more top entry)
+      (prefix_itself next) b.linked end
 
   -- and the place is not past that by the entries so far
   been_below : (n place : ℕ) (cell : Cell) (own : PairState) (row : LinkRow) → good.visits n place cell ≡ Some own → IsLinked setting top cell row
       → place ≤ place_by setting top row
   been_below n place cell own row visited is =
       let b = good.been n place cell own visited in
-      let up = places_up setting next all b.front top cell b.row row (front_on b.front _ top b.within (following.now n)) (front_more top entry) b.linked is in
+      let up = places_up setting next all b.prefix top cell b.row row (prefix_on b.prefix _ top b.within (following.now n))
+      (prefix_more top entry) b.linked is in
       let at = b.at in
       omega arith
 
@@ -52,7 +53,7 @@ module _ (it : AtNext) where
 
   -- a cell that isn't retired then was not before
   pub alive_before : (cell : Cell) → AliveIn then_state cell → AliveIn here cell
-  alive_before cell alive = alive_on setting next all top next cell (front_more top entry) (front_itself next) alive
+  alive_before cell alive = alive_on setting next all top next cell (prefix_more top entry) (prefix_itself next) alive
 
   -- the last place is not past that by the entries so far
   pub reached_below : (cell : Cell) (row : LinkRow) → IsLinked setting top cell row → good.reached cell ≤ place_by setting top row
@@ -69,7 +70,7 @@ module _ (it : AtNext) where
       → (n : ℕ) → good.visits n (place_by setting next now) cell ≡ None
   unseen_new cell row now is end on n = unvisited n (place_by setting next now) cell (λ own visited.
       let le = been_below n (place_by setting next now) cell own row visited is in
-      let same = place_of_later setting next all top next next cell row now (front_more top entry) (front_itself next) is end in
+      let same = place_of_later setting next all top next next cell row now (prefix_more top entry) (prefix_itself next) is end in
       let one = place_touched setting top entry row on in
       absurd (omega arith))
 
@@ -91,7 +92,7 @@ module _ (it : AtNext) where
               (subst (λ r. place_by setting next r ≡ place_by setting top r) same (place_untouched setting top entry h.0 off)))
           | inr died ↦ none_some died.0 (row_then cell now end)
         ])
-    | inr none ↦ made (unborn setting next all top next cell now (front_more top entry) (front_itself next) none end)
+    | inr none ↦ made (unborn setting next all top next cell now (prefix_more top entry) (prefix_itself next) none end)
         (λ n. unvisited n (place_by setting next now) cell
         (λ own visited. none_some none (been_linked n (place_by setting next now) cell own visited now end).1))
   ]
@@ -104,12 +105,12 @@ module _ (it : AtNext) where
   pub next_store : (n : ℕ) → store_by setting stores next n ≡ new n
   next_store n = stores_so n (blank_joins_in setting next n) true (number_itself (blank_joins_in setting next n))
 
-  -- at each front so far they are as they were
-  front_store : (f : List Command) (n : ℕ) → IsPrefix f top → store_by setting stores f n ≡ store_by setting good.stores f n
-  front_store f n prefix =
+  -- at each prefix so far they are as they were
+  prefix_store : (f : List Command) (n : ℕ) → IsPrefix f top → store_by setting stores f n ≡ store_by setting good.stores f n
+  prefix_store f n is_prefix =
       let joins = blank_joins_in setting f n in
-      let low = joins_grow setting.servers f top n prefix in
-      let high = joins_grow setting.servers top next n (front_more top entry) in
+      let low = joins_grow setting.servers f top n is_prefix in
+      let high = joins_grow setting.servers top next n (prefix_more top entry) in
       by_bool (joins == blank_joins_in setting next n)
       (λ t.
       let e = same_numbers joins (blank_joins_in setting next n) t in
@@ -119,8 +120,8 @@ module _ (it : AtNext) where
       ∙ sym (good.now n) ∙ ap (good.stores n) at_top)
       (λ off. stores_so n joins false off)
 
-  pub front_stores : (f : List Command) → IsPrefix f top → store_by setting good.stores f ≡ store_by setting stores f
-  front_stores f prefix = λ i n. sym (front_store f n prefix) i
+  pub prefix_stores : (f : List Command) → IsPrefix f top → store_by setting good.stores f ≡ store_by setting stores f
+  prefix_stores f is_prefix = λ i n. sym (prefix_store f n is_prefix) i
 
   pub next_stores : new ≡ store_by setting stores next
   next_stores = λ i n. sym (next_store n) i

@@ -1,16 +1,16 @@
 -- What a server that is In as itself has before a job, at the place of each cell's link by its own entries.
 use Rattle.law_copies.proofs.Imports.{if◌then◌else◌, ◌&&◌, ◌∙◌, ◌≡◌, ◌≢◌, ◌≤◌, Body, Bool, Both, ByBoth, ByNone, ByOne, Cell, Command, Copying, Handled}
 use Rattle.law_copies.proofs.Imports.{IsRising, IsSteady, JobContext, LinkRow, List, None, Only, Option, PairState, Some, Store, about, ap, chain_in}
-use Rattle.law_copies.proofs.Imports.{chosen_log, copying_on, front_plain, has_server, holder_of, inl, inr, is_alone, is_between, live_stage, log_steady}
-use Rattle.law_copies.proofs.Imports.{nat_cmp, number_itself, other_between, other_of, own_place, pending_on, refl, same_numbers, server_state, state_after}
-use Rattle.law_copies.proofs.Imports.{subject_of, subst, sym, true, true_false, ℕ}
+use Rattle.law_copies.proofs.Imports.{chosen_log, copying_on, has_server, holder_of, inl, inr, is_alone, is_between, live_stage, log_steady, nat_cmp}
+use Rattle.law_copies.proofs.Imports.{number_itself, other_between, other_of, own_place, pending_on, prefix_plain, refl, same_numbers, server_state}
+use Rattle.law_copies.proofs.Imports.{state_after, subject_of, subst, sym, true, true_false, ℕ}
 use Rattle.law_copies.specs.CopyProgress.{AreCopying, IsTold, links_of}
 use Rattle.law_copies.specs.GoodCopies.{AloneOk, AreTwins, SaidOk, pair_at}
 use Rattle.law_copies.specs.Pair.{HaveMarks, Known, PairOk, pair_of, Pair}
 use Rattle.law_copies.specs.LoneSteps.{AreFilled, IsBare, IsFit, IsFollowing, IsHolding, PagesOf}
 use Rattle.law_copies.specs.Visits.{AliveIn, IsLinked, half, place_by, store_by, with_stores}
 use Rattle.law_copies.proofs.AtSeat.{AtSeat}
-use Rattle.law_copies.proofs.ServedAtLaterFronts.{both_last}
+use Rattle.law_copies.proofs.ServedAtLaterPrefixes.{both_last}
 use Rattle.law_copies.proofs.RolesOfWorkers.{copying_held, other_alone}
 use Rattle.petal_msg.specs.declared.body.Body.TheVariants as body
 
@@ -37,8 +37,8 @@ holder_other row n holder has other alone =
 module _ (it : AtSeat) where
   open it use {setting, records, w, stores, k, good, firm, rests, works}
 
-  abbrev pub front : List Command
-  front = (w.servers k).log.applied
+  abbrev pub prefix : List Command
+  prefix = (w.servers k).log.applied
 
   abbrev pub here : JobContext
   here = own_place setting w k
@@ -51,10 +51,10 @@ module _ (it : AtSeat) where
 
   -- the stores by the server's own entries
   abbrev pub by : ℕ → Store
-  by = store_by setting good.stores front
+  by = store_by setting good.stores prefix
 
   pub steady : IsSteady (server_state setting w k)
-  steady = log_steady setting.servers front (front_plain setting.servers front (chosen_log setting w) firm.plain (firm.servers k))
+  steady = log_steady setting.servers prefix (prefix_plain setting.servers prefix (chosen_log setting w) firm.plain (firm.servers k))
 
   pub own_same : ((with_stores w stores).servers k).own ≡ own
   own_same = λ i. record (w.servers k).own { store = works.real i }
@@ -63,16 +63,16 @@ module _ (it : AtSeat) where
   pub own_store : by k ≡ own.store
   own_store = ap (good.stores k) works.counts ∙ good.now k ∙ works.real
 
-  pub here_visit : (cell : Cell) (row : LinkRow) → IsLinked setting front cell row → AliveIn (server_state setting w k) cell
-      → good.visits k (place_by setting front row) cell ≡ Some own
+  pub here_visit : (cell : Cell) (row : LinkRow) → IsLinked setting prefix cell row → AliveIn (server_state setting w k) cell
+      → good.visits k (place_by setting prefix row) cell ≡ Some own
   here_visit cell row is alive = let h = good.here k cell row is works.seat alive in h.is ∙ ap Some (h.same ∙ own_same)
 
   -- what it handles tells what is known of it at the place
-  pub heard_said : (said : Body) → heard said → (cell : Cell) (row : LinkRow) → IsLinked setting front cell row → AliveIn (server_state setting w k) cell
-      → SaidOk setting (chosen_log setting w) good.stores good.visits good.reached front said cell row
+  pub heard_said : (said : Body) → heard said → (cell : Cell) (row : LinkRow) → IsLinked setting prefix cell row → AliveIn (server_state setting w k) cell
+      → SaidOk setting (chosen_log setting w) good.stores good.visits good.reached prefix said cell row
   heard_said said h cell row is alive =
-      subst (λ b. SaidOk setting (chosen_log setting w) good.stores good.visits good.reached front b cell row) h.is
-      (good.letters h.letter h.sent front cell row (firm.servers k) (sym h.at) is alive)
+      subst (λ b. SaidOk setting (chosen_log setting w) good.stores good.visits good.reached prefix b cell row) h.is
+      (good.letters h.letter h.sent prefix cell row (firm.servers k) (sym h.at) is alive)
 
   pub marks : HaveMarks (server_state setting w k) own.pairs.pending own.store
   marks = subst (HaveMarks (server_state setting w k) own.pairs.pending) works.real (good.marks k (inl works.runs))
@@ -93,15 +93,15 @@ module _ (it : AtSeat) where
     filled = filled;
     bare = λ q none. subst (λ (o : PairState). IsBare o q) own_same (good.unheard k q none).bare;
     lives = λ said h between q of.
-        good.lives h.letter h.sent (ap (λ (b : Body). is_between (subject_of b)) h.is ∙ between) front (firm.servers k) (sym h.at) q
+        good.lives h.letter h.sent (ap (λ (b : Body). is_between (subject_of b)) h.is ∙ between) prefix (firm.servers k) (sym h.at) q
         (ap (λ (b : Body). (about b).cell) h.is ∙ of);
     copied = good.copied k;
-    pages = λ q link after h. good.pages h.letter h.sent front (firm.servers k) (sym h.at) q.map link q.block after h.is;
+    pages = λ q link after h. good.pages h.letter h.sent prefix (firm.servers k) (sym h.at) q.map link q.block after h.is;
   }
 
-  module _ (cell : Cell) (row : LinkRow) (is : IsLinked setting front cell row) (alive : AliveIn (server_state setting w k) cell) where
+  module _ (cell : Cell) (row : LinkRow) (is : IsLinked setting prefix cell row) (alive : AliveIn (server_state setting w k) cell) where
     abbrev place : ℕ
-    place = place_by setting front row
+    place = place_by setting prefix row
 
     -- the cell is not retired by what is chosen, either
     abbrev IsAliveLast : Type 0
@@ -115,7 +115,7 @@ module _ (it : AtSeat) where
       last_here = both_last setting records w stores firm good k works.runs works.seat cell row is both has
 
       pub twins_here : AreTwins by good.visits place cell row.primary row.secondary
-      twins_here = (good.both front cell row (firm.servers k) is both).twins lives last_here
+      twins_here = (good.both prefix cell row (firm.servers k) is both).twins lives last_here
 
       pub known_here : (said : Body) → heard said → (about said).cell ≡ Some cell → Known (pair_at by good.visits place cell row.primary row.secondary) said
       known_here said h of = (heard_said said h cell row is alive).both lives both last_here of
@@ -147,8 +147,8 @@ module _ (it : AtSeat) where
     links = links_of (server_state setting w k) cell.map
 
     pub alone_here : (holder : ℕ) (whole : Bool) → row.state ≡ Only holder whole
-        → AloneOk setting (chosen_log setting w) good.stores good.visits good.reached front cell row holder
-    alone_here holder whole alone = good.alone front cell row holder whole (firm.servers k) is alone
+        → AloneOk setting (chosen_log setting w) good.stores good.visits good.reached prefix cell row holder
+    alone_here holder whole alone = good.alone prefix cell row holder whole (firm.servers k) is alone
 
     -- as the holder
     module _ (whole : Bool) (alone : row.state ≡ Only k whole) where

@@ -1,5 +1,5 @@
 -- What a server is to a cell, which can't be what else it is not; and as what it works on one.
-use Rattle.law_copies.proofs.Imports.{◌&&◌, ◌<◌, ◌==◌, ◌∙◌, ◌≡◌, ◌≤◌, ◌≢◌, ◌⊎◌, Begins_copy, Block, Body, Both, Busy, By_holder, By_lead, By_other, By_second}
+use Rattle.law_copies.proofs.Imports.{◌&&◌, ◌<◌, ◌==◌, ◌∙◌, ◌≡◌, ◌≢◌, ◌≤◌, ◌⊎◌, Begins_copy, Block, Body, Both, Busy, By_holder, By_lead, By_other, By_second}
 use Rattle.law_copies.proofs.Imports.{Cell, Closes, Closes_alone, Closes_copy, CopyStep, Copy_as_is, Copy_synced, Copy_trimmed, Copying, Did, DidHolder}
 use Rattle.law_copies.proofs.Imports.{DidLead, DidOther, DidSecond, Entry, Finds_it_full, Follows, Gives_up, Goes_on_copying, Goes_on_retired}
 use Rattle.law_copies.proofs.Imports.{Goes_on_trimming, Idle, IsBothRow, IsHeldWith, IsIdle, IsOfCopy, IsSteady, Is_copied_to, JobContext, JobResult}

@@ -2,8 +2,8 @@
 use Rattle.law_copies.proofs.Imports.{[], if◌then◌else◌, ◌++◌, ◌==◌, ◌∙◌, ◌∷◌, ◌≡◌, ◌⊎◌, Acted, BeforeBlank, By_ballot, By_entry, By_job, Caught, Command}
 use Rattle.law_copies.proofs.Imports.{Ends, Fails, Goes, In, IsPrefix, JobResult, Letter, List, Log, None, Option, PairState, Post, Sender, Server, Serving}
 use Rattle.law_copies.proofs.Imports.{Setting, Some, Starts, Stays, Step, Store, Wakes, Worked, World, acts, ap, awake, before_blanks, blank_joins_in}
-use Rattle.law_copies.proofs.Imports.{by_bool, chain_in, counted_by, crossed, false, front_itself, front_more, has_mark, in-append, inl, inr, is_between}
-use Rattle.law_copies.proofs.Imports.{is_in, kept, kept_store, letters_of, logged_apart, map, mark_on, own_place, post_of, proposed, put_apart, put_same}
+use Rattle.law_copies.proofs.Imports.{by_bool, chain_in, counted_by, crossed, false, has_mark, in-append, inl, inr, is_between, is_in, kept, kept_store}
+use Rattle.law_copies.proofs.Imports.{letters_of, logged_apart, map, mark_on, own_place, post_of, prefix_itself, prefix_more, proposed, put_apart, put_same}
 use Rattle.law_copies.proofs.Imports.{raised, refl, sender, served_so, server_state, settled_by, settling, shown_so, silent, stamped, start, state_in, stays}
 use Rattle.law_copies.proofs.Imports.{stopped_so, subject_of, subst, sym, true, true_false, wakes, with_store, without_rev, world_after, ℕ}
 use Rattle.law_copies.proofs.CopiesKnownOfWorlds.{OneMore, before_of}
@@ -11,7 +11,7 @@ use Rattle.law_copies.proofs.AtEntry.{at_entry}
 use Rattle.law_copies.proofs.CopiesGround.{Ground}
 use Rattle.law_copies.proofs.AtStep.{IsStep, at_step}
 use Rattle.law_copies.proofs.LeftByEntry.{IsCrossed}
-use Rattle.law_copies.proofs.FramesKeepFronts.{store_same}
+use Rattle.law_copies.proofs.FramesKeepPrefixes.{store_same}
 use Rattle.law_copies.proofs.JobsAndBallotsKeep.{ballot_keeping, job_keeping}
 use Rattle.law_copies.proofs.StepsLeaveCopies.{posts_mute}
 use Rattle.law_copies.proofs.AtSeat.{AtSeat, IsAtWork}
@@ -20,7 +20,7 @@ use Rattle.law_copies.proofs.VisitsAfterSteps.{IsThen, counted as reached_then, 
 use Rattle.law_copies.proofs.AtJob.{AtJob, at_job, IsKeeping}
 use Rattle.law_copies.proofs.WakingKeepsCopies.{woken_sound}
 use Rattle.petal_msg.specs.declared.body.Body.TheVariants as body
-use Rattle.law_copies.proofs.JobsKeepEachFront as jobs
+use Rattle.law_copies.proofs.JobsKeepEachPrefix as jobs
 use Rattle.law_copies.proofs.EntriesKeepCopies as entries
 use Rattle.law_copies.proofs.StepsLeaveCopies as quiet
 
@@ -109,7 +109,7 @@ module _ (it : OneMore) where
 
     same_step : acted.server.log.applied ≡ (w.servers k).log.applied → IsStep setting top before v k server
     same_step applied =
-        step_of (subst (IsPrefix (w.servers k).log.applied) (sym applied) (front_itself (w.servers k).log.applied))
+        step_of (subst (IsPrefix (w.servers k).log.applied) (sym applied) (prefix_itself (w.servers k).log.applied))
         (subst (λ f. IsPrefix f top) (sym applied) (known.firm.servers k))
 
     -- each letter was sent before, or in this step
@@ -211,7 +211,7 @@ module _ (it : OneMore) where
         (own_is : acted.server.own ≡ settled_by (own_place setting w k) entry (crossed (server_state setting w k) entry (w.servers k).own))
         (inc : acted.server.life.inc ≡ (w.servers k).life.inc) where
       entry_step : IsStep setting top before v k server
-      entry_step = step_of (subst (IsPrefix (w.servers k).log.applied) (sym more) (front_more (w.servers k).log.applied entry)) within
+      entry_step = step_of (subst (IsPrefix (w.servers k).log.applied) (sym more) (prefix_more (w.servers k).log.applied entry)) within
 
       entry_left : IsCrossed (server_state setting w k) entry (before.servers k).own server.own
       entry_left =
@@ -252,9 +252,9 @@ module _ (it : OneMore) where
         (λ seat. job_says runs seat done (ballot_keeping (seated k runs seat) started posts starts logged) own_is (applied ∙ same) inc sends)
         (λ out. quiet_says done (λ post i. logged_apart (subject_of post.body) (logged post i)) sends
         (quiet_goes (own_is ∙ out_ballot setting w k started starts out) (applied ∙ same) (λ on. runs) inc))
-    worked_goes _ _ runs (By_entry log entry more front) own_is applied inc sends =
+    worked_goes _ _ runs (By_entry log entry more prefix) own_is applied inc sends =
         let left = settled_by (own_place setting w k) entry (crossed (server_state setting w k) entry (w.servers k).own) in
-        quiet_says (silent left) no_posts sends (entry_goes runs entry (applied ∙ more) (subst (λ f. IsPrefix f top) (sym applied) front) own_is inc)
+        quiet_says (silent left) no_posts sends (entry_goes runs entry (applied ∙ more) (subst (λ f. IsPrefix f top) (sym applied) prefix) own_is inc)
 
   pub server_goes : (k stamp : ℕ) (what : Step) (acted : Acted) → before_blanks what setting w k ≡ w.before_blank → Serving setting w k what acted
       → GoesTo (acts setting w k what stamp acted).world

@@ -1,8 +1,8 @@
--- What is kept after a step of one server, from what the step keeps at each front, and of what it sends.
+-- What is kept after a step of one server, from what the step keeps at each prefix, and of what it sends.
 use Rattle.law_copies.proofs.Imports.{[], ◌++◌, ◌∙◌, ◌∷◌, ◌≡◌, ◌≤◌, ◌⊎◌, Bool, Both, Cell, Command, In, IsPrefix, IsRising, LastCopy, Letter, LinkRow, List}
-use Rattle.law_copies.proofs.Imports.{None, Only, Option, PairState, Record, Server, Setting, Some, State, Store, World, about, arith, chain_in, front_itself}
-use Rattle.law_copies.proofs.Imports.{inl, inr, is_between, last_copy, length, live, nat_cmp, same_or_apart, server_state, stage_at, state_after, state_in}
-use Rattle.law_copies.proofs.Imports.{subject_of, subst, sym, true, ℕ}
+use Rattle.law_copies.proofs.Imports.{None, Only, Option, PairState, Record, Server, Setting, Some, State, Store, World, about, arith, chain_in, inl, inr}
+use Rattle.law_copies.proofs.Imports.{is_between, last_copy, length, live, nat_cmp, prefix_itself, same_or_apart, server_state, stage_at, state_after}
+use Rattle.law_copies.proofs.Imports.{state_in, subject_of, subst, sym, true, ℕ}
 use Rattle.law_copies.specs.CopyProgress.{IsOfLink}
 use Rattle.law_copies.specs.GoodCopies.{AloneOk, BothOk, Good, IsUnheard, SaidOk, store_of}
 use Rattle.law_copies.specs.Pair.{HaveMarks}
@@ -12,19 +12,19 @@ use Rattle.law_copies.proofs.VisitsAfterSteps.{IsThen, KeepsFlags, all_visited, 
 use Rattle.law_copies.proofs.VisitsAfterSteps.{started_now, then_of}
 use Rattle.law_copies.proofs.AtStep.{AtStep}
 use Rattle.law_copies.proofs.VisitsComeFromMoments.{came_then}
-use Rattle.law_copies.proofs.PlacesByFronts.{below_at}
+use Rattle.law_copies.proofs.PlacesByPrefixes.{below_at}
 use Rattle.petal_msg.specs.declared.body.Body.TheVariants as body
 
 -- a letter that is sent tells what is so, by the link at the front of its sender
 pub record IsTrue (setting : Setting) (top : List Command) (stores : ℕ → ℕ → Store) (visits : (n place : ℕ) → Cell → Option PairState) (reached : Cell → ℕ)
     (letter : Letter) : Type 0 where
   pub rev : is_between (subject_of letter.body) ≡ true → letter.rev ≤ length top
-  pub said : (front : List Command) (cell : Cell) (row : LinkRow) → IsPrefix front top → length front ≡ letter.rev → IsLinked setting front cell row
-      → AliveIn (state_after setting.servers front) cell → SaidOk setting top stores visits reached front letter.body cell row
-  pub lives : is_between (subject_of letter.body) ≡ true → (front : List Command) → IsPrefix front top → length front ≡ letter.rev → (cell : Cell)
-      → (about letter.body).cell ≡ Some cell → live (state_after setting.servers front) cell ≡ true
-  pub page : (front : List Command) → IsPrefix front top → length front ≡ letter.rev → (map link block : ℕ) (after : Option ℕ)
-      → letter.body ≡ body.Hello map link after (Some block) → IsOfLink (state_after setting.servers front) (record { map = map; block = block }) link
+  pub said : (prefix : List Command) (cell : Cell) (row : LinkRow) → IsPrefix prefix top → length prefix ≡ letter.rev → IsLinked setting prefix cell row
+      → AliveIn (state_after setting.servers prefix) cell → SaidOk setting top stores visits reached prefix letter.body cell row
+  pub lives : is_between (subject_of letter.body) ≡ true → (prefix : List Command) → IsPrefix prefix top → length prefix ≡ letter.rev → (cell : Cell)
+      → (about letter.body).cell ≡ Some cell → live (state_after setting.servers prefix) cell ≡ true
+  pub page : (prefix : List Command) → IsPrefix prefix top → length prefix ≡ letter.rev → (map link block : ℕ) (after : Option ℕ)
+      → letter.body ≡ body.Hello map link after (Some block) → IsOfLink (state_after setting.servers prefix) (record { map = map; block = block }) link
 
 -- what is kept after one record more; with where servers have been then; places that count only rise, and no server has
 -- applied an entry beyond those known before
@@ -63,11 +63,11 @@ sound_part good k when = record {
 }
 
 -- and by the same state, of the same part
-pub sound_at : {marked : Type 0} (servers : ℕ) (front later : List Command) (own new : PairState) → later ≡ front → new ≡ own
-    → IsSoundPart (state_after servers front) own marked → IsSoundPart (state_after servers later) new marked
-sound_at {marked} servers front later own new applied same sound =
+pub sound_at : {marked : Type 0} (servers : ℕ) (prefix later : List Command) (own new : PairState) → later ≡ prefix → new ≡ own
+    → IsSoundPart (state_after servers prefix) own marked → IsSoundPart (state_after servers later) new marked
+sound_at {marked} servers prefix later own new applied same sound =
     subst (λ f. IsSoundPart (state_after servers f) new marked) (sym applied)
-    (subst (λ (o : PairState). IsSoundPart (state_after servers front) o marked) (sym same) sound)
+    (subst (λ (o : PairState). IsSoundPart (state_after servers prefix) o marked) (sym same) sound)
 
 module _ (it : AtStep) where
   open it use {setting, records, top, w, v, k, server, good, step}
@@ -80,15 +80,15 @@ module _ (it : AtStep) where
     | inr ne ↦ subst (P n) (sym (step.others n ne)) (old n)
   ]
 
-  -- at each front, what the step keeps
-  pub record KeepsFronts : Type 0 where
-    pub both : (front : List Command) (cell : Cell) (row : LinkRow) → IsPrefix front top → IsLinked setting front cell row → row.state ≡ Both
-        → BothOk setting top stores visits reached front cell row
-    pub alone : (front : List Command) (cell : Cell) (row : LinkRow) (holder : ℕ) (whole : Bool) → IsPrefix front top → IsLinked setting front cell row
-        → row.state ≡ Only holder whole → AloneOk setting top stores visits reached front cell row holder
-    pub said : (letter : Letter) → In letter w.sent → (front : List Command) (cell : Cell) (row : LinkRow) → IsPrefix front top
-        → length front ≡ letter.rev → IsLinked setting front cell row → AliveIn (state_after setting.servers front) cell
-        → SaidOk setting top stores visits reached front letter.body cell row
+  -- at each prefix, what the step keeps
+  pub record KeepsPrefixes : Type 0 where
+    pub both : (prefix : List Command) (cell : Cell) (row : LinkRow) → IsPrefix prefix top → IsLinked setting prefix cell row → row.state ≡ Both
+        → BothOk setting top stores visits reached prefix cell row
+    pub alone : (prefix : List Command) (cell : Cell) (row : LinkRow) (holder : ℕ) (whole : Bool) → IsPrefix prefix top → IsLinked setting prefix cell row
+        → row.state ≡ Only holder whole → AloneOk setting top stores visits reached prefix cell row holder
+    pub said : (letter : Letter) → In letter w.sent → (prefix : List Command) (cell : Cell) (row : LinkRow) → IsPrefix prefix top
+        → length prefix ≡ letter.rev → IsLinked setting prefix cell row → AliveIn (state_after setting.servers prefix) cell
+        → SaidOk setting top stores visits reached prefix letter.body cell row
 
   unheard_now : IsSoundOwn setting v k server → (n : ℕ) (cell : Cell) → stage_at (server_state setting v n) cell ≡ 0
       → IsUnheard (server_state setting v n) (v.servers n).own cell
@@ -100,11 +100,11 @@ module _ (it : AtStep) where
       → chain_in (store_of v n).chains cell ≡ []
   born_now sound cell none n =
       let within = all_servers (λ m (s : Server). IsPrefix s.log.applied top) step.before step.within n in
-      let le = (below_at setting top step.plain (v.servers n).log.applied top within (front_itself top)).stages cell in
+      let le = (below_at setting top step.plain (v.servers n).log.applied top within (prefix_itself top)).stages cell in
       (unheard_now sound n cell (omega arith)).bare.chain
 
   good_now : (own : Record) → IsThen setting (records ++ own ∷ []) v → KeepsFlags it
-      → IsSoundOwn setting v k server → KeepsFronts
+      → IsSoundOwn setting v k server → KeepsPrefixes
       → ((letter : Letter) → In letter v.sent → In letter w.sent ⊎ IsTrue setting top stores visits reached letter)
       → Good setting (records ++ own ∷ []) top v
   good_now own then_is flags sound keeps sent = record {
@@ -138,7 +138,7 @@ module _ (it : AtStep) where
   }
 
   pub good_after : (own : Record) → IsThen setting (records ++ own ∷ []) v → KeepsFlags it
-      → IsSoundOwn setting v k server → KeepsFronts
+      → IsSoundOwn setting v k server → KeepsPrefixes
       → ((letter : Letter) → In letter v.sent → In letter w.sent ⊎ IsTrue setting top stores visits reached letter)
       → GoesOn setting records top top w v good own
   unfolding good_now

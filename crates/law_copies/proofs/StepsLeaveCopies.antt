@@ -1,25 +1,25 @@
 -- Steps that leave two copies as they are: glances, boots, what clients do, and jobs of a server that is not In as itself.
 use Rattle.law_copies.proofs.Imports.{[], ◌++◌, ◌∙◌, ◌∷◌, ◌≡◌, ◌⊎◌, Body, Bool, Cell, Command, In, IsPrefix, Letter, LinkRow, List, Only, PairState, Post}
-use Rattle.law_copies.proofs.Imports.{Record, Sender, Setting, Some, Store, ap, blank_joins_in, false, front_plain, has_server, id_of, inl, inr, is_between}
-use Rattle.law_copies.proofs.Imports.{is_flagged, is_in, letters_of, log_steady, said, same_or_apart, same_some, stamped, state_after, state_in, subject_of}
+use Rattle.law_copies.proofs.Imports.{Record, Sender, Setting, Some, Store, ap, blank_joins_in, false, has_server, id_of, inl, inr, is_between, is_flagged}
+use Rattle.law_copies.proofs.Imports.{is_in, letters_of, log_steady, prefix_plain, said, same_or_apart, same_some, stamped, state_after, state_in, subject_of}
 use Rattle.law_copies.proofs.Imports.{subst, sym, true, true_false, ℕ}
 use Rattle.law_copies.specs.Visits.{AliveIn, IsLinked, Visits, place_by, store_by}
 use Rattle.law_copies.proofs.VisitsAfterSteps.{then_of, IsAt, IsThen, KeepsFlags, stored_apart, stored_by, stored_frozen, visited_beside, visited_by}
 use Rattle.law_copies.proofs.VisitsAfterSteps.{visited_here, was_stored}
 use Rattle.law_copies.proofs.AtStep.{AtStep}
-use Rattle.law_copies.proofs.FramesKeepFronts.{LeavesBoth, LeavesStore, alone_framed, both_framed, said_framed, store_same}
-use Rattle.law_copies.proofs.ServedAtLaterFronts.{holder_is_one}
+use Rattle.law_copies.proofs.FramesKeepPrefixes.{LeavesBoth, LeavesStore, alone_framed, both_framed, said_framed, store_same}
+use Rattle.law_copies.proofs.ServedAtLaterPrefixes.{holder_is_one}
 use Rattle.law_copies.proofs.MuteLettersTellNothing.{no_page, said_mute}
-use Rattle.law_copies.proofs.StepsKeepCopies.{GoesOn, IsSoundOwn, IsTrue, KeepsFronts, good_after}
+use Rattle.law_copies.proofs.StepsKeepCopies.{GoesOn, IsSoundOwn, IsTrue, KeepsPrefixes, good_after}
 
 -- a letter that speaks neither of pairs nor of copies is true
 pub mute_true : (setting : Setting) (top : List Command) (stores : ℕ → ℕ → Store) (visits : Visits) (reached : Cell → ℕ) (letter : Letter)
     → is_between (subject_of letter.body) ≡ false → IsTrue setting top stores visits reached letter
 mute_true setting top stores visits reached letter e = record {
   rev = λ between. true_false between e;
-  said = λ front cell row prefix long is alive. said_mute setting top stores visits reached front letter.body cell row e;
-  lives = λ between front prefix long cell of. true_false between e;
-  page = λ front prefix long map link block after is. no_page letter.body e map link after (Some block) is;
+  said = λ prefix cell row is_prefix long is alive. said_mute setting top stores visits reached prefix letter.body cell row e;
+  lives = λ between prefix is_prefix long cell of. true_false between e;
+  page = λ prefix is_prefix long map link block after is. no_page letter.body e map link after (Some block) is;
 }
 
 -- posts of which none speaks of pairs or copies
@@ -36,18 +36,18 @@ module _ (it : AtStep) where
   open then_of it use {visits, reached, next as next_stores}
 
   -- a step that leaves a cell's chain and marks at the server leaves them in all stores
-  pub stores_leave : (cell : Cell) → LeavesStore (w.servers k).own.store server.own.store cell → (front : List Command) (n : ℕ)
-      → LeavesStore (store_by setting good.stores front n) (store_by setting next_stores front n) cell
-  stores_leave cell same front n = elim (same_or_apart n k) [
-    | inl e ↦ subst (λ m. LeavesStore (store_by setting good.stores front m) (store_by setting next_stores front m) cell)
+  pub stores_leave : (cell : Cell) → LeavesStore (w.servers k).own.store server.own.store cell → (prefix : List Command) (n : ℕ)
+      → LeavesStore (store_by setting good.stores prefix n) (store_by setting next_stores prefix n) cell
+  stores_leave cell same prefix n = elim (same_or_apart n k) [
+    | inl e ↦ subst (λ m. LeavesStore (store_by setting good.stores prefix m) (store_by setting next_stores prefix m) cell)
         (sym e)
-        (elim (same_or_apart (blank_joins_in setting front k) (blank_joins_in setting top k)) [
-          | inl is ↦ subst (λ a. LeavesStore a (store_by setting next_stores front k) cell)
-              (sym (was_stored it front is))
-              (subst (λ b. LeavesStore (w.servers k).own.store b cell) (sym (stored_by it front is)) same)
-          | inr ne ↦ store_same _ _ cell (stored_frozen it k (blank_joins_in setting front k) ne)
+        (elim (same_or_apart (blank_joins_in setting prefix k) (blank_joins_in setting top k)) [
+          | inl is ↦ subst (λ a. LeavesStore a (store_by setting next_stores prefix k) cell)
+              (sym (was_stored it prefix is))
+              (subst (λ b. LeavesStore (w.servers k).own.store b cell) (sym (stored_by it prefix is)) same)
+          | inr ne ↦ store_same _ _ cell (stored_frozen it k (blank_joins_in setting prefix k) ne)
         ])
-    | inr ne ↦ store_same _ _ cell (stored_apart it n (blank_joins_in setting front n) ne)
+    | inr ne ↦ store_same _ _ cell (stored_apart it n (blank_joins_in setting prefix n) ne)
   ]
 
   -- a server that is not In as itself is nowhere
@@ -74,34 +74,34 @@ module _ (it : AtStep) where
 
   module _ (still : (n place : ℕ) (cell : Cell) → visits n place cell ≡ good.visits n place cell)
       (stores : (cell : Cell) → AliveIn (state_after setting.servers top) cell → LeavesStore (w.servers k).own.store server.own.store cell) where
-    store_leaves : (front : List Command) (n : ℕ) (cell : Cell) → AliveIn (state_after setting.servers top) cell → LeavesStore
-        (store_by setting good.stores front n) (store_by setting next_stores front n) cell
-    store_leaves front n cell alive = stores_leave cell (stores cell alive) front n
+    store_leaves : (prefix : List Command) (n : ℕ) (cell : Cell) → AliveIn (state_after setting.servers top) cell → LeavesStore
+        (store_by setting good.stores prefix n) (store_by setting next_stores prefix n) cell
+    store_leaves prefix n cell alive = stores_leave cell (stores cell alive) prefix n
 
-    leaves : (front : List Command) (place : ℕ) (cell : Cell) (row : LinkRow)
-        → LeavesBoth it front place cell row
-    leaves front place cell row n has = record { visit = still n place cell; store = λ alive. store_leaves front n cell alive }
+    leaves : (prefix : List Command) (place : ℕ) (cell : Cell) (row : LinkRow)
+        → LeavesBoth it prefix place cell row
+    leaves prefix place cell row n has = record { visit = still n place cell; store = λ alive. store_leaves prefix n cell alive }
 
-    holds : (front : List Command) (cell : Cell) (row : LinkRow) (holder : ℕ) → IsPrefix front top → IsLinked setting front cell row
+    holds : (prefix : List Command) (cell : Cell) (row : LinkRow) (holder : ℕ) → IsPrefix prefix top → IsLinked setting prefix cell row
         → (whole : Bool) → row.state ≡ Only holder whole → has_server holder row ≡ true
-    holds front cell row holder prefix is whole alone =
-        holder_is_one (state_after setting.servers front) (log_steady setting.servers front (front_plain setting.servers front top step.plain prefix))
+    holds prefix cell row holder is_prefix is whole alone =
+        holder_is_one (state_after setting.servers prefix) (log_steady setting.servers prefix (prefix_plain setting.servers prefix top step.plain is_prefix))
         holder cell row is alone
 
-    unchanged_fronts : KeepsFronts it
-    unchanged_fronts = record {
-      both = λ front cell row prefix is both.
-          both_framed it front cell row
-          (leaves front (place_by setting front row) cell row)
-          (good.both front cell row prefix is both);
-      alone = λ front cell row holder whole prefix is alone.
-          alone_framed it front cell row holder
-          (holds front cell row holder prefix is whole alone)
-          (leaves front (place_by setting front row) cell row) (good.alone front cell row holder whole prefix is alone);
-      said = λ letter there front cell row prefix long is alive.
-          said_framed it front letter.body cell row
-          (λ holder whole alone. holds front cell row holder prefix is whole alone) (leaves front (place_by setting front row) cell row)
-          (good.letters letter there front cell row prefix long is alive);
+    unchanged_prefixes : KeepsPrefixes it
+    unchanged_prefixes = record {
+      both = λ prefix cell row is_prefix is both.
+          both_framed it prefix cell row
+          (leaves prefix (place_by setting prefix row) cell row)
+          (good.both prefix cell row is_prefix is both);
+      alone = λ prefix cell row holder whole is_prefix is alone.
+          alone_framed it prefix cell row holder
+          (holds prefix cell row holder is_prefix is whole alone)
+          (leaves prefix (place_by setting prefix row) cell row) (good.alone prefix cell row holder whole is_prefix is alone);
+      said = λ letter there prefix cell row is_prefix long is alive.
+          said_framed it prefix letter.body cell row
+          (λ holder whole alone. holds prefix cell row holder is_prefix is whole alone) (leaves prefix (place_by setting prefix row) cell row)
+          (good.letters letter there prefix cell row is_prefix long is alive);
     }
 
     unchanged_flags : KeepsFlags it
@@ -114,4 +114,4 @@ module _ (it : AtStep) where
     pub quiet_good : (own : Record) → IsThen setting (records ++ own ∷ []) v → IsSoundOwn setting v k server
         → ((letter : Letter) → In letter v.sent → In letter w.sent ⊎ IsTrue setting top next_stores visits reached letter)
         → GoesOn setting records top top w v good own
-    quiet_good own then_is sound sent = good_after it own then_is unchanged_flags sound unchanged_fronts sent
+    quiet_good own then_is sound sent = good_after it own then_is unchanged_flags sound unchanged_prefixes sent

@@ -1,12 +1,12 @@
 -- What is kept of a server's store: while it waits to be filled it is empty; who is In as itself waits for nobody; and while the store
 -- from before a blank counts, the server's own waits.
 use Rattle.law_copies.proofs.Imports.{[], ◌&&◌, ◌++◌, ◌+◌, ◌<◌, ◌∙◌, ◌∷◌, ◌≡◌, ◌≢◌, ◌≤◌, ◌⊎◌, BeforeBlank, Bool, Command, HasProperTuples, In, IsPrefix, Join}
-use Rattle.law_copies.proofs.Imports.{Life, List, Option, Server, Some, Store, ap, arith, blank_joins_from, blanked, by_bool, false, front_itself, front_more}
-use Rattle.law_copies.proofs.Imports.{front_on, in_former, inl, inr, is_blank_join, is_in, joined_counts, joined_since, joins_grow, may_join, number_itself}
-use Rattle.law_copies.proofs.Imports.{refl, same_some, slice_get, state_after, subst, sym, true, true_false, ℕ}
+use Rattle.law_copies.proofs.Imports.{Life, List, Option, Server, Some, Store, ap, arith, blank_joins_from, blanked, by_bool, false, in_former, inl, inr}
+use Rattle.law_copies.proofs.Imports.{is_blank_join, is_in, joined_counts, joined_since, joins_grow, may_join, number_itself, prefix_itself, prefix_more}
+use Rattle.law_copies.proofs.Imports.{prefix_on, refl, same_some, slice_get, state_after, subst, sym, true, true_false, ℕ}
 use Rattle.spec_state.specs.State.{start}
 use Rattle.law_copies.specs.WaitingStores.{IsEmpty}
-use Rattle.law_copies.proofs.EmptyJoins.{after_front, joins_by_entry, stands_in}
+use Rattle.law_copies.proofs.EmptyJoins.{after_prefix, joins_by_entry, stands_in}
 use Rattle.law_copies.proofs.StoreMoves.{IsSame, Moves, Rests, Works, Enters, Settles, Raises}
 
 -- an incarnation is over
@@ -16,10 +16,10 @@ IsOver life inc = ((life.running ≡ false) × (inc ≤ life.inc)) ⊎ (inc < li
 -- a server was blanked when these entries were chosen: each incarnation that had joined by then is over; and until one more Join of it with
 -- an empty store is chosen, its store waits to be filled
 pub record WasBlanked (servers : ℕ) (chosen : List Command) (n : ℕ) (server : Server) (before : BeforeBlank) : Type 0 where
-  pub front : List Command
-  pub stands : IsPrefix front chosen
-  pub joins : before.joins ≡ blank_joins_from (start servers) front n
-  pub over : (inc : ℕ) (blank : Bool) → In (Join n inc blank) front → IsOver server.life inc
+  pub prefix : List Command
+  pub stands : IsPrefix prefix chosen
+  pub joins : before.joins ≡ blank_joins_from (start servers) prefix n
+  pub over : (inc : ℕ) (blank : Bool) → In (Join n inc blank) prefix → IsOver server.life inc
   pub waits : before.joins ≡ blank_joins_from (start servers) chosen n → server.own.store.fresh ≡ true
 
 pub record Kept (servers : ℕ) (chosen : List Command) (n : ℕ) (server : Server) (before : Option BeforeBlank) : Type 0 where
@@ -30,17 +30,17 @@ pub record Kept (servers : ℕ) (chosen : List Command) (n : ℕ) (server : Serv
 -- with more chosen
 pub kept_more : (servers : ℕ) (chosen whole : List Command) (n : ℕ) (server : Server) (before : Option BeforeBlank) → IsPrefix chosen whole
     → Kept servers chosen n server before → Kept servers whole n server before
-kept_more servers chosen whole n server before prefix kept = record {
+kept_more servers chosen whole n server before is_prefix kept = record {
   empty = kept.empty;
   filled = kept.filled;
   blanked = λ b is.
       let old = kept.blanked b is in
-      let one = joins_grow servers old.front chosen n old.stands in
-      let two = joins_grow servers chosen whole n prefix in
+      let one = joins_grow servers old.prefix chosen n old.stands in
+      let two = joins_grow servers chosen whole n is_prefix in
       let e = old.joins in
       record {
-        front = old.front;
-        stands = front_on old.front chosen whole old.stands prefix;
+        prefix = old.prefix;
+        stands = prefix_on old.prefix chosen whole old.stands is_prefix;
         joins = old.joins;
         over = old.over;
         waits = λ same. old.waits (omega arith);
@@ -59,7 +59,7 @@ module _ (servers : ℕ) (chosen : List Command) (n : ℕ) (server : Server) (be
       → (b : BeforeBlank) → before ≡ Some b → WasBlanked servers chosen n to b
   still to fresh over b is = let old = kept.blanked b is in
       record {
-        front = old.front;
+        prefix = old.prefix;
         stands = old.stands;
         joins = old.joins;
         over = λ inc blank i. over inc (old.over inc blank i);
@@ -90,10 +90,10 @@ module _ (servers : ℕ) (chosen : List Command) (n : ℕ) (server : Server) (be
         → (b : BeforeBlank) → before ≡ Some b → b.joins ≢ blank_joins_from (start servers) chosen n
     settles runs stands b is same =
         let old = kept.blanked b is in
-        elim (after_front old.front server.log.applied chosen (Join n server.life.inc true) old.stands stands) [
+        elim (after_prefix old.prefix server.log.applied chosen (Join n server.life.inc true) old.stands stands) [
           | inl there ↦ over (old.over server.life.inc true there)
           | inr following ↦
-              let more = joined_counts servers old.front chosen n server.life.inc (record {
+              let more = joined_counts servers old.prefix chosen n server.life.inc (record {
                 until = server.log.applied;
                 following = following;
                 stands = stands;
@@ -112,7 +112,7 @@ module _ (servers : ℕ) (chosen : List Command) (n : ℕ) (server : Server) (be
         → IsPrefix (server.log.applied ++ entry ∷ []) chosen → State (server.log.applied ++ entry ∷ []) → server.own.store.fresh ≡ false
     entered entry other runs stands up =
         elim (joined_since servers server.log.applied (server.log.applied ++ entry ∷ []) n server.life.inc
-        (λ c i. plain c (subst (In c) (sym stands.is) (in_former c _ stands.later i))) (front_more server.log.applied entry) up) [
+        (λ c i. plain c (subst (In c) (sym stands.is) (in_former c _ stands.later i))) (prefix_more server.log.applied entry) up) [
           | inl was ↦ kept.filled runs was
           | inr joined ↦
               let is = joins_by_entry servers server.log.applied entry n server.life.inc joined.0 joined.1 in
@@ -144,7 +144,7 @@ module _ (servers : ℕ) (chosen : List Command) (n : ℕ) (server : Server) (be
       filled = λ up seat. now;
       blanked = λ b is. let old = kept.blanked b is in
           record {
-            front = old.front;
+            prefix = old.prefix;
             stands = old.stands;
             joins = old.joins;
             over = λ k blank i. runs_over to runs inc k (old.over k blank i);
@@ -165,8 +165,8 @@ kept_blanked servers chosen n server rests begun b joins = record {
   empty = λ waits. record { chains = refl; marks = refl };
   filled = λ up seat. true_false up rests;
   blanked = λ c is. subst (WasBlanked servers chosen n (blanked server)) (same_some is) (record {
-    front = chosen;
-    stands = front_itself chosen;
+    prefix = chosen;
+    stands = prefix_itself chosen;
     joins = joins;
     over = λ inc blank i. inl (rests, begun inc blank i);
     waits = λ same. refl;

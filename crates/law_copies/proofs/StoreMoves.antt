@@ -72,10 +72,10 @@ module _ (setting : Setting) (w : World) (n : ℕ) where
       Rests to (same_store server.own.store to.own.store
       (ap (λ (o : PairState). o.store) later.0 ∙ ballot_store (server_state setting w n) server.own started)) later.1
       (λ up. (runs, ap (λ (l : Log). l.applied) later.2 ∙ same))
-  worked runs _ _ (By_entry log entry more front) to later =
+  worked runs _ _ (By_entry log entry more prefix) to later =
       let own = crossed (server_state setting w n) entry server.own in
       let applied : to.log.applied ≡ server.log.applied ++ entry ∷ [] = ap (λ (l : Log). l.applied) later.2 ∙ more in
-      let stands : IsPrefix (server.log.applied ++ entry ∷ []) (chosen_log setting w) = subst (λ xs. IsPrefix xs (chosen_log setting w)) more front in
+      let stands : IsPrefix (server.log.applied ++ entry ∷ []) (chosen_log setting w) = subst (λ xs. IsPrefix xs (chosen_log setting w)) more prefix in
       by_test (λ (o : PairState). to.own ≡ o → To to) (is_blank_join entry n server.life.inc) (record own { store = settled own.store }) own
       (λ joins is. Settles to (ap (λ (o : PairState). o.store.fresh) is ∙ settled_waits own.store) later.1 runs
       (subst (λ c. IsPrefix (server.log.applied ++ c ∷ []) (chosen_log setting w)) (own_blank entry n server.life.inc joins) stands))

@@ -9,9 +9,9 @@ use Rattle.law_copies.proofs.EmptyJoins.{stands_in}
 use Rattle.law_copies.proofs.StoreMoves.{IsBlanked, IsMoved, Moves, Rests, Works, Enters, Settles, Raises, happened}
 
 -- what stands before a record of a history stands before its last one
-pub before_last : (front : List Record) (last : Record) (before : List Record) (own : Record) (later : List Record)
-    → front ++ last ∷ [] ≡ before ++ own ∷ later → (rest : List Record) × (front ≡ before ++ rest)
-before_last front last before own later e = elim (split_last front last before (own ∷ later) e) [
+pub before_last : (prefix : List Record) (last : Record) (before : List Record) (own : Record) (later : List Record)
+    → prefix ++ last ∷ [] ≡ before ++ own ∷ later → (rest : List Record) × (prefix ≡ before ++ rest)
+before_last prefix last before own later e = elim (split_last prefix last before (own ∷ later) e) [
   | inl whole ↦ absurd (omega (arith, ap length e, ap length whole, length-append before (own ∷ later)))
   | inr part ↦ part
 ]

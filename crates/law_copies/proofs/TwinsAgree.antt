@@ -1,11 +1,11 @@
 -- What each step of one of the two servers of a cell in Both keeps of the cell.
 use Rattle.law_copies.proofs.Imports.{◌+◌, ◌<◌, ◌∙◌, ◌≡◌, ◌≢◌, ◌≤◌, ◌⊎◌, Asks_copy, Asks_slot, Body, By_holder, By_lead, By_other, By_second, Cell, Copying}
 use Rattle.law_copies.proofs.Imports.{Declines, Did, DidSecond, Ends_fill, Fills, Follows, Has_copy, Has_slot, JobResult, Key, List, Moves, Moves_on, None}
-use Rattle.law_copies.proofs.Imports.{PairState, Pending, Post, Promises, Says, Sets_apart, Some, Stage, Stood, Writes, about, ap, arith, at}
-use Rattle.law_copies.proofs.Imports.{cell_cmp, cell_of, cell_same, chain_apart, chain_in, copying_on, did_come, did_count, did_ready, ended, follows, inl}
-use Rattle.law_copies.proofs.Imports.{inr, is_between, is_clients, is_lead, is_the, lead_links, leads_link, letters_of_job, nat_cmp, option_and_then}
-use Rattle.law_copies.proofs.Imports.{pending_on, progress, refl, row_lead, same_cell_or_apart, same_numbers, same_some, stage_live, state_lead, subject_of}
-use Rattle.law_copies.proofs.Imports.{subst, sym, tells, told_own, true, true_false, with_last, with_tickets, ℕ}
+use Rattle.law_copies.proofs.Imports.{PairState, Pending, Post, Promises, Says, Sets_apart, Some, Stage, Stood, Writes, about, ap, arith, at, cell_cmp}
+use Rattle.law_copies.proofs.Imports.{cell_of, cell_same, chain_apart, chain_in, copying_on, did_come, did_count, did_ready, ended, follows, inl, inr}
+use Rattle.law_copies.proofs.Imports.{is_between, is_clients, is_lead, is_the, lead_links, leads_link, letters_of_job, nat_cmp, option_and_then, pending_on}
+use Rattle.law_copies.proofs.Imports.{progress, refl, row_lead, same_cell_or_apart, same_numbers, same_some, stage_live, state_lead, subject_of, subst, sym}
+use Rattle.law_copies.proofs.Imports.{tells, told_own, true, true_false, with_last, with_tickets, ℕ}
 use Rattle.law_copies.specs.BothSteps.{LacksFill, LeadKeeps, SecondKeeps}
 use Rattle.law_copies.specs.Pair.{AreCopies, IsRecalled, Keeps, Known, PairOk, pair_of, ceiling_of}
 use Rattle.law_copies.proofs.CellChangesKeepCopies.{first_stays, second_stays}
@@ -202,7 +202,8 @@ module _ (it : CellInBoth) where
 
       -- and where it puts its copy, it has followed the operation
       follows_lacks : (number : ℕ) (key : Key) (version : ℕ) (bytes : List ℕ) → heard (body.Replicate number key version bytes)
-          → at cell_cmp own.pairs.last (cell_of key) ≡ Some (record { op = number; progress = follow_progress.Reserved }) → Lacks (follows here own number key bytes).own
+          → at cell_cmp own.pairs.last (cell_of key) ≡ Some (record { op = number; progress = follow_progress.Reserved })
+          → Lacks (follows here own number key bytes).own
       follows_lacks number key version bytes h is = elim (same_cell_or_apart cell (cell_of key)) [
         | inr ne ↦ chain_lacks (follows here own number key bytes).own (chain_apart own.store.chains (cell_of key) _ cell ne)
         | inl e ↦ λ up old op there fill le.

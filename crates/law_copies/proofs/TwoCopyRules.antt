@@ -2,8 +2,8 @@
 use Rattle.law_copies.proofs.Imports.{if◌then◌else◌, ◌==◌, ◌∙◌, ◌≡◌, ◌≤◌, AreCovered, AreSteps, Both, Busy, Cell, Command, Covered, Firm, IsSound, IsSteady}
 use Rattle.law_copies.proofs.Imports.{LinkRow, List, None, Option, PairState, Pending, Record, Script, Setting, Some, State, Store, TwoCopies, World}
 use Rattle.law_copies.proofs.Imports.{alone_by, ap, arith, at, at-empty, both_true, by_bool, cell_cmp, cell_link, chain_in, chosen_log, chosen_state, counted}
-use Rattle.law_copies.proofs.Imports.{false, first, first_by, front_itself, history_is_firm, inc_of, inl, inr, is_at_work, is_in, is_marked, live, live_stage}
-use Rattle.law_copies.proofs.Imports.{log_steady, none_some, one_put_ahead, option_and_then, option_map, option_map_or, other_of, refl, row_in_both}
+use Rattle.law_copies.proofs.Imports.{false, first, first_by, history_is_firm, inc_of, inl, inr, is_at_work, is_in, is_marked, live, live_stage, log_steady}
+use Rattle.law_copies.proofs.Imports.{none_some, one_put_ahead, option_and_then, option_map, option_map_or, other_of, prefix_itself, refl, row_in_both}
 use Rattle.law_copies.proofs.Imports.{same_some, second_by, server_state, setting_of, start, subst, sym, true, world_after, ℕ}
 use Rattle.spec_history.specs.Claims.{Copies}
 use Rattle.law_copies.specs.CopyProgress.{IsCovered, Is_equal, Is_marked_here, Is_marked_there, Is_to_be_copied}
@@ -12,7 +12,7 @@ use Rattle.law_copies.specs.Pair.{pair_of}
 use Rattle.law_copies.specs.Visits.{AliveIn, IsLinked, half, place_by, store_by}
 use Rattle.law_copies.proofs.UnequalIsMarked.{copied}
 use Rattle.law_copies.proofs.CopiesInHistories.{good_after}
-use Rattle.law_copies.proofs.PlacesByFronts.{alive_on, linked_alive, one_place, places_up}
+use Rattle.law_copies.proofs.PlacesByPrefixes.{alive_on, linked_alive, one_place, places_up}
 
 module _ (setting : Setting) (records : List Record) (w : World) (firm : Firm setting w)
     (good : Good setting records (chosen_log setting w) (counted setting w)) where
@@ -37,7 +37,7 @@ module _ (setting : Setting) (records : List Record) (w : World) (firm : Firm se
   reached_top cell row is = elim (good.reaching.by cell) [
     | inl none ↦ omega (arith, none)
     | inr r ↦ (
-        let le = places_up setting top firm.plain r.front top cell r.row row r.prefix (front_itself top) r.linked is in
+        let le = places_up setting top firm.plain r.prefix top cell r.row row r.is_prefix (prefix_itself top) r.linked is in
         let at = r.at in
         omega arith)
   ]
@@ -55,7 +55,7 @@ module _ (setting : Setting) (records : List Record) (w : World) (firm : Firm se
     m = row.secondary
 
     pub twins : AreTwins stores good.visits place cell n m
-    twins = (good.both top cell row (front_itself top) is both).twins alive (reached_top cell row is)
+    twins = (good.both top cell row (prefix_itself top) is both).twins alive (reached_top cell row is)
 
     -- an operation that the first server has in mind
     pub record IsInMind (op : Pending) : Type 0 where
@@ -77,13 +77,13 @@ module _ (setting : Setting) (records : List Record) (w : World) (firm : Firm se
     at_work works own visit =
         let parts = both_true (w.servers n).life.running (is_in now n (w.servers n).life.inc) works in
         let b = good.been n place cell own visit in
-        let own_front = (w.servers n).log.applied in
-        let mine_alive = alive_on setting top firm.plain own_front top cell (firm.servers n) (front_itself top) alive in
-        let mine = linked_alive setting top firm.plain b.front own_front cell b.row b.within (firm.servers n) b.linked mine_alive in
-        let low = places_up setting top firm.plain b.front own_front cell b.row mine.0 b.within (firm.servers n) b.linked mine.1 in
-        let up = places_up setting top firm.plain own_front top cell mine.0 row (firm.servers n) (front_itself top) mine.1 is in
-        let same : place_by setting own_front mine.0 ≡ place = (let at = b.at in omega arith) in
-        let so = one_place setting top firm.plain own_front top cell mine.0 row (firm.servers n) (front_itself top) mine.1 is same in
+        let own_prefix = (w.servers n).log.applied in
+        let mine_alive = alive_on setting top firm.plain own_prefix top cell (firm.servers n) (prefix_itself top) alive in
+        let mine = linked_alive setting top firm.plain b.prefix own_prefix cell b.row b.within (firm.servers n) b.linked mine_alive in
+        let low = places_up setting top firm.plain b.prefix own_prefix cell b.row mine.0 b.within (firm.servers n) b.linked mine.1 in
+        let up = places_up setting top firm.plain own_prefix top cell mine.0 row (firm.servers n) (prefix_itself top) mine.1 is in
+        let same : place_by setting own_prefix mine.0 ≡ place = (let at = b.at in omega arith) in
+        let so = one_place setting top firm.plain own_prefix top cell mine.0 row (firm.servers n) (prefix_itself top) mine.1 is same in
         let one : mine.0 ≡ row = same_some (sym so.same ∙ is) in
         let inc_same = subst (λ (r : LinkRow). inc_of now r.primary ≡ inc_of (server_state setting w n) r.primary) one so.primary in
         let seat : is_in (server_state setting w n) n (w.servers n).life.inc ≡ true =
@@ -144,7 +144,7 @@ module _ (setting : Setting) (records : List Record) (w : World) (firm : Firm se
   pub covered : (cell : Cell) → Covered now at_top cell
   covered cell row holder on is alone =
       let held = alone_by holder row.state alone in
-      let beside = (good.alone top cell row holder held.0 (front_itself top) is held.1).beside (live_stage now cell on).1 (reached_top cell row is) in
+      let beside = (good.alone top cell row holder held.0 (prefix_itself top) is held.1).beside (live_stage now cell on).1 (reached_top cell row is) in
       let place = place_by setting top row in
       subst (λ (s : Store). AreCovered row s (store_of at_top (other_of holder row)) cell) (good.now holder)
       (subst (λ (s : Store). AreCovered row (stores holder) s cell) (good.now (other_of holder row))

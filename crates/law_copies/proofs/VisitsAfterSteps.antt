@@ -1,14 +1,14 @@
 -- Where servers have been, once one of them has done a step.
 use Rattle.law_copies.proofs.Imports.{[], if◌then◌else◌, ◌&&◌, ◌++◌, ◌==◌, ◌∙◌, ◌∷◌, ◌≡◌, ◌≢◌, ◌≤◌, ◌⊎◌, Bool, Cell, Command, IsPrefix, IsRising, LinkRow}
 use Rattle.law_copies.proofs.Imports.{List, None, Only, Option, PairState, Record, Server, Setting, Some, State, Store, WasStarted, World, ap, arith}
-use Rattle.law_copies.proofs.Imports.{blank_joins_in, both_true, by_bool, cell_link, chain_in, false, front_itself, front_on, id_of, inl, inr, is_flagged}
-use Rattle.law_copies.proofs.Imports.{is_in, is_some, max, nat_cmp, nat_eq, number_itself, option_map, option_map_or, same_numbers, same_or_apart}
+use Rattle.law_copies.proofs.Imports.{blank_joins_in, both_true, by_bool, cell_link, chain_in, false, id_of, inl, inr, is_flagged, is_in, is_some, max}
+use Rattle.law_copies.proofs.Imports.{nat_cmp, nat_eq, number_itself, option_map, option_map_or, prefix_itself, prefix_on, same_numbers, same_or_apart}
 use Rattle.law_copies.proofs.Imports.{server_state, serves, some_or_none, split_last, start, state_after, state_in, subst, sym, true, true_false, with_store}
 use Rattle.law_copies.proofs.Imports.{world_after, ℕ}
 use Rattle.law_copies.specs.Visits.{AliveIn, AreReached, HasBeen, HasReached, IsHere, IsLinked, IsPlaced, Visits, is_alive, is_at, place_by, place_on}
 use Rattle.law_copies.specs.Visits.{store_by, visited}
 use Rattle.law_copies.proofs.AtStep.{AtStep}
-use Rattle.law_copies.proofs.PlacesByFronts.{one_row, reached_on}
+use Rattle.law_copies.proofs.PlacesByPrefixes.{one_row, reached_on}
 
 -- ### Where a server is
 
@@ -117,8 +117,8 @@ IsThen setting records v = (n : ℕ) → with_store ((world_after setting (start
 module _ (it : AtStep) where
   open it use {setting, records, top, w, v, k, server, good, step}
 
-  abbrev front : List Command
-  front = server.log.applied
+  abbrev prefix : List Command
+  prefix = server.log.applied
 
   abbrev pub later : Visits
   later = visited setting good.visits k server
@@ -132,12 +132,12 @@ module _ (it : AtStep) where
   -- ### Visits
 
   -- what the server is at a place where it is now
-  pub visited_here : (cell : Cell) (row : LinkRow) → IsLinked setting front cell row → is_in (state_in setting.servers server.log) k server.life.inc ≡ true
-      → AliveIn (state_in setting.servers server.log) cell → later k (place_by setting front row) cell ≡ Some server.own
+  pub visited_here : (cell : Cell) (row : LinkRow) → IsLinked setting prefix cell row → is_in (state_in setting.servers server.log) k server.life.inc ≡ true
+      → AliveIn (state_in setting.servers server.log) cell → later k (place_by setting prefix row) cell ≡ Some server.own
   visited_here cell row is seat alive =
-      ap (λ b. if b && is_at setting k server (place_by setting front row) cell then Some server.own else good.visits k (place_by setting front row) cell)
+      ap (λ b. if b && is_at setting k server (place_by setting prefix row) cell then Some server.own else good.visits k (place_by setting prefix row) cell)
       (number_itself k)
-      ∙ ap (λ b. if b then Some server.own else good.visits k (place_by setting front row) cell) (is_at_so setting k server cell row is seat alive)
+      ∙ ap (λ b. if b then Some server.own else good.visits k (place_by setting prefix row) cell) (is_at_so setting k server cell row is seat alive)
 
   -- the visit is the server's as it is now, or as it was
   pub record IsNow (n place : ℕ) (cell : Cell) : Type 0 where
@@ -207,12 +207,12 @@ module _ (it : AtStep) where
 
   has_been : (n place : ℕ) (cell : Cell) → HasBeen setting w n place cell → HasBeen setting v n place cell
   has_been n place cell was = record {
-    front = was.front;
+    prefix = was.prefix;
     within = elim (same_or_apart n k) [
-      | inl e ↦ subst (λ m. IsPrefix was.front (v.servers m).log.applied) (sym e)
-          (subst (λ (s : Server). IsPrefix was.front s.log.applied) (sym step.here)
-          (front_on was.front (w.servers k).log.applied front (subst (λ m. IsPrefix was.front (w.servers m).log.applied) e was.within) step.onward))
-      | inr ne ↦ subst (λ (s : Server). IsPrefix was.front s.log.applied) (sym (step.others n ne)) was.within
+      | inl e ↦ subst (λ m. IsPrefix was.prefix (v.servers m).log.applied) (sym e)
+          (subst (λ (s : Server). IsPrefix was.prefix s.log.applied) (sym step.here)
+          (prefix_on was.prefix (w.servers k).log.applied prefix (subst (λ m. IsPrefix was.prefix (w.servers m).log.applied) e was.within) step.onward))
+      | inr ne ↦ subst (λ (s : Server). IsPrefix was.prefix s.log.applied) (sym (step.others n ne)) was.within
     ];
     placed = was.placed;
   }
@@ -221,9 +221,9 @@ module _ (it : AtStep) where
   been_now n place cell own e = elim (visited_by n place cell) [
     | inl same ↦ has_been n place cell (good.been n place cell own (sym same ∙ e))
     | inr now ↦ record {
-      front = front;
-      within = subst (λ m. IsPrefix front (v.servers m).log.applied) (sym now.who)
-          (subst (λ (s : Server). IsPrefix front s.log.applied) (sym step.here) (front_itself front));
+      prefix = prefix;
+      within = subst (λ m. IsPrefix prefix (v.servers m).log.applied) (sym now.who)
+          (subst (λ (s : Server). IsPrefix prefix s.log.applied) (sym step.here) (prefix_itself prefix));
       placed = record { row = now.there.row; linked = now.there.linked; alive = now.there.alive; at = sym now.there.at };
     }
   ]
@@ -257,15 +257,15 @@ module _ (it : AtStep) where
     where
       below : (f : List Command) (cell : Cell) (row : LinkRow) (n : ℕ) (own : PairState) → IsPrefix f top → IsLinked setting f cell row
           → serves n row row.state ≡ true → later n (place_by setting f row) cell ≡ Some own → place_by setting f row ≤ counted cell
-      below f cell row n own prefix is serving e = elim (visited_by n (place_by setting f row) cell) [
+      below f cell row n own is_prefix is serving e = elim (visited_by n (place_by setting f row) cell) [
         | inl same ↦ (
-            let le = good.reaching.below f cell row n own prefix is serving (sym same ∙ e) in
+            let le = good.reaching.below f cell row n own is_prefix is serving (sym same ∙ e) in
             let up = counted_up cell in
             omega arith)
         | inr now ↦ (
             let there = now.there in
             let at = there.at in
-            let one : there.row ≡ row = one_row setting top step.plain f front cell row there.row prefix step.within is there.linked at in
+            let one : there.row ≡ row = one_row setting top step.plain f prefix cell row there.row is_prefix step.within is there.linked at in
             let serves_it : serves k there.row there.row.state ≡ true =
             subst (λ m. serves m there.row there.row.state ≡ true) now.who (subst (λ (r : LinkRow). serves n r r.state ≡ true) (sym one) serving) in
             let same = served_so setting k server cell there.row there.linked there.seat there.alive serves_it in
@@ -274,8 +274,8 @@ module _ (it : AtStep) where
 
       old : (cell : Cell) → HasReached setting top good.visits cell (good.reached cell) → HasReached setting top later cell (good.reached cell)
       old cell r = elim (visited_by r.server (good.reached cell) cell) [
-        | inl same ↦ reached_on r r.prefix r.own (same ∙ r.visited)
-        | inr now ↦ reached_on r r.prefix server.own now.is
+        | inl same ↦ reached_on r r.is_prefix r.own (same ∙ r.visited)
+        | inr now ↦ reached_on r r.is_prefix server.own now.is
       ]
 
       either : (a b : ℕ) → (max a b ≡ a) ⊎ (max a b ≡ b)
@@ -288,8 +288,8 @@ module _ (it : AtStep) where
           | inl none ↦ inl (e ∙ none)
           | inr s ↦ inr (subst (HasReached setting top later cell) (sym e)
               (record {
-                front = front;
-                prefix = step.within;
+                prefix = prefix;
+                is_prefix = step.within;
                 placed = s.placed;
                 server = k;
                 serving = s.serving;
@@ -328,7 +328,7 @@ module _ (it : AtStep) where
   pub stored_frozen : (n joins : ℕ) → joins ≢ blank_joins_in setting top k → stored n joins ≡ good.stores n joins
   stored_frozen n joins ne = elim (stored_of n joins) [ inl same ↦ same | inr now ↦ absurd (ne now.1) ]
 
-  -- by a front after which the server has joined no more
+  -- by a prefix after which the server has joined no more
   pub stored_by : (f : List Command) → blank_joins_in setting f k ≡ blank_joins_in setting top k → store_by setting stored f k ≡ server.own.store
   stored_by f same = ap (stored k) same ∙ stored_here
 
@@ -353,19 +353,19 @@ module _ (it : AtStep) where
 
   -- the server forgets no ballot for the Caught of a link that it holds alone, while it stays at the link's place
   abbrev pub KeepsFlags : Type 0
-  KeepsFlags = (cell : Cell) (row : LinkRow) (own : PairState) (whole : Bool) → IsLinked setting front cell row
+  KeepsFlags = (cell : Cell) (row : LinkRow) (own : PairState) (whole : Bool) → IsLinked setting prefix cell row
       → AliveIn (state_in setting.servers server.log) cell → row.state ≡ Only k whole
       → is_in (state_in setting.servers server.log) k server.life.inc ≡ true
-      → good.visits k (place_by setting front row) cell ≡ Some own → is_flagged own (id_of row) ≡ true → is_flagged server.own (id_of row) ≡ true
+      → good.visits k (place_by setting prefix row) cell ≡ Some own → is_flagged own (id_of row) ≡ true → is_flagged server.own (id_of row) ≡ true
 
   module _ (own : Record) (then_is : IsThen setting (records ++ own ∷ []) v) (flags : KeepsFlags) where
     pub started_now : (holder inc : ℕ) (whole : Bool) (f : List Command) (cell : Cell) (row : LinkRow) → IsPrefix f top → IsLinked setting f cell row
         → AliveIn (state_after setting.servers f) cell → row.state ≡ Only holder whole → is_in (state_after setting.servers f) holder inc ≡ true
         → WasStarted setting (records ++ own ∷ []) holder inc f (id_of row)
         → (o : PairState) × (later holder (place_by setting f row) cell ≡ Some o) × (is_flagged o (id_of row) ≡ true)
-    started_now holder inc whole f cell row prefix is alive alone seat was = elim (split_last records own was.before was.later was.is) [
+    started_now holder inc whole f cell row is_prefix is alive alone seat was = elim (split_last records own was.before was.later was.is) [
       | inl all ↦ now (subst (λ rs. IsThen setting rs v) (sym all) then_is)
-      | inr more ↦ still (good.started holder inc whole f cell row prefix is alive alone seat
+      | inr more ↦ still (good.started holder inc whole f cell row is_prefix is alive alone seat
           (record { before = was.before; later = more.0; is = more.1; lives = was.lives; at = was.at; minded = was.minded }))
     ]
       where
@@ -388,8 +388,8 @@ module _ (it : AtStep) where
           | inl same ↦ (h.0, same ∙ h.1, h.2)
           | inr is_now ↦ (
               let there = is_now.there in
-              let one : there.row ≡ row = one_row setting top step.plain f front cell row there.row prefix step.within is there.linked there.at in
-              let before : good.visits k (place_by setting front there.row) cell ≡ Some h.0 =
+              let one : there.row ≡ row = one_row setting top step.plain f prefix cell row there.row is_prefix step.within is there.linked there.at in
+              let before : good.visits k (place_by setting prefix there.row) cell ≡ Some h.0 =
               ap (λ place. good.visits k place cell) (sym there.at) ∙ subst (λ m. good.visits m (place_by setting f row) cell ≡ Some h.0) is_now.who h.1 in
               let mine : there.row.state ≡ Only k whole = ap (λ (r : LinkRow). r.state) one ∙ alone ∙ ap (λ n. Only n whole) is_now.who in
               let flagged = flags cell there.row h.0 whole there.linked there.alive mine there.seat before
@@ -399,7 +399,7 @@ module _ (it : AtStep) where
 
 -- ### Names for what is then
 
--- visits, places that count and stores once the step is done, and the stores by a front of the log before and then
+-- visits, places that count and stores once the step is done, and the stores by a prefix of the log before and then
 pub record Then : Type 0 where
   pub visits : Visits
   pub reached : Cell → ℕ

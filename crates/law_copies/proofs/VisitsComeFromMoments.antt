@@ -25,7 +25,8 @@ module _ (setting : Setting) (records : List Record) (own : Record) (v : World) 
     is = sym (append-nil all);
     there = at_same ∙ on;
     had = had;
-    since = λ front back e there. ap (λ done. (server_after done).own.pairs) (ap (λ zs. all ++ zs) (none_before_none front back e) ∙ append-nil all) ∙ had;
+    since = λ prefix suffix e there. ap (λ done. (server_after done).own.pairs) (ap (λ zs. all ++ zs) (none_before_none prefix suffix e) ∙ append-nil all)
+        ∙ had;
   }
     where
       had : (server_after all).own.pairs ≡ (v.servers n).own.pairs
@@ -40,11 +41,11 @@ module _ (setting : Setting) (records : List Record) (own : Record) (v : World) 
     is = e;
     there = was.there;
     had = was.had;
-    since = λ front back lies there. elim (split_last was.later own front back lies) [
+    since = λ prefix suffix lies there. elim (split_last was.later own prefix suffix lies) [
       | inl whole ↦ true_false
           (sym (ap (λ done. is_at setting n (server_after done) place cell) (ap (λ zs. was.before ++ zs) whole ∙ sym e)) ∙ there)
           (at_same ∙ off)
-      | inr more ↦ was.since front more.0 more.1 there
+      | inr more ↦ was.since prefix more.0 more.1 there
     ];
   }
     where

@@ -1,7 +1,7 @@
 -- What a server that wakes keeps of two copies, by the stores that count: it has nothing in memory.
-use Rattle.law_copies.proofs.Imports.{◌∙◌, ◌≡◌, ◌≤◌, Copies, IsRising, Pairs, Server, World, ap, arith, at, at-empty, cell_cmp, chain_in, front_plain}
-use Rattle.law_copies.proofs.Imports.{has_mark, id_of, link_cmp, log_below, mark_on, nat_cmp, no_copies, no_pairs, no_progress, none_some, subst, sym}
-use Rattle.law_copies.proofs.Imports.{unwrap_or, ℕ}
+use Rattle.law_copies.proofs.Imports.{◌∙◌, ◌≡◌, ◌≤◌, Copies, IsRising, Pairs, Server, World, ap, arith, at, at-empty, cell_cmp, chain_in, has_mark, id_of}
+use Rattle.law_copies.proofs.Imports.{link_cmp, log_below, mark_on, nat_cmp, no_copies, no_pairs, no_progress, none_some, prefix_plain, subst, sym, unwrap_or}
+use Rattle.law_copies.proofs.Imports.{ℕ}
 use Rattle.law_copies.specs.LoneSteps.{AreFilled}
 use Rattle.law_copies.proofs.CopiesKnownOfWorlds.{OneMore, before_of}
 use Rattle.law_copies.proofs.AtStep.{IsStep}
@@ -18,7 +18,7 @@ module _ (it : OneMore) where
   woken_sound v k server step pairs copies chains marks = record {
     unheard = λ cell none.
         let le = (log_below setting.servers (w.servers k).log.applied server.log.applied
-        (front_plain setting.servers server.log.applied top known.firm.plain step.within) step.onward).stages cell in
+        (prefix_plain setting.servers server.log.applied top known.firm.plain step.within) step.onward).stages cell in
         let bare = (good.unheard k cell (omega arith)).bare in
         record {
           bare = record {

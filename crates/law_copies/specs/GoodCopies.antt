@@ -48,37 +48,37 @@ module _ (setting : Setting) (top : List Command) (stores : ℕ → ℕ → Stor
   abbrev IsAlive : Cell → Type 0
   IsAlive cell = AliveIn (state_after setting.servers top) cell
 
-  -- at a front of the log at which the cell's link is in Both
-  pub record BothOk (front : List Command) (cell : Cell) (row : LinkRow) : Type 0 where
-    pub twins : IsAlive cell → IsLast reached setting front cell row → AreTwins (by front) visits (place_by setting front row) cell row.primary row.secondary
+  -- at a prefix of the log at which the cell's link is in Both
+  pub record BothOk (prefix : List Command) (cell : Cell) (row : LinkRow) : Type 0 where
+    pub twins : IsAlive cell → IsLast reached setting prefix cell row → AreTwins (by prefix) visits (place_by setting prefix row) cell row.primary row.secondary
 
   -- at one at which one server holds it alone
-  pub record AloneOk (front : List Command) (cell : Cell) (row : LinkRow) (holder : ℕ) : Type 0 where
-    pub copying : AreCopying (links_of (state_after setting.servers front) cell.map) row cell
-        (visits holder (place_by setting front row) cell) (visits (other_of holder row) (place_by setting front row) cell)
-    pub beside : IsAlive cell → IsLast reached setting front cell row
-        → AreBeside (by front) visits (place_by setting front row) row cell holder (other_of holder row)
+  pub record AloneOk (prefix : List Command) (cell : Cell) (row : LinkRow) (holder : ℕ) : Type 0 where
+    pub copying : AreCopying (links_of (state_after setting.servers prefix) cell.map) row cell
+        (visits holder (place_by setting prefix row) cell) (visits (other_of holder row) (place_by setting prefix row) cell)
+    pub beside : IsAlive cell → IsLast reached setting prefix cell row
+        → AreBeside (by prefix) visits (place_by setting prefix row) row cell holder (other_of holder row)
     -- what was left to copy at the holder is so still, while the other server has been at no later place
-    pub stays : IsAlive cell → (own : PairState) → visits holder (place_by setting front row) cell ≡ Some own
-        → ((place : ℕ) → place_by setting front row < place → visits (other_of holder row) place cell ≡ None)
-        → StaysLeft row cell own (by front holder)
+    pub stays : IsAlive cell → (own : PairState) → visits holder (place_by setting prefix row) cell ≡ Some own
+        → ((place : ℕ) → place_by setting prefix row < place → visits (other_of holder row) place cell ≡ None)
+        → StaysLeft row cell own (by prefix holder)
     -- where all is to be copied to the other server, it has nothing until the holder has been at such a place
-    pub unfilled : IsAlive cell → needs_full_copy row.state ≡ true → (chain_in (by front (other_of holder row)).chains cell ≡ [])
-        ⊎ HasFilled setting top visits front cell holder (other_of holder row)
+    pub unfilled : IsAlive cell → needs_full_copy row.state ≡ true → (chain_in (by prefix (other_of holder row)).chains cell ≡ [])
+        ⊎ HasFilled setting top visits prefix cell holder (other_of holder row)
 
   -- what is known of a letter by the link at the front of its sender
-  pub record SaidOk (front : List Command) (said : Body) (cell : Cell) (row : LinkRow) : Type 0 where
-    pub both : IsAlive cell → row.state ≡ Both → IsLast reached setting front cell row → (about said).cell ≡ Some cell
-        → Known (pair_at (by front) visits (place_by setting front row) cell row.primary row.secondary) said
+  pub record SaidOk (prefix : List Command) (said : Body) (cell : Cell) (row : LinkRow) : Type 0 where
+    pub both : IsAlive cell → row.state ≡ Both → IsLast reached setting prefix cell row → (about said).cell ≡ Some cell
+        → Known (pair_at (by prefix) visits (place_by setting prefix row) cell row.primary row.secondary) said
     pub alone : (holder : ℕ) (whole : Bool) → row.state ≡ Only holder whole → (about said).cell ≡ Some cell
-        → IsTold row (visits holder (place_by setting front row) cell) (visits (other_of holder row) (place_by setting front row) cell) said
+        → IsTold row (visits holder (place_by setting prefix row) cell) (visits (other_of holder row) (place_by setting prefix row) cell) said
     pub page : IsAlive cell → (holder : ℕ) (whole : Bool) (after block : Option ℕ) → row.state ≡ Only holder whole
         → said ≡ body.Hello row.map row.link after block
-        → IsLast reached setting front cell row
-        → IsPage cell (by front (other_of holder row)) (visits (other_of holder row) (place_by setting front row) cell) after block
+        → IsLast reached setting prefix cell row
+        → IsPage cell (by prefix (other_of holder row)) (visits (other_of holder row) (place_by setting prefix row) cell) after block
     -- and that the other server was there, at each place
     pub met : (holder : ℕ) (whole : Bool) (after block : Option ℕ) → row.state ≡ Only holder whole → said ≡ body.Hello row.map row.link after block
-        → is_some (visits (other_of holder row) (place_by setting front row) cell) ≡ true
+        → is_some (visits (other_of holder row) (place_by setting prefix row) cell) ≡ true
 
 -- of a cell that is not live yet by this state a server has nothing, and has heard of no operation; and where its map is not made yet it
 -- counts no pages of a link of the map
@@ -87,7 +87,7 @@ pub record IsUnheard (state : State) (own : PairState) (cell : Cell) : Type 0 wh
   pub last : at cell_cmp own.pairs.last cell ≡ None
   pub pages : cell_link state cell ≡ None → (row : LinkRow) → row.map ≡ cell.map → progress_on own row ≡ no_progress
 
--- what is kept after these records, of each front of the log up to this one
+-- what is kept after these records, of each prefix of the log up to this one
 pub record Good (setting : Setting) (records : List Record) (top : List Command) (w : World) : Type 0 where
   pub visits : Visits
   pub reached : Cell → ℕ
@@ -109,25 +109,25 @@ pub record Good (setting : Setting) (records : List Record) (top : List Command)
   -- of a server that was blanked, while it runs
   pub marks : (n : ℕ) → ((w.servers n).life.running ≡ true) ⊎ (w.before_blank n ≡ None)
       → HaveMarks (server_state setting w n) (w.servers n).own.pairs.pending (store_of w n)
-  pub both : (front : List Command) (cell : Cell) (row : LinkRow) → IsPrefix front top → IsLinked setting front cell row → row.state ≡ Both
-      → BothOk setting top stores visits reached front cell row
-  pub alone : (front : List Command) (cell : Cell) (row : LinkRow) (holder : ℕ) (whole : Bool) → IsPrefix front top
-      → IsLinked setting front cell row → row.state ≡ Only holder whole → AloneOk setting top stores visits reached front cell row holder
+  pub both : (prefix : List Command) (cell : Cell) (row : LinkRow) → IsPrefix prefix top → IsLinked setting prefix cell row → row.state ≡ Both
+      → BothOk setting top stores visits reached prefix cell row
+  pub alone : (prefix : List Command) (cell : Cell) (row : LinkRow) (holder : ℕ) (whole : Bool) → IsPrefix prefix top
+      → IsLinked setting prefix cell row → row.state ≡ Only holder whole → AloneOk setting top stores visits reached prefix cell row holder
   pub revs : (letter : Letter) → In letter w.sent → is_between (subject_of letter.body) ≡ true → letter.rev ≤ length top
-  pub letters : (letter : Letter) → In letter w.sent → (front : List Command) (cell : Cell) (row : LinkRow) → IsPrefix front top
-      → length front ≡ letter.rev → IsLinked setting front cell row → AliveIn (state_after setting.servers front) cell
-      → SaidOk setting top stores visits reached front letter.body cell row
+  pub letters : (letter : Letter) → In letter w.sent → (prefix : List Command) (cell : Cell) (row : LinkRow) → IsPrefix prefix top
+      → length prefix ≡ letter.rev → IsLinked setting prefix cell row → AliveIn (state_after setting.servers prefix) cell
+      → SaidOk setting top stores visits reached prefix letter.body cell row
   -- two servers speak of live cells alone, by the state of which they speak
-  pub lives : (letter : Letter) → In letter w.sent → is_between (subject_of letter.body) ≡ true → (front : List Command) → IsPrefix front top
-      → length front ≡ letter.rev → (cell : Cell) → (about letter.body).cell ≡ Some cell → live (state_after setting.servers front) cell ≡ true
+  pub lives : (letter : Letter) → In letter w.sent → is_between (subject_of letter.body) ≡ true → (prefix : List Command) → IsPrefix prefix top
+      → length prefix ≡ letter.rev → (cell : Cell) → (about letter.body).cell ≡ Some cell → live (state_after setting.servers prefix) cell ≡ true
   -- a server remembers copies of live cells alone
   pub copied : (n : ℕ) (cell : Cell) (last : LastCopy) → last_copy (w.servers n).own cell ≡ Some last → live (server_state setting w n) cell ≡ true
   -- a page tells of a block of its own link
-  pub pages : (letter : Letter) → In letter w.sent → (front : List Command) → IsPrefix front top → length front ≡ letter.rev → (map link block : ℕ)
+  pub pages : (letter : Letter) → In letter w.sent → (prefix : List Command) → IsPrefix prefix top → length prefix ≡ letter.rev → (map link block : ℕ)
       (after : Option ℕ) → letter.body ≡ body.Hello map link after (Some block)
-      → IsOfLink (state_after setting.servers front) (record { map = map; block = block }) link
-  pub started : (holder inc : ℕ) (whole : Bool) (front : List Command) (cell : Cell) (row : LinkRow) → IsPrefix front top
-      → IsLinked setting front cell row → AliveIn (state_after setting.servers front) cell → row.state ≡ Only holder whole
-      → is_in (state_after setting.servers front) holder inc ≡ true
-      → WasStarted setting records holder inc front (id_of row)
-      → (own : PairState) × (visits holder (place_by setting front row) cell ≡ Some own) × (is_flagged own (id_of row) ≡ true)
+      → IsOfLink (state_after setting.servers prefix) (record { map = map; block = block }) link
+  pub started : (holder inc : ℕ) (whole : Bool) (prefix : List Command) (cell : Cell) (row : LinkRow) → IsPrefix prefix top
+      → IsLinked setting prefix cell row → AliveIn (state_after setting.servers prefix) cell → row.state ≡ Only holder whole
+      → is_in (state_after setting.servers prefix) holder inc ≡ true
+      → WasStarted setting records holder inc prefix (id_of row)
+      → (own : PairState) × (visits holder (place_by setting prefix row) cell ≡ Some own) × (is_flagged own (id_of row) ≡ true)

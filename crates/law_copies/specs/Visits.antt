@@ -20,7 +20,7 @@ Visits = (server place : ℕ) → Cell → Option PairState
 
 -- the place of a link by these entries
 abbrev pub place_by : Setting → List Command → LinkRow → ℕ
-place_by setting front row = places_from (start setting.servers) front row
+place_by setting prefix row = places_from (start setting.servers) prefix row
 
 -- the world with these stores
 abbrev pub with_stores : World → (ℕ → Store) → World
@@ -28,11 +28,11 @@ with_stores w stores = record w { servers = λ n. with_store (w.servers n) (stor
 
 -- the stores by these entries, of all that servers ever had: one for each number of their Joins with an empty store
 abbrev pub store_by : Setting → (stores : ℕ → ℕ → Store) → List Command → ℕ → Store
-store_by setting stores front n = stores n (blank_joins_in setting front n)
+store_by setting stores prefix n = stores n (blank_joins_in setting prefix n)
 
 -- the cell's link, by these entries
 abbrev pub IsLinked : Setting → List Command → Cell → LinkRow → Type 0
-IsLinked setting front cell row = cell_link (state_after setting.servers front) cell ≡ Some row
+IsLinked setting prefix cell row = cell_link (state_after setting.servers prefix) cell ≡ Some row
 
 -- what a server has in memory of a place: nothing, where it was not there; with this store
 abbrev pub half : Option PairState → Store → PairState
@@ -65,9 +65,9 @@ pub record WasThere (setting : Setting) (records : List Record) (n place : ℕ) 
   pub is : records ≡ before ++ later
   pub there : is_at setting n ((world_after setting (start_world setting) before).servers n) place cell ≡ true
   pub had : ((world_after setting (start_world setting) before).servers n).own.pairs ≡ pairs
-  pub since : (front back : List Record) → later ≡ front ++ back
-      → is_at setting n ((world_after setting (start_world setting) (before ++ front)).servers n) place cell ≡ true
-      → ((world_after setting (start_world setting) (before ++ front)).servers n).own.pairs ≡ pairs
+  pub since : (prefix suffix : List Record) → later ≡ prefix ++ suffix
+      → is_at setting n ((world_after setting (start_world setting) (before ++ prefix)).servers n) place cell ≡ true
+      → ((world_after setting (start_world setting) (before ++ prefix)).servers n).own.pairs ≡ pairs
 
 -- the server was at the place that the link has by its own entries, and as it is now
 pub record IsHere (setting : Setting) (w : World) (visits : Visits) (n : ℕ) (cell : Cell) (row : LinkRow) : Type 0 where
@@ -76,28 +76,28 @@ pub record IsHere (setting : Setting) (w : World) (visits : Visits) (n : ℕ) (c
   pub same : own ≡ (w.servers n).own
 
 -- by these entries the cell's link is at this place, and the cell is not retired
-pub record IsPlaced (setting : Setting) (front : List Command) (cell : Cell) (place : ℕ) : Type 0 where
+pub record IsPlaced (setting : Setting) (prefix : List Command) (cell : Cell) (place : ℕ) : Type 0 where
   pub row : LinkRow
-  pub linked : IsLinked setting front cell row
-  pub alive : AliveIn (state_after setting.servers front) cell
-  pub at : place_by setting front row ≡ place
+  pub linked : IsLinked setting prefix cell row
+  pub alive : AliveIn (state_after setting.servers prefix) cell
+  pub at : place_by setting prefix row ≡ place
 
 -- a server has been only at places of its own entries, with the cell not retired there
 pub record HasBeen (setting : Setting) (w : World) (n place : ℕ) (cell : Cell) : Type 0 where
-  pub front : List Command
-  pub within : IsPrefix front (w.servers n).log.applied
-  pub placed : IsPlaced setting front cell place
+  pub prefix : List Command
+  pub within : IsPrefix prefix (w.servers n).log.applied
+  pub placed : IsPlaced setting prefix cell place
   pub open placed use *
 
 -- no server of the cell's link has been at a later place than this one at which it served the link
 abbrev pub IsLast : (reached : Cell → ℕ) → Setting → List Command → Cell → LinkRow → Type 0
-IsLast reached setting front cell row = reached cell ≤ place_by setting front row
+IsLast reached setting prefix cell row = reached cell ≤ place_by setting prefix row
 
 -- the greatest place of a cell's link at which a server that serves the link has been: such a server was there
 pub record HasReached (setting : Setting) (top : List Command) (visits : Visits) (cell : Cell) (place : ℕ) : Type 0 where
-  pub front : List Command
-  pub prefix : IsPrefix front top
-  pub placed : IsPlaced setting front cell place
+  pub prefix : List Command
+  pub is_prefix : IsPrefix prefix top
+  pub placed : IsPlaced setting prefix cell place
   pub open placed use *
   pub server : ℕ
   pub serving : serves server row row.state ≡ true
@@ -105,17 +105,17 @@ pub record HasReached (setting : Setting) (top : List Command) (visits : Visits)
   pub visited : visits server place cell ≡ Some own
 
 -- the holder has been at a place of the cell's link after as many Joins of the other server with an empty store
-pub record HasFilled (setting : Setting) (top : List Command) (visits : Visits) (front : List Command) (cell : Cell) (holder other : ℕ) : Type 0 where
+pub record HasFilled (setting : Setting) (top : List Command) (visits : Visits) (prefix : List Command) (cell : Cell) (holder other : ℕ) : Type 0 where
   pub more : List Command
   pub within : IsPrefix more top
   pub row : LinkRow
   pub linked : IsLinked setting more cell row
-  pub joins : blank_joins_in setting more other ≡ blank_joins_in setting front other
+  pub joins : blank_joins_in setting more other ≡ blank_joins_in setting prefix other
   pub own : PairState
   pub visited : visits holder (place_by setting more row) cell ≡ Some own
 
 -- places of servers that serve the link, and of none other, are counted
 pub record AreReached (setting : Setting) (top : List Command) (visits : Visits) (reached : Cell → ℕ) : Type 0 where
-  pub below : (front : List Command) (cell : Cell) (row : LinkRow) (n : ℕ) (own : PairState) → IsPrefix front top → IsLinked setting front cell row
-      → serves n row row.state ≡ true → visits n (place_by setting front row) cell ≡ Some own → place_by setting front row ≤ reached cell
+  pub below : (prefix : List Command) (cell : Cell) (row : LinkRow) (n : ℕ) (own : PairState) → IsPrefix prefix top → IsLinked setting prefix cell row
+      → serves n row row.state ≡ true → visits n (place_by setting prefix row) cell ≡ Some own → place_by setting prefix row ≤ reached cell
   pub by : (cell : Cell) → (reached cell ≡ 0) ⊎ HasReached setting top visits cell (reached cell)

@@ -38,14 +38,14 @@ pub fn an_unequal_block_is_marked()
         (counted (setting_of script) (world_after (setting_of script) (start (setting_of script)) records)) cell }
 {}
 
-/// And what goes with it, at each front of the chosen log, by the two stores that count by that front and by what each server was when it
+/// And what goes with it, at each prefix of the chosen log, by the two stores that count by that prefix and by what each server was when it
 /// last was at that place of the cell's link: in Both the second server is no further than the lead has given numbers out; where one server
 /// holds the link alone, a block that is not equal is marked at the holder, or at the other server before the holder's pages have passed it,
 /// or is one of all that the holder is to copy and has not copied, and none is once the holder has started a ballot for the link's Caught;
 /// and each letter that was ever sent between the two tells what is so, or what is past. What a server had pending when it last was at a
 /// place it had after some of the records, and whenever it was there since. A server is counted at a place only while the cell is not retired by
 /// its own entries, and stays as it then was; of a letter, or of a ballot that was started, this is told where the cell is not retired at the
-/// front of its sender; and what a server has pending finds its marks where the cell is live by the server's own entries.
+/// prefix of its sender; and what a server has pending finds its marks where the cell is live by the server's own entries.
 pub fn letters_between_two_servers()
     ensures { (script : Script) (records : List Record) → IsSound script → AreSteps script records
         → Good (setting_of script) records (chosen_log (setting_of script) (world_after (setting_of script) (start (setting_of script)) records))

@@ -20,7 +20,7 @@ pub fn a_store_that_waits_is_empty()
 {}
 
 /// The store of a server that runs, and is In as itself by its own state, waits for nobody, and is the one that counts. And once a server is
-/// In as itself by a front of what is chosen, none of its Joins with an empty store is chosen after that.
+/// In as itself by a prefix of what is chosen, none of its Joins with an empty store is chosen after that.
 pub fn who_is_in_has_the_store_that_counts()
     ensures filled { (script : Script) (records : List Record) (n : ℕ) → IsSound script → AreSteps script records
         → ((world_after (setting_of script) (start (setting_of script)) records).servers n).life.running ≡ true
@@ -32,23 +32,23 @@ pub fn who_is_in_has_the_store_that_counts()
         → is_in (server_state (setting_of script) (world_after (setting_of script) (start (setting_of script)) records) n) n
         ((world_after (setting_of script) (start (setting_of script)) records).servers n).life.inc ≡ true
         → IsOwn (setting_of script) (world_after (setting_of script) (start (setting_of script)) records) n }
-    ensures counts { (script : Script) (records : List Record) (n : ℕ) (front : List Command) → IsSound script
-        → AreSteps script records → IsPrefix front (chosen_log (setting_of script) (world_after (setting_of script) (start (setting_of script)) records))
-        → is_in (state_after script.servers front) n ((world_after (setting_of script) (start (setting_of script)) records).servers n).life.inc ≡ true
-        → blank_joins_in (setting_of script) front n ≡ blank_joins_in (setting_of script)
+    ensures counts { (script : Script) (records : List Record) (n : ℕ) (prefix : List Command) → IsSound script
+        → AreSteps script records → IsPrefix prefix (chosen_log (setting_of script) (world_after (setting_of script) (start (setting_of script)) records))
+        → is_in (state_after script.servers prefix) n ((world_after (setting_of script) (start (setting_of script)) records).servers n).life.inc ≡ true
+        → blank_joins_in (setting_of script) prefix n ≡ blank_joins_in (setting_of script)
         (chosen_log (setting_of script) (world_after (setting_of script) (start (setting_of script)) records)) n }
 {}
 
 /// Where a step makes a Join with an empty store count, the server's store is empty after it, and is the one that counts.
 pub fn a_blank_join_finds_an_empty_store()
-    ensures empty { (script : Script) (front : List Record) (own : Record) (n : ℕ) → IsSound script → AreSteps script (front ++ own ∷ []) → blank_joins_in
-        (setting_of script) (chosen_log (setting_of script) (world_after (setting_of script) (start (setting_of script)) front)) n ≢ blank_joins_in
-        (setting_of script) (chosen_log (setting_of script) (world_after (setting_of script) (start (setting_of script)) (front ++ own ∷ []))) n
-        → IsEmpty ((world_after (setting_of script) (start (setting_of script)) (front ++ own ∷ [])).servers n).own.store }
-    ensures own { (script : Script) (front : List Record) (own : Record) (n : ℕ) → IsSound script → AreSteps script (front ++ own ∷ []) → blank_joins_in
-        (setting_of script) (chosen_log (setting_of script) (world_after (setting_of script) (start (setting_of script)) front)) n ≢ blank_joins_in
-        (setting_of script) (chosen_log (setting_of script) (world_after (setting_of script) (start (setting_of script)) (front ++ own ∷ []))) n
-        → IsOwn (setting_of script) (world_after (setting_of script) (start (setting_of script)) (front ++ own ∷ [])) n }
+    ensures empty { (script : Script) (prefix : List Record) (own : Record) (n : ℕ) → IsSound script → AreSteps script (prefix ++ own ∷ []) → blank_joins_in
+        (setting_of script) (chosen_log (setting_of script) (world_after (setting_of script) (start (setting_of script)) prefix)) n ≢ blank_joins_in
+        (setting_of script) (chosen_log (setting_of script) (world_after (setting_of script) (start (setting_of script)) (prefix ++ own ∷ []))) n
+        → IsEmpty ((world_after (setting_of script) (start (setting_of script)) (prefix ++ own ∷ [])).servers n).own.store }
+    ensures own { (script : Script) (prefix : List Record) (own : Record) (n : ℕ) → IsSound script → AreSteps script (prefix ++ own ∷ []) → blank_joins_in
+        (setting_of script) (chosen_log (setting_of script) (world_after (setting_of script) (start (setting_of script)) prefix)) n ≢ blank_joins_in
+        (setting_of script) (chosen_log (setting_of script) (world_after (setting_of script) (start (setting_of script)) (prefix ++ own ∷ []))) n
+        → IsOwn (setting_of script) (world_after (setting_of script) (start (setting_of script)) (prefix ++ own ∷ [])) n }
 {}
 
 /// While the store from before a blank counts, the server's own store waits to be filled.

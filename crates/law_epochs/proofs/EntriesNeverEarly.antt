@@ -1,10 +1,10 @@
 -- Every step keeps that no server has an entry of an epoch that it doesn't know of, or of a cell that is not live yet, nor a letter of its
 -- revision tells of one.
-use Rattle.law_epochs.proofs.Imports.{[], ◌∙◌, ◌∷◌, ◌≡◌, ◌≢◌, ◌≤◌, Acted, AreSteps, Aside, At, BeforeBlank, Cell, Chain, Command, Firm, Handled, Happens}
-use Rattle.law_epochs.proofs.Imports.{In, IsNextFill, IsOfJob, IsSound, Key, Letter, List, Of_job, PairState, Post, Record, Script, Some, State, Step}
-use Rattle.law_epochs.proofs.Imports.{Store, Was_sent, always_firm, ap, arith, at, below_itself, by_run, cell_of, chain_in, chosen_state, front_on}
-use Rattle.law_epochs.proofs.Imports.{happens_sent, last_happens, length, log_rev, nat_cmp, next_comes, own_place, own_plain, refl, run_of, setting_of}
-use Rattle.law_epochs.proofs.Imports.{slice_get, stage_at, stage_facts, state_after, subject_of, subst, sym, twins_epoch, ℕ}
+use Rattle.law_epochs.proofs.Imports.{[], ◌∙◌, ◌∷◌, ◌≡◌, ◌≢◌, ◌≤◌, Acted, AreSteps, Aside, At, BeforeBlank, Cell, Chain, Command, Firm, Handled, Happens, In}
+use Rattle.law_epochs.proofs.Imports.{IsNextFill, IsOfJob, IsSound, Key, Letter, List, Of_job, PairState, Post, Record, Script, Some, State, Step, Store}
+use Rattle.law_epochs.proofs.Imports.{Was_sent, always_firm, ap, arith, at, below_itself, by_run, cell_of, chain_in, chosen_state, happens_sent, last_happens}
+use Rattle.law_epochs.proofs.Imports.{length, log_rev, nat_cmp, next_comes, own_place, own_plain, prefix_on, refl, run_of, setting_of, slice_get, stage_at}
+use Rattle.law_epochs.proofs.Imports.{stage_facts, state_after, subject_of, subst, sym, twins_epoch, ℕ}
 use Rattle.law_epochs.specs.EntryEpochs.{AreEarly, HaveEarlyEntries}
 use Rattle.law_epochs.proofs.RowKeysHold.{at_key}
 use Rattle.law_epochs.proofs.PendingIsInTime.{firm}
@@ -19,11 +19,11 @@ pub use Rattle.law_epochs.proofs.KnownEntries.{IsKnownBy, kept_by}
 -- ### A step
 
 module _ (it : OneMore) (old : AllEarly (ends_of it).setting (ends_of it).w) where
-  open it use {prior, prior.{script, sound, records as front}, own, legal}
+  open it use {prior, prior.{script, sound, records as prefix}, own, legal}
   open ends_of it use {setting, w, v, top_whole, records}
 
   knows : Firm setting w
-  knows = firm script sound front prior.legal
+  knows = firm script sound prefix prior.legal
 
   knows_now : Firm setting v
   knows_now = firm script sound records legal
@@ -54,7 +54,7 @@ module _ (it : OneMore) (old : AllEarly (ends_of it).setting (ends_of it).w) whe
 
   -- a server says of its own revision what it knows
   own_known : (n rev : ℕ) → length (Own_log n) ≡ rev → (key : Key) → IsWithin (bound n) key → IsKnown setting v rev key
-  own_known n rev long key early = record { front = Own_log n; lies = front_on (Own_log n) _ _ (knows.servers n) top_whole; long = long; early = early }
+  own_known n rev long key early = record { prefix = Own_log n; lies = prefix_on (Own_log n) _ _ (knows.servers n) top_whole; long = long; early = early }
 
   job_said : (n stamp : ℕ) (what : Step) (acted : Acted) (letter : Letter) → IsOfJob setting w n stamp what acted letter
       → OfKey (IsKnown setting v letter.rev) letter.body
@@ -77,25 +77,25 @@ module _ (it : OneMore) (old : AllEarly (ends_of it).setting (ends_of it).w) whe
 
   grown : (n : ℕ) (cell : Cell) (epoch : ℕ) → bound n cell epoch → IsKnownBy setting.servers (v.servers n).log.applied cell epoch
   grown n = known_more script.servers (Own_log n) (v.servers n).log.applied (own_plain setting v knows_now n)
-      (grows script sound records legal front (own ∷ []) refl n)
+      (grows script sound records legal prefix (own ∷ []) refl n)
 
   -- also by what the server had applied before the step
   pub now_then : (n : ℕ) → AreWithin (bound n) (v.servers n).own.store.chains
   now_then =
       let state = chosen_state setting v in
       stores_within it old state v
-      (last_happens script front own (always_firm script records sound legal) legal state (below_itself state))
+      (last_happens script prefix own (always_firm script records sound legal) legal state (below_itself state))
 
   pub before_then : (n : ℕ) (b : BeforeBlank) → v.before_blank n ≡ Some b → AreWithin (bound n) b.store.chains
   before_then =
       let state = chosen_state setting v in
       before_within it old state v
-      (last_happens script front own (always_firm script records sound legal) legal state (below_itself state))
+      (last_happens script prefix own (always_firm script records sound legal) legal state (below_itself state))
 
   pub early_next : AllEarly setting v
   early_next =
       let state = chosen_state setting v in
-      let happened = last_happens script front own (always_firm script records sound legal) legal state (below_itself state) in
+      let happened = last_happens script prefix own (always_firm script records sound legal) legal state (below_itself state) in
       record {
         now = λ n cell epoch entry is. grown n cell epoch (stores_within it old state v happened n cell epoch entry is);
         before = λ n b is cell epoch entry there. grown n cell epoch

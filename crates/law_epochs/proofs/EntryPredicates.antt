@@ -1,7 +1,7 @@
 -- What is so of each entry of a store by its cell and epoch, and of the keys that letters tell of.
-use Rattle.law_epochs.proofs.Imports.{[], ◌∙◌, ◌∷◌, ◌≡◌, Body, Bool, Cell, Chain, Copied, Filling, Key, Logged, Paired, Some, Store, Stored, Subject}
-use Rattle.law_epochs.proofs.Imports.{Table, ap, at, at-empty, at_apart, cell_cmp, cell_of, chain_apart, chain_in, chain_put, chains_at, chains_with}
-use Rattle.law_epochs.proofs.Imports.{drop_apart, false, gone_apart, gone_chain, gone_same, inl, inr, is_aside, is_logged, nat_cmp, none_some, put, refl}
+use Rattle.law_epochs.proofs.Imports.{[], ◌∙◌, ◌∷◌, ◌≡◌, Body, Bool, Cell, Chain, Copied, Filling, Key, Logged, Paired, Some, Store, Stored, Subject, Table}
+use Rattle.law_epochs.proofs.Imports.{ap, at, at-empty, at_apart, cell_cmp, cell_of, chain_apart, chain_in, chain_put, chains_at, chains_with, drop_apart}
+use Rattle.law_epochs.proofs.Imports.{false, gone_apart, gone_chain, gone_same, inl, inr, is_aside, is_logged, nat_cmp, none_some, put, refl}
 use Rattle.law_epochs.proofs.Imports.{same_cell_or_apart, same_or_apart, subject_of, subst, sym, true, true_false, unwrap_or, without, without_entry, ℕ}
 use Rattle.petal_msg.specs.declared.body.Body.TheVariants as body
 

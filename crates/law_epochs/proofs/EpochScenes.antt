@@ -19,12 +19,12 @@ end_of h = record {
 }
 
 -- a front of it
-abbrev pub cut : (h : Run) (front later : List Record) → h.records ≡ front ++ later → Run
-cut h front later is = record {
+abbrev pub cut : (h : Run) (prefix later : List Record) → h.records ≡ prefix ++ later → Run
+cut h prefix later is = record {
   script = h.script;
   sound = h.sound;
-  records = front;
-  legal = before_part h.script front later (subst (AreSteps h.script) is h.legal);
+  records = prefix;
+  legal = before_part h.script prefix later (subst (AreSteps h.script) is h.legal);
 }
 
 -- where it had led before the last record, and where it leads with it

@@ -1,8 +1,8 @@
 -- What is in time stays so while the era of its cell does not rise; and a cell that has died was leaving before.
 use Rattle.law_epochs.proofs.Imports.{if◌then◌else◌, ◌+◌, ◌∙◌, ◌≡◌, ◌≤◌, Cell, Command, HasProperTuples, IsPrefix, LinkRow, List, Moved, Pending, Some, State}
-use Rattle.law_epochs.proofs.Imports.{ap, arith, at_most_or_above, cell_link, epoch_at, era_by, era_low, front_more, front_on, front_plain, inl, inr, length}
-use Rattle.law_epochs.proofs.Imports.{link_at, link_of, links_of, log_below, log_grown, log_plain, log_retired, nat_le, nat_tests, none_some, option_and_then}
-use Rattle.law_epochs.proofs.Imports.{option_map_or, proper, region_of, some_or_none, stage_at, state_after, sym, true, tuple_of, tuple_on, ℕ}
+use Rattle.law_epochs.proofs.Imports.{ap, arith, at_most_or_above, cell_link, epoch_at, era_by, era_low, inl, inr, length, link_at, link_of, links_of}
+use Rattle.law_epochs.proofs.Imports.{log_below, log_grown, log_plain, log_retired, nat_le, nat_tests, none_some, option_and_then, option_map_or, prefix_more}
+use Rattle.law_epochs.proofs.Imports.{prefix_on, prefix_plain, proper, region_of, some_or_none, stage_at, state_after, sym, true, tuple_of, tuple_on, ℕ}
 use Rattle.law_state.specs.Homes.{era_at}
 use Rattle.law_epochs.specs.InTime.{IsTimely}
 
@@ -12,17 +12,17 @@ era_high e a high = ap (λ b. e + (if b then 1 else 0)) (yes high)
     yes : 3 ≤ a → nat_le 3 a ≡ true
     yes le = grind (arith, nat_tests)
 
-module _ (servers : ℕ) (front whole : List Command) (cell : Cell) (plain : HasProperTuples servers whole) (prefix : IsPrefix front whole) where
+module _ (servers : ℕ) (prefix whole : List Command) (cell : Cell) (plain : HasProperTuples servers whole) (is_prefix : IsPrefix prefix whole) where
   abbrev was : State
-  was = state_after servers front
+  was = state_after servers prefix
 
   abbrev now : State
   now = state_after servers whole
 
   -- the era is the epoch while the cell does not leave; so at an equal era neither has changed
-  pub on_time : (op : Pending) → IsTimely servers front cell op → era_at now cell ≡ era_at was cell → IsTimely servers whole cell op
+  pub on_time : (op : Pending) → IsTimely servers prefix cell op → era_at now cell ≡ era_at was cell → IsTimely servers whole cell op
   on_time op timely same =
-      let below = log_below servers front whole plain prefix in
+      let below = log_below servers prefix whole plain is_prefix in
       let epochs = below.epochs cell in
       let stages = below.stages cell in
       let low = era_low (epoch_at was cell) (stage_at was cell) timely.stays in
@@ -46,14 +46,15 @@ module _ (servers : ℕ) (front whole : List Command) (cell : Cell) (plain : Has
     | inl h ↦
         let p = log_plain servers whole plain in
         let later : tuple_of now.maps cell.map ≡ Some h.0 =
-        tuple_on servers was now (log_plain servers front (front_plain servers front whole plain prefix)) p (log_grown servers front whole plain prefix)
+        tuple_on servers was now (log_plain servers prefix (prefix_plain servers prefix whole plain is_prefix)) p
+        (log_grown servers prefix whole plain is_prefix)
         cell.map h.0 h.1 in
         let ids = proper servers h.0 (p.tuples cell.map h.0 later) in
         let many : links_of now cell.map ≡ length h.0 = ap (λ o. option_map_or length o 0) later in
         let moved = log_retired servers whole cell 0 plain retired (let two = ids.two in omega arith) in
         record {
           until = moved.until;
-          lies = front_on moved.until _ whole (front_more moved.until (Moved cell.map (region_of cell.block) 0)) moved.stands;
+          lies = prefix_on moved.until _ whole (prefix_more moved.until (Moved cell.map (region_of cell.block) 0)) moved.stands;
           leaves = moved.leaves;
         }
     | inr none ↦ none_some (ap (option_and_then (λ ids. link_at was.links cell.map (link_of (length ids) cell.block))) none) linked

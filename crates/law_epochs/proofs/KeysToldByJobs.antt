@@ -1,8 +1,7 @@
 -- What is so of each entry of a server, of what it has pending and of what it moves is so of the keys that it tells of in each job.
-use Rattle.law_epochs.proofs.Imports.{◌≡◌, ◌⊎◌, Asks_copy, Becomes, Body, Cell, Did, Ending, Ends_fill, In, IsNextFill, IsNextKey, JobContext, JobResult, Key}
-use Rattle.law_epochs.proofs.Imports.{LinkRow, Moves, Moves_on, Of_the_log, PairState, Pending, Post, Refuses, Repeats, Says, Some, Syncs, ap, at, cell_cmp}
-use Rattle.law_epochs.proofs.Imports.{chain_in, effects_of, ended, filled_to, inl, inr, letters_of_job, moved_as, refl, subject_of, ℕ}
-use Rattle.law_jobs.specs.Sayings.{Ends}
+use Rattle.law_epochs.proofs.Imports.{◌≡◌, ◌⊎◌, Asks_copy, Becomes, Body, Cell, Did, Ending, Ends, Ends_fill, In, IsNextFill, IsNextKey, JobContext}
+use Rattle.law_epochs.proofs.Imports.{JobResult, Key, LinkRow, Moves, Moves_on, Of_the_log, PairState, Pending, Post, Refuses, Repeats, Says, Some, Syncs, ap}
+use Rattle.law_epochs.proofs.Imports.{at, cell_cmp, chain_in, effects_of, ended, filled_to, inl, inr, letters_of_job, moved_as, refl, subject_of, ℕ}
 use Rattle.law_epochs.proofs.RowKeysHold.{at_key}
 use Rattle.law_epochs.proofs.EntriesAfterJobs.{becomes_kept}
 use Rattle.law_epochs.proofs.EntryPredicates.{AreWithin, IsWithin, OfKey, is_of_entries, logged_none, of_no_key}

@@ -1,11 +1,12 @@
 -- Every step keeps that no server has in its stores, nor has pending, an entry of an epoch that it doesn't know of, or of a cell that is not live yet.
-use Rattle.law_epochs.proofs.Imports.{[], ◌==◌, ◌∙◌, ◌≡◌, ◌≤◌, Acted, BeforeBlank, Blanks, Body, By_ballot, By_entry, By_job, Cell, Command, Ends, Fails}
-use Rattle.law_epochs.proofs.Imports.{Fills, Firm, Goes, Handled, Happens, HasProperTuples, In, IsPrefix, JobResult, Key, Letter, List, Log, None, Option}
-use Rattle.law_epochs.proofs.Imports.{Pairs, Pending, Server, Serves, Serving, Setting, Some, State, Stays, Step, Stood, Store, Table, Turns, Wakes, Worked}
-use Rattle.law_epochs.proofs.Imports.{World, Writes, all_put, ap, arith, at, at-empty, ballot_store, blank_joins_in, blanked, by_bool, by_test, cell_cmp}
-use Rattle.law_epochs.proofs.Imports.{cell_of, chosen_log, crossed, did_come, epoch_at, false, front_on, is_clients, kept, kept_store, length, log_below}
-use Rattle.law_epochs.proofs.Imports.{none_some, one_front, own_place, own_plain, proposed_pairs, refl, same_some, server_state, settling, stage_at, start}
-use Rattle.law_epochs.proofs.Imports.{state_after, subst, sym, true, true_false, ℕ}
+use Rattle.law_epochs.proofs.Imports.{[], ◌==◌, ◌∙◌, ◌≡◌, ◌≤◌, Acted, BeforeBlank, Blanks, Body, By_ballot, By_entry, By_job, Cell, Command, Fails, Fills}
+use Rattle.law_epochs.proofs.Imports.{Firm, Goes, Handled, Happens, HasProperTuples, In, IsPrefix, JobResult, Key, Letter, List, Log, None, Option, Pairs}
+use Rattle.law_epochs.proofs.Imports.{Pending, Server, Serves, Serving, Setting, Some, State, Stays, Step, Stood, Store, Table, Turns, Wakes, Worked, World}
+use Rattle.law_epochs.proofs.Imports.{Writes, all_put, ap, arith, at, at-empty, ballot_store, blank_joins_in, blanked, by_bool, by_test, cell_cmp, cell_of}
+use Rattle.law_epochs.proofs.Imports.{chosen_log, crossed, did_come, epoch_at, false, is_clients, kept, kept_store, length, log_below, none_some, one_prefix}
+use Rattle.law_epochs.proofs.Imports.{own_place, own_plain, prefix_on, proposed_pairs, refl, same_some, server_state, settling, stage_at, start, state_after}
+use Rattle.law_epochs.proofs.Imports.{subst, sym, true, true_false, ℕ}
+use Rattle.law_steps.specs.DidStep.{Ends}
 use Rattle.law_epochs.proofs.PendingIsInTime.{firm, opened_by, was_opened}
 use Rattle.law_epochs.proofs.EntriesAfterJobs.{did_kept}
 use Rattle.law_epochs.proofs.ReportedHaveNoPending.{resting}
@@ -18,10 +19,10 @@ pub record IsKnownBy (servers : ℕ) (log : List Command) (cell : Cell) (epoch :
   pub born : 1 ≤ stage_at (state_after servers log) cell
 
 -- so it is by more of them
-pub known_more : (servers : ℕ) (front whole : List Command) → HasProperTuples servers whole → IsPrefix front whole → (cell : Cell) (epoch : ℕ)
-    → IsKnownBy servers front cell epoch → IsKnownBy servers whole cell epoch
-known_more servers front whole plain prefix cell epoch k =
-    let below = log_below servers front whole plain prefix in
+pub known_more : (servers : ℕ) (prefix whole : List Command) → HasProperTuples servers whole → IsPrefix prefix whole → (cell : Cell) (epoch : ℕ)
+    → IsKnownBy servers prefix cell epoch → IsKnownBy servers whole cell epoch
+known_more servers prefix whole plain is_prefix cell epoch k =
+    let below = log_below servers prefix whole plain is_prefix in
     let epochs = below.epochs cell in
     let stages = below.stages cell in
     let within = k.within in
@@ -30,10 +31,10 @@ known_more servers front whole plain prefix cell epoch k =
 
 -- the key is known by as many of the chosen entries
 pub record IsKnown (setting : Setting) (w : World) (rev : ℕ) (key : Key) : Type 0 where
-  pub front : List Command
-  pub lies : IsPrefix front (chosen_log setting w)
-  pub long : length front ≡ rev
-  pub early : IsWithin (IsKnownBy setting.servers front) key
+  pub prefix : List Command
+  pub lies : IsPrefix prefix (chosen_log setting w)
+  pub long : length prefix ≡ rev
+  pub early : IsWithin (IsKnownBy setting.servers prefix) key
 
 -- so are the entries of stores and the entries for which operations were opened, by what the server has applied; and the keys that letters tell
 -- of, by the letters' revisions
@@ -61,11 +62,11 @@ kept_by P joins (Some b) store before now = by_test P (b.joins == joins) b.store
 
 -- what is posted of this is said of this
 module _ (it : OneMore) (old : AllEarly (ends_of it).setting (ends_of it).w) where
-  open it use {prior, prior.{script, sound, records as front}}
+  open it use {prior, prior.{script, sound, records as prefix}}
   open ends_of it use {setting, w, v, top_whole}
 
   knows : Firm setting w
-  knows = firm script sound front prior.legal
+  knows = firm script sound prefix prior.legal
 
   abbrev Own_log : ℕ → List Command
   Own_log n = (w.servers n).log.applied
@@ -75,16 +76,16 @@ module _ (it : OneMore) (old : AllEarly (ends_of it).setting (ends_of it).w) whe
   bound n = IsKnownBy setting.servers (Own_log n)
 
   pub known_on : (rev : ℕ) (key : Key) → IsKnown setting w rev key → IsKnown setting v rev key
-  known_on rev key k = record { front = k.front; lies = front_on k.front _ _ k.lies top_whole; long = k.long; early = k.early }
+  known_on rev key k = record { prefix = k.prefix; lies = prefix_on k.prefix _ _ k.lies top_whole; long = k.long; early = k.early }
 
   -- what a server has pending is known to it: a write was asked for at an epoch of then, and an entry that moves was heard of
   write_within : (n : ℕ) (cell : Cell) (op : Pending) → at cell_cmp (w.servers n).own.pairs.pending cell ≡ Some op → is_clients op.kind ≡ true
       → IsWithin (bound n) op.key
   write_within n cell op is clients =
-      let o = was_opened script sound front prior.legal n cell op is clients in
-      let on = opened_by script sound front prior.legal n cell op is clients in
+      let o = was_opened script sound prefix prior.legal n cell op is clients in
+      let on = opened_by script sound prefix prior.legal n cell op is clients in
       let epoch = o.timely.epoch in
-      let keyed = (((resting script sound front prior.legal).pending n).staged cell op is).keyed in
+      let keyed = (((resting script sound prefix prior.legal).pending n).staged cell op is).keyed in
       known_more script.servers o.opened (Own_log n) (own_plain setting w knows n) on (cell_of op.key) op.key.epoch
       (subst (λ (q : Cell). IsKnownBy script.servers o.opened q op.key.epoch) (sym keyed) (record { within = omega arith; born = o.timely.born }))
 
@@ -96,7 +97,7 @@ module _ (it : OneMore) (old : AllEarly (ends_of it).setting (ends_of it).w) whe
   told_within n what h =
       subst (OfKey (IsWithin (bound n))) h.is
       (of_key_on (IsKnown setting w h.letter.rev) (IsWithin (bound n)) (λ key k.
-      let same : k.front ≡ Own_log n = one_front k.front (Own_log n) (chosen_log setting w) k.lies (knows.servers n) (k.long ∙ h.at) in
+      let same : k.prefix ≡ Own_log n = one_prefix k.prefix (Own_log n) (chosen_log setting w) k.lies (knows.servers n) (k.long ∙ h.at) in
       subst (λ log. IsWithin (IsKnownBy setting.servers log) key) same k.early) h.letter.body (old.letters h.letter h.sent))
 
   pub now_within : (n : ℕ) → AreWithin (bound n) (w.servers n).own.store.chains

@@ -1,10 +1,11 @@
--- A client's write that a server had pending when it was last at a place of the cell's link is in time at each front of the log at that place:
+-- A client's write that a server had pending when it was last at a place of the cell's link is in time at each prefix of the log at that place:
 -- a report by which the era rose would have been made before the visit, or during it.
 use Rattle.law_epochs.proofs.Imports.{[], ◌++◌, ◌∙◌, ◌∷◌, ◌≡◌, ◌≤◌, ◌⊎◌, AliveIn, AreSteps, At, Cell, Command, HasProperTuples, IsAt, IsLinked, IsPrefix}
 use Rattle.law_epochs.proofs.Imports.{LinkRow, List, Pairs, Pending, Record, Setting, Some, WasDraining, WasThere, World, ap, append-nil, arith, at, at_by}
-use Rattle.law_epochs.proofs.Imports.{at_most_or_above, before_part, cell_cmp, chosen_log, either_front, front_long, front_on, front_within, history_grows}
-use Rattle.law_epochs.proofs.Imports.{in_between, inl, inr, is_at, is_at_so, is_clients, is_in, length, log_below, place_by, place_of_later, places_from}
-use Rattle.law_epochs.proofs.Imports.{places_grow, same_place, seat_stays, split_fronts, stage_at, stage_most, state_after, subst, sym, true, ℕ}
+use Rattle.law_epochs.proofs.Imports.{at_most_or_above, before_part, cell_cmp, chosen_log, either_prefix, history_grows, in_between, inl, inr, is_at}
+use Rattle.law_epochs.proofs.Imports.{is_at_so, is_clients, is_in, length, log_below, place_by, place_of_later, places_from, places_grow, prefix_long}
+use Rattle.law_epochs.proofs.Imports.{prefix_on, prefix_within, same_place, seat_stays, split_prefixes, stage_at, stage_most, state_after, subst, sym, true}
+use Rattle.law_epochs.proofs.Imports.{ℕ}
 use Rattle.spec_state.specs.State.{start}
 use Rattle.law_epochs.specs.InTime.{IsTimely}
 use Rattle.law_epochs.proofs.PendingIsInTime.{IsOpened, IsReported, chosen_plain, firm, opened_by, opened_later, ran, seated_now, timely_or_reported}
@@ -52,7 +53,7 @@ module _ (it : Run) (had : HadWrite (end_of it).setting it.records) where
   chosen_on = history_grows script records sound legal was.before was.later was.is
 
   entries_chosen : IsPrefix entries chosen
-  entries_chosen = front_on entries _ chosen ((firm script sound was.before legal_then).servers n) chosen_on
+  entries_chosen = prefix_on entries _ chosen ((firm script sound was.before legal_then).servers n) chosen_on
 
   plain : (log : List Command) → IsPrefix log chosen → HasProperTuples servers log
   plain = chosen_plain script sound records legal
@@ -67,35 +68,35 @@ module _ (it : Run) (had : HadWrite (end_of it).setting it.records) where
   seated = seated_now script sound was.before legal_then n cell op pending_then clients
 
   opened_chosen : IsPrefix o.opened chosen
-  opened_chosen = front_on o.opened _ chosen o.lies chosen_on
+  opened_chosen = prefix_on o.opened _ chosen o.lies chosen_on
 
   opened_first : IsPrefix o.opened entries
   unfolding o
   opened_first = opened_by script sound was.before legal_then n cell op pending_then clients
 
-  -- the row that the server knew, at this front
+  -- the row that the server knew, at this prefix
   abbrev IsThere : List Command → Type 0
-  IsThere front = place_by setting front here.row ≡ place
+  IsThere prefix = place_by setting prefix here.row ≡ place
 
-  module _ (front : List Command) (lies : IsPrefix front chosen) (at_place : IsThere front)
-      (alive : AliveIn (state_after servers front) cell) (le : op.rev ≤ length front) where
-    more : IsPrefix o.opened front
-    more = let long = o.long in front_within o.opened front chosen opened_chosen lies (omega arith)
+  module _ (prefix : List Command) (lies : IsPrefix prefix chosen) (at_place : IsThere prefix)
+      (alive : AliveIn (state_after servers prefix) cell) (le : op.rev ≤ length prefix) where
+    more : IsPrefix o.opened prefix
+    more = let long = o.long in prefix_within o.opened prefix chosen opened_chosen lies (omega arith)
 
-    -- the server is In at each front at the place
-    seat : is_in (state_after servers front) n inc ≡ true
-    seat = elim (either_front entries front chosen entries_chosen lies) [
-      | inl on ↦ elim (same_place servers entries front cell here.row (plain front lies) on here.linked (at_place ∙ here.at)) [
+    -- the server is In at each prefix at the place
+    seat : is_in (state_after servers prefix) n inc ≡ true
+    seat = elim (either_prefix entries prefix chosen entries_chosen lies) [
+      | inl on ↦ elim (same_place servers entries prefix cell here.row (plain prefix lies) on here.linked (at_place ∙ here.at)) [
         | inl stays ↦
             let has = led_has servers o.opened entries n cell here.row (plain entries entries_chosen) opened_first o.leads here.linked in
-            seat_stays (state_after servers entries) (state_after servers front) cell here.row stays n inc has seated
+            seat_stays (state_after servers entries) (state_after servers prefix) cell here.row stays n inc has seated
         | inr died ↦ let retired = died.1 in let low = alive in absurd (omega arith)
       ]
       | inr back ↦
-          in_between setting (At script records) (firm script sound records legal) o.opened front entries more back entries_chosen n inc o.seated seated
+          in_between setting (At script records) (firm script sound records legal) o.opened prefix entries more back entries_chosen n inc o.seated seated
     ]
 
-    module _ (r : IsReported script sound records legal n inc cell o.opened front) where
+    module _ (r : IsReported script sound records legal n inc cell o.opened prefix) where
       -- a report that was made before the visit
       made_before : (rest : List Record) → was.before ≡ r.made.before ++ rest → ⊥
       made_before [] e =
@@ -110,7 +111,7 @@ module _ (it : Run) (had : HadWrite (end_of it).setting it.records) where
           } in
           let lt = opened_later script sound was.before legal_then n inc cell op r.until made r.holds pending_then clients in
           let long = o.long in
-          let below = front_long o.opened r.until r.following in
+          let below = prefix_long o.opened r.until r.following in
           omega arith
 
       -- one that was made since: the server was at the place
@@ -127,16 +128,16 @@ module _ (it : Run) (had : HadWrite (end_of it).setting it.records) where
         place_then : same_at r.until here.row ≡ same_at entries here.row
         place_then =
             let up = places_grow servers entries r.until here.row onward in
-            let most = places_grow servers r.until front here.row r.before in
+            let most = places_grow servers r.until prefix here.row r.before in
             let same = at_place ∙ here.at in
             omega arith
 
         alive_then : AliveIn (state_after servers r.until) cell
-        alive_then = let up = (log_below servers r.until front (plain front lies) r.before).stages cell in let low = alive in omega arith
+        alive_then = let up = (log_below servers r.until prefix (plain prefix lies) r.before).stages cell in let low = alive in omega arith
 
         linked_then : IsLinked setting r.until cell here.row
         linked_then =
-            let until_plain = plain r.until (front_on r.until front chosen r.before lies) in
+            let until_plain = plain r.until (prefix_on r.until prefix chosen r.before lies) in
             elim (same_place servers entries r.until cell here.row until_plain onward here.linked place_then) [
               | inl stays ↦ stays.same
               | inr died ↦ let retired = died.1 in let low = alive_then in absurd (omega arith)
@@ -161,64 +162,64 @@ module _ (it : Run) (had : HadWrite (end_of it).setting it.records) where
             not_held script sound r.made.before n cell op r.until pending clients r.made.drained r.holds
 
       never : ⊥
-      never = elim (split_fronts r.made.before (r.made.own ∷ r.made.later) was.before was.later (sym r.made.is ∙ was.is)) [
+      never = elim (split_prefixes r.made.before (r.made.own ∷ r.made.later) was.before was.later (sym r.made.is ∙ was.is)) [
         | inl earlier ↦ made_before earlier.0 earlier.1
         | inr since ↦ made_there since.0 since.1 since.2
       ]
 
     -- so the era has not risen
-    timely_at : IsTimely servers front cell op
-    timely_at = elim (timely_or_reported script sound records legal n inc cell op o.opened front more lies o.seated seat o.unfenced o.timely) [
+    timely_at : IsTimely servers prefix cell op
+    timely_at = elim (timely_or_reported script sound records legal n inc cell op o.opened prefix more lies o.seated seat o.unfenced o.timely) [
       | inl timely ↦ timely
       | inr reported ↦ absurd (never reported)
     ]
 
-  -- at a front at the place the cell is not retired: it would have been leaving at the place, or before
+  -- at a prefix at the place the cell is not retired: it would have been leaving at the place, or before
   entries_long : op.rev ≤ length entries
-  entries_long = let long = o.long in let up = front_long o.opened entries opened_first in omega arith
+  entries_long = let long = o.long in let up = prefix_long o.opened entries opened_first in omega arith
 
-  still_alive : (front : List Command) → IsPrefix front chosen → IsThere front → AliveIn (state_after servers front) cell
-  still_alive front lies at_place = elim (either_front entries front chosen entries_chosen lies) [
-    | inr back ↦ (let up = (log_below servers front entries (plain entries entries_chosen) back).stages cell in let low = here.alive in omega arith)
-    | inl on ↦ elim (at_most_or_above (stage_at (state_after servers front) cell) 3) [
+  still_alive : (prefix : List Command) → IsPrefix prefix chosen → IsThere prefix → AliveIn (state_after servers prefix) cell
+  still_alive prefix lies at_place = elim (either_prefix entries prefix chosen entries_chosen lies) [
+    | inr back ↦ (let up = (log_below servers prefix entries (plain entries entries_chosen) back).stages cell in let low = here.alive in omega arith)
+    | inl on ↦ elim (at_most_or_above (stage_at (state_after servers prefix) cell) 3) [
       | inl three ↦ (omega arith)
       | inr four ↦
-          let most = stage_most (state_after servers front) cell in
-          let was_so = was_leaving servers entries front cell (plain front lies) on here.row here.linked (omega arith) in
-          absurd (not_left front lies at_place was_so.until was_so.lies was_so.leaves)
+          let most = stage_most (state_after servers prefix) cell in
+          let was_so = was_leaving servers entries prefix cell (plain prefix lies) on here.row here.linked (omega arith) in
+          absurd (not_left prefix lies at_place was_so.until was_so.lies was_so.leaves)
     ]
   ]
     where
-      not_left : (front : List Command) → IsPrefix front chosen → IsThere front → (until : List Command) → IsPrefix until front
+      not_left : (prefix : List Command) → IsPrefix prefix chosen → IsThere prefix → (until : List Command) → IsPrefix until prefix
           → stage_at (state_after servers until) cell ≡ 3 → ⊥
-      not_left front lies at_place until before three = elim (either_front entries until chosen entries_chosen (front_on until front chosen before lies)) [
+      not_left prefix lies at_place until before three = elim (either_prefix entries until chosen entries_chosen (prefix_on until prefix chosen before lies)) [
         | inr back ↦
             let up = (log_below servers until entries (plain entries entries_chosen) back).stages cell in
             let two = (timely_at entries entries_chosen (sym here.at) here.alive entries_long).stays in
             omega arith
         | inl onward ↦
             let low = places_grow servers entries until here.row onward in
-            let high = places_grow servers until front here.row before in
+            let high = places_grow servers until prefix here.row before in
             let begins = here.at in
             let ends = at_place in
             let long = entries_long in
-            let longer = front_long entries until onward in
-            let two = (timely_at until (front_on until front chosen before lies) (omega arith) (omega arith) (omega arith)).stays in
+            let longer = prefix_long entries until onward in
+            let two = (timely_at until (prefix_on until prefix chosen before lies) (omega arith) (omega arith) (omega arith)).stays in
             omega arith
       ]
 
-  timely_there : (front : List Command) → IsPrefix front chosen → IsThere front → op.rev ≤ length front → IsTimely servers front cell op
-  timely_there front lies at_place le = timely_at front lies at_place (still_alive front lies at_place) le
+  timely_there : (prefix : List Command) → IsPrefix prefix chosen → IsThere prefix → op.rev ≤ length prefix → IsTimely servers prefix cell op
+  timely_there prefix lies at_place le = timely_at prefix lies at_place (still_alive prefix lies at_place) le
 
-  -- also by the row that the link has at another front
-  pub timely_known : (other front : List Command) (row : LinkRow) → IsPrefix other chosen → IsLinked setting other cell row → IsPrefix front chosen
-      → place_by setting front row ≡ place → op.rev ≤ length front → IsTimely servers front cell op
-  timely_known other front row other_lies linked lies at_place le =
-      timely_there front lies (same_row (either_front entries other chosen entries_chosen other_lies) ∙ at_place) le
+  -- also by the row that the link has at another prefix
+  pub timely_known : (other prefix : List Command) (row : LinkRow) → IsPrefix other chosen → IsLinked setting other cell row → IsPrefix prefix chosen
+      → place_by setting prefix row ≡ place → op.rev ≤ length prefix → IsTimely servers prefix cell op
+  timely_known other prefix row other_lies linked lies at_place le =
+      timely_there prefix lies (same_row (either_prefix entries other chosen entries_chosen other_lies) ∙ at_place) le
     where
       all : HasProperTuples servers chosen
       all = (firm script sound records legal).plain
 
-      same_row : IsPrefix entries other ⊎ IsPrefix other entries → place_by setting front here.row ≡ place_by setting front row
-      same_row (inl on) = sym (place_of_later setting chosen all entries other front cell here.row row on other_lies here.linked linked)
-      same_row (inr back) = place_of_later setting chosen all other entries front cell row here.row back entries_chosen linked here.linked
+      same_row : IsPrefix entries other ⊎ IsPrefix other entries → place_by setting prefix here.row ≡ place_by setting prefix row
+      same_row (inl on) = sym (place_of_later setting chosen all entries other prefix cell here.row row on other_lies here.linked linked)
+      same_row (inr back) = place_of_later setting chosen all other entries prefix cell row here.row back entries_chosen linked here.linked

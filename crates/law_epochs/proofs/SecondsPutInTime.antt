@@ -2,9 +2,9 @@
 -- which the era rises only once the second server has reported; and it has applied no more than its own entries.
 use Rattle.law_epochs.proofs.Imports.{[], ◌++◌, ◌∙◌, ◌∷◌, ◌≡◌, ◌≤◌, At, Both, By_caught, By_join, By_leave, Cell, Command, Firm, IsLinked, IsPrefix}
 use Rattle.law_epochs.proofs.Imports.{IsTouchedBy, Leave, LinkRow, List, Pending, Record, Setting, World, after, alone_not_both, ap, append_assoc, arith}
-use Rattle.law_epochs.proofs.Imports.{at_most_or_above, chosen_log, era_at, fold, fold-append, front_itself, front_long, front_more, front_on, front_within}
-use Rattle.law_epochs.proofs.Imports.{inl, inr, is_in, is_up_as, length, length-append, log_epochs, log_left, log_touched, place_by, place_of_later}
-use Rattle.law_epochs.proofs.Imports.{place_touched, places_from, places_grow, places_of_both, places_on, refl, report_was_made, runs_at, runs_now}
+use Rattle.law_epochs.proofs.Imports.{at_most_or_above, chosen_log, era_at, fold, fold-append, inl, inr, is_in, is_up_as, length, length-append, log_epochs}
+use Rattle.law_epochs.proofs.Imports.{log_left, log_touched, place_by, place_of_later, place_touched, places_from, places_grow, places_of_both, places_on}
+use Rattle.law_epochs.proofs.Imports.{prefix_itself, prefix_long, prefix_more, prefix_on, prefix_within, refl, report_was_made, runs_at, runs_now}
 use Rattle.law_epochs.proofs.Imports.{same_or_apart, same_place, server_state, stands_in, subst, sym, touches, true, ℕ}
 use Rattle.spec_state.specs.State.{start}
 use Rattle.law_epochs.specs.InTime.{IsTimely}
@@ -15,7 +15,7 @@ use Rattle.law_epochs.proofs.PendingAtPlacesInTime.{HadWrite, timely_known}
 use Rattle.law_epochs.proofs.InTimeStays.{on_time}
 use Rattle.law_epochs.proofs.EpochScenes.{Run, end_of}
 
--- the server, and a front at the place that is no shorter than the operation's revision
+-- the server, and a prefix at the place that is no shorter than the operation's revision
 pub record IsToPut (setting : Setting) (records : List Record) (w : World) (m : ℕ) : Type 0 where
   pub had : HadWrite setting records
   pub row : LinkRow
@@ -24,12 +24,12 @@ pub record IsToPut (setting : Setting) (records : List Record) (w : World) (m : 
   pub linked : IsLinked setting (w.servers m).log.applied had.cell row
   pub both : row.state ≡ Both
   pub at_own : place_by setting (w.servers m).log.applied row ≡ had.place
-  pub front : List Command
+  pub prefix : List Command
   pub now : LinkRow
-  pub lies : IsPrefix front (chosen_log setting w)
-  pub linked_now : IsLinked setting front had.cell now
-  pub at_place : place_by setting front now ≡ place_by setting (w.servers m).log.applied row
-  pub le : had.op.rev ≤ length front
+  pub lies : IsPrefix prefix (chosen_log setting w)
+  pub linked_now : IsLinked setting prefix had.cell now
+  pub at_place : place_by setting prefix now ≡ place_by setting (w.servers m).log.applied row
+  pub le : had.op.rev ≤ length prefix
 
 module _ (it : Run) (m : ℕ) where
   open it use {script, sound, records, legal}
@@ -55,29 +55,29 @@ module _ (it : Run) (m : ℕ) where
 
     pub still_timely : (cell : Cell) (op : Pending) → IsTimely script.servers mid cell op → IsTimely script.servers chosen cell op
     still_timely cell op timely =
-        let mid_chosen = front_on mid left chosen (front_more mid (Leave other other_inc)) stands in
+        let mid_chosen = prefix_on mid left chosen (prefix_more mid (Leave other other_inc)) stands in
         let le = log_epochs script.servers mid chosen cell known.plain mid_chosen in
         elim (same_or_apart (era_at (By chosen) cell) (era_at (By mid) cell)) [
           | inl same ↦ on_time script.servers mid chosen cell known.plain mid_chosen op timely same
           | inr ne ↦ (
-              let own_left = front_on own mid left onward (front_more mid (Leave other other_inc)) in
+              let own_left = prefix_on own mid left onward (prefix_more mid (Leave other other_inc)) in
               let reported = log_left script.servers mid chosen m inc other other_inc cell known.plain stands up
               (runs_at setting w known own left own_left stands m runs seat) (runs_now setting w known m runs seat) timely.born timely.stays (omega arith) in
               let made = report_was_made script records sound legal reported.until m inc reported.fence reported.stands in
               let known_of : IsPrefix reported.until own =
               subst (λ log. IsPrefix log own) {x = ((At script made.before).servers m).log.applied} made.at
               (grows script sound records legal made.before (made.own ∷ made.later) made.is m) in
-              let one = front_long left reported.until reported.following in
-              let two = front_long reported.until own known_of in
-              let three = front_long own mid onward in
+              let one = prefix_long left reported.until reported.following in
+              let two = prefix_long reported.until own known_of in
+              let three = prefix_long own mid onward in
               absurd (omega (arith, length-append mid (Leave other other_inc ∷ []))))
         ]
 
   module _ (s : IsToPut setting records w m) where
-    open s use {row, had, runs, seat, linked, both, at_own, front, now, lies, linked_now, at_place, le, had.{cell, op}}
+    open s use {row, had, runs, seat, linked, both, at_own, prefix, now, lies, linked_now, at_place, le, had.{cell, op}}
 
-    -- at a front at the place that is no shorter
-    timely_by : (log : List Command) → IsPrefix log chosen → place_by setting log row ≡ place_by setting own row → length front ≤ length log
+    -- at a prefix at the place that is no shorter
+    timely_by : (log : List Command) → IsPrefix log chosen → place_by setting log row ≡ place_by setting own row → length prefix ≤ length log
         → IsTimely script.servers log cell op
     timely_by log log_chosen same long =
         timely_known it had own log row own_chosen linked log_chosen (same ∙ at_own)
@@ -101,7 +101,7 @@ module _ (it : Run) (m : ℕ) where
       }
 
       mid_chosen : IsPrefix mid chosen
-      mid_chosen = front_on mid (mid ++ first.entry ∷ []) chosen (front_more mid first.entry) stands
+      mid_chosen = prefix_on mid (mid ++ first.entry ∷ []) chosen (prefix_more mid first.entry) stands
 
       mid_is : By mid ≡ fold after (By own) first.before
       mid_is = fold-append after (start script.servers) own first.before
@@ -112,17 +112,17 @@ module _ (it : Run) (m : ℕ) where
       on_mid : touches (By mid) first.entry row ≡ true
       on_mid = ap (λ s. touches s first.entry row) mid_is ∙ first.on
 
-      -- the front that is given is at the place, and so it is no longer
-      not_longer : length front ≤ length mid
-      not_longer = elim (at_most_or_above (length front) (length mid)) [
+      -- the prefix that is given is at the place, and so it is no longer
+      not_longer : length prefix ≤ length mid
+      not_longer = elim (at_most_or_above (length prefix) (length mid)) [
         | inl at_most ↦ at_most
         | inr above ↦ (
             let after_it = mid ++ first.entry ∷ [] in
-            let on = front_within after_it front chosen stands lies (omega (arith, length-append mid (first.entry ∷ []))) in
-            let up = places_grow script.servers after_it front row on in
+            let on = prefix_within after_it prefix chosen stands lies (omega (arith, length-append mid (first.entry ∷ []))) in
+            let up = places_grow script.servers after_it prefix row on in
             let next = place_touched setting mid first.entry row on_mid in
-            let one_row = place_of_later setting chosen known.plain own front front cell row now
-            (front_on own after_it front (front_on own mid after_it onward (front_more mid first.entry)) on) lies linked linked_now in
+            let one_row = place_of_later setting chosen known.plain own prefix prefix cell row now
+            (prefix_on own after_it prefix (prefix_on own mid after_it onward (prefix_more mid first.entry)) on) lies linked linked_now in
             let same = same_mid in
             let at_it = at_place in
             absurd (omega arith))
@@ -154,6 +154,6 @@ module _ (it : Run) (m : ℕ) where
     timely_now =
         let e = places_of_both script.servers own chosen row own_chosen in
         elim (same_or_apart (place_by setting chosen row) (place_by setting own row)) [
-          | inl same ↦ timely_by chosen (front_itself chosen) same (front_long front chosen lies)
+          | inl same ↦ timely_by chosen (prefix_itself chosen) same (prefix_long prefix chosen lies)
           | inr ne ↦ timely_since (omega arith)
         ]

@@ -12,10 +12,10 @@ use Rattle.law_state.specs.Homes.{epoch_at, stage_at}
 
 -- each entry is of an epoch that its cell's disk has, or has had, by these entries of the log; and each cell with an entry is live by them, or
 -- has been
-pub record AreEarly (servers : ℕ) (front : List Command) (store : Store) : Type 0 where
+pub record AreEarly (servers : ℕ) (prefix : List Command) (store : Store) : Type 0 where
   pub known : (cell : Cell) (epoch : ℕ) (entry : Stored) → at nat_cmp (chain_in store.chains cell) epoch ≡ Some entry
-      → epoch ≤ epoch_at (state_after servers front) cell
-  pub lived : (cell : Cell) → chain_in store.chains cell ≢ [] → 1 ≤ stage_at (state_after servers front) cell
+      → epoch ≤ epoch_at (state_after servers prefix) cell
+  pub lived : (cell : Cell) → chain_in store.chains cell ≢ [] → 1 ≤ stage_at (state_after servers prefix) cell
 
 -- so are those of each server's store, and of the one from before its device was made blank, by what the server has applied
 pub record HaveEarlyEntries (servers : ℕ) (w : World) : Type 0 where

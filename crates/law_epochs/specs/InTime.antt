@@ -7,7 +7,7 @@ use Rattle.spec_state.specs.Command.{state_after}
 use Rattle.law_state.specs.Homes.{epoch_at, stage_at}
 
 -- by these entries the write is of the epoch that its disk has, and its cell is live and not leaving
-pub record IsTimely (servers : ℕ) (front : List Command) (cell : Cell) (op : Pending) : Type 0 where
-  pub epoch : epoch_at (state_after servers front) cell ≡ op.key.epoch
-  pub born : 1 ≤ stage_at (state_after servers front) cell
-  pub stays : stage_at (state_after servers front) cell ≤ 2
+pub record IsTimely (servers : ℕ) (prefix : List Command) (cell : Cell) (op : Pending) : Type 0 where
+  pub epoch : epoch_at (state_after servers prefix) cell ≡ op.key.epoch
+  pub born : 1 ≤ stage_at (state_after servers prefix) cell
+  pub stays : stage_at (state_after servers prefix) cell ≤ 2

@@ -24,30 +24,30 @@ ghost use Rattle.law_copies.specs.Visits.{IsLinked, WasThere, place_by};
 ghost use Rattle.law_epochs.specs.EntryEpochs.{HaveEarlyEntries};
 ghost use Rattle.law_epochs.specs.InTime.{IsTimely};
 
-/// A client's write that a server has pending is of the epoch that its disk has, and its cell is live and not leaving, by each front of the chosen
+/// A client's write that a server has pending is of the epoch that its disk has, and its cell is live and not leaving, by each prefix of the chosen
 /// log, from the revision on at which the write was opened, by which the server is In as the incarnation that it was there.
 pub fn a_pending_write_is_of_the_present_epoch()
     ensures { (script : Script) (records : List Record)
-        → IsSound script → AreSteps script records → (n inc : ℕ) (cell : Cell) (op : Pending) (opened front : List Command)
+        → IsSound script → AreSteps script records → (n inc : ℕ) (cell : Cell) (op : Pending) (opened prefix : List Command)
         → at cell_cmp ((world_after (setting_of script) (start (setting_of script)) records).servers n).own.pairs.pending cell ≡ Some op
-        → is_clients op.kind ≡ true → IsPrefix opened front
-        → IsPrefix front (chosen_log (setting_of script) (world_after (setting_of script) (start (setting_of script)) records))
-        → length opened ≡ op.rev → is_in (state_after script.servers opened) n inc ≡ true → is_in (state_after script.servers front) n inc ≡ true
-        → IsTimely script.servers front cell op }
+        → is_clients op.kind ≡ true → IsPrefix opened prefix
+        → IsPrefix prefix (chosen_log (setting_of script) (world_after (setting_of script) (start (setting_of script)) records))
+        → length opened ≡ op.rev → is_in (state_after script.servers opened) n inc ≡ true → is_in (state_after script.servers prefix) n inc ≡ true
+        → IsTimely script.servers prefix cell op }
 {}
 
-/// So is one that a server had pending when it was last at a place of the cell's link, by each front at which the link is at that place.
+/// So is one that a server had pending when it was last at a place of the cell's link, by each prefix at which the link is at that place.
 pub fn a_write_of_a_place_is_of_its_epoch()
     ensures { (script : Script) (records : List Record)
-        → IsSound script → AreSteps script records → (n place : ℕ) (cell : Cell) (pairs : Pairs) (op : Pending) (front : List Command) (row : LinkRow)
+        → IsSound script → AreSteps script records → (n place : ℕ) (cell : Cell) (pairs : Pairs) (op : Pending) (prefix : List Command) (row : LinkRow)
         → WasThere (setting_of script) records n place cell pairs → at cell_cmp pairs.pending cell ≡ Some op
-        → is_clients op.kind ≡ true → IsPrefix front (chosen_log (setting_of script) (world_after (setting_of script) (start (setting_of script)) records))
-        → IsLinked (setting_of script) front cell row → place_by (setting_of script) front row ≡ place → op.rev ≤ length front
-        → IsTimely script.servers front cell op }
+        → is_clients op.kind ≡ true → IsPrefix prefix (chosen_log (setting_of script) (world_after (setting_of script) (start (setting_of script)) records))
+        → IsLinked (setting_of script) prefix cell row → place_by (setting_of script) prefix row ≡ place → op.rev ≤ length prefix
+        → IsTimely script.servers prefix cell op }
 {}
 
 /// And one that the second server of a link in Both can still put, which the lead had pending at the second server's place and had opened by
-/// some front at that place, also where the lead has left by what is chosen.
+/// some prefix at that place, also where the lead has left by what is chosen.
 pub fn what_a_second_server_puts_is_of_the_present_epoch()
     ensures { (script : Script) (records : List Record)
         → IsSound script → AreSteps script records → (n m : ℕ) (cell : Cell) (pairs : Pairs) (op : Pending) (row : LinkRow)
@@ -57,10 +57,10 @@ pub fn what_a_second_server_puts_is_of_the_present_epoch()
         → IsLinked (setting_of script) ((world_after (setting_of script) (start (setting_of script)) records).servers m).log.applied cell row
         → row.state ≡ Both → row.primary ≡ n → row.secondary ≡ m → WasThere (setting_of script) records n
         (place_by (setting_of script) ((world_after (setting_of script) (start (setting_of script)) records).servers m).log.applied row) cell pairs
-        → at cell_cmp pairs.pending cell ≡ Some op → is_clients op.kind ≡ true → (front : List Command) (now : LinkRow)
-        → IsPrefix front (chosen_log (setting_of script) (world_after (setting_of script) (start (setting_of script)) records))
-        → IsLinked (setting_of script) front cell now → place_by (setting_of script) front now ≡ place_by
-        (setting_of script) ((world_after (setting_of script) (start (setting_of script)) records).servers m).log.applied row → op.rev ≤ length front
+        → at cell_cmp pairs.pending cell ≡ Some op → is_clients op.kind ≡ true → (prefix : List Command) (now : LinkRow)
+        → IsPrefix prefix (chosen_log (setting_of script) (world_after (setting_of script) (start (setting_of script)) records))
+        → IsLinked (setting_of script) prefix cell now → place_by (setting_of script) prefix now ≡ place_by
+        (setting_of script) ((world_after (setting_of script) (start (setting_of script)) records).servers m).log.applied row → op.rev ≤ length prefix
         → IsTimely script.servers (chosen_log (setting_of script) (world_after (setting_of script) (start (setting_of script)) records)) cell op }
 {}
 

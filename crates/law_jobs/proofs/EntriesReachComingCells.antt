@@ -1,19 +1,14 @@
 -- Each step keeps it that entries move to cells whose region is on its way.
-use Rattle.law_steps.proofs.Imports.{[], ◌∙◌, ◌∷◌, ◌≡◌, Acted, AreStepsFrom, Body, Cell, Command, Filling, Firm, In, IsPrefix, JobResult, Key, Letter, List}
-use Rattle.law_steps.proofs.Imports.{Log, PairState, Pairs, Pending, Post, Record, Script, Server, Setting, Some, State, Step, Subject, World, all_put, ap}
-use Rattle.law_steps.proofs.Imports.{at, at-empty, below_itself, blanked, cell_cmp, cell_of, chosen_log, chosen_state, coming, crossed, false, front_on}
-use Rattle.law_steps.proofs.Imports.{is_clients, length, log_rev, none_some, refl, setting_of, settling, start, state_after, stepped, subject_of, subst, sym}
-use Rattle.law_steps.proofs.Imports.{true, true_false, world_after, ℕ}
+use Rattle.law_jobs.proofs.Imports.{Acted, AreFirm, AreStepsFrom, Aside, Blanks, By_ballot, By_entry, By_job, Command, Ends, Fails, Filling, Firm, Goes}
+use Rattle.law_jobs.proofs.Imports.{Handled, Happens, IsNextFill, IsOfJob, IsPrefix, Letter, Log, Of_job, Pairs, Record, Rests, Script, Server, Serves}
+use Rattle.law_jobs.proofs.Imports.{Serving, Setting, State, Stays, Step, Subject, Turns, Wakes, Was_sent, Worked, World, all_put, at-empty, below_itself}
+use Rattle.law_jobs.proofs.Imports.{blanked, chosen_log, chosen_state, coming, crossed, firm_now, happens, happens_sent, is_aside, is_clients, length}
+use Rattle.law_jobs.proofs.Imports.{log_rev, next_comes, none_some, own_place, own_plain, prefix_on, proposed_pairs, rests_next, settling, state_after}
+use Rattle.law_jobs.proofs.Imports.{stepped, subject_of, world_after}
+use Rattle.law_steps.proofs.Imports.{[], ◌∙◌, ◌∷◌, ◌≡◌, Body, Cell, In, JobResult, Key, List, PairState, Pending, Post, Some, ap, at, cell_cmp, cell_of}
+use Rattle.law_steps.proofs.Imports.{false, refl, setting_of, start, subst, sym, true, true_false, ℕ}
 use Rattle.law_jobs.specs.ComingCells.{AreComing, WasComing}
-use Rattle.law_steps.specs.DidLead.{IsNextFill}
-use Rattle.law_steps.specs.DidStep.{Handled, Happens, Serves, Blanks, Turns, Worked, By_job, By_ballot, By_entry, Serving, Goes, Ends, Stays, Wakes, Fails}
-use Rattle.law_steps.specs.DidStep.{own_place}
-use Rattle.law_steps.specs.Ready.{AreFirm, Rests}
-use Rattle.law_steps.proofs.MovesAreOfComingCells.{next_comes}
-use Rattle.law_jobs.proofs.FillsByJobs.{Stood, Writes, Fills, Is_other, Is_next, did_come, did_fills, is_fill, is_filling}
-use Rattle.law_jobs.proofs.FillsByJobs.{other_subject}
-use Rattle.law_steps.proofs.KindsInHistories.{firm_now, happens, own_plain, proposed_pairs, rests_next}
-use Rattle.law_steps.proofs.LettersOfSteps.{Aside, IsOfJob, Of_job, Was_sent, happens_sent, is_aside}
+use Rattle.law_jobs.proofs.FillsByJobs.{Stood, Writes, Fills, Is_other, Is_next, did_come, did_fills, is_fill, is_filling, other_subject}
 use Rattle.petal_msg.specs.declared.body.Body.TheVariants as body
 use Rattle.petal_msg.specs.declared.operation.OpKind.TheVariants as kind
 
@@ -30,7 +25,7 @@ key_in key _ = key
 was_on : (setting : Setting) (w v : World) → IsPrefix (chosen_log setting w) (chosen_log setting v) → (rev : ℕ) (cell : Cell) → WasComing setting w rev cell
     → WasComing setting v rev cell
 was_on setting w v grows rev cell was =
-    record { front = was.front; lies = front_on was.front _ _ was.lies grows; long = was.long; coming = was.coming }
+    record { prefix = was.prefix; lies = prefix_on was.prefix _ _ was.lies grows; long = was.long; coming = was.coming }
 
 module _ (setting : Setting) (w : World) (firm : Firm setting w) (c : AreComing setting w) (n : ℕ) where
   abbrev log : List Command
@@ -43,7 +38,7 @@ module _ (setting : Setting) (w : World) (firm : Firm setting w) (c : AreComing 
       let said_is : body.Fill key bytes ≡ _ = sym e ∙ ap (λ (p : Post). p.body) f.is in
       let cell_is : cell_of key ≡ f.cell = ap cell_of (ap (key_in key) said_is) in
       record {
-        front = log;
+        prefix = log;
         lies = firm.servers n;
         long = refl;
         coming = ap (coming (state_after setting.servers log)) cell_is
@@ -57,7 +52,8 @@ module _ (setting : Setting) (w : World) (firm : Firm setting w) (c : AreComing 
       elim (did_fills (Handled w n) (own_place setting w n) (w.servers n).own job.done job.did job.post job.there) [
         | Is_other apart ↦ true_false (ap is_fill (sym job.body ∙ e)) apart
         | Is_next own kept told f ↦
-            subst (λ r. WasComing setting w r (cell_of key)) (sym (job.rev ∙ log_rev setting.servers log)) (next_was own job.post f key bytes (sym job.body ∙ e))
+            subst (λ r. WasComing setting w r (cell_of key)) (sym (job.rev ∙ log_rev setting.servers log))
+            (next_was own job.post f key bytes (sym job.body ∙ e))
       ]
 
   -- what a server has pending after a job
@@ -76,7 +72,7 @@ module _ (setting : Setting) (w : World) (firm : Firm setting w) (c : AreComing 
   worked_was _ _ (By_ballot after started posts same starts says) cell op is e =
       c.opened n cell op
       (sym (ap (λ (p : Pairs). at cell_cmp p.pending cell) (proposed_pairs (own_place setting w n).state (w.servers n).own started)) ∙ is) e
-  worked_was _ _ (By_entry after entry more front) cell op is e =
+  worked_was _ _ (By_entry after entry more prefix) cell op is e =
       let same = (settling (own_place setting w n) entry (crossed (own_place setting w n).state entry (w.servers n).own)).pairs in
       c.opened n cell op (sym (ap (λ (p : Pairs). at cell_cmp p.pending cell) same) ∙ is) e
 

@@ -1,6 +1,10 @@
 -- Each letter was sent by one of a run's records, and what was sent stays so; so it is of answers.
-use Rattle.law_jobs.proofs.Imports.{[], ◌++◌, ◌∙◌, ◌∷◌, ◌≡◌, Actor, In, IsMoment, Letter, List, Record, Setting, Step, World, ap, append_assoc, in-append}
-use Rattle.law_jobs.proofs.Imports.{in_former, in_later, inl, inr, last_moment, moment_more, refl, step, subst, sym, with_answer, ℕ}
+use Rattle.law_jobs.proofs.Imports.{[], ◌++◌, ◌∙◌, ◌∷◌, ◌≡◌, Actor, In, IsMoment, List, ap, append_assoc, in-append, in_former, in_later, inl, inr}
+use Rattle.law_jobs.proofs.Imports.{last_moment, moment_more, refl, step, subst, sym, with_answer, ℕ}
+use Rattle.petal_msg.specs.declared.letter.Letter.{Letter}
+use Rattle.spec_history.specs.declared.record.Record.{Record}
+use Rattle.spec_rules.specs.World.{Setting, World}
+use Rattle.spec_rules.specs.declared.step.Step.{Step}
 use Rattle.law_jobs.proofs.Runs.{At, OneMore, Run, after, at_moment, by_run, follows_in, longer, setting_in, since, stepped_in}
 use Rattle.petal_msg.specs.declared.letter.Actor.TheVariants as actor
 
@@ -48,14 +52,14 @@ was_sent =
       | inr before ↦ (let was = old letter before in record { moment = moment_more it.prior.records it.own was.moment; sent = was.sent })
     ])
 
-pub stays_sent : (run : Run) (front later : List Record) → run.records ≡ front ++ later → (letter : Letter) → In letter (At run.script front).sent
+pub stays_sent : (run : Run) (prefix later : List Record) → run.records ≡ prefix ++ later → (letter : Letter) → In letter (At run.script prefix).sent
     → In letter (after run).sent
-stays_sent run front later is letter i =
-    since (λ run. In letter (after run).sent) (λ it old. still_sent it letter old) run front later is (λ legal. i)
+stays_sent run prefix later is letter i =
+    since (λ run. In letter (after run).sent) (λ it old. still_sent it letter old) run prefix later is (λ legal. i)
 
 -- what a record sent stays sent
 pub sent_since : (run : Run) (m : IsMoment run.records) (letter : Letter) → In letter m.own.sent → In letter (after run).sent
 sent_since run m letter i =
     let it = at_moment run m in
-    stays_sent run (longer it).records m.following (m.is ∙ sym (append_assoc m.front (m.own ∷ []) m.following)) letter
+    stays_sent run (longer it).records m.following (m.is ∙ sym (append_assoc m.prefix (m.own ∷ []) m.following)) letter
     (subst (In letter) (sym (sent_in it)) (in_former letter m.own.sent (after it.prior).sent i))

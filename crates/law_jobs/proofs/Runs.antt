@@ -1,27 +1,29 @@
 -- What the first world has, and each record keeps, every run has; and what is known of a run and of its next record.
-use Rattle.law_jobs.proofs.Imports.{[], ◌++◌, ◌∙◌, ◌∷◌, ◌≡◌, AreSteps, Firm, Happens, IsBelow, IsMoment, IsPrefix, IsSound, List, Ready, Rests, Script, State}
-use Rattle.law_jobs.proofs.Imports.{always_firm, append-nil, append_assoc, chosen_log, chosen_state, front_legal, history_grows, history_is_firm}
-use Rattle.law_jobs.proofs.Imports.{last_happens, ready_after, refl, rests_after, setting_of, start, start_rests, stepped, subst, sym, world_more}
-use Rattle.spec_history.specs.Steps.{Follows}
-use Rattle.law_state.specs.Histories.{Record}
+use Rattle.law_jobs.proofs.Imports.{[], ◌++◌, ◌∙◌, ◌∷◌, ◌≡◌, AreSteps, Happens, IsBelow, IsMoment, IsSound, List, Ready, Rests, always_firm, append-nil}
+use Rattle.law_jobs.proofs.Imports.{append_assoc, history_grows, history_is_firm, last_happens, prefix_legal, ready_after, refl, rests_after, setting_of}
+use Rattle.law_jobs.proofs.Imports.{start, start_rests, subst, sym, world_more}
+use Rattle.law_state.specs.Firm.{Firm}
+use Rattle.law_state.specs.Histories.{IsPrefix, Script, chosen_log, chosen_state, Record}
+use Rattle.spec_rules.specs.State.{State}
+use Rattle.spec_history.specs.Steps.{stepped, Follows}
 pub use Rattle.law_jobs.specs.Runs.{At, OneMore, Run, after, longer, run_of, setting_in}
 
 -- the part of a history before some of its records
-pub before_part : (script : Script) (front following : List Record) → AreSteps script (front ++ following) → AreSteps script front
-before_part script front following legal = (front_legal (setting_of script) (start (setting_of script)) front following legal).0
+pub before_part : (script : Script) (prefix following : List Record) → AreSteps script (prefix ++ following) → AreSteps script prefix
+before_part script prefix following legal = (prefix_legal (setting_of script) (start (setting_of script)) prefix following legal).0
 
-abbrev pub more_of : (script : Script) → IsSound script → (front : List Record) (own : Record) → AreSteps script (front ++ own ∷ []) → OneMore
-more_of script sound front own legal =
-    record { prior = run_of script sound front (before_part script front (own ∷ []) legal); own = own; legal = legal }
+abbrev pub more_of : (script : Script) → IsSound script → (prefix : List Record) (own : Record) → AreSteps script (prefix ++ own ∷ []) → OneMore
+more_of script sound prefix own legal =
+    record { prior = run_of script sound prefix (before_part script prefix (own ∷ []) legal); own = own; legal = legal }
 
-pub upto_moment : (run : Run) (m : IsMoment run.records) → AreSteps run.script (m.front ++ m.own ∷ [])
+pub upto_moment : (run : Run) (m : IsMoment run.records) → AreSteps run.script (m.prefix ++ m.own ∷ [])
 upto_moment run m =
-    before_part run.script (m.front ++ m.own ∷ []) m.following
-    (subst (AreSteps run.script) (m.is ∙ sym (append_assoc m.front (m.own ∷ []) m.following)) run.legal)
+    before_part run.script (m.prefix ++ m.own ∷ []) m.following
+    (subst (AreSteps run.script) (m.is ∙ sym (append_assoc m.prefix (m.own ∷ []) m.following)) run.legal)
 
 -- what stands before one of the records, with that one
 abbrev pub at_moment : (run : Run) → IsMoment run.records → OneMore
-at_moment run m = more_of run.script run.sound m.front m.own (upto_moment run m)
+at_moment run m = more_of run.script run.sound m.prefix m.own (upto_moment run m)
 
 -- ### The induction
 
@@ -30,17 +32,17 @@ module _ (script : Script) (sound : IsSound script) (P : Run → Type 0) (next :
   abbrev OfRun : List Record → Type 0
   OfRun records = (legal : AreSteps script records) → P (run_of script sound records legal)
 
-  from_front : (front later : List Record) → OfRun front → OfRun (front ++ later)
-  from_front front [] held = subst OfRun (sym (append-nil front)) held
-  from_front front (own ∷ later) held =
-      subst OfRun (append_assoc front (own ∷ []) later)
-      (from_front (front ++ own ∷ []) later (λ legal. let it = more_of script sound front own legal in next it (held it.prior.legal)))
+  from_prefix : (prefix later : List Record) → OfRun prefix → OfRun (prefix ++ later)
+  from_prefix prefix [] held = subst OfRun (sym (append-nil prefix)) held
+  from_prefix prefix (own ∷ later) held =
+      subst OfRun (append_assoc prefix (own ∷ []) later)
+      (from_prefix (prefix ++ own ∷ []) later (λ legal. let it = more_of script sound prefix own legal in next it (held it.prior.legal)))
 
--- what a front of a run has, and each record keeps, the run has
-pub since : (P : Run → Type 0) → ((it : OneMore) → P it.prior → P (longer it)) → (run : Run) (front later : List Record)
-    → run.records ≡ front ++ later → ((legal : AreSteps run.script front) → P (run_of run.script run.sound front legal)) → P run
-since P next run front later is held =
-    subst (OfRun run.script run.sound P next) (sym is) (from_front run.script run.sound P next front later held) run.legal
+-- what a prefix of a run has, and each record keeps, the run has
+pub since : (P : Run → Type 0) → ((it : OneMore) → P it.prior → P (longer it)) → (run : Run) (prefix later : List Record)
+    → run.records ≡ prefix ++ later → ((legal : AreSteps run.script prefix) → P (run_of run.script run.sound prefix legal)) → P run
+since P next run prefix later is held =
+    subst (OfRun run.script run.sound P next) (sym is) (from_prefix run.script run.sound P next prefix later held) run.legal
 
 -- what the first world has, and each record keeps, every run has
 pub by_run : (P : Run → Type 0) → ((script : Script) (sound : IsSound script) (legal : AreSteps script []) → P (run_of script sound [] legal))
@@ -73,7 +75,7 @@ happened_in it state below =
 
 -- it is of an allowed step
 pub follows_in : (it : OneMore) → Follows (setting_in it.prior) (after it.prior) it.own
-follows_in it = (front_legal (setting_in it.prior) (start (setting_in it.prior)) it.prior.records (it.own ∷ []) it.legal).1.0
+follows_in it = (prefix_legal (setting_in it.prior) (start (setting_in it.prior)) it.prior.records (it.own ∷ []) it.legal).1.0
 
 -- and leads where that one does
 pub stepped_in : (it : OneMore) → after (longer it) ≡ (stepped (setting_in it.prior) (after it.prior) it.own).world

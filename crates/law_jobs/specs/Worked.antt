@@ -2,8 +2,7 @@
 use Rattle.law_jobs.specs.Imports.{Begins_copy, Body, By_holder, By_lead, By_other, By_second, Cell, Closes, Closes_alone, Did, DidHolder, DidLead, DidOther}
 use Rattle.law_jobs.specs.Imports.{DidSecond, Finds_it_full, Follows, Gives_up, Goes_on_copying, Goes_on_retired, Goes_on_trimming, Is_copied_to, JobContext}
 use Rattle.law_jobs.specs.Imports.{JobResult, LinkRow, Marks, Marks_alone, Opens, Opens_alone, Opens_fill, Opens_fill_alone, PairState, Puts, Puts_alone}
-use Rattle.law_jobs.specs.Imports.{Puts_entry, Sets_apart, Turns_page, Unmarks, Unmarks_alone, cell_at}
-use Rattle.law_steps.specs.Imports.{cell_of}
+use Rattle.law_jobs.specs.Imports.{Puts_entry, Sets_apart, Turns_page, Unmarks, Unmarks_alone, cell_at, cell_of}
 use Rattle.std.specs.Prelude.{None, Option, Some, ℕ}
 
 -- the cell of a page's block

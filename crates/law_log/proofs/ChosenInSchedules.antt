@@ -9,7 +9,7 @@ use Rattle.law_log.specs.AgreedLog.{Catches, Drains, IsBacked, IsCalledAnywhere,
 use Rattle.law_log.specs.ProposedCommands.{HasBegun, HasStopped, IsCalledFor, IsCaughtAt, IsReportAt, WasWanted}
 use Rattle.law_log.proofs.OneCommandEachPlace.{IsFair, told_chosen, chosen_wanted, chosen_once, told_wanted, leave_stopped, no_join, no_moved, no_report}
 use Rattle.law_log.proofs.OneCommandEachPlace.{not_called, uncaught, wanted_plain}
-use Rattle.law_log.proofs.ListPlaces.{at_among, at_next, next_at, one_front, parted}
+use Rattle.law_log.proofs.ListPlaces.{at_among, at_next, next_at, one_prefix, parted}
 use Rattle.law_log.proofs.ServersKeepWorlds.{IsGrown}
 use Rattle.spec_paxos.specs.Schedule as schedule
 use Rattle.petal_msg.specs.declared.body.Body.TheVariants as body
@@ -17,20 +17,20 @@ use Rattle.petal_msg.specs.declared.body.Body.TheVariants as body
 within_or_past : (i many : ℕ) → (i ≤ many) ⊎ (many < i)
 within_or_past i many = grind (arith, nat_tests)
 
--- one command more of a front, and what stands after it
-next_stands : (front whole : List Command) (c : Command) (i : ℕ) → IsPrefix front whole → length front ≡ i → slice_get whole i ≡ Some c
-    → IsPrefix (front ++ c ∷ []) whole
-next_stands front whole c i prefix many e =
-    let rest = next_at front prefix.later c (ap (λ xs. slice_get xs (length front)) (sym prefix.is) ∙ ap (slice_get whole) many ∙ e) in
-    record { later = rest.0; is = prefix.is ∙ ap (λ xs. front ++ xs) rest.1 ∙ sym (append_assoc front (c ∷ []) rest.0) }
+-- one command more of a prefix, and what stands after it
+next_stands : (prefix whole : List Command) (c : Command) (i : ℕ) → IsPrefix prefix whole → length prefix ≡ i → slice_get whole i ≡ Some c
+    → IsPrefix (prefix ++ c ∷ []) whole
+next_stands prefix whole c i is_prefix many e =
+    let rest = next_at prefix is_prefix.later c (ap (λ xs. slice_get xs (length prefix)) (sym is_prefix.is) ∙ ap (slice_get whole) many ∙ e) in
+    record { later = rest.0; is = is_prefix.is ∙ ap (λ xs. prefix ++ xs) rest.1 ∙ sym (append_assoc prefix (c ∷ []) rest.0) }
 
-stands_next : (front whole : List Command) (c : Command) → IsPrefix (front ++ c ∷ []) whole → slice_get whole (length front) ≡ Some c
-stands_next front whole c prefix =
-    ap (λ xs. slice_get xs (length front)) (prefix.is ∙ append_assoc front (c ∷ []) prefix.later) ∙ at_next front prefix.later c
+stands_next : (prefix whole : List Command) (c : Command) → IsPrefix (prefix ++ c ∷ []) whole → slice_get whole (length prefix) ≡ Some c
+stands_next prefix whole c is_prefix =
+    ap (λ xs. slice_get xs (length prefix)) (is_prefix.is ∙ append_assoc prefix (c ∷ []) is_prefix.later) ∙ at_next prefix is_prefix.later c
 
-same_front : (a b whole : List Command) (c : Command) → IsPrefix a whole → length a ≡ length b → IsPrefix (b ++ c ∷ []) whole → a ≡ b
-same_front a b whole c one many other =
-    one_front a b one.later (c ∷ other.later) many (sym one.is ∙ other.is ∙ append_assoc b (c ∷ []) other.later)
+same_prefix : (a b whole : List Command) (c : Command) → IsPrefix a whole → length a ≡ length b → IsPrefix (b ++ c ∷ []) whole → a ≡ b
+same_prefix a b whole c one many other =
+    one_prefix a b one.later (c ∷ other.later) many (sym one.is ∙ other.is ∙ append_assoc b (c ∷ []) other.later)
 
 module _ {Was : Minded} (setting : Setting) (w : World) (fair : IsFair setting) (l : Logged Was setting w) where
   abbrev P : schedule.World
@@ -65,93 +65,93 @@ module _ {Was : Minded} (setting : Setting) (w : World) (fair : IsFair setting) 
   agrees = record {
     known = λ n i c e. told_stands i c ((l.is.servers n).told (i + 1) c e);
     servers = λ n.
-        let front = front_of_log setting.servers (devices w) (w.servers n).log.applied
+        let prefix = front_of_log setting.servers (devices w) (w.servers n).log.applied
         (λ i c e. told_at (i + 1) c ((l.is.servers n).told (i + 1) c ((l.is.servers n).applied i c e))) in
-        record { later = front.0; is = front.1 };
+        record { later = prefix.0; is = prefix.1 };
     clients = λ d.
-        let front = front_of_log setting.servers (devices w) (w.clients d).applied (λ i c e. told_at (i + 1) c (l.is.applied d i c e)) in
-        record { later = front.0; is = front.1 };
+        let prefix = front_of_log setting.servers (devices w) (w.clients d).applied (λ i c e. told_at (i + 1) c (l.is.applied d i c e)) in
+        record { later = prefix.0; is = prefix.1 };
   }
 
   -- a chosen command is called for, or it acts after the entries before it as a Caught, a Join, a report or a Moved
   called_at : (i : ℕ) (c : Command) → slice_get (chosen_log setting w) i ≡ Some c
       → IsCalledAnywhere setting w c
-      ⊎ ((front : List Command) × IsPrefix front (chosen_log setting w) × (length front ≡ i) × Returns setting.servers w.servers front c
-      × WasMinded Was front c)
+      ⊎ ((prefix : List Command) × IsPrefix prefix (chosen_log setting w) × (length prefix ≡ i) × Returns setting.servers w.servers prefix c
+      × WasMinded Was prefix c)
   called_at i c e =
       elim (chosen_wanted setting w fair.small l (i + 1) c
       (by_schedule (i + 1) c (told_is_chosen setting.servers (devices w) (i + 1) c (log_tells setting.servers (devices w) i c e)))).0 [
         | inl called ↦ inl called
         | inr returns ↦ (
             let many = returns.told.many in
-            let front = front_of_log setting.servers (devices w) returns.front (λ j d is. told_at (j + 1) d (returns.told.told j d is)) in
-            inr (returns.front, record { later = front.0; is = front.1 }, omega arith, returns.is, returns.was))
+            let prefix = front_of_log setting.servers (devices w) returns.prefix (λ j d is. told_at (j + 1) d (returns.told.told j d is)) in
+            inr (returns.prefix, record { later = prefix.0; is = prefix.1 }, omega arith, returns.is, returns.was))
       ]
 
-  -- what stands after a front, and is called for nowhere else, acts after that front
-  returns_at : (front : List Command) (c : Command) → (IsCalledAnywhere setting w c → ⊥) → IsPrefix (front ++ c ∷ []) (chosen_log setting w)
-      → Returns setting.servers w.servers front c × WasMinded Was front c
-  returns_at front c none prefix = elim (called_at (length front) c (stands_next front (chosen_log setting w) c prefix)) [
+  -- what stands after a prefix, and is called for nowhere else, acts after that prefix
+  returns_at : (prefix : List Command) (c : Command) → (IsCalledAnywhere setting w c → ⊥) → IsPrefix (prefix ++ c ∷ []) (chosen_log setting w)
+      → Returns setting.servers w.servers prefix c × WasMinded Was prefix c
+  returns_at prefix c none is_prefix = elim (called_at (length prefix) c (stands_next prefix (chosen_log setting w) c is_prefix)) [
     | inl called ↦ absurd (none called)
     | inr returns ↦ subst (λ (xs : List Command). Returns setting.servers w.servers xs c × WasMinded Was xs c)
-        (same_front returns.0 front (chosen_log setting w) c returns.1 returns.2 prefix) (returns.3, returns.4)
+        (same_prefix returns.0 prefix (chosen_log setting w) c returns.1 returns.2 is_prefix) (returns.3, returns.4)
   ]
 
-  pub caught_at : (front : List Command) (of link holder inc other other_inc : ℕ)
-      → IsPrefix (front ++ Caught of link holder inc other other_inc ∷ []) (chosen_log setting w)
-      → IsCaughtAt setting.servers w.servers front of link holder inc other other_inc
-  caught_at front of link holder inc other other_inc prefix =
-      (returns_at front (Caught of link holder inc other other_inc) (λ called. not_called setting w of link holder inc other other_inc called.0) prefix).0
+  pub caught_at : (prefix : List Command) (of link holder inc other other_inc : ℕ)
+      → IsPrefix (prefix ++ Caught of link holder inc other other_inc ∷ []) (chosen_log setting w)
+      → IsCaughtAt setting.servers w.servers prefix of link holder inc other other_inc
+  caught_at prefix of link holder inc other other_inc is_prefix =
+      (returns_at prefix (Caught of link holder inc other other_inc) (λ called. not_called setting w of link holder inc other other_inc called.0) is_prefix).0
 
   -- and its holder had it in mind there
-  pub caught_was : (front : List Command) (of link holder inc other other_inc : ℕ)
-      → IsPrefix (front ++ Caught of link holder inc other other_inc ∷ []) (chosen_log setting w)
-      → Was holder inc front (Catches (record { map = of; link = link }))
-  caught_was front of link holder inc other other_inc prefix =
-      (returns_at front (Caught of link holder inc other other_inc) (λ called. not_called setting w of link holder inc other other_inc called.0) prefix).1
+  pub caught_was : (prefix : List Command) (of link holder inc other other_inc : ℕ)
+      → IsPrefix (prefix ++ Caught of link holder inc other other_inc ∷ []) (chosen_log setting w)
+      → Was holder inc prefix (Catches (record { map = of; link = link }))
+  caught_was prefix of link holder inc other other_inc is_prefix =
+      (returns_at prefix (Caught of link holder inc other other_inc) (λ called. not_called setting w of link holder inc other other_inc called.0) is_prefix).1
 
-  pub join_at : (front : List Command) (server inc : ℕ) (blank : Bool) → IsPrefix (front ++ Join server inc blank ∷ []) (chosen_log setting w)
-      → IsJoinAt setting.servers w.servers front server inc
-  join_at front server inc blank prefix = (returns_at front (Join server inc blank) (no_join setting w server inc blank) prefix).0
+  pub join_at : (prefix : List Command) (server inc : ℕ) (blank : Bool) → IsPrefix (prefix ++ Join server inc blank ∷ []) (chosen_log setting w)
+      → IsJoinAt setting.servers w.servers prefix server inc
+  join_at prefix server inc blank is_prefix = (returns_at prefix (Join server inc blank) (no_join setting w server inc blank) is_prefix).0
 
   -- and its server's store waited to be filled, or not, as it says
-  join_was : (front : List Command) (server inc : ℕ) (blank : Bool) → IsPrefix (front ++ Join server inc blank ∷ []) (chosen_log setting w)
-      → Was server inc front (Waits blank)
-  join_was front server inc blank prefix = (returns_at front (Join server inc blank) (no_join setting w server inc blank) prefix).1
+  join_was : (prefix : List Command) (server inc : ℕ) (blank : Bool) → IsPrefix (prefix ++ Join server inc blank ∷ []) (chosen_log setting w)
+      → Was server inc prefix (Waits blank)
+  join_was prefix server inc blank is_prefix = (returns_at prefix (Join server inc blank) (no_join setting w server inc blank) is_prefix).1
 
   -- a report counts there, and its server had drained
-  pub report_at : (front : List Command) (server inc fence : ℕ) → IsPrefix (front ++ Drained server inc fence ∷ []) (chosen_log setting w)
-      → IsReportAt setting.servers front server inc fence
-  report_at front server inc fence prefix =
-      (returns_at front (Drained server inc fence) (λ called. no_report setting w server inc fence called.0) prefix).0
+  pub report_at : (prefix : List Command) (server inc fence : ℕ) → IsPrefix (prefix ++ Drained server inc fence ∷ []) (chosen_log setting w)
+      → IsReportAt setting.servers prefix server inc fence
+  report_at prefix server inc fence is_prefix =
+      (returns_at prefix (Drained server inc fence) (λ called. no_report setting w server inc fence called.0) is_prefix).0
 
-  pub report_was : (front : List Command) (server inc fence : ℕ) → IsPrefix (front ++ Drained server inc fence ∷ []) (chosen_log setting w)
-      → Was server inc front Drains
-  report_was front server inc fence prefix =
-      (returns_at front (Drained server inc fence) (λ called. no_report setting w server inc fence called.0) prefix).1
+  pub report_was : (prefix : List Command) (server inc fence : ℕ) → IsPrefix (prefix ++ Drained server inc fence ∷ []) (chosen_log setting w)
+      → Was server inc prefix Drains
+  report_was prefix server inc fence is_prefix =
+      (returns_at prefix (Drained server inc fence) (λ called. no_report setting w server inc fence called.0) is_prefix).1
 
   -- of a Moved a server had nothing left there
-  pub moved_was : (front : List Command) (of region link : ℕ) → IsPrefix (front ++ Moved of region link ∷ []) (chosen_log setting w)
-      → (server : ℕ) × (inc : ℕ) × Was server inc front (Moves of region link)
-  moved_was front of region link prefix = (returns_at front (Moved of region link) (λ called. no_moved setting w of region link called.0) prefix).1
+  pub moved_was : (prefix : List Command) (of region link : ℕ) → IsPrefix (prefix ++ Moved of region link ∷ []) (chosen_log setting w)
+      → (server : ℕ) × (inc : ℕ) × Was server inc prefix (Moves of region link)
+  moved_was prefix of region link is_prefix = (returns_at prefix (Moved of region link) (λ called. no_moved setting w of region link called.0) is_prefix).1
 
-  -- each chosen command stands after a front
-  stands_at : (c : Command) → Among c (chosen_log setting w) → (front : List Command) × IsPrefix (front ++ c ∷ []) (chosen_log setting w)
+  -- each chosen command stands after a prefix
+  stands_at : (c : Command) → Among c (chosen_log setting w) → (prefix : List Command) × IsPrefix (prefix ++ c ∷ []) (chosen_log setting w)
   stands_at c i =
       let part = parted c (chosen_log setting w) i in
       (part.0, record { later = part.1; is = part.2 ∙ sym (append_assoc part.0 (c ∷ []) part.1) })
 
   pub join_waited : (server inc : ℕ) (blank : Bool) → Among (Join server inc blank) (chosen_log setting w)
-      → (front : List Command) × Was server inc front (Waits blank)
+      → (prefix : List Command) × Was server inc prefix (Waits blank)
   join_waited server inc blank i = let at = stands_at (Join server inc blank) i in (at.0, join_was at.0 server inc blank at.1)
 
-  wanted_or_join : (c : Command) (front : List Command) → IsPrefix (front ++ c ∷ []) (chosen_log setting w) → Returns setting.servers w.servers front c
+  wanted_or_join : (c : Command) (prefix : List Command) → IsPrefix (prefix ++ c ∷ []) (chosen_log setting w) → Returns setting.servers w.servers prefix c
       → IsCalledFor setting w c ⊎ WasWanted setting w c
-  wanted_or_join (Caught of link holder inc other other_inc) front stands h = inr (record { front = front; stands = stands; is = h })
-  wanted_or_join (Drained server inc fence) front stands h = inr (record { front = front; stands = stands; is = h })
-  wanted_or_join (Moved of region link) front stands h = inr (record { front = front; stands = stands; is = h })
-  wanted_or_join (Join server inc blank) front stands h = inl (inr (h.later, h.begun))
-  wanted_or_join _ front stands h = absurd h
+  wanted_or_join (Caught of link holder inc other other_inc) prefix stands h = inr (record { prefix = prefix; stands = stands; is = h })
+  wanted_or_join (Drained server inc fence) prefix stands h = inr (record { prefix = prefix; stands = stands; is = h })
+  wanted_or_join (Moved of region link) prefix stands h = inr (record { prefix = prefix; stands = stands; is = h })
+  wanted_or_join (Join server inc blank) prefix stands h = inl (inr (h.later, h.begun))
+  wanted_or_join _ prefix stands h = absurd h
 
   pub called_for : (c : Command) → Among c (chosen_log setting w) → IsCalledFor setting w c ⊎ WasWanted setting w c
   called_for c i =
@@ -173,17 +173,17 @@ module _ {Was : Minded} (setting : Setting) (w : World) (fair : IsFair setting) 
   pub join_chosen : (n inc : ℕ) (blank : Bool) → Among (Join n inc blank) (chosen_log setting w) → HasBegun w n inc
   join_chosen n inc blank i = let at = stands_at (Join n inc blank) i in (join_at at.0 n inc blank at.1).begun
 
-  -- an incarnation that was In by a front of the log, and is not by the whole, has its Leave chosen, so it has stopped
-  pub out_stopped : (n inc : ℕ) (front : List Command) → IsPrefix front (chosen_log setting w) → is_in (state_after setting.servers front) n inc ≡ true
+  -- an incarnation that was In by a prefix of the log, and is not by the whole, has its Leave chosen, so it has stopped
+  pub out_stopped : (n inc : ℕ) (prefix : List Command) → IsPrefix prefix (chosen_log setting w) → is_in (state_after setting.servers prefix) n inc ≡ true
       → is_in (chosen_state setting w) n inc ≡ false → HasStopped w n inc
-  out_stopped n inc front prefix was out =
-      leave_chosen n inc (who_is_out setting.servers front (chosen_log setting w) n inc plain prefix was out)
+  out_stopped n inc prefix is_prefix was out =
+      leave_chosen n inc (who_is_out setting.servers prefix (chosen_log setting w) n inc plain is_prefix was out)
 
   -- a server that runs has no Leave of its incarnation chosen, so where it was In as itself it still is
-  pub runs_in : (n : ℕ) (front : List Command) → (w.servers n).life.running ≡ true → IsPrefix front (chosen_log setting w)
-      → is_in (state_after setting.servers front) n (w.servers n).life.inc ≡ true → is_in (chosen_state setting w) n (w.servers n).life.inc ≡ true
-  runs_in n front runs prefix was = by_bool (is_in (chosen_state setting w) n (w.servers n).life.inc) (λ up. up)
-      (λ out. elim (out_stopped n (w.servers n).life.inc front prefix was out) [
+  pub runs_in : (n : ℕ) (prefix : List Command) → (w.servers n).life.running ≡ true → IsPrefix prefix (chosen_log setting w)
+      → is_in (state_after setting.servers prefix) n (w.servers n).life.inc ≡ true → is_in (chosen_state setting w) n (w.servers n).life.inc ≡ true
+  runs_in n prefix runs is_prefix was = by_bool (is_in (chosen_state setting w) n (w.servers n).life.inc) (λ up. up)
+      (λ out. elim (out_stopped n (w.servers n).life.inc prefix is_prefix was out) [
         | inl gone ↦ true_false runs gone.0
         | inr later ↦ absurd (omega arith)
       ])
@@ -201,7 +201,7 @@ module _ {Was : Minded} (setting : Setting) (w : World) (fair : IsFair setting) 
     clients = agrees.clients;
     plain = plain;
     runs = runs_in;
-    started = λ front of link holder inc other other_inc prefix. (caught_at front of link holder inc other other_inc prefix).started;
+    started = λ prefix of link holder inc other other_inc is_prefix. (caught_at prefix of link holder inc other other_inc is_prefix).started;
     asked = λ n command i. elim i [
       | inl wanted ↦ uncaught setting w command (l.is.wants n command wanted).0
       | inr leaving ↦ uncaught setting w command (l.is.leaves n command leaving).0
@@ -234,8 +234,8 @@ module _ {Was : Minded} (setting : Setting) (w : World) (fair : IsFair setting) 
 pub grown_log : {Was : Minded} (setting : Setting) (w v : World) → IsFair setting → Logged Was setting v → IsGrown w v
     → IsPrefix (chosen_log setting w) (chosen_log setting v)
 grown_log setting w v fair l grown =
-    let front = front_of_log setting.servers (devices v) (chosen_log setting w)
+    let prefix = front_of_log setting.servers (devices v) (chosen_log setting w)
     (λ i c e.
     let k = told_is_chosen setting.servers (devices w) (i + 1) c (log_tells setting.servers (devices w) i c e) in
     chosen_is_told setting.servers (devices v) (i + 1) c (single setting v fair l) (k.0, k.1, k.2, λ s is. grown s (i + 1) k.0 c (k.3 s is))) in
-    record { later = front.0; is = front.1 }
+    record { later = prefix.0; is = prefix.1 }

@@ -8,13 +8,13 @@ pub use Rattle.law_agreement.proofs.Imports.{nat_tests, promise, put_at_cases, p
 pub use Rattle.law_agreement.proofs.Imports.{started, subst, suc, sym, true, turn, unwrap_or, vote, zero, ℕ, ⊤}
 unfoldable pub use Rattle.law_agreement.proofs.Imports.{In, nobody, number, put}
 pub use Rattle.law_state.specs.Imports.{Both, Caught, Cell, DiskView, Drained, Fence, IsPrefix, Join, Leave, LinkId, LinkRow, LinkState, Lost, MakeDisk}
-pub use Rattle.law_state.specs.Imports.{Moved, Only, PairState, Progress, Record, Server, Setting, Snap, StartMove, State, Witness, after, awaits, cell_asked}
+pub use Rattle.law_state.specs.Imports.{Moved, Only, PairState, Progress, Record, Server, Setting, Snap, StartMove, State, after, awaits, cell_asked}
 pub use Rattle.law_state.specs.Imports.{cell_link, chosen_log, chosen_state, head, is_in, is_lead, is_tuple, is_up, link_at, link_cmp, may_join, other_of}
 pub use Rattle.law_state.specs.Imports.{servers_of, state_after, target}
 unfoldable pub use Rattle.law_state.specs.Imports.{at}
-pub use Rattle.law_state.proofs.Imports.{append_assoc, both_true, by_bool, by_test, filter, fold, in-append, in_later, is_alone, latest, lead, length-append}
-pub use Rattle.law_state.proofs.Imports.{may_catch, nat_le, nat_lt, none_some, not, not_true, number_itself, option_map_or, readable, same_or_apart}
-pub use Rattle.law_state.proofs.Imports.{same_some, touches, true_false}
+pub use Rattle.law_state.proofs.Imports.{Witness, append_assoc, both_true, by_bool, by_test, filter, fold, in-append, in_later, is_alone, latest, lead}
+pub use Rattle.law_state.proofs.Imports.{length-append, may_catch, nat_le, nat_lt, none_some, not, not_true, number_itself, option_map_or, readable}
+pub use Rattle.law_state.proofs.Imports.{same_or_apart, same_some, touches, true_false}
 pub use Rattle.std.proofs.Common.{◌-◌, true≢false}
 pub use Rattle.std.proofs.lemmas.Cmp.{on_total, then_total}
 pub use Rattle.std.specs.Cmp.{Equal-is, IsTotalOrder, nat_cmp_total, ranked, tied_itself, tied_then}

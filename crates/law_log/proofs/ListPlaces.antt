@@ -23,7 +23,7 @@ at_among x (y ∷ ys) (inl e) = (0, ap Some (sym e))
 at_among x (y ∷ ys) (inr h) = let rest = at_among x ys h in (suc rest.0, rest.1)
 
 -- what stands before it, and after it
-pub parted : {X : Type 0} (x : X) (xs : List X) → Among x xs → (front : List X) × (back : List X) × (xs ≡ front ++ x ∷ back)
+pub parted : {X : Type 0} (x : X) (xs : List X) → Among x xs → (prefix : List X) × (back : List X) × (xs ≡ prefix ++ x ∷ back)
 unfolding Among
 parted x [] h = absurd h
 parted x (y ∷ ys) (inl e) = ([], ys, ap (λ z. z ∷ ys) (sym e))
@@ -34,25 +34,25 @@ within [] i x e = none_some refl e
 within (y ∷ ys) zero x e = omega arith
 within (y ∷ ys) (suc i) x e = let rest = within ys i x e in omega arith
 
--- what stands after a front
-pub next_at : {X : Type 0} (front later : List X) (x : X) → slice_get (front ++ later) (length front) ≡ Some x → (rest : List X) × (later ≡ x ∷ rest)
+-- what stands after a prefix
+pub next_at : {X : Type 0} (prefix later : List X) (x : X) → slice_get (prefix ++ later) (length prefix) ≡ Some x → (rest : List X) × (later ≡ x ∷ rest)
 next_at [] [] x e = none_some refl e
 next_at [] (y ∷ later) x e = (later, ap (λ z. z ∷ later) (same_some e))
-next_at (y ∷ front) later x e = next_at front later x e
+next_at (y ∷ prefix) later x e = next_at prefix later x e
 
-pub at_next : {X : Type 0} (front later : List X) (x : X) → slice_get (front ++ x ∷ later) (length front) ≡ Some x
+pub at_next : {X : Type 0} (prefix later : List X) (x : X) → slice_get (prefix ++ x ∷ later) (length prefix) ≡ Some x
 at_next [] later x = refl
-at_next (y ∷ front) later x = at_next front later x
+at_next (y ∷ prefix) later x = at_next prefix later x
 
--- two fronts of one list that are as long are one
-pub one_front : {X : Type 0} (a b xs ys : List X) → length a ≡ length b → a ++ xs ≡ b ++ ys → a ≡ b
-one_front [] [] xs ys many e = refl
-one_front [] (y ∷ b) xs ys many e = absurd (omega (arith, many))
-one_front (x ∷ a) [] xs ys many e = absurd (omega (arith, many))
-one_front (x ∷ a) (y ∷ b) xs ys many e =
+-- two prefixes of one list that are as long are one
+pub one_prefix : {X : Type 0} (a b xs ys : List X) → length a ≡ length b → a ++ xs ≡ b ++ ys → a ≡ b
+one_prefix [] [] xs ys many e = refl
+one_prefix [] (y ∷ b) xs ys many e = absurd (omega (arith, many))
+one_prefix (x ∷ a) [] xs ys many e = absurd (omega (arith, many))
+one_prefix (x ∷ a) (y ∷ b) xs ys many e =
     let first : x ≡ y = cc in
     let rest : a ++ xs ≡ b ++ ys = cc in
-    let later = one_front a b xs ys (omega (arith, many)) rest in
+    let later = one_prefix a b xs ys (omega (arith, many)) rest in
     λ i. first i ∷ later i
 
 -- a list of no member, and of one

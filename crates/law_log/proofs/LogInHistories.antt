@@ -23,12 +23,12 @@ At script records = world_after (setting_of script) (start (setting_of script)) 
 
 -- what is remembered is what was so in a world on the way
 abbrev pub Past : Script → List Record → Minded
-Past script records server inc front (Catches id) = WasStarted (setting_of script) records server inc front id
-Past script records server inc front (Waits blank) = WasReturning (setting_of script) records server inc blank
-Past script records server inc front Drains = WasDraining (setting_of script) records server inc front
-Past script records server inc front (Moves of region link) = WasMoving (setting_of script) records front of region link
+Past script records server inc prefix (Catches id) = WasStarted (setting_of script) records server inc prefix id
+Past script records server inc prefix (Waits blank) = WasReturning (setting_of script) records server inc blank
+Past script records server inc prefix Drains = WasDraining (setting_of script) records server inc prefix
+Past script records server inc prefix (Moves of region link) = WasMoving (setting_of script) records prefix of region link
 
--- a server that runs at a front of the records
+-- a server that runs at a prefix of the records
 abbrev ran_so : (script : Script) (records before : List Record) (own : Record) (later : List Record) → records ≡ before ++ own ∷ later → (n : ℕ)
     → ((At script before).servers n).life.running ≡ true
     → WasRunning (setting_of script) records n ((At script before).servers n).life.inc
@@ -81,50 +81,50 @@ chosen_is_called_for script records sound legal command i =
     called_for (setting_of script) (At script records) (sound_fair script sound) (logged script records sound legal) command i
 
 -- a Caught that is chosen acts after the entries before it, and its holder started the ballot there
-pub chosen_caught : (script : Script) (records : List Record) → IsSound script → AreSteps script records → (front : List Command)
+pub chosen_caught : (script : Script) (records : List Record) → IsSound script → AreSteps script records → (prefix : List Command)
     (of link holder inc other other_inc : ℕ)
-    → IsPrefix (front ++ Caught of link holder inc other other_inc ∷ []) (chosen_log (setting_of script) (At script records))
-    → IsCaughtAt script.servers (At script records).servers front of link holder inc other other_inc
-chosen_caught script records sound legal front of link holder inc other other_inc prefix =
+    → IsPrefix (prefix ++ Caught of link holder inc other other_inc ∷ []) (chosen_log (setting_of script) (At script records))
+    → IsCaughtAt script.servers (At script records).servers prefix of link holder inc other other_inc
+chosen_caught script records sound legal prefix of link holder inc other other_inc is_prefix =
     caught_at (setting_of script) (At script records) (sound_fair script sound)
-    (logged script records sound legal) front of link holder inc other other_inc prefix
+    (logged script records sound legal) prefix of link holder inc other other_inc is_prefix
 
 -- and its holder had it in mind there, on the way
-pub chosen_caught_was : (script : Script) (records : List Record) → IsSound script → AreSteps script records → (front : List Command)
+pub chosen_caught_was : (script : Script) (records : List Record) → IsSound script → AreSteps script records → (prefix : List Command)
     (of link holder inc other other_inc : ℕ)
-    → IsPrefix (front ++ Caught of link holder inc other other_inc ∷ []) (chosen_log (setting_of script) (At script records))
-    → WasStarted (setting_of script) records holder inc front (record { map = of; link = link })
-chosen_caught_was script records sound legal front of link holder inc other other_inc prefix =
+    → IsPrefix (prefix ++ Caught of link holder inc other other_inc ∷ []) (chosen_log (setting_of script) (At script records))
+    → WasStarted (setting_of script) records holder inc prefix (record { map = of; link = link })
+chosen_caught_was script records sound legal prefix of link holder inc other other_inc is_prefix =
     caught_was (setting_of script) (At script records) (sound_fair script sound) (logged script records sound legal)
-    front of link holder inc other other_inc prefix
+    prefix of link holder inc other other_inc is_prefix
 
 -- a report that is chosen counts there
-pub report_counts : (script : Script) (records : List Record) → IsSound script → AreSteps script records → (front : List Command)
-    (server inc fence : ℕ) → IsPrefix (front ++ Drained server inc fence ∷ []) (chosen_log (setting_of script) (At script records))
-    → IsReportAt script.servers front server inc fence
-report_counts script records sound legal front server inc fence prefix =
-    report_at (setting_of script) (At script records) (sound_fair script sound) (logged script records sound legal) front server inc fence prefix
+pub report_counts : (script : Script) (records : List Record) → IsSound script → AreSteps script records → (prefix : List Command)
+    (server inc fence : ℕ) → IsPrefix (prefix ++ Drained server inc fence ∷ []) (chosen_log (setting_of script) (At script records))
+    → IsReportAt script.servers prefix server inc fence
+report_counts script records sound legal prefix server inc fence is_prefix =
+    report_at (setting_of script) (At script records) (sound_fair script sound) (logged script records sound legal) prefix server inc fence is_prefix
 
 -- and its server had drained, on the way
-pub report_was_made : (script : Script) (records : List Record) → IsSound script → AreSteps script records → (front : List Command)
-    (server inc fence : ℕ) → IsPrefix (front ++ Drained server inc fence ∷ []) (chosen_log (setting_of script) (At script records))
-    → WasDraining (setting_of script) records server inc front
-report_was_made script records sound legal front server inc fence prefix =
-    report_was (setting_of script) (At script records) (sound_fair script sound) (logged script records sound legal) front server inc fence prefix
+pub report_was_made : (script : Script) (records : List Record) → IsSound script → AreSteps script records → (prefix : List Command)
+    (server inc fence : ℕ) → IsPrefix (prefix ++ Drained server inc fence ∷ []) (chosen_log (setting_of script) (At script records))
+    → WasDraining (setting_of script) records server inc prefix
+report_was_made script records sound legal prefix server inc fence is_prefix =
+    report_was (setting_of script) (At script records) (sound_fair script sound) (logged script records sound legal) prefix server inc fence is_prefix
 
 -- a Moved that is chosen was wanted, on the way, of a server that had nothing left to move
-pub moved_was_wanted : (script : Script) (records : List Record) → IsSound script → AreSteps script records → (front : List Command)
-    (of region link : ℕ) → IsPrefix (front ++ Moved of region link ∷ []) (chosen_log (setting_of script) (At script records))
-    → WasMoving (setting_of script) records front of region link
-moved_was_wanted script records sound legal front of region link prefix =
-    (moved_was (setting_of script) (At script records) (sound_fair script sound) (logged script records sound legal) front of region link prefix).2
+pub moved_was_wanted : (script : Script) (records : List Record) → IsSound script → AreSteps script records → (prefix : List Command)
+    (of region link : ℕ) → IsPrefix (prefix ++ Moved of region link ∷ []) (chosen_log (setting_of script) (At script records))
+    → WasMoving (setting_of script) records prefix of region link
+moved_was_wanted script records sound legal prefix of region link is_prefix =
+    (moved_was (setting_of script) (At script records) (sound_fair script sound) (logged script records sound legal) prefix of region link is_prefix).2
 
 -- a Join that is chosen acts there, and was wanted on the way
-pub chosen_join_acts : (script : Script) (records : List Record) → IsSound script → AreSteps script records → (front : List Command) (server inc : ℕ)
-    (blank : Bool) → IsPrefix (front ++ Join server inc blank ∷ []) (chosen_log (setting_of script) (At script records))
-    → may_join (slice_get (state_after script.servers front).view.members server) inc ≡ true
-chosen_join_acts script records sound legal front server inc blank prefix =
-    (join_at (setting_of script) (At script records) (sound_fair script sound) (logged script records sound legal) front server inc blank prefix).may
+pub chosen_join_acts : (script : Script) (records : List Record) → IsSound script → AreSteps script records → (prefix : List Command) (server inc : ℕ)
+    (blank : Bool) → IsPrefix (prefix ++ Join server inc blank ∷ []) (chosen_log (setting_of script) (At script records))
+    → may_join (slice_get (state_after script.servers prefix).view.members server) inc ≡ true
+chosen_join_acts script records sound legal prefix server inc blank is_prefix =
+    (join_at (setting_of script) (At script records) (sound_fair script sound) (logged script records sound legal) prefix server inc blank is_prefix).may
 
 pub join_was_wanted : (script : Script) (records : List Record) → IsSound script → AreSteps script records → (server inc : ℕ) (blank : Bool)
     → In (Join server inc blank) (chosen_log (setting_of script) (At script records)) → WasReturning (setting_of script) records server inc blank
@@ -137,18 +137,18 @@ join_has_begun script records sound legal server inc blank i =
     join_chosen (setting_of script) (At script records) (sound_fair script sound) (logged script records sound legal) server inc blank i
 
 -- a server that runs, and was In as itself, is so by the chosen state
-pub who_runs_is_in : (script : Script) (records : List Record) → IsSound script → AreSteps script records → (n : ℕ) (front : List Command)
-    → ((At script records).servers n).life.running ≡ true → IsPrefix front (chosen_log (setting_of script) (At script records))
-    → is_in (state_after script.servers front) n ((At script records).servers n).life.inc ≡ true
+pub who_runs_is_in : (script : Script) (records : List Record) → IsSound script → AreSteps script records → (n : ℕ) (prefix : List Command)
+    → ((At script records).servers n).life.running ≡ true → IsPrefix prefix (chosen_log (setting_of script) (At script records))
+    → is_in (state_after script.servers prefix) n ((At script records).servers n).life.inc ≡ true
     → is_in (chosen_state (setting_of script) (At script records)) n ((At script records).servers n).life.inc ≡ true
-who_runs_is_in script records sound legal n front runs prefix was =
-    runs_in (setting_of script) (At script records) (sound_fair script sound) (logged script records sound legal) n front runs prefix was
+who_runs_is_in script records sound legal n prefix runs is_prefix was =
+    runs_in (setting_of script) (At script records) (sound_fair script sound) (logged script records sound legal) n prefix runs is_prefix was
 
-pub out_has_stopped : (script : Script) (records : List Record) → IsSound script → AreSteps script records → (n inc : ℕ) (front : List Command)
-    → IsPrefix front (chosen_log (setting_of script) (At script records)) → is_in (state_after script.servers front) n inc ≡ true
+pub out_has_stopped : (script : Script) (records : List Record) → IsSound script → AreSteps script records → (n inc : ℕ) (prefix : List Command)
+    → IsPrefix prefix (chosen_log (setting_of script) (At script records)) → is_in (state_after script.servers prefix) n inc ≡ true
     → is_in (chosen_state (setting_of script) (At script records)) n inc ≡ false → HasStopped (At script records) n inc
-out_has_stopped script records sound legal n inc front prefix was out =
-    out_stopped (setting_of script) (At script records) (sound_fair script sound) (logged script records sound legal) n inc front prefix was out
+out_has_stopped script records sound legal n inc prefix is_prefix was out =
+    out_stopped (setting_of script) (At script records) (sound_fair script sound) (logged script records sound legal) n inc prefix is_prefix was out
 
 -- who is In has begun
 pub who_is_in_has_begun : (script : Script) (records : List Record) → IsSound script → AreSteps script records → (n inc : ℕ)
@@ -185,34 +185,34 @@ kept_incs script records sound legal n = (logged script records sound legal).is.
 
 -- ### A longer history
 
-pub world_joins : (setting : Setting) (w : World) (front back : List Record)
-    → world_after setting w (front ++ back) ≡ world_after setting (world_after setting w front) back
-world_joins setting w [] back = refl
-world_joins setting w (own ∷ front) back = world_joins setting (stepped setting w own).world front back
+pub world_joins : (setting : Setting) (w : World) (prefix suffix : List Record)
+    → world_after setting w (prefix ++ suffix) ≡ world_after setting (world_after setting w prefix) suffix
+world_joins setting w [] suffix = refl
+world_joins setting w (own ∷ prefix) suffix = world_joins setting (stepped setting w own).world prefix suffix
 
-pub latter : (setting : Setting) (w : World) (front back : List Record) → AreStepsFrom setting w (front ++ back)
-    → AreStepsFrom setting (world_after setting w front) back
-latter setting w [] back h = h
-latter setting w (own ∷ front) back h = latter setting (stepped setting w own).world front back h.1
+pub latter : (setting : Setting) (w : World) (prefix suffix : List Record) → AreStepsFrom setting w (prefix ++ suffix)
+    → AreStepsFrom setting (world_after setting w prefix) suffix
+latter setting w [] suffix h = h
+latter setting w (own ∷ prefix) suffix h = latter setting (stepped setting w own).world prefix suffix h.1
 
 -- nothing need be remembered
 abbrev nothing_minded : Minded
-nothing_minded server inc front mind = ⊤
+nothing_minded server inc prefix mind = ⊤
 
 nothing_remembered : (servers n : ℕ) (before later : Server) → Remembers nothing_minded servers n before later
 nothing_remembered servers n before later =
     record { waits = λ runs. tt; drains = λ runs drained. tt; moves = λ runs row region moved. tt; catches = λ id minded. tt }
 
 pub history_grows : (script : Script) (records : List Record) → IsSound script → AreSteps script records → Grows script records
-history_grows script records sound legal front back is =
+history_grows script records sound legal prefix suffix is =
     let setting = setting_of script in
     let fair = sound_fair script sound in
-    let whole : AreStepsFrom setting (start setting) (front ++ back) = subst (AreStepsFrom setting (start setting)) is legal in
-    let earlier = history_goes {Was = nothing_minded} setting fair front (start setting) (start_logged setting)
-    (steps_begin setting (start setting) front back whole) (λ before own later split n. nothing_remembered setting.servers n _ _) in
-    let rest = history_goes {Was = nothing_minded} setting fair back (At script front) earlier.logged
-    (latter setting (start setting) front back whole) (λ before own later split n. nothing_remembered setting.servers n _ _) in
-    let grown = grown_log setting (At script front) (world_after setting (At script front) back) fair rest.logged rest.grown in
-    let same : world_after setting (At script front) back ≡ At script records =
-    sym (ap (world_after setting (start setting)) is ∙ world_joins setting (start setting) front back) in
-    subst (λ w. IsPrefix (chosen_log setting (At script front)) (chosen_log setting w)) same grown
+    let whole : AreStepsFrom setting (start setting) (prefix ++ suffix) = subst (AreStepsFrom setting (start setting)) is legal in
+    let earlier = history_goes {Was = nothing_minded} setting fair prefix (start setting) (start_logged setting)
+    (steps_begin setting (start setting) prefix suffix whole) (λ before own later split n. nothing_remembered setting.servers n _ _) in
+    let rest = history_goes {Was = nothing_minded} setting fair suffix (At script prefix) earlier.logged
+    (latter setting (start setting) prefix suffix whole) (λ before own later split n. nothing_remembered setting.servers n _ _) in
+    let grown = grown_log setting (At script prefix) (world_after setting (At script prefix) suffix) fair rest.logged rest.grown in
+    let same : world_after setting (At script prefix) suffix ≡ At script records =
+    sym (ap (world_after setting (start setting)) is ∙ world_joins setting (start setting) prefix suffix) in
+    subst (λ w. IsPrefix (chosen_log setting (At script prefix)) (chosen_log setting w)) same grown

@@ -76,18 +76,18 @@ called_plain : (setting : Setting) (w : World) → IsFair setting → (c : Comma
 called_plain setting w fair c (inl s) = scripted_plain setting w fair c s
 called_plain setting w fair c (inr h) = lives_plain setting.servers w c h
 
-returns_plain : (servers : ℕ) (actors : ℕ → Server) (front : List Command) (c : Command) → Returns servers actors front c → HasProperTuple servers c
-returns_plain servers actors front (Caught of link holder inc other other_inc) h = tt
-returns_plain servers actors front (Join server inc blank) h = tt
-returns_plain servers actors front (Drained server inc fence) h = tt
-returns_plain servers actors front (Moved of region link) h = tt
-returns_plain servers actors front _ h = absurd h
+returns_plain : (servers : ℕ) (actors : ℕ → Server) (prefix : List Command) (c : Command) → Returns servers actors prefix c → HasProperTuple servers c
+returns_plain servers actors prefix (Caught of link holder inc other other_inc) h = tt
+returns_plain servers actors prefix (Join server inc blank) h = tt
+returns_plain servers actors prefix (Drained server inc fence) h = tt
+returns_plain servers actors prefix (Moved of region link) h = tt
+returns_plain servers actors prefix _ h = absurd h
 
 pub wanted_plain : {Was : Minded} (setting : Setting) (w : World) (p : schedule.World) → IsFair setting → (place : ℕ) (c : Command)
     → MayWant Was setting w w.servers p place c → HasProperTuple setting.servers c
 wanted_plain setting w p fair place c h = elim h.0 [
   | inl called ↦ called_plain setting w fair c called.0
-  | inr returns ↦ returns_plain setting.servers w.servers returns.front c returns.is
+  | inr returns ↦ returns_plain setting.servers w.servers returns.prefix c returns.is
 ]
 
 -- what a line of a script calls for: a disk, a snapshot, a move, or a Witness

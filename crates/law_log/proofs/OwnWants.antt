@@ -76,7 +76,7 @@ module _ (it : ServerStep) (runs : (it.w.servers it.n).life.running ≡ true) (r
       let flagged : is_flagged (proposed here.state (w.servers n).own started_for) (id_of caught.row) ≡ true =
       ap (λ o. is_flagged (proposed here.state (w.servers n).own o) (id_of caught.row)) first_is ∙ caught_minded here (w.servers n).own c caught found in (
         inr (record {
-          front = (w.servers n).log.applied;
+          prefix = (w.servers n).log.applied;
           told = applied_told;
           is = subst (Returns setting.servers (put_at w.servers n starts_to) (w.servers n).log.applied) (sym caught.is) (record {
             may = caught_may here (w.servers n).own c caught found;
@@ -93,7 +93,7 @@ module _ (it : ServerStep) (runs : (it.w.servers it.n).life.running ≡ true) (r
                 ));
           });
           was = subst (WasMinded Was (w.servers n).log.applied) (sym caught.is)
-              (subst (λ (front : List Command). Was n here.inc front (Catches (id_of caught.row)))
+              (subst (λ (prefix : List Command). Was n here.inc prefix (Catches (id_of caught.row)))
               (start_applied (voter_of here) (w.servers n).log (wanted_by here (w.servers n))) (remembers.catches (id_of caught.row) flagged));
         }),
         reached_next setting w l n,
@@ -104,7 +104,7 @@ module _ (it : ServerStep) (runs : (it.w.servers it.n).life.running ≡ true) (r
       → c ≡ Join n here.inc (w.servers n).own.store.fresh → Good starts_to (next_place (w.servers n).log) c
   good_join remembers c may is = (
     inr (record {
-      front = (w.servers n).log.applied;
+      prefix = (w.servers n).log.applied;
       told = applied_told;
       is = subst (Returns setting.servers (put_at w.servers n starts_to) (w.servers n).log.applied) (sym is) (record {
         may = may;
@@ -130,7 +130,7 @@ module _ (it : ServerStep) (runs : (it.w.servers it.n).life.running ≡ true) (r
       → Good starts_to (next_place (w.servers n).log) c
   good_report remembers c report = (
     inr (record {
-      front = (w.servers n).log.applied;
+      prefix = (w.servers n).log.applied;
       told = applied_told;
       is = subst (Returns setting.servers (put_at w.servers n starts_to) (w.servers n).log.applied) (sym report.is)
           (record { seated = report.seated; active = report.active; is = report.heads; number = refl; awaited = report.awaited });
@@ -145,7 +145,7 @@ module _ (it : ServerStep) (runs : (it.w.servers it.n).life.running ≡ true) (r
   good_moved remembers c move =
       let found = own_plain.found move.row move.there in (
         inr (record {
-          front = (w.servers n).log.applied;
+          prefix = (w.servers n).log.applied;
           told = applied_told;
           is = subst (Returns setting.servers (put_at w.servers n starts_to) (w.servers n).log.applied) (sym move.is)
               (record { server = n; inc = here.inc; seated = move.seated; row = move.row; linked = found; moves = move.moves });

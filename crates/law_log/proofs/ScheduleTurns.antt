@@ -251,11 +251,12 @@ no_posts post h = absurd h
 
 -- ### A server stops
 
-pub wanted_on : (front back : List Event) (place : ℕ) (c : Command) → IsWanted (front ++ back) place c → IsWanted front place c ⊎ IsWanted back place c
-wanted_on [] back place c h = inr h
-wanted_on (Starts s at round want end ∷ front) back place c (inl is) = inl (inl is)
-wanted_on (Starts s at round want end ∷ front) back place c (inr h) = elim (wanted_on front back place c h) [ inl old ↦ inl (inr old) | inr new ↦ inr new ]
-wanted_on (_ ∷ front) back place c h = wanted_on front back place c h
+pub wanted_on : (prefix suffix : List Event) (place : ℕ) (c : Command) → IsWanted (prefix ++ suffix) place c → IsWanted prefix place c ⊎ IsWanted suffix place c
+wanted_on [] suffix place c h = inr h
+wanted_on (Starts s at round want end ∷ prefix) suffix place c (inl is) = inl (inl is)
+wanted_on (Starts s at round want end ∷ prefix) suffix place c (inr h) =
+    elim (wanted_on prefix suffix place c h) [ inl old ↦ inl (inr old) | inr new ↦ inr new ]
+wanted_on (_ ∷ prefix) suffix place c h = wanted_on prefix suffix place c h
 
 -- what it did stands, and nothing of what it would send
 pub stop_turn : (servers n : ℕ) (log : Log) (posts : List Post) (p : World) (Good : ℕ → Command → Type 0) → HasTurn servers n true log posts p Good

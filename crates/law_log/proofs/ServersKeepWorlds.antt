@@ -84,19 +84,19 @@ begun_by : (before later : Server) → KeepsStarted before later → (inc : ℕ)
 begun_by before later (inl lt) inc le = omega arith
 begun_by before later (inr kept) inc le = let e = kept.0 in omega arith
 
-returns_more : (servers : ℕ) (actors later : ℕ → Server) → ((s : ℕ) → KeepsStarted (actors s) (later s)) → (front : List Command) (c : Command)
-    → Returns servers actors front c → Returns servers later front c
-returns_more servers actors later keeps front (Join server inc blank) h =
+returns_more : (servers : ℕ) (actors later : ℕ → Server) → ((s : ℕ) → KeepsStarted (actors s) (later s)) → (prefix : List Command) (c : Command)
+    → Returns servers actors prefix c → Returns servers later prefix c
+returns_more servers actors later keeps prefix (Join server inc blank) h =
     record { may = h.may; later = h.later; begun = begun_by (actors server) (later server) (keeps server) inc h.begun }
-returns_more servers actors later keeps front (Caught of link holder inc other other_inc) h = record {
+returns_more servers actors later keeps prefix (Caught of link holder inc other other_inc) h = record {
   may = h.may;
   holds = h.holds;
   joins = h.joins;
-  started = started_by (actors holder) (later holder) (keeps holder) inc (length front) (record { map = of; link = link }) h.started;
+  started = started_by (actors holder) (later holder) (keeps holder) inc (length prefix) (record { map = of; link = link }) h.started;
 }
-returns_more servers actors later keeps front (Drained server inc fence) h = h
-returns_more servers actors later keeps front (Moved of region link) h = h
-returns_more servers actors later keeps front _ h = absurd h
+returns_more servers actors later keeps prefix (Drained server inc fence) h = h
+returns_more servers actors later keeps prefix (Moved of region link) h = h
+returns_more servers actors later keeps prefix _ h = absurd h
 
 pub may_more : {Was : Minded} (setting : Setting) (w v : World) (actors later : ℕ → Server) (p q : schedule.World)
     → ((c : Command) → IsCalledAnywhere setting w c → IsCalledAnywhere setting v c)
@@ -106,9 +106,9 @@ may_more setting w v actors later p q more keeps letters place c h = (
   elim h.0 [
     | inl called ↦ inl (more c called)
     | inr returns ↦ inr (record {
-      front = returns.front;
+      prefix = returns.prefix;
       told = record { many = returns.told.many; told = λ i d e. told_more p q letters (i + 1) d (returns.told.told i d e) };
-      is = returns_more setting.servers actors later keeps returns.front c returns.is;
+      is = returns_more setting.servers actors later keeps returns.prefix c returns.is;
       was = returns.was;
     })
   ],

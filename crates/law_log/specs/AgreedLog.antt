@@ -35,9 +35,9 @@ pub record IsReached (p : schedule.World) (place : ℕ) : Type 0 where
   pub told : (i : ℕ) → i + 1 < place → (command : Command) × IsTold p (i + 1) command
 
 -- these commands were told for the places before this one
-pub record IsToldBefore (p : schedule.World) (place : ℕ) (front : List Command) : Type 0 where
-  pub many : length front + 1 ≡ place
-  pub told : (i : ℕ) (command : Command) → slice_get front i ≡ Some command → IsTold p (i + 1) command
+pub record IsToldBefore (p : schedule.World) (place : ℕ) (prefix : List Command) : Type 0 where
+  pub many : length prefix + 1 ≡ place
+  pub told : (i : ℕ) (command : Command) → slice_get prefix i ≡ Some command → IsTold p (i + 1) command
 
 -- what is remembered of a server that started a ballot: that it had the Caught of this link in mind then, whether its store waited to be
 -- filled before, that before it had no client's write under way on a cell of which the active fence held the writes, or that it was to move
@@ -50,36 +50,36 @@ pub data Mind : Type 0 where
 
 -- it was so of the server as this incarnation and with these entries applied
 abbrev pub Minded : Type 1
-Minded = (server inc : ℕ) (front : List Command) → Mind → Type 0
+Minded = (server inc : ℕ) (prefix : List Command) → Mind → Type 0
 
 -- it was so after these entries of the Caught's holder, of the Join's or the report's server, or of one that moved
-abbrev pub WasMinded : Minded → (front : List Command) → Command → Type 0
-WasMinded Was front (Caught of link holder inc other other_inc) = Was holder inc front (Catches (record { map = of; link = link }))
-WasMinded Was front (Join server inc blank) = Was server inc front (Waits blank)
-WasMinded Was front (Drained server inc fence) = Was server inc front Drains
-WasMinded Was front (Moved of region link) = (server : ℕ) × (inc : ℕ) × Was server inc front (Moves of region link)
-WasMinded Was front _ = ⊤
+abbrev pub WasMinded : Minded → (prefix : List Command) → Command → Type 0
+WasMinded Was prefix (Caught of link holder inc other other_inc) = Was holder inc prefix (Catches (record { map = of; link = link }))
+WasMinded Was prefix (Join server inc blank) = Was server inc prefix (Waits blank)
+WasMinded Was prefix (Drained server inc fence) = Was server inc prefix Drains
+WasMinded Was prefix (Moved of region link) = (server : ℕ) × (inc : ℕ) × Was server inc prefix (Moves of region link)
+WasMinded Was prefix _ = ⊤
 
 -- after these entries the Join acts, of an incarnation after the first that has begun
-pub record IsJoinAt (servers : ℕ) (actors : ℕ → Server) (front : List Command) (server inc : ℕ) : Type 0 where
-  pub may : may_join (slice_get (state_after servers front).view.members server) inc ≡ true
+pub record IsJoinAt (servers : ℕ) (actors : ℕ → Server) (prefix : List Command) (server inc : ℕ) : Type 0 where
+  pub may : may_join (slice_get (state_after servers prefix).view.members server) inc ≡ true
   pub later : 1 < inc
   pub begun : inc ≤ (actors server).life.inc
 
 -- the command acts after these entries, as a Caught, a Join, a report to the active fence or a Moved
-abbrev pub Returns : (servers : ℕ) → (actors : ℕ → Server) → (front : List Command) → Command → Type 0
-Returns servers actors front (Caught of link holder inc other other_inc) = IsCaughtAt servers actors front of link holder inc other other_inc
-Returns servers actors front (Join server inc blank) = IsJoinAt servers actors front server inc
-Returns servers actors front (Drained server inc fence) = IsReportAt servers front server inc fence
-Returns servers actors front (Moved of region link) = IsMovedAt servers front of region link
-Returns servers actors front _ = ⊥
+abbrev pub Returns : (servers : ℕ) → (actors : ℕ → Server) → (prefix : List Command) → Command → Type 0
+Returns servers actors prefix (Caught of link holder inc other other_inc) = IsCaughtAt servers actors prefix of link holder inc other other_inc
+Returns servers actors prefix (Join server inc blank) = IsJoinAt servers actors prefix server inc
+Returns servers actors prefix (Drained server inc fence) = IsReportAt servers prefix server inc fence
+Returns servers actors prefix (Moved of region link) = IsMovedAt servers prefix of region link
+Returns servers actors prefix _ = ⊥
 
 -- it does so after what was told for the places before this one
 pub record IsReturnFor (Was : Minded) (servers : ℕ) (actors : ℕ → Server) (p : schedule.World) (place : ℕ) (command : Command) : Type 0 where
-  pub front : List Command
-  pub told : IsToldBefore p place front
-  pub is : Returns servers actors front command
-  pub was : WasMinded Was front command
+  pub prefix : List Command
+  pub told : IsToldBefore p place prefix
+  pub is : Returns servers actors prefix command
+  pub was : WasMinded Was prefix command
 
 abbrev pub is_join : Command → Bool
 is_join (Join server inc blank) = true

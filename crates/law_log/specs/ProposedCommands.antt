@@ -61,19 +61,19 @@ IsCalledFor setting w command = IsScripted setting w command ⊎ IsOfLives w com
 -- ### Caughts
 
 -- after these entries the Caught acts: the holder has the link alone, and both servers are In; and the holder started its ballot there
-pub record IsCaughtAt (servers : ℕ) (actors : ℕ → Server) (front : List Command) (of link holder inc other other_inc : ℕ) : Type 0 where
-  pub may : may_catch holder other (link_at (state_after servers front).links of link) ≡ true
-  pub holds : is_in (state_after servers front) holder inc ≡ true
-  pub joins : is_in (state_after servers front) other other_inc ≡ true
-  pub started : HasStarted actors holder inc (length front) (record { map = of; link = link })
+pub record IsCaughtAt (servers : ℕ) (actors : ℕ → Server) (prefix : List Command) (of link holder inc other other_inc : ℕ) : Type 0 where
+  pub may : may_catch holder other (link_at (state_after servers prefix).links of link) ≡ true
+  pub holds : is_in (state_after servers prefix) holder inc ≡ true
+  pub joins : is_in (state_after servers prefix) other other_inc ≡ true
+  pub started : HasStarted actors holder inc (length prefix) (record { map = of; link = link })
 
 -- ### Reports to fences
 
 -- after these entries the report counts: the server is In, and the active fence has this number and awaits it
-pub record IsReportAt (servers : ℕ) (front : List Command) (server inc fence : ℕ) : Type 0 where
-  pub seated : is_in (state_after servers front) server inc ≡ true
+pub record IsReportAt (servers : ℕ) (prefix : List Command) (server inc fence : ℕ) : Type 0 where
+  pub seated : is_in (state_after servers prefix) server inc ≡ true
   pub active : Fence
-  pub is : head (state_after servers front).view.queue ≡ Some active
+  pub is : head (state_after servers prefix).view.queue ≡ Some active
   pub number : active.number ≡ fence
   pub awaited : awaits active server ≡ true
 
@@ -87,56 +87,56 @@ pub record WasRunning (setting : Setting) (records : List Record) (server inc : 
   pub runs : ((world_after setting (start setting) before).servers server).life.running ≡ true
 
 -- it did so with these entries applied, and none of its clients' writes was under way on a cell of which the active fence held the writes
-pub record WasDraining (setting : Setting) (records : List Record) (server inc : ℕ) (front : List Command) : Type 0 where
+pub record WasDraining (setting : Setting) (records : List Record) (server inc : ℕ) (prefix : List Command) : Type 0 where
   pub ran : WasRunning setting records server inc
   pub open ran use *
-  pub at : ((world_after setting (start setting) before).servers server).log.applied ≡ front
-  pub drained : has_held_write (state_after setting.servers front) ((world_after setting (start setting) before).servers server).own ≡ false
+  pub at : ((world_after setting (start setting) before).servers server).log.applied ≡ prefix
+  pub drained : has_held_write (state_after setting.servers prefix) ((world_after setting (start setting) before).servers server).own ≡ false
 
 -- ### Moves
 
 -- after these entries the Moved counts: a server that is In is to move the region of the link
-pub record IsMovedAt (servers : ℕ) (front : List Command) (of region link : ℕ) : Type 0 where
+pub record IsMovedAt (servers : ℕ) (prefix : List Command) (of region link : ℕ) : Type 0 where
   pub server : ℕ
   pub inc : ℕ
-  pub seated : is_in (state_after servers front) server inc ≡ true
+  pub seated : is_in (state_after servers prefix) server inc ≡ true
   pub row : LinkRow
-  pub linked : link_at (state_after servers front).links of link ≡ Some row
-  pub moves : region_to_move (state_after servers front) server row ≡ Some region
+  pub linked : link_at (state_after servers prefix).links of link ≡ Some row
+  pub moves : region_to_move (state_after servers prefix) server row ≡ Some region
 
 -- on the way such a server ran as the incarnation by which it was In, with these entries applied, and nothing was left of the link's blocks of
 -- the region; and then it took one step more
-pub record WasMoving (setting : Setting) (records : List Record) (front : List Command) (of region link : ℕ) : Type 0 where
-  pub moving : IsMovedAt setting.servers front of region link
+pub record WasMoving (setting : Setting) (records : List Record) (prefix : List Command) (of region link : ℕ) : Type 0 where
+  pub moving : IsMovedAt setting.servers prefix of region link
   pub open moving use *
   pub ran : WasRunning setting records server inc
   pub open ran use *
-  pub at : ((world_after setting (start setting) before).servers server).log.applied ≡ front
-  pub left : fill_of (state_after setting.servers front) server row ((world_after setting (start setting) before).servers server).own ≡ None
+  pub at : ((world_after setting (start setting) before).servers server).log.applied ≡ prefix
+  pub left : fill_of (state_after setting.servers prefix) server row ((world_after setting (start setting) before).servers server).own ≡ None
 
 -- ### What servers want of themselves
 
 -- the command is a Caught, a report to a fence, or a Moved, that counts after these entries
-abbrev pub IsWantedAt : (servers : ℕ) → (actors : ℕ → Server) → (front : List Command) → Command → Type 0
-IsWantedAt servers actors front (Caught of link holder inc other other_inc) = IsCaughtAt servers actors front of link holder inc other other_inc
-IsWantedAt servers actors front (Drained server inc fence) = IsReportAt servers front server inc fence
-IsWantedAt servers actors front (Moved of region link) = IsMovedAt servers front of region link
-IsWantedAt servers actors front _ = ⊥
+abbrev pub IsWantedAt : (servers : ℕ) → (actors : ℕ → Server) → (prefix : List Command) → Command → Type 0
+IsWantedAt servers actors prefix (Caught of link holder inc other other_inc) = IsCaughtAt servers actors prefix of link holder inc other other_inc
+IsWantedAt servers actors prefix (Drained server inc fence) = IsReportAt servers prefix server inc fence
+IsWantedAt servers actors prefix (Moved of region link) = IsMovedAt servers prefix of region link
+IsWantedAt servers actors prefix _ = ⊥
 
 -- the command stands in the chosen log as such a one after the entries before it
 pub record WasWanted (setting : Setting) (w : World) (command : Command) : Type 0 where
-  pub front : List Command
-  pub stands : IsPrefix (front ++ command ∷ []) (chosen_log setting w)
-  pub is : IsWantedAt setting.servers w.servers front command
+  pub prefix : List Command
+  pub stands : IsPrefix (prefix ++ command ∷ []) (chosen_log setting w)
+  pub is : IsWantedAt setting.servers w.servers prefix command
 
 -- on the way the holder, as this incarnation and with these entries applied, had in mind that it had started a ballot for the link's
 -- Caught
-pub record WasStarted (setting : Setting) (records : List Record) (holder inc : ℕ) (front : List Command) (id : LinkId) : Type 0 where
+pub record WasStarted (setting : Setting) (records : List Record) (holder inc : ℕ) (prefix : List Command) (id : LinkId) : Type 0 where
   pub before : List Record
   pub later : List Record
   pub is : records ≡ before ++ later
   pub lives : ((world_after setting (start setting) before).servers holder).life.inc ≡ inc
-  pub at : ((world_after setting (start setting) before).servers holder).log.applied ≡ front
+  pub at : ((world_after setting (start setting) before).servers holder).log.applied ≡ prefix
   pub minded : is_flagged ((world_after setting (start setting) before).servers holder).own id ≡ true
 
 -- on the way the server ran as this incarnation, and its store waited to be filled or not; and then it took one step more

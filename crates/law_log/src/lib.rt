@@ -46,39 +46,39 @@ pub fn chosen_commands_are_the_scripts()
         → IsCalledFor (setting_of script) (world_after (setting_of script) (start (setting_of script)) records) command
         ⊎ WasWanted (setting_of script) (world_after (setting_of script) (start (setting_of script)) records) command }
     ensures caught { (script : Script) (records : List Record) → IsSound script → AreSteps script records
-        → (front : List Command) (of link holder inc other other_inc : ℕ) → IsPrefix (front ++ Caught of link holder inc other other_inc ∷ [])
+        → (prefix : List Command) (of link holder inc other other_inc : ℕ) → IsPrefix (prefix ++ Caught of link holder inc other other_inc ∷ [])
         (chosen_log (setting_of script) (world_after (setting_of script) (start (setting_of script)) records))
-        → IsCaughtAt script.servers (world_after (setting_of script) (start (setting_of script)) records).servers front of link holder inc other other_inc }
+        → IsCaughtAt script.servers (world_after (setting_of script) (start (setting_of script)) records).servers prefix of link holder inc other other_inc }
 {}
 
 /// The holder of a link whose Caught is chosen had it in mind, on the way, that it had started a ballot for it: as the incarnation that the
 /// Caught names, and with no entries applied but those before it.
 pub fn a_chosen_caught_was_started()
     ensures { (script : Script) (records : List Record) → IsSound script → AreSteps script records
-        → (front : List Command) (of link holder inc other other_inc : ℕ) → IsPrefix (front ++ Caught of link holder inc other other_inc ∷ [])
+        → (prefix : List Command) (of link holder inc other other_inc : ℕ) → IsPrefix (prefix ++ Caught of link holder inc other other_inc ∷ [])
         (chosen_log (setting_of script) (world_after (setting_of script) (start (setting_of script)) records))
-        → WasStarted (setting_of script) records holder inc front (record { map = of; link = link }) }
+        → WasStarted (setting_of script) records holder inc prefix (record { map = of; link = link }) }
 {}
 
 /// A report that is chosen counts: after the entries before it the active fence awaits the server. And on the way the server, with no entries
 /// applied but those, had no client's write under way that the fence held.
 pub fn a_chosen_report_was_made()
     ensures counts { (script : Script) (records : List Record)
-        → IsSound script → AreSteps script records → (front : List Command) (server inc fence : ℕ) → IsPrefix
-        (front ++ Drained server inc fence ∷ []) (chosen_log (setting_of script) (world_after (setting_of script) (start (setting_of script)) records))
-        → IsReportAt script.servers front server inc fence }
+        → IsSound script → AreSteps script records → (prefix : List Command) (server inc fence : ℕ) → IsPrefix
+        (prefix ++ Drained server inc fence ∷ []) (chosen_log (setting_of script) (world_after (setting_of script) (start (setting_of script)) records))
+        → IsReportAt script.servers prefix server inc fence }
     ensures made { (script : Script) (records : List Record)
-        → IsSound script → AreSteps script records → (front : List Command) (server inc fence : ℕ) → IsPrefix
-        (front ++ Drained server inc fence ∷ []) (chosen_log (setting_of script) (world_after (setting_of script) (start (setting_of script)) records))
-        → WasDraining (setting_of script) records server inc front }
+        → IsSound script → AreSteps script records → (prefix : List Command) (server inc fence : ℕ) → IsPrefix
+        (prefix ++ Drained server inc fence ∷ []) (chosen_log (setting_of script) (world_after (setting_of script) (start (setting_of script)) records))
+        → WasDraining (setting_of script) records server inc prefix }
 {}
 
 /// A Moved that is chosen was wanted: after the entries before it some server was to move the region of the link. And on the way that server,
 /// with no entries applied but those, had nothing left of the link's blocks of the region.
 pub fn a_chosen_moved_was_wanted()
-    ensures { (script : Script) (records : List Record) → IsSound script → AreSteps script records → (front : List Command) (of region link : ℕ)
-        → IsPrefix (front ++ Moved of region link ∷ []) (chosen_log (setting_of script) (world_after (setting_of script) (start (setting_of script)) records))
-        → WasMoving (setting_of script) records front of region link }
+    ensures { (script : Script) (records : List Record) → IsSound script → AreSteps script records → (prefix : List Command) (of region link : ℕ)
+        → IsPrefix (prefix ++ Moved of region link ∷ []) (chosen_log (setting_of script) (world_after (setting_of script) (start (setting_of script)) records))
+        → WasMoving (setting_of script) records prefix of region link }
 {}
 
 /// A server whose Join is chosen ran on the way as the incarnation that the Join names, and its store waited to be filled or not, as the Join
@@ -87,24 +87,25 @@ pub fn a_chosen_join_was_wanted()
     ensures wanted { (script : Script) (records : List Record) → IsSound script → AreSteps script records → (server inc : ℕ) (blank : Bool)
         → In (Join server inc blank) (chosen_log (setting_of script) (world_after (setting_of script) (start (setting_of script)) records))
         → WasReturning (setting_of script) records server inc blank }
-    ensures acts { (script : Script) (records : List Record) → IsSound script → AreSteps script records → (front : List Command) (server inc : ℕ) (blank : Bool)
-        → IsPrefix (front ++ Join server inc blank ∷ []) (chosen_log (setting_of script) (world_after (setting_of script) (start (setting_of script)) records))
-        → may_join (slice_get (state_after script.servers front).view.members server) inc ≡ true }
+    ensures acts { (script : Script) (records : List Record) → IsSound script → AreSteps script records
+        → (prefix : List Command) (server inc : ℕ) (blank : Bool)
+        → IsPrefix (prefix ++ Join server inc blank ∷ []) (chosen_log (setting_of script) (world_after (setting_of script) (start (setting_of script)) records))
+        → may_join (slice_get (state_after script.servers prefix).view.members server) inc ≡ true }
 {}
 
-/// An incarnation that was In by a front of the chosen log, and is not by all of it, has stopped: so a server that runs, and was In as
+/// An incarnation that was In by a prefix of the chosen log, and is not by all of it, has stopped: so a server that runs, and was In as
 /// itself, still is. Whoever is In is so with an incarnation that has begun. An incarnation whose Leave is chosen, or of which a
 /// Down tells, has stopped. Incarnations count from 1, stay so where no server boots, and a server's is the one on its state device.
 pub fn what_is_out_has_stopped()
-    ensures stopped { (script : Script) (records : List Record) (n inc : ℕ) (front : List Command) → IsSound script
-        → AreSteps script records → IsPrefix front (chosen_log (setting_of script) (world_after (setting_of script) (start (setting_of script)) records))
-        → is_in (state_after script.servers front) n inc ≡ true
+    ensures stopped { (script : Script) (records : List Record) (n inc : ℕ) (prefix : List Command) → IsSound script
+        → AreSteps script records → IsPrefix prefix (chosen_log (setting_of script) (world_after (setting_of script) (start (setting_of script)) records))
+        → is_in (state_after script.servers prefix) n inc ≡ true
         → is_in (chosen_state (setting_of script) (world_after (setting_of script) (start (setting_of script)) records)) n inc ≡ false
         → HasStopped (world_after (setting_of script) (start (setting_of script)) records) n inc }
-    ensures runs { (script : Script) (records : List Record) (n : ℕ) (front : List Command) → IsSound script
+    ensures runs { (script : Script) (records : List Record) (n : ℕ) (prefix : List Command) → IsSound script
         → AreSteps script records → ((world_after (setting_of script) (start (setting_of script)) records).servers n).life.running ≡ true
-        → IsPrefix front (chosen_log (setting_of script) (world_after (setting_of script) (start (setting_of script)) records))
-        → is_in (state_after script.servers front) n ((world_after (setting_of script) (start (setting_of script)) records).servers n).life.inc ≡ true
+        → IsPrefix prefix (chosen_log (setting_of script) (world_after (setting_of script) (start (setting_of script)) records))
+        → is_in (state_after script.servers prefix) n ((world_after (setting_of script) (start (setting_of script)) records).servers n).life.inc ≡ true
         → is_in (chosen_state (setting_of script) (world_after (setting_of script) (start (setting_of script)) records)) n
         ((world_after (setting_of script) (start (setting_of script)) records).servers n).life.inc ≡ true }
     ensures one { (script : Script) (records : List Record) (n : ℕ) → IsSound script → AreSteps script records

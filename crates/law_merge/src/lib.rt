@@ -50,10 +50,10 @@ pub fn a_servers_own_hand_is_the_operators()
 
 /// Joined records with one more that is joined to them are joined.
 pub fn joined_records_grow()
-    ensures { (script : Script) (front : List Record) (own : Record) → AreJoinedIn script front
-        → IsJoined (setting_of script) (world_after (setting_of script) (start (setting_of script)) front)
-        (errand_along (setting_of script) (start (setting_of script)) no_errand front) own
-        → AreJoinedIn script (front ++ own ∷ []) }
+    ensures { (script : Script) (prefix : List Record) (own : Record) → AreJoinedIn script prefix
+        → IsJoined (setting_of script) (world_after (setting_of script) (start (setting_of script)) prefix)
+        (errand_along (setting_of script) (start (setting_of script)) no_errand prefix) own
+        → AreJoinedIn script (prefix ++ own ∷ []) }
 {}
 
 /// What an actor is in the world is what its own records make of it.
@@ -75,11 +75,11 @@ pub fn a_called_line_is_open_or_answered()
         → IsOpenOrAnswered (world_after (setting_of script) (start (setting_of script)) records) caller line.number }
 {}
 
-/// Where each client, by its own records of a front, has done the phases before one, each line of theirs was answered from then on.
+/// Where each client, by its own records of a prefix, has done the phases before one, each line of theirs was answered from then on.
 pub fn ended_phases_are_answered()
-    ensures { (script : Script) (front back : List Record) (phase : ℕ) (line : Line) → AreSteps script (front ++ back)
-        → HaveDone script phase front → In line script.lines → line.phase < phase
-        → IsAnswered (world_after (setting_of script) (start (setting_of script)) (front ++ back)).answers line.number }
+    ensures { (script : Script) (prefix suffix : List Record) (phase : ℕ) (line : Line) → AreSteps script (prefix ++ suffix)
+        → HaveDone script phase prefix → In line script.lines → line.phase < phase
+        → IsAnswered (world_after (setting_of script) (start (setting_of script)) (prefix ++ suffix)).answers line.number }
 {}
 
 /// Where each server's own records keep to the lines that name it, and what a line gives comes while it is the operator's last one, the

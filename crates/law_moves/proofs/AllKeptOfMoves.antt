@@ -1,4 +1,4 @@
--- What is kept of moves after the records of a history, all of it: each step keeps it where it held after each front of the records.
+-- What is kept of moves after the records of a history, all of it: each step keeps it where it held after each prefix of the records.
 use Rattle.law_moves.proofs.Imports.{◌++◌, ◌+◌, ◌≡◌, ◌≤◌, At, Cell, Chain, Command, In, IsPrefix, Key, LinkId, List, OneMore, Pending, Record, Script}
 use Rattle.law_moves.proofs.Imports.{Setting, Some, WasThere, World, at, cell_cmp, cell_of, chain_in, chosen_log, chosen_state, epoch_at, false, is_clients}
 use Rattle.law_moves.proofs.Imports.{link_cmp, place_by, progress, setting_of, stage_at, state_after, true, ℕ}
@@ -15,15 +15,15 @@ AreFrozenEarly setting w = (cell : Cell) (before : Chain) (epoch : ℕ) → w.fr
 -- the last key of a link of which a server was told is of the link's map, and of a region that was leaving by some of the server's entries
 pub record HasBegun (setting : Setting) (log : List Command) (id : LinkId) (last : Key) : Type 0 where
   pub map : last.map ≡ id.map
-  pub front : List Command
-  pub lies : IsPrefix front log
-  pub leaves : stage_at (state_after setting.servers front) (cell_of last) ≡ 3
+  pub prefix : List Command
+  pub lies : IsPrefix prefix log
+  pub leaves : stage_at (state_after setting.servers prefix) (cell_of last) ≡ 3
 
 abbrev pub HaveBegun : Setting → World → Type 0
 HaveBegun setting w = (y : ℕ) (id : LinkId) (last : Key) → at link_cmp (w.servers y).own.filled id ≡ Some last
     → HasBegun setting (w.servers y).log.applied id last
 
--- of a cell that is leaving, or has left, no second server will put what its lead asked for: each such letter of a front of the log at which the
+-- of a cell that is leaving, or has left, no second server will put what its lead asked for: each such letter of a prefix of the log at which the
 -- server is second is one that it followed, at this place
 abbrev pub HaveFollowed : Setting → World → Type 0
 HaveFollowed setting w = (s : IsSecondAt setting w) (a : AsksToPut s.f s.cell) → 3 ≤ stage_at (chosen_state setting w) s.cell → In a.letter w.sent
@@ -59,7 +59,7 @@ pub record Knows (setting : Setting) (records : List Record) (w : World) : Type 
   pub newest : AllNewest setting w
   pub numbered : AreNumbered w
 
--- after these records, and after each front of them
+-- after these records, and after each prefix of them
 abbrev pub Known : Script → List Record → Type 0
 Known script records = Knows (setting_of script) records (At script records)
 

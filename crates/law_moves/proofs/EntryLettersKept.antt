@@ -2,9 +2,9 @@
 use Rattle.law_moves.proofs.Imports.{[], ◌&&◌, ◌<◌, ◌||◌, ◌∙◌, ◌∷◌, ◌≡◌, Body, Cell, Chain, Command, Fills, Handled, HasProperTuples, In, IsNextFill}
 use Rattle.law_moves.proofs.Imports.{IsPrefix, Is_next, Is_other, Key, Letter, List, OneMore, PairState, Pending, Post, Server, Some, State, Stood, Store}
 use Rattle.law_moves.proofs.Imports.{Table, Writes, ap, at, at-empty, cell_cmp, cell_of, chain_in, chosen_log, comes_before, did_come, did_fills, ends_of}
-use Rattle.law_moves.proofs.Imports.{false, front_on, front_plain, id_of, is_clients, is_fill, is_of_entries, key_at, length, link_named, log_plain, log_rev}
-use Rattle.law_moves.proofs.Imports.{nat_cmp, nat_lt, next_on, none_some, number_itself, or_true, own_place, refl, same_some, server_state, source}
-use Rattle.law_moves.proofs.Imports.{stage_facts, subject_of, subst, sym, true, true_false, ℕ}
+use Rattle.law_moves.proofs.Imports.{false, id_of, is_clients, is_fill, is_of_entries, key_at, length, less_test, link_named, log_plain, log_rev, nat_cmp}
+use Rattle.law_moves.proofs.Imports.{nat_lt, next_on, none_some, number_itself, or_true, own_place, prefix_on, prefix_plain, refl, same_some, server_state}
+use Rattle.law_moves.proofs.Imports.{source, stage_facts, subject_of, subst, sym, true, true_false, ℕ}
 use Rattle.law_moves.proofs.StepsTellEntries.{Goes_on, Is_bare, Keeps, Awakes, Before, IsJob, IsPosted, Other, Posted, Works, chosen_on, gone, knows, sent}
 use Rattle.law_moves.specs.Fills.{Has, IsFrozen, WasFilled}
 use Rattle.law_moves.specs.LeftToMove.{IsKept, IsOurs}
@@ -15,7 +15,6 @@ use Rattle.law_moves.proofs.NextFill.{next_is}
 use Rattle.law_moves.proofs.LeadsWereTold.{HasTold, lift, same_frozen}
 use Rattle.law_moves.proofs.LeadsRememberMoved.{done_told}
 use Rattle.law_moves.proofs.MoveScenes.{IsMover}
-use Rattle.law_state.proofs.TestFacts.{less_test}
 use Rattle.petal_msg.specs.declared.body.Body.TheVariants as body
 
 abbrev key_said : Key → Body → Key
@@ -27,7 +26,7 @@ bytes_said other (body.Fill key bytes) = bytes
 bytes_said other _ = other
 
 module _ (it : OneMore) (known : WasKnown it) where
-  open it use {prior, prior.{script, sound, records as front}, legal}
+  open it use {prior, prior.{script, sound, records as prefix}, legal}
   open ends_of it use {setting, w, v}
 
   abbrev Was : ℕ → Server
@@ -37,13 +36,13 @@ module _ (it : OneMore) (known : WasKnown it) where
 
   pub frozen_on : (rev : ℕ) (key : Key) (bytes : List ℕ) → IsFrozen setting w rev key bytes → IsFrozen setting v rev key bytes
   frozen_on rev key bytes f = record {
-    front = f.front;
-    lies = front_on f.front (chosen_log setting w) (chosen_log setting v) f.lies (chosen_on it);
+    prefix = f.prefix;
+    lies = prefix_on f.prefix (chosen_log setting w) (chosen_log setting v) f.lies (chosen_on it);
     long = f.long;
     old = f.old;
     from = f.from;
     before = f.before;
-    frozen = frozen_stays script front (it.own ∷ []) f.old f.before sound legal f.frozen;
+    frozen = frozen_stays script prefix (it.own ∷ []) f.old f.before sound legal f.frozen;
     entry = f.entry;
     newer = λ epoch lt has. lift it known 0 (key_at (cell_of key) epoch) (f.newer epoch lt has);
   }
@@ -65,10 +64,10 @@ module _ (it : OneMore) (known : WasKnown it) where
     lies = (knows it).servers y
 
     lies_v : IsPrefix log (chosen_log setting v)
-    lies_v = front_on log (chosen_log setting w) (chosen_log setting v) lies (chosen_on it)
+    lies_v = prefix_on log (chosen_log setting w) (chosen_log setting v) lies (chosen_on it)
 
     plain : HasProperTuples script.servers log
-    plain = front_plain script.servers log (chosen_log setting w) (knows it).plain lies
+    plain = prefix_plain script.servers log (chosen_log setting w) (knows it).plain lies
 
     named : link_named here (id_of f.row) ≡ Some f.row
     named = (log_plain script.servers log plain).found f.row f.there
@@ -108,7 +107,7 @@ module _ (it : OneMore) (known : WasKnown it) where
 
     pub next_frozen : IsFrozen setting v (length log) (key_at f.cell f.key.epoch) f.entry.bytes
     next_frozen = record {
-      front = log;
+      prefix = log;
       lies = lies_v;
       long = refl;
       old = old;

@@ -2,9 +2,9 @@
 use Rattle.law_moves.proofs.Imports.{◌++◌, ◌+◌, ◌∙◌, ◌≡◌, ◌≤◌, AreCopies, AreSteps, AreTwins, At, Bool, Both, Cell, Chain, IsLinked, IsServing, IsSound, Key}
 use Rattle.law_moves.proofs.Imports.{LinkRow, List, None, OneMore, Option, PairState, Pairs, Pending, Record, Run, Script, Some, Store, WasThere, Working, ap}
 use Rattle.law_moves.proofs.Imports.{arith, at, at-empty, at_most_or_above, before_last, blank_joins_in, by_bool, cell_cmp, cell_of, chain_in, cut, ends_of}
-use Rattle.law_moves.proofs.Imports.{false, far, front_itself, front_long, front_on, half, half_store, history_grows, inl, inr, is_clients, is_some, kept}
-use Rattle.law_moves.proofs.Imports.{none_some, pair_at, place_by, place_timely, refl, secondary_is_one, serves, setting_of, split_last, stage_at, subst, sym}
-use Rattle.law_moves.proofs.Imports.{true, true_false, ℕ}
+use Rattle.law_moves.proofs.Imports.{false, far, half, half_store, history_grows, inl, inr, is_clients, is_some, kept, none_some, pair_at, place_by}
+use Rattle.law_moves.proofs.Imports.{place_timely, prefix_itself, prefix_long, prefix_on, refl, secondary_is_one, serves, setting_of, split_last, stage_at}
+use Rattle.law_moves.proofs.Imports.{subst, sym, true, true_false, ℕ}
 use Rattle.law_moves.specs.Fills.{Has, IsFrozen}
 use Rattle.law_moves.proofs.FrozenIsWhatCounted.{frozen_stays}
 use Rattle.law_moves.proofs.AllKeptOfMoves.{WereKnown}
@@ -19,8 +19,8 @@ use Rattle.law_moves.proofs.MoveScenes.{FillsSo}
 pub frozen_on : (script : Script) (sound : IsSound script) (past later : List Record) (legal : AreSteps script (past ++ later)) (rev : ℕ) (key : Key)
     (bytes : List ℕ) → IsFrozen (setting_of script) (At script past) rev key bytes → IsFrozen (setting_of script) (At script (past ++ later)) rev key bytes
 frozen_on script sound past later legal rev key bytes f = record {
-  front = f.front;
-  lies = front_on f.front _ _ f.lies (history_grows script (past ++ later) sound legal past later refl);
+  prefix = f.prefix;
+  lies = prefix_on f.prefix _ _ f.lies (history_grows script (past ++ later) sound legal past later refl);
   long = f.long;
   old = f.old;
   from = f.from;
@@ -31,12 +31,12 @@ frozen_on script sound past later legal rev key bytes f = record {
 }
 
 module _ (it : OneMore) (all : WereKnown it) where
-  open it use {prior.{script, sound, records as front}, own, legal}
+  open it use {prior.{script, sound, records as prefix}, own, legal}
   open ends_of it use {setting, records, v, whole, By, present}
 
   -- at each Moved that is chosen all of its link was told to be at the new map
   pub moved_now : AllMoved setting v
-  moved_now = moved_all present (λ past one later e. let rest = before_last front own past one later e in all past rest.0 rest.1)
+  moved_now = moved_all present (λ past one later e. let rest = before_last prefix own past one later e in all past rest.0 rest.1)
 
   -- ### Where the region begins to leave
 
@@ -45,7 +45,7 @@ module _ (it : OneMore) (all : WereKnown it) where
     pub asked_then : (past later : List Record) → records ≡ past ++ later → (m : ℕ) (cell : Cell) (op : Pending)
         → at cell_cmp ((At script past).servers m).own.pairs.pending cell ≡ Some op → is_clients op.kind ≡ false
         → IsFrozen setting v op.rev op.key op.bytes
-    asked_then past later e m cell op is fills = elim (split_last front own past later e) [
+    asked_then past later e m cell op is fills = elim (split_last prefix own past later e) [
       | inl same ↦ now_so.asked m cell op (subst (λ rs. at cell_cmp ((At script rs).servers m).own.pairs.pending cell ≡ Some op) same is) fills
       | inr more ↦ subst (λ rs. IsFrozen setting (At script rs) op.rev op.key op.bytes) (sym e)
           (frozen_on script sound past later (subst (AreSteps script) e legal) op.rev op.key op.bytes
@@ -86,8 +86,8 @@ module _ (it : OneMore) (all : WereKnown it) where
         no_write clients =
             let rev = opened_within then row.primary cell op pending_then clients in
             let on = history_grows script records sound legal was.before was.later was.is in
-            let long = front_long _ whole on in
-            let stays = (place_timely script records sound legal row.primary place cell by.pairs op whole row was pending clients (front_itself whole) is
+            let long = prefix_long _ whole on in
+            let stays = (place_timely script records sound legal row.primary place cell by.pairs op whole row was pending clients (prefix_itself whole) is
             refl (omega arith)).stays in
             omega arith
 

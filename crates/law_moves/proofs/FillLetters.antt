@@ -1,10 +1,9 @@
 -- Who says that an entry is there, and who asks a second server to put: what a job sends of either.
-use Rattle.law_moves.proofs.Imports.{◌≡◌, ◌⊎◌, Alone_has, Body, Bool, Both_have, Did, Ending, Filling, Full, HasEnded, In, IsFilled, Is_retired, JobContext}
-use Rattle.law_moves.proofs.Imports.{JobResult, Key, Logged, Moving, None, PairState, Paired, Pending, Post, Some, Stage, Subject, Written, ap, ended, false}
-use Rattle.law_moves.proofs.Imports.{in_both, inl, inr, is_alone_on, is_logged, letters_of_job, pending_on, refl, subject_of, subst, sym, true, true_false, ℕ}
+use Rattle.law_moves.proofs.Imports.{◌≡◌, ◌⊎◌, Alone_has, As_it_is, As_told, Body, Bool, Both_have, Did, Ending, Filling, Full, HasEnded, In, IsFilled}
+use Rattle.law_moves.proofs.Imports.{Is_retired, JobContext, JobResult, Key, Logged, Moving, None, PairState, Paired, Pending, Post, Says, Some, Stage}
+use Rattle.law_moves.proofs.Imports.{Subject, Written, ap, ended, false, in_both, inl, inr, is_alone_on, is_logged, letters_of_job, pending_on, refl}
+use Rattle.law_moves.proofs.Imports.{subject_of, subst, sym, true, true_false, ℕ}
 use Rattle.law_moves.proofs.JobsChangeOneChain.{NeverRetired}
-use Rattle.law_steps.specs.DidLead.{As_it_is, As_told}
-use Rattle.law_jobs.specs.Sayings.{Says}
 use Rattle.petal_msg.specs.declared.body.Body.TheVariants as body
 use Rattle.petal_msg.specs.declared.operation.OpKind.TheVariants as kind
 use Rattle.law_jobs.specs.Sayings as says

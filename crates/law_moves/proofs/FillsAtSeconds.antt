@@ -2,8 +2,8 @@
 -- has not put it, would have it.
 use Rattle.law_moves.proofs.Imports.{◌+◌, ◌∙◌, ◌≡◌, ◌≤◌, AreSteps, AreTwins, At, Both, Cell, Command, Good, IsHere, IsLinked, IsPrefix, IsServing, IsSound}
 use Rattle.law_moves.proofs.Imports.{LinkRow, List, None, PairState, Pairs, Pending, Record, Run, Script, Setting, Some, Store, WasThere, World, ap, arith}
-use Rattle.law_moves.proofs.Imports.{at, at_most_or_above, both_last, cell_cmp, chain_in, chosen_state, counted, end_of, false, far, front_itself, half}
-use Rattle.law_moves.proofs.Imports.{has_server, in_counts, inl, inr, is_clients, is_in, is_some, kept, nat_cmp, pair_at, place_by, progress}
+use Rattle.law_moves.proofs.Imports.{at, at_most_or_above, both_last, cell_cmp, chain_in, chosen_state, counted, end_of, false, far, half, has_server}
+use Rattle.law_moves.proofs.Imports.{in_counts, inl, inr, is_clients, is_in, is_some, kept, nat_cmp, pair_at, place_by, prefix_itself, progress}
 use Rattle.law_moves.proofs.Imports.{secondary_is_one, server_state, serves, setting_of, stage_at, store_by, subst, sym, true, true_false, ℕ}
 use Rattle.law_moves.specs.Fills.{Has, WasFilled}
 use Rattle.law_moves.proofs.KnownOfMoves.{born_after, filling_after, keyed}
@@ -60,7 +60,7 @@ module _ (it : Run) (s : IsToFill (end_of it).setting it.records (end_of it).w) 
       (both_last setting records w (kept setting w) (firm it) G m runs seat cell row linked both has)
 
   here : IsHere setting (counted setting w) G.visits m cell row
-  here = let le = up it mine chosen lies (front_itself chosen) cell in G.here m cell row linked seat (omega arith)
+  here = let le = up it mine chosen lies (prefix_itself chosen) cell in G.here m cell row linked seat (omega arith)
 
   -- how far the server is
   far_is : far (pair_at (store_by setting G.stores mine) G.visits place cell row.primary row.secondary)
@@ -86,7 +86,7 @@ module _ (it : Run) (s : IsToFill (end_of it).setting it.records (end_of it).w) 
   not_told : 1 ≤ stage_at (By chosen) cell → WasFilled w op.key → ⊥
   not_told born told =
       let key_cell = keyed script records sound legal n place cell pairs op there is fills in
-      let serves_now = serving_on it m runs mine chosen lies (front_itself chosen) seat cell alive serving in
+      let serves_now = serving_on it m runs mine chosen lies (prefix_itself chosen) seat cell alive serving in
       let kept_is = own_counts it m runs mine lies seat in
       let has_it = subst (λ (q : Cell). 1 ≤ stage_at (By chosen) q → stage_at (By chosen) q ≤ 3 → IsServing (By chosen) m q
       → Has (chain_in (kept setting w m).chains q) op.key.epoch) key_cell (((known_after script sound records legal).filled.filled op.key told).now m)

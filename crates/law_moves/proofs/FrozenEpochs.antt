@@ -1,8 +1,8 @@
--- What is frozen of a cell is of no epoch above the one that the cell's disk had as its region's fence took effect, so by each front from there on.
+-- What is frozen of a cell is of no epoch above the one that the cell's disk had as its region's fence took effect, so by each prefix from there on.
 use Rattle.law_moves.proofs.Imports.{[], ◌∙◌, ◌∷◌, ◌≡◌, ◌≤◌, AreSteps, AreWithin, At, Cell, Chain, Command, IsKnownBy, IsPrefix, IsSound, List, None, OneMore}
 use Rattle.law_moves.proofs.Imports.{Option, Record, Script, Some, Store, Stored, World, all_early, ap, arith, at, at_most_or_above, authority, before_then}
-use Rattle.law_moves.proofs.Imports.{blank_joins_in, by_run, chain_in, chosen_log, chosen_state, ends_of, epoch_at, front_itself, front_plain, fronts_meet}
-use Rattle.law_moves.proofs.Imports.{history_grows, history_is_firm, inl, inr, is_some, kept, log_below, nat_cmp, none_some, now_then, option_map, refl}
+use Rattle.law_moves.proofs.Imports.{blank_joins_in, by_run, chain_in, chosen_log, chosen_state, ends_of, epoch_at, history_grows, history_is_firm, inl, inr}
+use Rattle.law_moves.proofs.Imports.{is_some, kept, log_below, nat_cmp, none_some, now_then, option_map, prefix_itself, prefix_plain, prefixes_meet, refl}
 use Rattle.law_moves.proofs.Imports.{run_of, same_or_apart, same_some, setting_of, some_or_none, stage_at, state_after, sym, true_false, ℕ}
 use Rattle.law_epochs.proofs.EntriesNeverEarly.{kept_by}
 use Rattle.law_moves.specs.Fills.{Has}
@@ -17,27 +17,27 @@ AreFrozenThen script w = (old : Cell) (before : Chain) (epoch : ℕ) (f : List C
     → IsPrefix f (chosen_log (setting_of script) w) → 3 ≤ stage_at (state_after script.servers f) old → epoch ≤ epoch_at (state_after script.servers f) old
 
 module _ (it : OneMore) (known : AreFrozenThen it.prior.script (At it.prior.script it.prior.records)) where
-  open it use {prior, prior.{script, sound, records as front}, own, legal}
+  open it use {prior, prior.{script, sound, records as prefix}, own, legal}
   open ends_of it use {setting, w, v, By, records}
 
   on : IsPrefix (chosen_log setting w) (chosen_log setting v)
-  on = history_grows script records sound legal front (own ∷ []) refl
+  on = history_grows script records sound legal prefix (own ∷ []) refl
 
   module _ (old : Cell) (before : Chain) (epoch : ℕ) (f : List Command) (frozen : v.frozen old ≡ Some before) (has : Has before epoch)
       (lies : IsPrefix f (chosen_log setting v)) (three : 3 ≤ stage_at (By f) old) where
     onward : IsPrefix (chosen_log setting w) f → epoch_at (By (chosen_log setting w)) old ≤ epoch_at (By f) old
     onward more =
         (log_below script.servers (chosen_log setting w) f
-        (front_plain script.servers f (chosen_log setting v) (history_is_firm script records sound legal).plain lies) more).epochs old
+        (prefix_plain script.servers f (chosen_log setting v) (history_is_firm script records sound legal).plain lies) more).epochs old
 
     -- it was frozen before
     was_so : 3 ≤ stage_at (chosen_state setting w) old → epoch ≤ epoch_at (By f) old
     was_so high =
         let was : w.frozen old ≡ Some before = sym (frozen_same it old (inl high)) ∙ frozen in
-        elim (fronts_meet f (chosen_log setting w) (chosen_log setting v) lies on) [
+        elim (prefixes_meet f (chosen_log setting w) (chosen_log setting v) lies on) [
           | inl back ↦ known old before epoch f was has back three
           | inr more ↦
-              let le = known old before epoch (chosen_log setting w) was has (front_itself (chosen_log setting w)) high in
+              let le = known old before epoch (chosen_log setting w) was has (prefix_itself (chosen_log setting w)) high in
               let up = onward more in
               omega arith
         ]
@@ -46,13 +46,13 @@ module _ (it : OneMore) (known : AreFrozenThen it.prior.script (At it.prior.scri
     of_store : (n : ℕ) (entry : Stored) → at nat_cmp (chain_in (kept setting v n).chains old) epoch ≡ Some entry
         → epoch ≤ epoch_at (By (chosen_log setting w)) old
     of_store n entry is =
-        let early = all_early script front sound prior.legal in
+        let early = all_early script prefix sound prior.legal in
         let log = (w.servers n).log.applied in
         let all : AreWithin (IsKnownBy script.servers log) (kept setting v n).chains =
         kept_by (λ (s : Store). AreWithin (IsKnownBy script.servers log) s.chains) (blank_joins_in setting (chosen_log setting v) n) (v.before_blank n)
         (v.servers n).own.store (before_then it early n) (now_then it early n) in
         let within = (all old epoch entry is).within in
-        let firm = history_is_firm script front sound prior.legal in
+        let firm = history_is_firm script prefix sound prior.legal in
         let up = (log_below script.servers log (chosen_log setting w) firm.plain (firm.servers n)).epochs old in
         omega arith
 
@@ -64,9 +64,9 @@ module _ (it : OneMore) (known : AreFrozenThen it.prior.script (At it.prior.scri
         by (Some n) e =
             let entry = entry_of before epoch has in
             let le = of_store n entry.0 (ap (λ c. at nat_cmp c epoch) (same_some e) ∙ entry.1) in
-            elim (fronts_meet f (chosen_log setting w) (chosen_log setting v) lies on) [
+            elim (prefixes_meet f (chosen_log setting w) (chosen_log setting v) lies on) [
               | inl back ↦
-                  let up = (log_below script.servers f (chosen_log setting w) (history_is_firm script front sound prior.legal).plain back).stages old in
+                  let up = (log_below script.servers f (chosen_log setting w) (history_is_firm script prefix sound prior.legal).plain back).stages old in
                   absurd (omega arith)
               | inr more ↦ let up = onward more in omega arith
             ]
@@ -76,7 +76,7 @@ module _ (it : OneMore) (known : AreFrozenThen it.prior.script (At it.prior.scri
       | inr high ↦ was_so high
       | inl low ↦ elim (same_or_apart (stage_at (chosen_state setting v) old) 3) [
         | inl leaves ↦ now_so low leaves
-        | inr apart ↦ none_some (none_early script front sound prior.legal old low) (sym (frozen_same it old (inr apart)) ∙ frozen)
+        | inr apart ↦ none_some (none_early script prefix sound prior.legal old low) (sym (frozen_same it old (inr apart)) ∙ frozen)
       ]
     ]
 
@@ -90,5 +90,5 @@ frozen_early script records sound legal cell before epoch frozen has =
     let chosen = chosen_log (setting_of script) (At script records) in
     elim (at_most_or_above (stage_at (state_after script.servers chosen) cell) 2) [
       | inl low ↦ none_some (none_early script records sound legal cell low) frozen
-      | inr high ↦ frozen_then script records sound legal cell before epoch chosen frozen has (front_itself chosen) high
+      | inr high ↦ frozen_then script records sound legal cell before epoch chosen frozen has (prefix_itself chosen) high
     ]

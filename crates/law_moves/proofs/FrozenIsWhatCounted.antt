@@ -21,7 +21,7 @@ frozen_is setting state w v (Turns c stamp in_call reacted lt within turned onwa
     stays_frozen (leaving (chosen_state setting w) cell) (chain_that_counts setting v cell) (w.frozen cell)
 
 module _ (it : OneMore) (cell : Cell) where
-  open it use {prior.{script, sound, records as front}, own, legal}
+  open it use {prior.{script, sound, records as prefix}, own, legal}
   open ends_of it use {setting, w, v, records}
 
   abbrev stage_was : ℕ
@@ -33,10 +33,10 @@ module _ (it : OneMore) (cell : Cell) where
   was_frozen : v.frozen cell ≡ frozen_by setting w v cell
   was_frozen =
       let state = chosen_state setting v in
-      frozen_is setting state w v (last_happens script front own (always_firm script records sound legal) legal state (below_itself state)) cell
+      frozen_is setting state w v (last_happens script prefix own (always_firm script records sound legal) legal state (below_itself state)) cell
 
   plain_was : HasProperTuples script.servers (chosen_log setting w)
-  plain_was = (history_is_firm script front sound (before_part script front (own ∷ []) legal)).plain
+  plain_was = (history_is_firm script prefix sound (before_part script prefix (own ∷ []) legal)).plain
 
   plain_now : HasProperTuples script.servers (chosen_log setting v)
   plain_now = (history_is_firm script records sound legal).plain
@@ -44,7 +44,7 @@ module _ (it : OneMore) (cell : Cell) where
   pub stage_grows : stage_was ≤ stage_now
   stage_grows =
       (log_below script.servers (chosen_log setting w) (chosen_log setting v) plain_now
-      (history_grows script records sound legal front (own ∷ []) refl)).stages cell
+      (history_grows script records sound legal prefix (own ∷ []) refl)).stages cell
 
   facts_was : HasStage (chosen_state setting w) cell
   facts_was = stage_facts script.servers (chosen_log setting w) plain_was cell
@@ -100,11 +100,11 @@ none_early script records sound legal =
     (run_of script sound records legal)
 
 -- so what is frozen stays so
-pub frozen_stays : (script : Script) (front back : List Record) (cell : Cell) (before : Chain) → IsSound script → AreSteps script (front ++ back)
-    → (At script front).frozen cell ≡ Some before → (At script (front ++ back)).frozen cell ≡ Some before
-frozen_stays script front back cell before sound legal is =
+pub frozen_stays : (script : Script) (prefix suffix : List Record) (cell : Cell) (before : Chain) → IsSound script → AreSteps script (prefix ++ suffix)
+    → (At script prefix).frozen cell ≡ Some before → (At script (prefix ++ suffix)).frozen cell ≡ Some before
+frozen_stays script prefix suffix cell before sound legal is =
     since (λ run. (after run).frozen cell ≡ Some before) (λ it old.
     elim (at_most_or_above (stage_at (chosen_state (setting_in it.prior) (after it.prior)) cell) 2) [
       | inl low ↦ none_some (none_early it.prior.script it.prior.records it.prior.sound it.prior.legal cell low) old
       | inr high ↦ frozen_same it cell (inl high) ∙ old
-    ]) (run_of script sound (front ++ back) legal) front back refl (λ part. is)
+    ]) (run_of script sound (prefix ++ suffix) legal) prefix suffix refl (λ part. is)

@@ -6,60 +6,55 @@ pub use Rattle.law_state.specs.Imports.{state_after, target, tuple_of}
 unfoldable pub use Rattle.law_state.specs.Imports.{In, at}
 pub use Rattle.law_state.proofs.Imports.{[], if◌then◌else◌, ◌&&◌, ◌++◌, ◌+◌, ◌<◌, ◌==◌, ◌∙◌, ◌∷◌, ◌≡◌, ◌≢◌, ◌≤◌, ◌⊎◌, Bool, List, None, Option, Some, ap}
 pub use Rattle.law_state.proofs.Imports.{append-nil, append_assoc, arith, authority, blanked_state, both_true, by_bool, by_test, cond, false, filter, first}
-pub use Rattle.law_state.proofs.Imports.{fold, in-append, in_both, in_former, in_later, inl, inr, is_alone, is_alone_on, is_link, is_some, is_the_one, length}
+pub use Rattle.law_state.proofs.Imports.{fold, in_both, in_former, in_later, inl, inr, is_alone, is_alone_on, is_link, is_some, is_the_one, length}
 pub use Rattle.law_state.proofs.Imports.{length-append, link_of, links_of, map, nat_lt, nat_tests, none_some, not, number_itself, option_and_then, option_map}
 pub use Rattle.law_state.proofs.Imports.{option_map_or, range_with_len, refl, row_authority, row_lead, same_numbers, same_or_apart, same_some, second}
 pub use Rattle.law_state.proofs.Imports.{some_or_none, subst, sym, touches, true, true_false, unwrap_or, ℕ}
 pub use Rattle.law_log.proofs.Imports.{◌||◌, Acted, AreSteps, Body, Copying, Ending, Entry, Equal, Firm, HasProperTuples, IsSound, JobContext, JobResult, Key}
-pub use Rattle.law_log.proofs.Imports.{LastCopy, Letter, Log, Moving, Pending, Post, Retired, Script, Step, Stored, Table, about, all_put, awake, blanked}
-pub use Rattle.law_log.proofs.Imports.{cell_holder, cell_of, chain_in, client_sender, copying_on, devices, down_posts, ended, eq_by_cmp, fill_of, flat_map}
-pub use Rattle.law_log.proofs.Imports.{gives_back, has_proposed, holds_link, id_of, is_eq, is_flagged, is_logged, is_second, key_at, last_copy, last_on}
-pub use Rattle.law_log.proofs.Imports.{link_named, log_plain, nat_cmp, pending_on, proposed, put_apart, put_same, raised, ranked, region_to_move, sender}
-pub use Rattle.law_log.proofs.Imports.{server_state, setting_of, stamped, start, subject_of, touches_cell, who_is_in, with_last_copy, without_pending}
+pub use Rattle.law_log.proofs.Imports.{LastCopy, Letter, Log, Moving, Pending, Post, Script, Step, Stored, Table, about, all_put, awake, blanked, cell_holder}
+pub use Rattle.law_log.proofs.Imports.{cell_of, chain_in, copying_on, devices, ended, eq_by_cmp, fill_of, flat_map, has_proposed, holds_link, id_of, is_eq}
+pub use Rattle.law_log.proofs.Imports.{is_flagged, is_logged, is_second, key_at, last_copy, last_on, less_test, link_named, log_plain, nat_cmp, pending_on}
+pub use Rattle.law_log.proofs.Imports.{proposed, put_apart, put_same, raised, ranked, region_to_move, server_state, setting_of, start, subject_of}
+pub use Rattle.law_log.proofs.Imports.{touches_cell, who_is_in}
 unfoldable pub use Rattle.law_log.proofs.Imports.{put_at}
-pub use Rattle.law_steps.specs.Imports.{IsBelow, Paired, Sender, Stage, StaysSo, Subject, cell_cmp, coming, crossed, epochs_beyond, letters_of, live}
-pub use Rattle.law_steps.specs.Imports.{stage_at, without_entry, without_retired}
+pub use Rattle.law_steps.specs.Imports.{IsBelow, Paired, Stage, StaysSo, Subject, cell_cmp, coming, crossed, epochs_beyond, live, stage_at, without_entry}
 unfoldable pub use Rattle.law_steps.specs.Imports.{next_fill}
 pub use Rattle.law_steps.proofs.Imports.{ByBoth, ByNone, ByOne, Chain, Copies, Filling, Full, Greater, HasStage, IsCaughtIn, IsCaughtStill, IsHeldBy}
-pub use Rattle.law_steps.proofs.Imports.{IsSteady, Less, Logged, Ordering, Pairs, Store, Written, alone_not_both, alone_row, at-empty, at-where, below_itself}
-pub use Rattle.law_steps.proofs.Imports.{by_settled, cell_apart, cell_cmp_same, cell_same, comes_before, comes_next, dies, earlier, ends_cell, fill_left}
-pub use Rattle.law_steps.proofs.Imports.{first_key, found_at, front_itself, front_long, front_more, front_on, front_plain, front_same, history_grows}
-pub use Rattle.law_steps.proofs.Imports.{history_is_firm, holder_is_one, is_clients, is_on, is_the, keys_in, keys_of, log_alone, log_below, log_rev}
-pub use Rattle.law_steps.proofs.Imports.{log_roles, log_steady, lookup, max, new_stage, no_copies, not_noted, noted, old_stage, one_front, or_true}
-pub use Rattle.law_steps.proofs.Imports.{region_leaving, said_to_all, same_id, settling, so_both, stage_by, stage_most, up_some, version_of}
+pub use Rattle.law_steps.proofs.Imports.{IsSteady, Less, Logged, Ordering, Pairs, Store, Written, alone_not_both, alone_row, at-empty, at-where, by_settled}
+pub use Rattle.law_steps.proofs.Imports.{cell_apart, cell_cmp_same, cell_same, comes_before, comes_next, dies, earlier, ends_cell, fill_left, first_key}
+pub use Rattle.law_steps.proofs.Imports.{found_at, history_grows, history_is_firm, holder_is_one, is_on, is_the, keys_in, keys_of, log_alone, log_below}
+pub use Rattle.law_steps.proofs.Imports.{log_rev, log_roles, log_steady, lookup, max, new_stage, no_copies, not_noted, noted, old_stage, one_prefix, or_true}
+pub use Rattle.law_steps.proofs.Imports.{prefix_itself, prefix_long, prefix_more, prefix_on, prefix_plain, prefix_same, region_leaving, same_id, settling}
+pub use Rattle.law_steps.proofs.Imports.{so_both, stage_by, stage_most, up_some, version_of}
 unfoldable pub use Rattle.law_steps.proofs.Imports.{put}
-pub use Rattle.law_jobs.specs.Imports.{Begins_copy, By_holder, By_lead, By_other, By_second, Closes, Closes_alone, Did, DidHolder, DidLead, DidOther}
-pub use Rattle.law_jobs.specs.Imports.{DidSecond, Follows, Gives_up, Goes_on_copying, Goes_on_retired, Goes_on_trimming, IsFilled, IsNextFill, IsNextKey}
-pub use Rattle.law_jobs.specs.Imports.{Is_copied_to, Marks_alone, Puts, Puts_alone, Puts_entry, Taken, TakenCopy, Turns_page, Unmarks_alone, answering}
-pub use Rattle.law_jobs.specs.Imports.{copying, first_last, progress}
-pub use Rattle.law_jobs.proofs.Imports.{By_filler, By_read, By_sweep, Closes_copy, CopyStep, Copy_as_is, Copy_synced, Copy_trimmed, Drops_entry, Handled}
-pub use Rattle.law_jobs.proofs.Imports.{Happens, Ignores, IsSame, Is_trimmed, Promises, Refuses, Rests, Sweeps, TrimStep, always_firm, at_apart, at_same}
-pub use Rattle.law_jobs.proofs.Imports.{chains_with, last_happens, of_read, own_place, rests_after, row_named, same_cell_or_apart, same_itself, same_on}
-pub use Rattle.law_jobs.proofs.Imports.{start_rests, stood, taking}
-pub use Rattle.law_copies.specs.Imports.{WasStarted, blank_joins_in, is_between, kept_store, one_put_ahead}
-pub use Rattle.law_copies.proofs.Imports.{At, BeforeBlank, Blanks, By_ballot, By_caught, By_entry, By_job, By_join, By_leave, Drops, Effect, Ends, Fails}
-pub use Rattle.law_copies.proofs.Imports.{Fills, Goes, HasJoinedSince, IsCaughtBy, IsInBoth, May, Serves, Serving, Sets, Stays, Stood, Turns, Wakes, Worked}
-pub use Rattle.law_copies.proofs.Imports.{Writes, applied, before_part, by_run, chain_apart, chain_put, chosen_caught_was, counted, counted_by, puts}
-pub use Rattle.law_copies.proofs.Imports.{did_come, drop_apart, drop_none, either_true, first_by, first_state, front_within, happened_in, in_none, job_keeps}
-pub use Rattle.law_copies.proofs.Imports.{joined_counts, joined_since, kept, kept_by, letters_of_job, link_led_by, live_stage, log_both_place, log_grown}
-pub use Rattle.law_copies.proofs.Imports.{log_lost, log_touched, longer, lost_not_both, none_before_none, of_ending, of_filler, on_row, one_before}
-pub use Rattle.law_copies.proofs.Imports.{past_link, places_grow, primary_is_one, row_joined, run_of, running_fronts, said, second_by}
-pub use Rattle.law_copies.proofs.Imports.{secondary_is_one, setting_in, since, split_last, stage_live, start_plain, stays_alone, stays_both, told_own}
-pub use Rattle.law_copies.proofs.Imports.{tuple_on, turned_asks, without_rev}
-pub use Rattle.law_epochs.proofs.Imports.{AliveIn, IsAt, IsLinked, IsTouchedBy, WasThere, at_by, at_most_or_above, ballot_store, epoch_at, is_at, is_at_so}
-pub use Rattle.law_epochs.proofs.Imports.{log_retired, next_comes, own_plain, place_by, place_of_later, place_touched, proper, proposed_pairs, runs_at}
-pub use Rattle.law_epochs.proofs.Imports.{split_fronts, stage_facts, stands_in}
+pub use Rattle.law_jobs.specs.Imports.{Did, IsFilled, IsNextFill, IsNextKey, Taken, chains_with, progress}
+pub use Rattle.law_jobs.proofs.Imports.{As_it_is, As_told, Aside, Blanks, By_ballot, By_entry, By_job, Ends, Fails, Goes, Handled, Happens, IsSame, Of_job}
+pub use Rattle.law_jobs.proofs.Imports.{Rests, Serves, Serving, Stays, Turns, Wakes, Was_sent, Worked, always_firm, at_apart, at_same, happens_sent}
+pub use Rattle.law_jobs.proofs.Imports.{last_happens, next_comes, own_place, own_plain, proposed_pairs, rests_after, row_named, same_cell_or_apart}
+pub use Rattle.law_jobs.proofs.Imports.{same_itself, same_on, start_rests, stood, taking}
+pub use Rattle.law_copies.specs.Imports.{WasStarted, blank_joins_in, is_between, is_clients, kept_store, one_put_ahead}
+pub use Rattle.law_copies.proofs.Imports.{At, BeforeBlank, By_caught, By_join, By_leave, Drops, Effect, Fills, For_a_fill, For_a_write, HasJoinedSince}
+pub use Rattle.law_copies.proofs.Imports.{IsCaughtBy, IsInBoth, May, Says, Sets, Stood, Writes, applied, before_part, below_itself, by_run, chain_apart}
+pub use Rattle.law_copies.proofs.Imports.{chain_put, chosen_caught_was, counted, counted_by, did_come, drop_apart, drop_none, either_true, first_by}
+pub use Rattle.law_copies.proofs.Imports.{first_state, happened_in, in_none, job_keeps, joined_counts, joined_since, kept, kept_by, letters_of_job}
+pub use Rattle.law_copies.proofs.Imports.{link_led_by, live_stage, log_both_place, log_grown, log_lost, log_touched, longer, lost_not_both, none_before_none}
+pub use Rattle.law_copies.proofs.Imports.{on_row, one_before, past_link, places_grow, prefix_within, primary_is_one, row_joined, run_of, running_prefixes}
+pub use Rattle.law_copies.proofs.Imports.{second_by, secondary_is_one, setting_in, since, split_last, stage_live, start_plain, stays_alone, stays_both}
+pub use Rattle.law_copies.proofs.Imports.{tuple_on}
+pub use Rattle.law_epochs.proofs.Imports.{A_lead, AliveIn, An_operation, IsAt, IsLinked, IsPutFor, IsTouchedBy, WasThere, at_by, at_most_or_above}
+pub use Rattle.law_epochs.proofs.Imports.{ballot_store, epoch_at, is_at, is_at_so, log_retired, place_by, place_of_later, place_touched, proper, runs_at}
+pub use Rattle.law_epochs.proofs.Imports.{split_prefixes, stage_facts, stands_in}
 pub use Rattle.law_moves.specs.Imports.{HasNewer, IsFilledFrom, IsServing}
 pub use Rattle.law_copies.proofs.ChainsRise.{in_kept, in_left, in_mapped}
 pub use Rattle.law_copies.proofs.CopiesInHistories.{good_after, start_good, step_goes}
-pub use Rattle.law_copies.proofs.EmptyJoins.{after_front, joined_where}
+pub use Rattle.law_copies.proofs.EmptyJoins.{after_prefix, joined_where}
 pub use Rattle.law_copies.proofs.NewPlaces.{half_store}
 pub use Rattle.law_copies.proofs.OtherIsNotHolder.{IsOther, held_by, other_apart}
-pub use Rattle.law_copies.proofs.PlacesByFronts.{alive_on, fronts_meet, linked_between, one_place, one_row, places_up, rows_later, state_next}
-pub use Rattle.law_copies.proofs.ServedAtLaterFronts.{alone_or_flagged, both_last, both_since, other_than, same_only, serves_alone, serves_its, unseen_beyond}
+pub use Rattle.law_copies.proofs.PlacesByPrefixes.{alive_on, linked_between, one_place, one_row, places_up, prefixes_meet, rows_later, state_next}
+pub use Rattle.law_copies.proofs.ServedAtLaterPrefixes.{alone_or_flagged, both_last, both_since, other_than, same_only, serves_alone, serves_its}
+pub use Rattle.law_copies.proofs.ServedAtLaterPrefixes.{unseen_beyond}
 pub use Rattle.law_copies.proofs.StoreHistories.{in_counts, in_own, kept_after, own_by}
 pub use Rattle.law_copies.proofs.StoresAlongRecords.{before_last, stays_filled}
-pub use Rattle.law_copies.proofs.RolesOfWorkers.{holder_chains}
 pub use Rattle.law_copies.specs.CopyProgress.{AreCopying, HasSent, IsCaught, IsLeft, IsTold}
 pub use Rattle.law_copies.specs.GoodCopies.{AreTwins, Good, pair_at}
 pub use Rattle.law_copies.specs.Pair.{AreCopies, PairOk, Known as Tells, Working, far, pair_of}
@@ -67,19 +62,21 @@ pub use Rattle.law_copies.specs.Visits.{HasReached, IsHere, IsLast, half, store_
 pub use Rattle.law_copies.specs.WaitingStores.{IsOwn}
 pub use Rattle.law_epochs.proofs.EntriesAfterJobs.{did_kept}
 pub use Rattle.law_epochs.proofs.EntriesNeverEarly.{IsKnownBy, all_early, before_then, now_then}
-pub use Rattle.law_epochs.proofs.EntryPredicates.{AreWithin, IsWithin, OfKey, aside_none, is_of_entries, logged_none, none_within, of_key_on, of_no_key}
+pub use Rattle.law_epochs.proofs.EntryPredicates.{AreWithin, IsWithin, OfKey, aside_none, is_of_entries, none_within, of_key_on, of_no_key}
 pub use Rattle.law_epochs.proofs.EpochScenes.{OneMore, Run, cut, end_of, ends_of}
 pub use Rattle.law_epochs.proofs.EpochsInHistories.{place_timely, running_timely, second_timely}
 pub use Rattle.law_epochs.proofs.KeysToldByJobs.{IsMoverOwn, did_said, mover_store}
 pub use Rattle.law_epochs.proofs.PendingIsInTime.{opened_by, was_opened}
 pub use Rattle.law_epochs.proofs.ReportedHaveNoPending.{resting}
-pub use Rattle.law_jobs.proofs.ChainsApart.{entry_stays}
 pub use Rattle.law_jobs.proofs.CountsGrow.{did_follow}
+pub use Rattle.law_jobs.proofs.EntriesReachComingCells.{comes_after, start_comes}
 pub use Rattle.law_jobs.proofs.FilledAsTold.{As_before, Told_of, did_remember}
+pub use Rattle.law_jobs.proofs.FillsByJobs.{IsOpenedFill, Is_next, Is_other, did_fills, is_fill}
 pub use Rattle.law_jobs.proofs.OperationsCome.{restaged}
 pub use Rattle.law_jobs.proofs.Runs.{after}
-pub use Rattle.law_jobs.specs.Effects.{Alone_has, Both_have, For_a_fill, For_a_write, Goes_on, HasEnded, Has_put, IsSetFor, Is_opened, Is_retired}
-pub use Rattle.law_jobs.specs.Sayings.{to_server}
+pub use Rattle.law_jobs.specs.ComingCells.{WasComing}
+pub use Rattle.law_jobs.specs.Effects.{A_new_copy, A_sweep, Alone_has, Both_have, Closes, Goes_on, HasEnded, Has_put, IsDroppedFor, IsPaired, IsSetFor}
+pub use Rattle.law_jobs.specs.Effects.{Is_apart, Is_opened, Is_replicated, Is_retired, Puts, The_last_copy, Was_paired, chains_ahead}
 pub use Rattle.law_log.proofs.FillJobsLeaveLog.{filled_beside, filled_here}
 pub use Rattle.law_log.proofs.LogInHistories.{first_incs, join_was_wanted, moved_was_wanted}
 pub use Rattle.law_log.specs.ProposedCommands.{WasMoving}
@@ -92,13 +89,8 @@ pub use Rattle.law_state.proofs.Steady.{below}
 pub use Rattle.law_state.proofs.TwinsAreOfOneDisk.{IsMoved, cells_same, goal_same, gone_twin, log_comes, log_goes, source_same, start_same, twins_later}
 pub use Rattle.law_state.specs.LaterStates.{KeepsRoles}
 pub use Rattle.law_state.specs.NotedLinks.{HasMovedIn}
-pub use Rattle.law_jobs.proofs.EntriesReachComingCells.{comes_after, start_comes}
-pub use Rattle.law_jobs.proofs.FillsByJobs.{IsOpenedFill, Is_next, Is_other, did_fills, is_fill}
-pub use Rattle.law_steps.proofs.LettersOfSteps.{Aside, Of_job, Was_sent, happens_sent}
 pub use Rattle.law_steps.proofs.MovesAreOfComingCells.{leaves_with, next_on, region_left}
-pub use Rattle.law_jobs.specs.ComingCells.{WasComing}
 pub use Rattle.law_steps.specs.DidStep.{IsSeatedOrMute}
-pub use Rattle.law_steps.specs.DidSweep.{cell_swept}
 pub use Rattle.law_steps.specs.Operations.{A_fill, A_write, IsOpenedFor, IsStaged}
 pub use Rattle.law_steps.specs.Ties.{HasOwnCaught}
 pub use Rattle.spec_history.specs.Claims.{Matters, Moves}

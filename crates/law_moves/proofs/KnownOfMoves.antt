@@ -1,7 +1,7 @@
 -- What is known of moves after each legal history.
 use Rattle.law_moves.proofs.Imports.{◌++◌, ◌∙◌, ◌∷◌, ◌≡◌, ◌≤◌, AreSteps, At, Cell, Chain, IsLinked, IsSound, LinkRow, List, Moved, Moves, Pairs, Pending}
 use Rattle.law_moves.proofs.Imports.{Record, Run, Script, Some, WasThere, ap, arith, at, at_most_or_above, cell_cmp, cell_of, chosen_state, cut, end_of}
-use Rattle.law_moves.proofs.Imports.{false, front_on, history_grows, history_is_firm, inl, inr, is_clients, log_below, place_by, region_of, stage_at, subst}
+use Rattle.law_moves.proofs.Imports.{false, history_grows, history_is_firm, inl, inr, is_clients, log_below, place_by, prefix_on, region_of, stage_at, subst}
 use Rattle.law_moves.proofs.Imports.{sym, ℕ}
 use Rattle.law_moves.specs.Fills.{HaveComeOver, IsFrozen}
 use Rattle.law_moves.proofs.MovesInHistories.{all_known, known_after}
@@ -70,7 +70,7 @@ module _ (script : Script) (records : List Record) (sound : IsSound script) (leg
     born_after =
         let born = (((rests then).pending n).staged cell op pending_then).born in
         let log = ((At script there.before).servers n).log.applied in
-        let lies = front_on log _ chosen ((history_is_firm script there.before sound then.legal).servers n)
+        let lies = prefix_on log _ chosen ((history_is_firm script there.before sound then.legal).servers n)
         (history_grows script records sound legal there.before there.later there.is) in
         let rise = (log_below script.servers log chosen (history_is_firm script records sound legal).plain lies).stages cell in
         omega arith

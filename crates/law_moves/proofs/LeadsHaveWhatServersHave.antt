@@ -3,12 +3,12 @@
 use Rattle.law_moves.proofs.Imports.{◌+◌, ◌<◌, ◌==◌, ◌∙◌, ◌≡◌, ◌≢◌, ◌≤◌, ◌⊎◌, AliveIn, AreCopies, Bool, Both, Cell, Chain, Command, HasOwnCaught, IsHeldBy}
 use Rattle.law_moves.proofs.Imports.{IsInBoth, IsLinked, IsPrefix, IsServing, LinkRow, List, None, Only, Option, PairOk, PairState, Pending, Run, Some, Store}
 use Rattle.law_moves.proofs.Imports.{Working, alone_not_both, alone_row, ap, arith, at, at-empty, at_apart, at_most_or_above, at_same, blank_joins_in}
-use Rattle.law_moves.proofs.Imports.{both_since, by_bool, cell_cmp, cell_link, chain_in, chosen_state, either_true, end_of, false, far, front_itself, half}
-use Rattle.law_moves.proofs.Imports.{half_store, has_proposed, has_server, holder_is_one, in_both, inl, inr, is_alone_on, is_clients, is_some, is_the_one}
-use Rattle.law_moves.proofs.Imports.{kept, link_led_by, nat_cmp, none_some, one_before, one_put_ahead, one_row, option_and_then, pair_at, pair_of, pending_on}
-use Rattle.law_moves.proofs.Imports.{place_by, places_up, primary_is_one, progress, put, refl, row_lead, rows_later, running_fronts, same_numbers, same_only}
-use Rattle.law_moves.proofs.Imports.{same_or_apart, same_some, server_state, serves_alone, serves_its, so_both, stage_at, stage_live, stays_alone, subst, sym}
-use Rattle.law_moves.proofs.Imports.{true, true_false, unseen_beyond, ℕ}
+use Rattle.law_moves.proofs.Imports.{both_since, by_bool, cell_cmp, cell_link, chain_in, chosen_state, either_true, end_of, false, far, half, half_store}
+use Rattle.law_moves.proofs.Imports.{has_proposed, has_server, holder_is_one, in_both, inl, inr, is_alone_on, is_clients, is_some, is_the_one, kept}
+use Rattle.law_moves.proofs.Imports.{link_led_by, nat_cmp, none_some, one_before, one_put_ahead, one_row, option_and_then, pair_at, pair_of, pending_on}
+use Rattle.law_moves.proofs.Imports.{place_by, places_up, prefix_itself, primary_is_one, progress, put, refl, row_lead, rows_later, running_prefixes}
+use Rattle.law_moves.proofs.Imports.{same_numbers, same_only, same_or_apart, same_some, server_state, serves_alone, serves_its, so_both, stage_at, stage_live}
+use Rattle.law_moves.proofs.Imports.{stays_alone, subst, sym, true, true_false, unseen_beyond, ℕ}
 use Rattle.law_moves.specs.Fills.{Has}
 use Rattle.law_moves.proofs.MoveWorlds.{chosen_twins, facts_at, firm, good, own_counts, rests, steady_at, up}
 use Rattle.law_moves.proofs.MoveScenes.{LeadsAt, TwoLeads}
@@ -95,7 +95,7 @@ module _ (it : Run) (cell : Cell) (k : ℕ) (lead : LeadsAt (end_of it).setting 
   alive = omega arith
 
   mine_alive : AliveIn (server_state setting w k) cell
-  mine_alive = let le = up it mine chosen mine_chosen (front_itself chosen) cell in omega arith
+  mine_alive = let le = up it mine chosen mine_chosen (prefix_itself chosen) cell in omega arith
 
   abbrev stores : ℕ → Store
   stores = kept setting w
@@ -137,9 +137,9 @@ module _ (it : Run) (cell : Cell) (k : ℕ) (lead : LeadsAt (end_of it).setting 
     | inl b ↦
         let has = primary_is_one b.0.row k b.1 in
         elim (both_since setting records w stores (firm it) (good it) k runs seat cell b.0.row b.0.is
-        b.0.so has chosen now mine_chosen (front_itself chosen) end alive) [
+        b.0.so has chosen now mine_chosen (prefix_itself chosen) end alive) [
           | inl same ↦ (
-              let one = one_row setting chosen (firm it).plain mine chosen cell b.0.row now mine_chosen (front_itself chosen) b.0.is
+              let one = one_row setting chosen (firm it).plain mine chosen cell b.0.row now mine_chosen (prefix_itself chosen) b.0.is
               end (sym same) in
               As_first (record {
                 both = ap (λ (r : LinkRow). r.state) one ∙ b.0.so;
@@ -155,7 +155,7 @@ module _ (it : Run) (cell : Cell) (k : ℕ) (lead : LeadsAt (end_of it).setting 
       held : IsHeldBy (server_state setting w k) cell k → IsLedAs now
       held h =
           let has = holder_is_one (server_state setting w k) cell k h in
-          elim (stays_alone (running_fronts (firm it) k runs (front_itself mine) mine_chosen (front_itself chosen) seat) cell
+          elim (stays_alone (running_prefixes (firm it) k runs (prefix_itself mine) mine_chosen (prefix_itself chosen) seat) cell
           h.row h.is has (serves_its k h.row h.so) alive h.whole h.so) [
             | inl on ↦ (
                 let a = alone_row (chosen_state setting w) k cell on in
@@ -167,12 +167,12 @@ module _ (it : Run) (cell : Cell) (k : ℕ) (lead : LeadsAt (end_of it).setting 
           following h caught =
               let same : caught.now ≡ now = same_some (sym caught.since.same ∙ end) in
               let both : now.state ≡ Both = ap (λ (r : LinkRow). r.state) (sym same) ∙ caught.both in
-              let le = places_up setting chosen (firm it).plain mine chosen cell h.row now mine_chosen (front_itself chosen) h.is end in
+              let le = places_up setting chosen (firm it).plain mine chosen cell h.row now mine_chosen (prefix_itself chosen) h.is end in
               let lt : place_by setting mine h.row < place_by setting chosen now =
               elim (at_most_or_above (place_by setting chosen now) (place_by setting mine h.row)) [
                 | inr above ↦ above
                 | inl most ↦ (
-                    let one = one_row setting chosen (firm it).plain mine chosen cell h.row now mine_chosen (front_itself chosen)
+                    let one = one_row setting chosen (firm it).plain mine chosen cell h.row now mine_chosen (prefix_itself chosen)
                     h.is end (omega arith) in
                     let f : Only k h.whole ≡ Both = sym h.so ∙ ap (λ (r : LinkRow). r.state) (sym one) ∙ both in absurd cc)
               ] in
@@ -181,7 +181,7 @@ module _ (it : Run) (cell : Cell) (k : ℕ) (lead : LeadsAt (end_of it).setting 
                 unseen = unseen_beyond setting records w stores (firm it) (good it) k cell h.row h.is
                     (place_by setting chosen now) lt;
                 one_of = one_before h.row now k (rows_later setting chosen (firm it).plain mine chosen cell h.row now mine_chosen
-                    (front_itself chosen) h.is end)
+                    (prefix_itself chosen) h.is end)
                     ∙ holder_is_one (server_state setting w k) cell k h;
                 flagged = caught.proposed;
               })
@@ -304,7 +304,7 @@ module _ (it : Run) (two : TwoLeads (end_of it).setting (end_of it).w) where
   unheld : (n : ℕ) → 1 ≤ stage_at (server_state this u n) cell → (o : Pending) → pending_on (u.servers n).own cell ≡ Some o
       → has_proposed (server_state this u n) (u.servers n).own cell ≡ true → ⊥
   unheld n one o there flagged =
-      let le = up it (u.servers n).log.applied by_all ((firm it).servers n) (front_itself by_all) cell in
+      let le = up it (u.servers n).log.applied by_all ((firm it).servers n) (prefix_itself by_all) cell in
       true_false flagged
       ((((rests it).pending n).staged cell o there).unheld (stage_live (server_state this u n) cell one (omega arith)))
 
@@ -319,9 +319,9 @@ module _ (it : Run) (two : TwoLeads (end_of it).setting (end_of it).w) where
   are_apart =
       let mine = (u.servers m).log.applied in
       let mine_all = (firm it).servers m in
-      let le = up it mine by_all mine_all (front_itself by_all) cell in
-      let lives = (steady_at it by_all (front_itself by_all)).lives cell
-      ((facts_at it by_all (front_itself by_all) cell).alive (omega arith) low) in
+      let le = up it mine by_all mine_all (prefix_itself by_all) cell in
+      let lives = (steady_at it by_all (prefix_itself by_all)).lives cell
+      ((facts_at it by_all (prefix_itself by_all) cell).alive (omega arith) low) in
       elim (led_as it cell m one lives.row lives.is) [
         | As_first f ↦ elim (led_as it cell k other lives.row lives.is) [
           | As_first g ↦ absurd (apart (sym f.first ∙ g.first))

@@ -1,7 +1,7 @@
 -- Each step keeps what old leads remember of the entries that they have moved, and that each remembers so only since its region is on its way.
 use Rattle.law_moves.proofs.Imports.{◌∙◌, ◌≡◌, As_before, Cell, Command, Handled, IsPrefix, Key, LinkId, LinkRow, List, OneMore, PairState, Server, Some}
 use Rattle.law_moves.proofs.Imports.{Table, Told_of, ap, at, at-empty, by_bool, chosen_log, did_remember, ends_of, eq_by_cmp, filled_beside, filled_here}
-use Rattle.law_moves.proofs.Imports.{front_on, id_of, link_cmp, none_some, own_place, put, same_id, same_some, subst, sym, true, true_false, ℕ}
+use Rattle.law_moves.proofs.Imports.{id_of, link_cmp, none_some, own_place, prefix_on, put, same_id, same_some, subst, sym, true, true_false, ℕ}
 use Rattle.law_moves.proofs.StepsTellEntries.{Goes_on, Is_bare, Keeps, Awakes, IsJob, Works, gone}
 use Rattle.law_moves.specs.Fills.{AllFilled, IsOnWay, IsToldOf}
 use Rattle.law_moves.proofs.AllKeptOfMoves.{HasBegun, HaveBegun, WasKnown}
@@ -10,7 +10,7 @@ use Rattle.law_moves.proofs.LeadsWereTold.{HasTold, begun_here, told_before, tol
 -- ### What is remembered
 
 module _ (it : OneMore) (known : WasKnown it) where
-  open it use {prior.{script, records as front}}
+  open it use {prior.{script, records as prefix}}
   open ends_of it use {setting, w, v}
 
   abbrev Was : ℕ → Server
@@ -42,7 +42,7 @@ module _ (it : OneMore) (known : WasKnown it) where
 
   since_more : (log more : List Command) (filled : Table LinkId Key) → IsPrefix log more → HaveSince log filled → HaveSince more filled
   since_more log more filled on all id last is =
-      let b = all id last is in record { map = b.map; front = b.front; lies = front_on b.front log more b.lies on; leaves = b.leaves }
+      let b = all id last is in record { map = b.map; prefix = b.prefix; lies = prefix_on b.prefix log more b.lies on; leaves = b.leaves }
 
   done_since : (y : ℕ) (to : Server) (job : IsJob it y to) → HaveSince (Was y).log.applied job.done.own.filled
   done_since y to job = elim (did_remember (Handled w y) (own_place setting w y) (Was y).own job.done job.did) [

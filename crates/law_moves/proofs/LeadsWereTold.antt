@@ -1,11 +1,11 @@
 -- What the lead of a link of an old map remembers: up to the last key of which it was told, the new map was told to have all.
-use Rattle.law_moves.proofs.Imports.{[], ◌&&◌, ◌++◌, ◌==◌, ◌||◌, ◌∙◌, ◌∷◌, ◌≡◌, Cell, Chain, Command, DiskRow, Firm, Handled, HasProperTuples, IsMoved}
-use Rattle.law_moves.proofs.Imports.{IsNextKey, IsPrefix, Key, LinkId, LinkRow, List, None, OneMore, Option, PairState, Some, State, Table, ap, arith, at}
-use Rattle.law_moves.proofs.Imports.{by_bool, cell_link, cell_of, cells_same, chain_in, chosen_log, comes_before, ends_of, eq_by_cmp, false, filled_beside}
-use Rattle.law_moves.proofs.Imports.{filled_here, front_itself, front_on, front_plain, history_grows, history_is_firm, id_of, if◌then◌else◌, inl, inr}
-use Rattle.law_moves.proofs.Imports.{is_link, is_some, key_at, leaves_with, link_cmp, link_named, log_below, log_comes, log_goes, log_plain, log_steady}
-use Rattle.law_moves.proofs.Imports.{map_of, move_region, nat_lt, new_stage, next_on, none_some, number_itself, old_stage, option_and_then, option_map_or}
-use Rattle.law_moves.proofs.Imports.{own_place, owner, put, refl, region_left, region_of, row_named, same_id, same_some, server_state, some_or_none, source}
+use Rattle.law_moves.proofs.Imports.{[], if◌then◌else◌, ◌&&◌, ◌++◌, ◌==◌, ◌||◌, ◌∙◌, ◌∷◌, ◌≡◌, Cell, Chain, Command, DiskRow, Firm, Handled, HasProperTuples}
+use Rattle.law_moves.proofs.Imports.{IsMoved, IsNextKey, IsPrefix, Key, LinkId, LinkRow, List, None, OneMore, Option, PairState, Some, State, Table, ap}
+use Rattle.law_moves.proofs.Imports.{arith, at, by_bool, cell_link, cell_of, cells_same, chain_in, chosen_log, comes_before, ends_of, eq_by_cmp, false}
+use Rattle.law_moves.proofs.Imports.{filled_beside, filled_here, history_grows, history_is_firm, id_of, inl, inr, is_link, is_some, key_at, leaves_with}
+use Rattle.law_moves.proofs.Imports.{link_cmp, link_named, log_below, log_comes, log_goes, log_plain, log_steady, map_of, move_region, nat_lt, new_stage}
+use Rattle.law_moves.proofs.Imports.{next_on, none_some, number_itself, old_stage, option_and_then, option_map_or, own_place, owner, prefix_itself, prefix_on}
+use Rattle.law_moves.proofs.Imports.{prefix_plain, put, refl, region_left, region_of, row_named, same_id, same_some, server_state, some_or_none, source}
 use Rattle.law_moves.proofs.Imports.{stage_at, stage_by, stage_facts, subst, sym, target, true, tuple_of, ℕ}
 use Rattle.law_moves.specs.Fills.{AllFilled, Has, IsOnWay, IsToldOf, WasFilled}
 use Rattle.law_moves.specs.LeftToMove.{IsKept, IsOurs}
@@ -34,7 +34,7 @@ keys_same : (one other : Key) → one.map ≡ other.map → one.block ≡ other.
 keys_same one other a b c = λ i. record { map = a i; block = b i; epoch = c i }
 
 module _ (it : OneMore) (known : WasKnown it) (y : ℕ) where
-  open it use {prior, prior.{script, sound, records as front}, legal}
+  open it use {prior, prior.{script, sound, records as prefix}, legal}
   open ends_of it use {setting, w, v, By, records, present}
 
   abbrev log : List Command
@@ -44,16 +44,16 @@ module _ (it : OneMore) (known : WasKnown it) (y : ℕ) where
   own = (w.servers y).own
 
   was : Firm setting w
-  was = history_is_firm script front sound prior.legal
+  was = history_is_firm script prefix sound prior.legal
 
   on : IsPrefix (chosen_log setting w) (chosen_log setting v)
-  on = history_grows script records sound legal front (it.own ∷ []) refl
+  on = history_grows script records sound legal prefix (it.own ∷ []) refl
 
   plain_was : (f : List Command) → IsPrefix f (chosen_log setting w) → HasProperTuples script.servers f
-  plain_was f lies = front_plain script.servers f (chosen_log setting w) was.plain lies
+  plain_was f lies = prefix_plain script.servers f (chosen_log setting w) was.plain lies
 
   pub lift : (key : Key) → WasFilled w key → WasFilled v key
-  lift key told = filled_stays script front (it.own ∷ []) sound legal key told
+  lift key told = filled_stays script prefix (it.own ∷ []) sound legal key told
 
   -- what was frozen is so still, once a cell leaves
   pub same_frozen : (f : List Command) → IsPrefix f (chosen_log setting w) → (old : Cell) → stage_at (By f) old ≡ 3 → v.frozen old ≡ w.frozen old
@@ -61,11 +61,11 @@ module _ (it : OneMore) (known : WasKnown it) (y : ℕ) where
       let up = (log_below script.servers f (chosen_log setting w) was.plain lies).stages old in
       frozen_same it old (inl (omega arith))
 
-  -- at each front at which a cell is leaving, its link has one name
+  -- at each prefix at which a cell is leaving, its link has one name
   one_link : (a b : List Command) → IsPrefix a (chosen_log setting v) → IsPrefix b (chosen_log setting v) → (old : Cell) (one other : LinkRow)
       → cell_link (By a) old ≡ Some one → cell_link (By b) old ≡ Some other → id_of one ≡ id_of other
   one_link a b la lb old one other is two =
-      let all = front ++ it.own ∷ [] in
+      let all = prefix ++ it.own ∷ [] in
       let map_of_a = map_of script.servers (By a) (log_plain script.servers a (plain_at present a la)) old one is in
       let map_of_b = map_of script.servers (By b) (log_plain script.servers b (plain_at present b lb)) old other two in
       ids_same (id_of one) (id_of other) (map_of_a ∙ sym map_of_b)
@@ -75,7 +75,7 @@ module _ (it : OneMore) (known : WasKnown it) (y : ℕ) where
   same_goal : (a b : List Command) → IsPrefix a (chosen_log setting v) → IsPrefix b (chosen_log setting v) → (old one other : Cell)
       → target (By a) old ≡ Some one → target (By b) old ≡ Some other → other ≡ one
   same_goal a b la lb old one other is two =
-      let all = front ++ it.own ∷ [] in
+      let all = prefix ++ it.own ∷ [] in
       one_goal present a b la lb old one other (log_goes script.servers a (plain_at present a la) old one is)
       (log_goes script.servers b (plain_at present b lb) old other two)
 
@@ -88,20 +88,20 @@ module _ (it : OneMore) (known : WasKnown it) (y : ℕ) where
     pub told_before : HasTold own.filled
     told_before f old new row last lies way is before epoch frozen has told =
         let b = known.begun y (id_of row) last is in
-        let lies_then = front_on b.front log (chosen_log setting w) b.lies (was.servers y) in
-        let lies_now = front_on b.front (chosen_log setting w) (chosen_log setting v) lies_then on in
-        let all = front ++ it.own ∷ [] in
+        let lies_then = prefix_on b.prefix log (chosen_log setting w) b.lies (was.servers y) in
+        let lies_now = prefix_on b.prefix (chosen_log setting w) (chosen_log setting v) lies_then on in
+        let all = prefix ++ it.own ∷ [] in
         let map_is : old.map ≡ last.map =
         sym (map_of script.servers (By f) (log_plain script.servers f (plain_at present f lies)) old row way.linked) ∙ sym b.map in
-        let three : stage_at (By b.front) old ≡ 3 = stage_region (By b.front) old (cell_of last) map_is told.region ∙ b.leaves in
-        let facts = stage_facts script.servers b.front (plain_was b.front lies_then) old in
-        let h = (log_steady script.servers b.front (plain_was b.front lies_then)).lives old (facts.alive (omega arith) (omega arith)) in
+        let three : stage_at (By b.prefix) old ≡ 3 = stage_region (By b.prefix) old (cell_of last) map_is told.region ∙ b.leaves in
+        let facts = stage_facts script.servers b.prefix (plain_was b.prefix lies_then) old in
+        let h = (log_steady script.servers b.prefix (plain_was b.prefix lies_then)).lives old (facts.alive (omega arith) (omega arith)) in
         let goes = facts.targets three in
-        let goal : goes.0 ≡ new = same_goal f b.front lies lies_now old new goes.0 way.to goes.1 in
-        let id = one_link f b.front lies lies_now old row h.row way.linked h.is in
+        let goal : goes.0 ≡ new = same_goal f b.prefix lies lies_now old new goes.0 way.to goes.1 in
+        let id = one_link f b.prefix lies lies_now old row h.row way.linked h.is in
         lift (key_at new epoch)
-        (known.filled.told y b.front old new h.row last runs lies_then (record { stage = three; to = goes.1 ∙ ap Some goal; linked = h.is })
-        (ap (at link_cmp own.filled) (sym id) ∙ is) before epoch (sym (same_frozen b.front lies_then old three) ∙ frozen) has told)
+        (known.filled.told y b.prefix old new h.row last runs lies_then (record { stage = three; to = goes.1 ∙ ap Some goal; linked = h.is })
+        (ap (at link_cmp own.filled) (sym id) ∙ is) before epoch (sym (same_frozen b.prefix lies_then old three) ∙ frozen) has told)
 
     module _ (key : Key) (row : LinkRow) (heard : Handled w y (body.Filled key)) (next : IsNextKey (own_place setting w y) own key row) where
       abbrev here : State
@@ -114,7 +114,7 @@ module _ (it : OneMore) (known : WasKnown it) (y : ℕ) where
       lies = was.servers y
 
       lies_v : IsPrefix log (chosen_log setting v)
-      lies_v = front_on log (chosen_log setting w) (chosen_log setting v) lies on
+      lies_v = prefix_on log (chosen_log setting w) (chosen_log setting v) lies on
 
       -- the cell of the old map from which the key comes
       record HasOld : Type 0 where
@@ -140,7 +140,7 @@ module _ (it : OneMore) (known : WasKnown it) (y : ℕ) where
           (leaves_with here told_key row.map next.region refl in_region (region_left here y row next.region next.moves))
 
       pub begun_here : HasBegun setting log (id_of row) told_key
-      begun_here = record { map = refl; front = log; lies = front_itself log; leaves = leaves }
+      begun_here = record { map = refl; prefix = log; lies = prefix_itself log; leaves = leaves }
 
       -- of a cell of the link and the region: the key itself, or one that comes before it
       module _ (f : List Command) (old new : Cell) (at_row : LinkRow) (lies_f : IsPrefix f (chosen_log setting v))
@@ -148,7 +148,7 @@ module _ (it : OneMore) (known : WasKnown it) (y : ℕ) where
           (id : id_of at_row ≡ id_of row) (region : region_of old.block ≡ region_of key.block) where
         map_is : old.map ≡ row.map
         map_is =
-            let all = front ++ it.own ∷ [] in
+            let all = prefix ++ it.own ∷ [] in
             sym (map_of script.servers (By f) (log_plain script.servers f (plain_at present f lies_f)) old at_row way.linked)
             ∙ ap (λ (i : LinkId). i.map) id
 

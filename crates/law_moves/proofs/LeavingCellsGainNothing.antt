@@ -1,8 +1,8 @@
 -- What a step leaves of a cell at a server that serves its link: no entry goes, and of a cell that is leaving, or has left, none comes.
 use Rattle.law_moves.proofs.Imports.{[], if◌then◌else◌, ◌+◌, ◌==◌, ◌∙◌, ◌≡◌, ◌≤◌, BeforeBlank, Cell, Chain, Command, Handled, IsPrefix, IsServing, Key, List}
 use Rattle.law_moves.proofs.Imports.{None, OneMore, Option, PairState, Pending, Server, Some, Store, ap, append-nil, arith, at, at_apart, at_same}
-use Rattle.law_moves.proofs.Imports.{blank_joins_in, by_bool, cell_cmp, cell_of, chain_in, chosen_state, ends_of, false, front_itself, inl, inr, is_clients}
-use Rattle.law_moves.proofs.Imports.{is_in, is_second, is_some, is_the_one, kept, kept_by, kept_store, last_on, nat_cmp, number_itself, progress, put}
+use Rattle.law_moves.proofs.Imports.{blank_joins_in, by_bool, cell_cmp, cell_of, chain_in, chosen_state, ends_of, false, inl, inr, is_clients, is_in}
+use Rattle.law_moves.proofs.Imports.{is_second, is_some, is_the_one, kept, kept_by, kept_store, last_on, nat_cmp, number_itself, prefix_itself, progress, put}
 use Rattle.law_moves.proofs.Imports.{running_timely, same_or_apart, second, second_by, server_state, stage_at, state_after, subst, sym, true, ℕ}
 use Rattle.law_moves.proofs.StepsTellEntries.{knows, Keeps, gone, Awakes, Goes_on, HasGone, HasStore, Is_bare, Works}
 use Rattle.law_moves.specs.Fills.{Has}
@@ -28,11 +28,11 @@ kept_map P joins (Some b) s t was step = by_bool (b.joins == joins)
     (λ no. subst P (ap (λ x. if x then b.store else t) (sym no)) (step (subst P (ap (λ x. if x then b.store else s) no) was)))
 
 module _ (it : OneMore) (all : WereKnown it) where
-  open it use {prior, prior.{script, sound, records as front}}
+  open it use {prior, prior.{script, sound, records as prefix}}
   open ends_of it use {setting, w, v, top}
 
-  pub before : Known script front
-  before = all front [] (sym (append-nil front))
+  pub before : Known script prefix
+  before = all prefix [] (sym (append-nil prefix))
 
   abbrev chain_of : Server → Cell → Chain
   chain_of server cell = chain_in server.own.store.chains cell
@@ -78,7 +78,7 @@ module _ (it : OneMore) (all : WereKnown it) where
     module _ (three : 3 ≤ stage_at (chosen_state setting w) cell) where
       not_own : (op : Pending) → (w.servers n).life.running ≡ true → at cell_cmp (w.servers n).own.pairs.pending cell ≡ Some op → ⊥
       not_own op runs is = by_bool (is_clients op.kind)
-          (λ clients. let stays = (running_timely script front sound prior.legal n cell op runs is clients).stays in absurd (omega arith))
+          (λ clients. let stays = (running_timely script prefix sound prior.legal n cell op runs is clients).stays in absurd (omega arith))
           (λ fills. let one = before.filled.opened n cell op runs is fills in absurd (omega arith))
 
       not_asked : (number : ℕ) (key : Key) (version : ℕ) (bytes : List ℕ) → (w.servers n).life.running ≡ true
@@ -97,7 +97,7 @@ module _ (it : OneMore) (all : WereKnown it) where
             cell = cell;
             row = b.0.row;
             runs = runs;
-            on = front_itself mine;
+            on = prefix_itself mine;
             lies = mine_top;
             seat = seat;
             linked = b.0.is;
@@ -151,9 +151,9 @@ module _ (it : OneMore) (all : WereKnown it) where
 
     pub kept_has : (epoch : ℕ) → Has (chain_in (kept setting w n).chains cell) epoch → Has (chain_in (now_kept n).chains cell) epoch
     kept_has epoch has = kept_from n (λ (s : Store). Has (chain_in s.chains cell) epoch) has
-        (λ g was. has_on n top mine_on (front_itself top) cell low serving (v.servers n) g epoch was)
+        (λ g was. has_on n top mine_on (prefix_itself top) cell low serving (v.servers n) g epoch was)
 
     pub kept_same : 3 ≤ stage_at (chosen_state setting w) cell → (chain : Chain) → chain_in (kept setting w n).chains cell ≡ chain
         → chain_in (now_kept n).chains cell ≡ chain
     kept_same three chain is = kept_from n (λ (s : Store). chain_in s.chains cell ≡ chain) is
-        (λ g was. same_on n top mine_on (front_itself top) cell low serving three (v.servers n) g ∙ was)
+        (λ g was. same_on n top mine_on (prefix_itself top) cell low serving three (v.servers n) g ∙ was)

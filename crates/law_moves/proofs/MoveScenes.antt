@@ -36,7 +36,7 @@ pub record IsMover (setting : Setting) (w : World) (y : ℕ) : Type 0 where
   pub region : ℕ
   pub moves : region_to_move (server_state setting w y) y row ≡ Some region
 
--- a server that runs, and is In by a front by which it is the second one of a link in Both, of a cell that is not retired
+-- a server that runs, and is In by a prefix by which it is the second one of a link in Both, of a cell that is not retired
 pub record IsSecondAt (setting : Setting) (w : World) : Type 0 where
   pub m : ℕ
   pub f : List Command
@@ -53,7 +53,7 @@ pub record IsSecondAt (setting : Setting) (w : World) : Type 0 where
 
 -- ### What they are asked, and have under way
 
--- a letter of a front that asks for an entry of a cell
+-- a letter of a prefix that asks for an entry of a cell
 pub record AsksToPut (f : List Command) (cell : Cell) : Type 0 where
   pub letter : Letter
   pub number : ℕ

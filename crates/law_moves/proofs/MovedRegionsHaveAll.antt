@@ -2,17 +2,17 @@
 -- so is there.
 use Rattle.law_moves.proofs.Imports.{[], ◌++◌, ◌==◌, ◌∙◌, ◌∷◌, ◌≡◌, ◌≤◌, Cell, Chain, Command, HasMovedIn, HasProperTuples, IsMoved, IsPrefix, LinkRow, List}
 use Rattle.law_moves.proofs.Imports.{MapRow, Moved, Run, Setting, Some, World, ap, arith, below, both_true, cell_link, chosen_log, end_of, found_at}
-use Rattle.law_moves.proofs.Imports.{front_more, front_on, fronts_meet, goal_same, gone_twin, history_is_firm, inl, inr, is_link, key_at, length, link_at}
-use Rattle.law_moves.proofs.Imports.{link_of, links_of, log_comes, log_goes, log_grown, log_plain, log_retired, log_steady, no_home, none_some}
-use Rattle.law_moves.proofs.Imports.{option_and_then, option_map, option_map_or, proper, refl, region_of, row_or_none, same_numbers, some_or_none, source}
+use Rattle.law_moves.proofs.Imports.{goal_same, gone_twin, history_is_firm, inl, inr, is_link, key_at, length, link_at, link_of, links_of, log_comes}
+use Rattle.law_moves.proofs.Imports.{log_goes, log_grown, log_plain, log_retired, log_steady, no_home, none_some, option_and_then, option_map, option_map_or}
+use Rattle.law_moves.proofs.Imports.{prefix_more, prefix_on, prefixes_meet, proper, refl, region_of, row_or_none, same_numbers, some_or_none, source}
 use Rattle.law_moves.proofs.Imports.{stage_at, stage_in, stage_is, subst, sym, tuple_of, tuple_on, ℕ}
 use Rattle.law_moves.specs.Fills.{AllFilled, AreFilled, Has, HaveComeOver, IsOnWay, WasFilled}
 use Rattle.law_moves.proofs.MoveWorlds.{plain_at, facts_at}
 
 -- at each Moved of a link that is chosen, while a cell of the link was leaving, the new map was told to have each entry of the cell
 abbrev pub AllMoved : Setting → World → Type 0
-AllMoved setting w = (front : List Command) (region : ℕ) (old new : Cell) (row : LinkRow)
-    → IsPrefix (front ++ Moved old.map region row.link ∷ []) (chosen_log setting w) → IsOnWay setting.servers front old new row
+AllMoved setting w = (prefix : List Command) (region : ℕ) (old new : Cell) (row : LinkRow)
+    → IsPrefix (prefix ++ Moved old.map region row.link ∷ []) (chosen_log setting w) → IsOnWay setting.servers prefix old new row
     → region_of old.block ≡ region → AllFilled w old new (λ epoch. Unit {0})
 
 module _ (it : Run) where
@@ -50,7 +50,7 @@ module _ (it : Run) where
     pub linked : cell_link (By until) old ≡ Some row
 
   pub until_lies : (until : List Command) (entry : Command) → IsPrefix (until ++ entry ∷ []) chosen → IsPrefix until chosen
-  until_lies until entry stands = front_on until (until ++ entry ∷ []) chosen (front_more until entry) stands
+  until_lies until entry stands = prefix_on until (until ++ entry ∷ []) chosen (prefix_more until entry) stands
 
   pub on_own_link : (old : Cell) (link : ℕ) → HasMovedIn script.servers chosen old link → link ≡ slot old → HasMovedOwn old
   on_own_link old link m is =
@@ -85,10 +85,10 @@ module _ (it : Run) where
 
   -- ### The two cells of a move
 
-  -- by any two fronts an old cell goes to one new cell
+  -- by any two prefixes an old cell goes to one new cell
   pub one_goal : (a b : List Command) → IsPrefix a chosen → IsPrefix b chosen → (old new goal : Cell) → IsMoved (By a) old new → IsMoved (By b) old goal
       → goal ≡ new
-  one_goal a b one two old new goal first second = elim (fronts_meet a b chosen one two) [
+  one_goal a b one two old new goal first second = elim (prefixes_meet a b chosen one two) [
     | inl on ↦ goal_same script.servers a b (plain_at it b two) on old new goal first second
     | inr back ↦ sym (goal_same script.servers b a (plain_at it a one) back old goal new second first)
   ]
@@ -96,25 +96,25 @@ module _ (it : Run) where
   -- ### What has come over
 
   module _ (all_moved : AllMoved setting w) where
-    pub moved_filled : (old new : Cell) → HasMovedOwn old → (front : List Command) → IsPrefix front chosen → IsMoved (By front) old new
+    pub moved_filled : (old new : Cell) → HasMovedOwn old → (prefix : List Command) → IsPrefix prefix chosen → IsMoved (By prefix) old new
         → (before : Chain) (epoch : ℕ) → w.frozen old ≡ Some before → Has before epoch → WasFilled w (key_at new epoch)
-    moved_filled old new m front lies is before epoch frozen has =
+    moved_filled old new m prefix lies is before epoch frozen has =
         let until = until_lies m.until (Moved old.map (region_of old.block) m.row.link) m.stands in
         let goes = (facts_at it m.until until old).targets m.leaves in
-        let same = one_goal front m.until lies until old new goes.0 is (log_goes script.servers m.until (plain_at it m.until until) old goes.0 goes.1) in
+        let same = one_goal prefix m.until lies until old new goes.0 is (log_goes script.servers m.until (plain_at it m.until until) old goes.0 goes.1) in
         all_moved m.until (region_of old.block) old new m.row m.stands
         (record { stage = m.leaves; to = goes.1 ∙ ap Some same; linked = m.linked }) refl before epoch frozen has tt
 
     -- where the new cell is there, each frozen entry was told to be
-    pub over_told : (old new : Cell) (front : List Command) → IsPrefix front chosen → source (By front) new ≡ Some old → 2 ≤ stage_at (By chosen) new
+    pub over_told : (old new : Cell) (prefix : List Command) → IsPrefix prefix chosen → source (By prefix) new ≡ Some old → 2 ≤ stage_at (By chosen) new
         → (before : Chain) (epoch : ℕ) → w.frozen old ≡ Some before → Has before epoch → WasFilled w (key_at new epoch)
-    over_told old new front lies comes two before epoch frozen has =
-        let m = log_comes script.servers front (plain_at it front lies) old new comes in
-        moved_filled old new (retired_moved old (gone_twin script.servers front chosen all_plain lies old new m two)) front lies m before epoch frozen has
+    over_told old new prefix lies comes two before epoch frozen has =
+        let m = log_comes script.servers prefix (plain_at it prefix lies) old new comes in
+        moved_filled old new (retired_moved old (gone_twin script.servers prefix chosen all_plain lies old new m two)) prefix lies m before epoch frozen has
 
   pub come_over : AreFilled setting w → HaveComeOver setting w
   come_over filled cell two three = record {
-    all = λ n epoch before old front lies comes frozen serving has.
-        let told = over_told filled.moved old cell front lies comes two before epoch frozen has in
+    all = λ n epoch before old prefix lies comes frozen serving has.
+        let told = over_told filled.moved old cell prefix lies comes two before epoch frozen has in
         (filled.filled (key_at cell epoch) told).now n (omega arith) three serving;
   }

@@ -1,8 +1,8 @@
 -- A server that is to move a link, by its own entries: each cell of the link and the region is leaving, the server serves it, and has what was
 -- frozen of it; and of what it knows to be there it was told.
 use Rattle.law_moves.proofs.Imports.{◌∙◌, ◌≡◌, Cell, Command, HasProperTuples, IsPrefix, IsServing, List, PairState, Run, Some, State, ap, cell_link}
-use Rattle.law_moves.proofs.Imports.{chain_in, chosen_log, end_of, front_itself, front_plain, history_is_firm, id_of, is_the_one, key_at, leaves_with}
-use Rattle.law_moves.proofs.Imports.{log_steady, on_row, option_and_then, region_left, row_lead, server_state, stage_at, stage_facts, sym, target, ℕ}
+use Rattle.law_moves.proofs.Imports.{chain_in, chosen_log, end_of, history_is_firm, id_of, is_the_one, key_at, leaves_with, log_steady, on_row}
+use Rattle.law_moves.proofs.Imports.{option_and_then, prefix_itself, prefix_plain, region_left, row_lead, server_state, stage_at, stage_facts, sym, target, ℕ}
 use Rattle.law_moves.specs.Fills.{IsOnWay, WasFilled}
 use Rattle.law_moves.specs.LeftToMove.{IsKept, IsKnown, IsOurs}
 use Rattle.law_moves.proofs.AllKeptOfMoves.{Known}
@@ -28,7 +28,7 @@ module _ (it : Run) (known : Known it.script it.records) (y : ℕ) (mover : IsMo
   lies = (history_is_firm script records sound legal).servers y
 
   plain : HasProperTuples script.servers log
-  plain = front_plain script.servers log (chosen_log setting w) (history_is_firm script records sound legal).plain lies
+  plain = prefix_plain script.servers log (chosen_log setting w) (history_is_firm script records sound legal).plain lies
 
   module _ (old : Cell) (ours : IsOurs here row region old) where
     linked : cell_link here old ≡ Some row
@@ -47,7 +47,7 @@ module _ (it : Run) (known : Known it.script it.records) (y : ℕ) (mover : IsMo
 
     -- what it has of the cell is what was frozen
     pub had : w.frozen old ≡ Some (chain_in own.store.chains old)
-    had = known.still.own y log old runs (front_itself log) lies seat three serving
+    had = known.still.own y log old runs (prefix_itself log) lies seat three serving
 
     pub way : (new : Cell) → target here old ≡ Some new → IsOnWay script.servers log old new row
     way new to = record { stage = three; to = to; linked = linked }

@@ -1,4 +1,4 @@
--- All that is kept of moves is so after each legal history: by each step, where it was so after each front of the records.
+-- All that is kept of moves is so after each legal history: by each step, where it was so after each prefix of the records.
 use Rattle.law_moves.proofs.Imports.{[], ◌++◌, ◌∙◌, ◌∷◌, ◌≡◌, ◌≤◌, AreSteps, Cell, Command, In, IsPrefix, IsSound, Key, List, OneMore, Pending, Record}
 use Rattle.law_moves.proofs.Imports.{Script, Setting, Some, ap, append-nil, arith, at, at-empty, by_run, cell_cmp, cell_of, chosen_from, chosen_log}
 use Rattle.law_moves.proofs.Imports.{chosen_state, devices, ends_of, false, first_state, flat_map, fold, id_of, inl, inr, is_clients, link_cmp, map, max}
@@ -23,10 +23,10 @@ use Rattle.law_moves.proofs.PendingFillsUnsaid.{unsaid_at}
 use Rattle.law_moves.proofs.MoveScenes.{FillsSo}
 
 module _ (it : OneMore) (all : WereKnown it) where
-  open it use {prior.{script, sound, records as front}, legal}
+  open it use {prior.{script, sound, records as prefix}, legal}
   open ends_of it use {setting, v, records, present}
 
-  known : Known script front
+  known : Known script prefix
   known = before it all
 
   there : (key : Key) → WasFilled v key → IsThere setting v (cell_of key) key.epoch
@@ -85,7 +85,7 @@ none_chosen setting = ap (chosen_from setting.servers (devices (start setting)) 
 first_stage : (servers : ℕ) (cell : Cell) → stage_at (first_state servers) cell ≡ 0
 first_stage servers cell = refl
 
--- by each front of what is chosen no cell is there
+-- by each prefix of what is chosen no cell is there
 none_there : (setting : Setting) (f : List Command) → IsPrefix f (chosen_log setting (start setting)) → (cell : Cell)
     → stage_at (state_after setting.servers f) cell ≡ 0
 none_there setting f lies cell =

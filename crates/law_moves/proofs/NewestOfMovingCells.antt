@@ -1,9 +1,9 @@
--- The two cells of a move by any two fronts; what is newest of entries that move; and that of a server that serves a coming cell all that is newer is
+-- The two cells of a move by any two prefixes; what is newest of entries that move; and that of a server that serves a coming cell all that is newer is
 -- there.
 use Rattle.law_moves.proofs.Imports.{◌∙◌, ◌≡◌, ◌≤◌, AreWithin, Cell, Chain, Command, HasNewer, IsFilledFrom, IsMoved, IsPrefix, IsServing, Key, List, Run}
-use Rattle.law_moves.proofs.Imports.{Some, Store, ap, arith, at_most_or_above, blank_joins_in, cell_of, chain_in, chosen_state, end_of, epoch_at}
-use Rattle.law_moves.proofs.Imports.{front_itself, fronts_meet, gone_twin, inl, inr, kept, key_at, log_below, log_comes, same_some, source, stage_at}
-use Rattle.law_moves.proofs.Imports.{start_same, subst, sym, twins_later, ℕ}
+use Rattle.law_moves.proofs.Imports.{Some, Store, ap, arith, at_most_or_above, blank_joins_in, cell_of, chain_in, chosen_state, end_of, epoch_at, gone_twin}
+use Rattle.law_moves.proofs.Imports.{inl, inr, kept, key_at, log_below, log_comes, prefix_itself, prefixes_meet, same_some, source, stage_at, start_same}
+use Rattle.law_moves.proofs.Imports.{subst, sym, twins_later, ℕ}
 use Rattle.law_epochs.proofs.EntriesNeverEarly.{kept_by}
 use Rattle.law_moves.specs.Fills.{Has, IsFrozen, IsThere, WasFilled}
 use Rattle.law_moves.proofs.NewestByLetters.{AllNewest, IsNewest}
@@ -18,7 +18,7 @@ module _ (it : Run) where
 
   pub one_start : (a b : List Command) → IsPrefix a chosen → IsPrefix b chosen → (old other cell : Cell) → IsMoved (By a) old cell → IsMoved (By b) other cell
       → other ≡ old
-  one_start a b la lb old other cell one two = elim (fronts_meet a b chosen la lb) [
+  one_start a b la lb old other cell one two = elim (prefixes_meet a b chosen la lb) [
     | inl on ↦ start_same script.servers a b (plain_at it b lb) on cell old other one two
     | inr back ↦ sym (start_same script.servers b a (plain_at it a la) back cell other old two one)
   ]
@@ -39,7 +39,7 @@ module _ (it : Run) where
         s.1 ∙ ap Some same,
         record {
           three = omega arith;
-          epochs = twins_later script.servers a a (plain_at it a la) (front_itself a) old cell at_old;
+          epochs = twins_later script.servers a a (plain_at it a la) (prefix_itself a) old cell at_old;
         },
       )
 
@@ -47,7 +47,7 @@ module _ (it : Run) where
       → 1 ≤ stage_at (By a) cell → HasLeft a old cell
   has_left f a lf la old cell moved low born = elim (at_most_or_above (stage_at (By a) cell) 1) [
     | inl one ↦ (at_coming f a lf la old cell moved (omega arith)).1
-    | inr two ↦ elim (fronts_meet f a chosen lf la) [
+    | inr two ↦ elim (prefixes_meet f a chosen lf la) [
       | inl on ↦
           let plain_a = plain_at it a la in
           let gone = gone_twin script.servers f a plain_a on old cell moved two in
@@ -67,8 +67,8 @@ module _ (it : Run) where
     born = born;
     newest = λ a old before later lies comes low frozen lt has.
         let one = log_comes script.servers a (plain_at it a lies) old (cell_of key) comes in
-        let two = log_comes script.servers f.front (plain_at it f.front f.lies) f.old (cell_of key) f.from in
-        let same : f.old ≡ old = one_start a f.front lies f.lies old f.old (cell_of key) one two in
+        let two = log_comes script.servers f.prefix (plain_at it f.prefix f.lies) f.old (cell_of key) f.from in
+        let same : f.old ≡ old = one_start a f.prefix lies f.lies old f.old (cell_of key) one two in
         let chain : before ≡ f.before = same_some (sym frozen ∙ ap w.frozen (sym same) ∙ f.frozen) in
         f.newer later lt (subst (λ (c : Chain). Has c later) chain has);
   }
@@ -82,5 +82,5 @@ module _ (it : Run) where
       kept_by (λ (s : Store). AreWithin (IsNewest setting w) s.chains) (blank_joins_in setting chosen n) (w.before_blank n) (w.servers n).own.store
       (all.before n) (all.now n) in
       let entry = entry_of (chain_in (kept setting w n).chains cell) epoch has in
-      let told = (stores cell epoch entry.0 entry.1).newest chosen from.old before later (front_itself chosen) from.is (omega arith) from.frozen lt there in
+      let told = (stores cell epoch entry.0 entry.1).newest chosen from.old before later (prefix_itself chosen) from.is (omega arith) from.frozen lt there in
       (filled (key_at cell later) told).now n (omega arith) (omega arith) serving

@@ -3,10 +3,10 @@
 -- of an operation that the second server has followed; and none is sent from then on.
 use Rattle.law_moves.proofs.Imports.{◌++◌, ◌+◌, ◌<◌, ◌∙◌, ◌≡◌, ◌≤◌, AreCopies, At, Body, Bool, Cell, Chain, Good, In, IsServing, List, None, OneMore, Option}
 use Rattle.law_moves.proofs.Imports.{PairState, Pairs, Pending, Record, Run, Some, Store, Tells, WasThere, Working, about, ap, arith, at, at-empty, at_by}
-use Rattle.law_moves.proofs.Imports.{at_most_or_above, by_bool, cell_cmp, chain_in, chosen_log, counted, cut, ends_of, false, front_on, half, history_grows}
+use Rattle.law_moves.proofs.Imports.{at_most_or_above, by_bool, cell_cmp, chain_in, chosen_log, counted, cut, ends_of, false, half, history_grows}
 use Rattle.law_moves.proofs.Imports.{history_is_firm, in_counts, inl, inr, is_between, is_clients, is_some, live_stage, nat_cmp, none_some, pair_at, place_by}
-use Rattle.law_moves.proofs.Imports.{progress, refl, same_some, second_timely, serves, some_or_none, split_last, stage_at, store_by, subject_of, subst, sym}
-use Rattle.law_moves.proofs.Imports.{true, true_false, ℕ}
+use Rattle.law_moves.proofs.Imports.{prefix_on, progress, refl, same_some, second_timely, serves, some_or_none, split_last, stage_at, store_by, subject_of}
+use Rattle.law_moves.proofs.Imports.{subst, sym, true, true_false, ℕ}
 use Rattle.law_moves.specs.Fills.{Has}
 use Rattle.law_moves.proofs.AllKeptOfMoves.{HaveFollowed, WereKnown}
 use Rattle.law_moves.proofs.PendingWasOpened.{opened_mine}
@@ -38,7 +38,7 @@ begun_by first second far_at (Some now) op copies e put =
     by true on ahead = ahead.begun
 
 module _ (it : OneMore) (all : WereKnown it) where
-  open it use {prior.{script, sound, records as front}, own, legal}
+  open it use {prior.{script, sound, records as prefix}, own, legal}
   open ends_of it use {setting, records, v, top, whole, By, present}
 
   abbrev far_of_last : PairState → Cell → ℕ
@@ -49,7 +49,7 @@ module _ (it : OneMore) (all : WereKnown it) where
   module _ (now_so : FillsSo setting v) where
     numbered_then : (past later : List Record) → records ≡ past ++ later → (m : ℕ) (cell : Cell) (op : Pending)
         → at cell_cmp ((At script past).servers m).own.pairs.pending cell ≡ Some op → 1 ≤ op.op
-    numbered_then past later e m cell op is = elim (split_last front own past later e) [
+    numbered_then past later e m cell op is = elim (split_last prefix own past later e) [
       | inl same ↦ now_so.numbered m cell op (subst (λ rs. at cell_cmp ((At script rs).servers m).own.pairs.pending cell ≡ Some op) same is)
       | inr more ↦ (all past more.0 more.1).numbered m cell op is
     ]
@@ -57,7 +57,7 @@ module _ (it : OneMore) (all : WereKnown it) where
     abbrev G : Good setting records whole (counted setting v)
     G = good present
 
-    -- a second server that runs, by a front by which it is In
+    -- a second server that runs, by a prefix by which it is In
     module _ (s : IsSecondAt setting v) (three : stage_at (By whole) s.cell ≡ 3) where
       open s use {m, f, cell, row, runs, on, lies, seat, linked, both, second, low}
       open second_place it s three use {place, visit, far_is}
@@ -94,7 +94,7 @@ module _ (it : OneMore) (all : WereKnown it) where
         no_write t clients =
             let at_it = at_by setting row.primary ((At script was.before).servers row.primary) place cell was.there in
             let on_v = history_grows script records sound legal was.before was.later was.is in
-            let lies_then = front_on _ (chosen_log setting (At script was.before)) whole
+            let lies_then = prefix_on _ (chosen_log setting (At script was.before)) whole
             ((history_is_firm script was.before sound then.legal).servers row.primary) on_v in
             let le = opened_mine then row.primary cell op pending_then clients in
             let so = t.so_far in

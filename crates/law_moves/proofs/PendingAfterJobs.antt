@@ -1,10 +1,10 @@
 -- What is pending after a job was so before: with the same number, and put only if it was, or the job put it, and its copy told only for a reason; or
 -- it is new, under the next number, and neither put nor copied.
-use Rattle.law_moves.proofs.Imports.{◌∙◌, ◌≡◌, ◌⊎◌, Body, Cell, Chain, Did, Effect, For_a_fill, For_a_write, Goes_on, Has_put, IsSame, IsSetFor, Is_opened}
-use Rattle.law_moves.proofs.Imports.{JobContext, JobResult, Key, May, None, PairState, Pending, Sets, Some, Stored, Table, ap, applied, at, by_bool}
-use Rattle.law_moves.proofs.Imports.{cell_apart, cell_cmp, cell_of, cell_same, chain_in, chains_with, false, inl, inr, job_keeps, none_some, put, refl}
-use Rattle.law_moves.proofs.Imports.{restaged, same_cell_or_apart, same_itself, same_on, same_some, stood, subst, sym, true, true_false}
-use Rattle.law_jobs.specs.Effects.{Closes, Drops, IsPaired, Is_apart, Is_replicated, Puts, Was_paired, chains_ahead}
+use Rattle.law_moves.proofs.Imports.{◌∙◌, ◌≡◌, ◌⊎◌, Body, Cell, Chain, Closes, Did, Drops, Effect, For_a_fill, For_a_write, Goes_on, Has_put, IsPaired}
+use Rattle.law_moves.proofs.Imports.{IsSame, IsSetFor, Is_apart, Is_opened, Is_replicated, JobContext, JobResult, Key, May, None, PairState, Pending, Puts}
+use Rattle.law_moves.proofs.Imports.{Sets, Some, Stored, Table, Was_paired, ap, applied, at, by_bool, cell_apart, cell_cmp, cell_of, cell_same, chain_in}
+use Rattle.law_moves.proofs.Imports.{chains_ahead, chains_with, false, inl, inr, job_keeps, none_some, put, refl, restaged, same_cell_or_apart, same_itself}
+use Rattle.law_moves.proofs.Imports.{same_on, same_some, stood, subst, sym, true, true_false}
 use Rattle.law_moves.proofs.JobsChangeOneChain.{not_ahead}
 
 -- the operation was pending, or is new

@@ -2,9 +2,9 @@
 -- entry is not there, and then it is.
 use Rattle.law_moves.proofs.Imports.{◌∙◌, ◌≡◌, ◌≢◌, ◌≤◌, BeforeBlank, Cell, Command, Fills, Handled, IsOpenedFill, IsStaged, Key, Letter, List, None, OneMore}
 use Rattle.law_moves.proofs.Imports.{Option, PairState, Pending, Server, Some, Stood, Store, World, Writes, ap, arith, at, at-empty, at_most_or_above}
-use Rattle.law_moves.proofs.Imports.{at_same, cell_cmp, cell_link, cell_of, chain_in, chosen_state, did_come, ends_of, false, front_itself, has_proposed, inl}
-use Rattle.law_moves.proofs.Imports.{inr, is_clients, is_in, is_some, is_the_one, lead, leads_link, nat_cmp, none_some, option_and_then, own_place, row_lead}
-use Rattle.law_moves.proofs.Imports.{same_or_apart, server_state, stage_at, stage_live, subst, sym, true, true_false, ℕ}
+use Rattle.law_moves.proofs.Imports.{at_same, cell_cmp, cell_link, cell_of, chain_in, chosen_state, did_come, ends_of, false, has_proposed, inl, inr}
+use Rattle.law_moves.proofs.Imports.{is_clients, is_in, is_some, is_the_one, lead, leads_link, nat_cmp, none_some, option_and_then, own_place, prefix_itself}
+use Rattle.law_moves.proofs.Imports.{row_lead, same_or_apart, server_state, stage_at, stage_live, subst, sym, true, true_false, ℕ}
 use Rattle.law_moves.proofs.StepsTellEntries.{Goes_on, HasStore, Is_bare, Keeps, Awakes, Before, IsJob, IsPosted, Other, Posted, Works, chosen_on, gone, sent}
 use Rattle.law_moves.proofs.StepsTellEntries.{mine_top}
 use Rattle.law_moves.specs.Fills.{Has, IsFrozen, WasFilled}
@@ -23,10 +23,10 @@ use Rattle.law_moves.proofs.JobsChangeOneChain.{put_on}
 use Rattle.petal_msg.specs.declared.body.Body.TheVariants as body
 
 module _ (it : OneMore) (all : WereKnown it) where
-  open it use {prior, prior.{script, records as front}}
+  open it use {prior, prior.{script, records as prefix}}
   open ends_of it use {setting, w, v, top, whole, By, present}
 
-  known : Known script front
+  known : Known script prefix
   known = before it all
 
   abbrev mine : ℕ → List Command
@@ -46,7 +46,7 @@ module _ (it : OneMore) (all : WereKnown it) where
   keyed_now m cell op is = (((rests present).pending m).staged cell op is).keyed
 
   mine_up : (m : ℕ) (cell : Cell) → stage_at (server_state setting w m) cell ≤ stage_at (By top) cell
-  mine_up m cell = up prior (mine m) top (mine_top it m) (front_itself top) cell
+  mine_up m cell = up prior (mine m) top (mine_top it m) (prefix_itself top) cell
 
   -- ### What is pending at a server that runs
 
@@ -83,7 +83,7 @@ module _ (it : OneMore) (all : WereKnown it) where
         let serving = lead_serves (server_state setting w m) (steady_at prior (mine m) (mine_top it m)) (cell_of o.moving.key) m
         (is_the_one (lead (server_state setting w m) (cell_of o.moving.key)) m o.new.lead) in
         let low = leads_so.2 in
-        true_false ((known.filled.filled o.moving.key told).own m (mine m) runs (front_itself (mine m)) (mine_top it m) o.new.seated leads_so.1 (omega arith)
+        true_false ((known.filled.filled o.moving.key told).own m (mine m) runs (prefix_itself (mine m)) (mine_top it m) o.new.seated leads_so.1 (omega arith)
         serving) (ap is_some o.new.lacks)
 
     new_coming : stage_at (By top) cell ≡ 1
@@ -238,7 +238,7 @@ module _ (it : OneMore) (all : WereKnown it) where
       → stage_at (chosen_state setting v) cell ≡ 1
   opened_next asked m cell op runs is fills =
       let one = opened_before m cell op runs is fills in
-      let le = up present top whole (chosen_on it) (front_itself whole) cell in
+      let le = up present top whole (chosen_on it) (prefix_itself whole) cell in
       elim (at_most_or_above (stage_at (By whole) cell) 1) [
         | inl low ↦ omega arith
         | inr two ↦
@@ -258,7 +258,7 @@ module _ (it : OneMore) (all : WereKnown it) where
       let leads = (staged m cell op is).leads (stage_live (server_state setting w m) cell (staged m cell op is).born (omega arith)) in
       let serving = link_lead_serves (server_state setting w m) (steady_at prior (mine m) (mine_top it m)) cell m
       (is_the_one (option_and_then (row_lead (server_state setting w m)) (cell_link (server_state setting w m) cell)) m leads) in
-      kept_own it all m runs (mine m) (front_itself (mine m)) (mine_top it m) cell (omega arith) serving epoch has
+      kept_own it all m runs (mine m) (prefix_itself (mine m)) (mine_top it m) cell (omega arith) serving epoch has
 
   pub puts_next : (m : ℕ) (cell : Cell) (op : Pending) → (v.servers m).life.running ≡ true → pending_at v m cell ≡ Some op → is_clients op.kind ≡ false
       → op.stage.put ≡ true → Has (chain_in (v.servers m).own.store.chains cell) op.key.epoch
@@ -292,7 +292,7 @@ module _ (it : OneMore) (all : WereKnown it) where
       let log_whole = (firm present).servers m in
       let s = ((rests present).pending m).staged cell op is in
       let one = opened_next asked m cell op runs is fills in
-      let le = up present log whole log_whole (front_itself whole) cell in
+      let le = up present log whole log_whole (prefix_itself whole) cell in
       let lives = stage_live (server_state setting v m) cell s.born (omega arith) in
       let seat = (rests present).seated m cell op runs is in
       ap (λ (x : Store). at nat_cmp (chain_in x.chains cell) op.key.epoch) (sym (own_counts present m runs log log_whole seat))

@@ -16,10 +16,10 @@ use Rattle.law_moves.proofs.MoveScenes.{FillAtPlace}
 use Rattle.petal_msg.specs.declared.body.Body.TheVariants as body
 
 module _ (it : OneMore) (all : WereKnown it) where
-  open it use {prior.{script, records as front}, own}
+  open it use {prior.{script, records as prefix}, own}
   open ends_of it use {setting, w, records, v, whole}
 
-  known : Known script front
+  known : Known script prefix
   known = before it all
 
   abbrev mine : ℕ → List Command
@@ -27,8 +27,8 @@ module _ (it : OneMore) (all : WereKnown it) where
 
   -- ### Where the server was before the step
 
-  earlier : (n place : ℕ) (cell : Cell) (pairs : Pairs) (was : WasThere setting records n place cell pairs) (rest : List Record) → front ≡ was.before ++ rest
-      → WasThere setting front n place cell pairs
+  earlier : (n place : ℕ) (cell : Cell) (pairs : Pairs) (was : WasThere setting records n place cell pairs) (rest : List Record) → prefix ≡ was.before ++ rest
+      → WasThere setting prefix n place cell pairs
   earlier n place cell pairs was rest e =
       let same : was.later ≡ rest ++ own ∷ [] =
       same_rest was.before was.later (rest ++ own ∷ []) (sym was.is ∙ ap (λ rs. rs ++ own ∷ []) e ∙ append_assoc was.before rest (own ∷ [])) in
@@ -47,14 +47,14 @@ module _ (it : OneMore) (all : WereKnown it) where
 
   -- one that was as it is
   as_now : (n place : ℕ) (cell : Cell) (pairs : Pairs) → is_at setting n (w.servers n) place cell ≡ true → (w.servers n).own.pairs ≡ pairs
-      → WasThere setting front n place cell pairs
+      → WasThere setting prefix n place cell pairs
   as_now n place cell pairs there had = record {
-    before = front;
+    before = prefix;
     later = [];
-    is = sym (append-nil front);
+    is = sym (append-nil prefix);
     there = there;
     had = had;
-    since = λ a b s at. ap (λ rs. ((At script rs).servers n).own.pairs) (ap (λ rs. front ++ rs) (none_before a b s) ∙ append-nil front) ∙ had;
+    since = λ a b s at. ap (λ rs. ((At script rs).servers n).own.pairs) (ap (λ rs. prefix ++ rs) (none_before a b s) ∙ append-nil prefix) ∙ had;
   }
 
   -- ### A server that was at the link's place, with a fill pending
@@ -62,7 +62,7 @@ module _ (it : OneMore) (all : WereKnown it) where
   module _ (a : FillAtPlace setting whole) where
     open a use {n, place, cell, pairs, op, is, fills}
 
-    unsaid_was : WasThere setting front n place cell pairs → WasFilled w op.key → ⊥
+    unsaid_was : WasThere setting prefix n place cell pairs → WasFilled w op.key → ⊥
     unsaid_was = unsaid_there it all a
 
     module _ (was : WasThere setting records n place cell pairs) where
@@ -92,7 +92,7 @@ module _ (it : OneMore) (all : WereKnown it) where
           ∙ ap (λ (q : Pairs). at cell_cmp q.pending cell) had ∙ is)
 
       pub unsaid_old : WasFilled w op.key → ⊥
-      unsaid_old told = elim (split_last front own was.before was.later was.is) [
+      unsaid_old told = elim (split_last prefix own was.before was.later was.is) [
         | inl e ↦ end_by (v.servers n) _ (gone it n)
             (subst (λ rs. is_at setting n ((At script rs).servers n) place cell ≡ true) e was.there)
             (ap (λ rs. ((At script rs).servers n).own.pairs) (sym e) ∙ was.had) told
@@ -100,7 +100,7 @@ module _ (it : OneMore) (all : WereKnown it) where
       ]
 
       pub unsaid_posted : (letter : Letter) → letter.body ≡ body.Filled op.key → IsPosted it letter → ⊥
-      unsaid_posted letter said p = elim (split_last front own was.before was.later was.is) [
+      unsaid_posted letter said p = elim (split_last prefix own was.before was.later was.is) [
         | inl e ↦
             let there : is_at setting n (v.servers n) place cell ≡ true =
             subst (λ rs. is_at setting n ((At script rs).servers n) place cell ≡ true) e was.there in

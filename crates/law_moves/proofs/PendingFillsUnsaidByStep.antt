@@ -2,9 +2,9 @@
 -- entry is there.
 use Rattle.law_moves.proofs.Imports.{◌∙◌, ◌≡◌, ◌≢◌, ◌≤◌, ◌⊎◌, AreSteps, At, Bool, Both, Cell, Command, Handled, IsAt, IsHeldBy, IsInBoth, IsLinked, IsPrefix}
 use Rattle.law_moves.proofs.Imports.{IsStaged, Key, Letter, LinkRow, List, None, OneMore, Only, PairState, Pairs, Pending, Run, Server, Some, WasThere, World}
-use Rattle.law_moves.proofs.Imports.{ap, arith, at, at_by, at_most_or_above, cell_cmp, cell_link, cell_of, chain_in, chosen_log, cut, ends_of, front_itself}
-use Rattle.law_moves.proofs.Imports.{front_on, has_proposed, history_grows, history_is_firm, inl, inr, is_at, is_at_so, is_in, is_some, is_the_one}
-use Rattle.law_moves.proofs.Imports.{leads_link, link_led_by, linked_between, nat_cmp, one_row, option_and_then, own_place, place_by, places_up, row_lead}
+use Rattle.law_moves.proofs.Imports.{ap, arith, at, at_by, at_most_or_above, cell_cmp, cell_link, cell_of, chain_in, chosen_log, cut, ends_of, has_proposed}
+use Rattle.law_moves.proofs.Imports.{history_grows, history_is_firm, inl, inr, is_at, is_at_so, is_in, is_some, is_the_one, leads_link, link_led_by}
+use Rattle.law_moves.proofs.Imports.{linked_between, nat_cmp, one_row, option_and_then, own_place, place_by, places_up, prefix_itself, prefix_on, row_lead}
 use Rattle.law_moves.proofs.Imports.{same_only, same_or_apart, same_some, server_state, stage_at, stage_live, subst, sym, true, true_false, ℕ}
 use Rattle.law_moves.specs.Fills.{Has, IsFrozen, WasFilled}
 use Rattle.law_moves.proofs.LeavingCellsGainNothing.{before}
@@ -20,10 +20,10 @@ use Rattle.law_moves.proofs.MoveScenes.{FillAtPlace, LeadsAt}
 use Rattle.petal_msg.specs.declared.body.Body.TheVariants as body
 
 module _ (it : OneMore) (all : WereKnown it) where
-  open it use {prior, prior.{script, sound, records as front}}
+  open it use {prior, prior.{script, sound, records as prefix}}
   open ends_of it use {setting, w, v, top, whole, By, top_whole, plain}
 
-  known : Known script front
+  known : Known script prefix
   known = before it all
 
   abbrev mine : ℕ → List Command
@@ -34,7 +34,7 @@ module _ (it : OneMore) (all : WereKnown it) where
   module _ (a : FillAtPlace setting whole) where
     open a use {n, place, cell, pairs, op, row, is, fills, linked, spot}
 
-    module _ (was : WasThere setting front n place cell pairs) where
+    module _ (was : WasThere setting prefix n place cell pairs) where
       abbrev past : World
       past = At script was.before
 
@@ -45,8 +45,8 @@ module _ (it : OneMore) (all : WereKnown it) where
       log = (past.servers n).log.applied
 
       log_top : IsPrefix log top
-      log_top = front_on log (chosen_log setting past) top ((history_is_firm script was.before sound then.legal).servers n)
-          (history_grows script front sound prior.legal was.before was.later was.is)
+      log_top = prefix_on log (chosen_log setting past) top ((history_is_firm script was.before sound then.legal).servers n)
+          (history_grows script prefix sound prior.legal was.before was.later was.is)
 
       here : IsAt setting n (past.servers n) place cell
       here = at_by setting n (past.servers n) place cell was.there
@@ -58,7 +58,7 @@ module _ (it : OneMore) (all : WereKnown it) where
       staged = ((rests then).pending n).staged cell op pending_then
 
       linked_top : (now : LinkRow) × IsLinked setting top cell now
-      linked_top = linked_between setting whole plain log top whole cell here.row row log_top top_whole (front_itself whole) here.linked linked
+      linked_top = linked_between setting whole plain log top whole cell here.row row log_top top_whole (prefix_itself whole) here.linked linked
 
       abbrev now : LinkRow
       now = linked_top.0
@@ -66,7 +66,7 @@ module _ (it : OneMore) (all : WereKnown it) where
       spot_top : place_by setting top now ≡ place
       spot_top =
           let a = places_up setting whole plain log top cell here.row now log_top top_whole here.linked linked_top.1 in
-          let b = places_up setting whole plain top whole cell now row top_whole (front_itself whole) linked_top.1 linked in
+          let b = places_up setting whole plain top whole cell now row top_whole (prefix_itself whole) linked_top.1 linked in
           let at = here.at in
           let spot_is = spot in
           omega arith
@@ -108,7 +108,7 @@ module _ (it : OneMore) (all : WereKnown it) where
         staged_now o q there = ((rests prior).pending k).staged q o there
 
         mine_low : stage_at (server_state setting w k) cell ≤ 1
-        mine_low = let le = up prior (mine k) top (mine_top it k) (front_itself top) cell in omega arith
+        mine_low = let le = up prior (mine k) top (mine_top it k) (prefix_itself top) cell in omega arith
 
         -- who says so leads the cell: with nothing pending, and with the entry, or it had the fill pending
         pub data LeadsIt : Type 0 where
@@ -158,14 +158,14 @@ module _ (it : OneMore) (all : WereKnown it) where
             → (now_pending : is_at setting n (v.servers n) place cell ≡ true → at cell_cmp (v.servers n).own.pairs.pending cell ≡ Some op) → ⊥
         not_itself e had =
             let been = (good prior).been n place cell visit.0 visit.1 in
-            let mid = linked_between setting whole plain been.front (mine n) whole cell been.row row been.within (mine_whole it n)
-            (front_itself whole) been.linked linked in
-            let a = places_up setting whole plain been.front (mine n) cell been.row mid.0 been.within (mine_whole it n) been.linked mid.1 in
-            let b = places_up setting whole plain (mine n) whole cell mid.0 row (mine_whole it n) (front_itself whole) mid.1 linked in
+            let mid = linked_between setting whole plain been.prefix (mine n) whole cell been.row row been.within (mine_whole it n)
+            (prefix_itself whole) been.linked linked in
+            let a = places_up setting whole plain been.prefix (mine n) cell been.row mid.0 been.within (mine_whole it n) been.linked mid.1 in
+            let b = places_up setting whole plain (mine n) whole cell mid.0 row (mine_whole it n) (prefix_itself whole) mid.1 linked in
             let at = been.at in
             let spot_is = spot in
             let place_is : place_by setting (mine n) mid.0 ≡ place = omega arith in
-            let le = up prior (mine n) top (mine_top it n) (front_itself top) cell in
+            let le = up prior (mine n) top (mine_top it n) (prefix_itself top) cell in
             let seat : is_in (server_state setting w n) n (w.servers n).life.inc ≡ true =
             subst (λ i. is_in (server_state setting w i) i (w.servers i).life.inc ≡ true) (sym e) leading.seat in
             let at_was : is_at setting n (w.servers n) place cell ≡ true =
@@ -189,12 +189,12 @@ module _ (it : OneMore) (all : WereKnown it) where
           leads_now = record { runs = p.job.runs; seat = leading.seat; low = omega arith; leads = leading.leads }
 
           same_row : now ≡ here.row
-          same_row = one_row setting whole plain log top cell here.row now (front_on log top whole log_top top_whole) top_whole here.linked linked_top.1
+          same_row = one_row setting whole plain log top cell here.row now (prefix_on log top whole log_top top_whole) top_whole here.linked linked_top.1
               (sym here.at ∙ sym spot_top)
 
           leads_then : ((b : IsInBoth (By log) cell) × (b.row.primary ≡ n)) ⊎ IsHeldBy (By log) cell n
           leads_then =
-              let le = up prior log top log_top (front_itself top) cell in
+              let le = up prior log top log_top (prefix_itself top) cell in
               link_led_by (By log) (steady_at prior log log_top) cell n
               (is_the_one (option_and_then (row_lead (By log)) (cell_link (By log) cell)) n (staged.leads (stage_live (By log) cell staged.born (omega arith))))
 

@@ -1,5 +1,5 @@
 -- A client's write that is pending was opened by some of what is chosen.
-use Rattle.law_moves.proofs.Imports.{◌≡◌, ◌≤◌, Cell, Pending, Run, Some, arith, at, cell_cmp, end_of, front_long, is_clients, length, opened_by, true}
+use Rattle.law_moves.proofs.Imports.{◌≡◌, ◌≤◌, Cell, Pending, Run, Some, arith, at, cell_cmp, end_of, is_clients, length, opened_by, prefix_long, true}
 use Rattle.law_moves.proofs.Imports.{was_opened, ℕ}
 
 module _ (h : Run) (n : ℕ) (cell : Cell) (op : Pending) where
@@ -10,7 +10,7 @@ module _ (h : Run) (n : ℕ) (cell : Cell) (op : Pending) where
   opened_within is clients =
       let o = was_opened script sound records legal n cell op is clients in
       let long = o.long in
-      let le = front_long o.opened chosen o.lies in
+      let le = prefix_long o.opened chosen o.lies in
       omega arith
 
   -- and by some of what its server has applied
@@ -18,5 +18,5 @@ module _ (h : Run) (n : ℕ) (cell : Cell) (op : Pending) where
   opened_mine is clients =
       let o = was_opened script sound records legal n cell op is clients in
       let long = o.long in
-      let le = front_long o.opened (w.servers n).log.applied (opened_by script sound records legal n cell op is clients) in
+      let le = prefix_long o.opened (w.servers n).log.applied (opened_by script sound records legal n cell op is clients) in
       omega arith

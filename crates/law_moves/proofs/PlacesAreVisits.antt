@@ -2,7 +2,7 @@
 -- with the operations that it had.
 use Rattle.law_moves.proofs.Imports.{[], if◌then◌else◌, ◌++◌, ◌∙◌, ◌∷◌, ◌≡◌, AreSteps, At, Cell, Good, IsSound, List, OneMore, PairState, Pairs, Record}
 use Rattle.law_moves.proofs.Imports.{Script, Some, WasThere, ap, arith, at_by, by_bool, by_run, chosen_log, counted, ends_of, first_state, inl, inr, is_at}
-use Rattle.law_moves.proofs.Imports.{is_some, none_before_none, none_some, past_link, run_of, setting_of, some_or_none, split_fronts, split_last, start}
+use Rattle.law_moves.proofs.Imports.{is_some, none_before_none, none_some, past_link, run_of, setting_of, some_or_none, split_last, split_prefixes, start}
 use Rattle.law_moves.proofs.Imports.{start_good, start_plain, step_goes, subst, sym, true, true_false, ℕ}
 
 abbrev GoodAt : Script → List Record → Type 0
@@ -28,21 +28,21 @@ start_seen script before later n place cell e on =
 -- ### A step
 
 module _ (it : OneMore) (old : IsSeen it.prior.script it.prior.records) where
-  open it use {prior.{script, sound, records as front}, own, legal}
+  open it use {prior.{script, sound, records as prefix}, own, legal}
   open ends_of it use {setting, v, records}
 
-  seen_next : AreSeen script records (step_goes script front own sound legal old.good).good
+  seen_next : AreSeen script records (step_goes script prefix own sound legal old.good).good
   seen_next before later n place cell e on =
-      ap is_some ((step_goes script front own sound legal old.good).visits n place cell) ∙ by_bool (is_at setting n ((counted setting v).servers n) place cell)
+      ap is_some ((step_goes script prefix own sound legal old.good).visits n place cell) ∙ by_bool (is_at setting n ((counted setting v).servers n) place cell)
       (λ now. ap (λ b. is_some (if b then Some ((counted setting v).servers n).own else old.good.visits n place cell)) now)
       (λ off. ap (λ b. is_some (if b then Some ((counted setting v).servers n).own else old.good.visits n place cell)) off
-      ∙ elim (split_last front own before later e) [
+      ∙ elim (split_last prefix own before later e) [
         | inl whole ↦ true_false (subst (λ rs. is_at setting n ((At script rs).servers n) place cell ≡ true) whole on) off
         | inr part ↦ old.seen_all before part.0 n place cell part.1 on
       ])
 
   next : IsSeen script records
-  next = record { good = (step_goes script front own sound legal old.good).good; seen_all = seen_next }
+  next = record { good = (step_goes script prefix own sound legal old.good).good; seen_all = seen_next }
 
 -- ### Legal histories
 
@@ -56,7 +56,7 @@ seen_after script sound records legal =
 tails : {A : Type 0} {x z : A} {xs zs : List A} → x ∷ xs ≡ z ∷ zs → xs ≡ zs
 tails e = cc
 
--- what follows one front of a list is one
+-- what follows one prefix of a list is one
 pub same_rest : {A : Type 0} (xs ys zs : List A) → xs ++ ys ≡ xs ++ zs → ys ≡ zs
 same_rest [] ys zs e = e
 same_rest (x ∷ xs) ys zs e = same_rest xs ys zs (tails e)
@@ -64,7 +64,7 @@ same_rest (x ∷ xs) ys zs e = same_rest xs ys zs (tails e)
 -- two times at one place tell the same
 same_there : (script : Script) (records : List Record) (n place : ℕ) (cell : Cell) (one other : Pairs)
     → WasThere (setting_of script) records n place cell one → WasThere (setting_of script) records n place cell other → one ≡ other
-same_there script records n place cell one other a b = elim (split_fronts a.before a.later b.before b.later (sym a.is ∙ b.is)) [
+same_there script records n place cell one other a b = elim (split_prefixes a.before a.later b.before b.later (sym a.is ∙ b.is)) [
   | inl h ↦ sym (a.since h.0 b.later h.2 (subst (λ rs. is_at (setting_of script) n ((At script rs).servers n) place cell ≡ true) h.1 b.there))
       ∙ ap (λ rs. ((At script rs).servers n).own.pairs) (sym h.1) ∙ b.had
   | inr h ↦ sym a.had ∙ ap (λ rs. ((At script rs).servers n).own.pairs) h.1

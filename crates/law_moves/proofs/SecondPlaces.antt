@@ -1,10 +1,12 @@
--- A second server that runs, by a front by which it is In, at the place that the link has by that front: nobody who serves the cell has been further, and where
+-- A second server that runs, by a prefix by which it is In, at the place that the link has by that prefix: nobody who serves the cell has
+-- been further, and where
 -- the server has been at the place it is there.
 use Rattle.law_moves.proofs.Imports.{◌==◌, ◌∙◌, ◌≡◌, ◌≤◌, AreTwins, ByBoth, ByNone, ByOne, Cell, Command, Good, HasReached, IsLinked, IsPrefix, LinkRow, List}
-use Rattle.law_moves.proofs.Imports.{OneMore, Option, PairState, Some, StaysSo, alone_row, ap, arith, at, cell_cmp, counted, ends_of, false, far, front_on}
-use Rattle.law_moves.proofs.Imports.{front_plain, fronts_meet, half, has_server, inc_of, inl, inr, is_in, linked_between, log_both_place, log_steady}
-use Rattle.law_moves.proofs.Imports.{lost_not_both, one_place, one_row, option_map_or, pair_at, place_by, places_up, progress, running_fronts, same_some}
-use Rattle.law_moves.proofs.Imports.{secondary_is_one, server_state, serves, serves_alone, stage_at, stays_both, store_by, subst, sym, true, up_some, ℕ}
+use Rattle.law_moves.proofs.Imports.{OneMore, Option, PairState, Some, StaysSo, alone_row, ap, arith, at, cell_cmp, counted, ends_of, false, far, half}
+use Rattle.law_moves.proofs.Imports.{has_server, inc_of, inl, inr, is_in, linked_between, log_both_place, log_steady, lost_not_both, one_place, one_row}
+use Rattle.law_moves.proofs.Imports.{option_map_or, pair_at, place_by, places_up, prefix_on, prefix_plain, prefixes_meet, progress, running_prefixes}
+use Rattle.law_moves.proofs.Imports.{same_some, secondary_is_one, server_state, serves, serves_alone, stage_at, stays_both, store_by, subst, sym, true}
+use Rattle.law_moves.proofs.Imports.{up_some, ℕ}
 use Rattle.law_state.proofs.GrownStates.{alone_not_both}
 use Rattle.law_moves.proofs.StepsTellEntries.{knows_now}
 use Rattle.law_moves.proofs.MoveWorlds.{good, up}
@@ -20,7 +22,7 @@ module _ (it : OneMore) where
   abbrev G : Good setting records whole (counted setting v)
   G = good present
 
-  -- a second server that runs, by a front by which it is In
+  -- a second server that runs, by a prefix by which it is In
   module _ (s : IsSecondAt setting v) (three : stage_at (By whole) s.cell ≡ 3) where
     open s use {m, f, cell, row, runs, on, lies, seat, linked, both, second}
 
@@ -52,43 +54,44 @@ module _ (it : OneMore) where
     pub last : G.reached cell ≤ place
     last = elim (G.reaching.by cell) [
       | inl none ↦ omega (arith, none)
-      | inr r ↦ elim (fronts_meet r.front f whole r.prefix lies) [
+      | inr r ↦ elim (prefixes_meet r.prefix f whole r.is_prefix lies) [
         | inl back ↦ (
-            let le = places_up setting whole plain r.front f cell r.row row back lies r.linked linked in
+            let le = places_up setting whole plain r.prefix f cell r.row row back lies r.linked linked in
             let at_it = r.at in
             omega arith)
         | inr beyond ↦ by_later r beyond
       ]
     ]
       where
-        by_later : (r : HasReached setting whole G.visits cell (G.reached cell)) → IsPrefix f r.front → G.reached cell ≤ place
+        by_later : (r : HasReached setting whole G.visits cell (G.reached cell)) → IsPrefix f r.prefix → G.reached cell ≤ place
         by_later r beyond =
-            elim (stays_both (running_fronts (knows_now it) m runs on beyond r.prefix seat) cell row linked one_of
+            elim (stays_both (running_prefixes (knows_now it) m runs on beyond r.is_prefix seat) cell row linked one_of
             (ap (serves m row) both ∙ one_of) r.alive both) [
               | inl stays ↦ (
-                  let same : place_by setting r.front r.row ≡ place = place_stays r beyond stays in
+                  let same : place_by setting r.prefix r.row ≡ place = place_stays r beyond stays in
                   let at_it = r.at in
                   omega arith)
               | inr alone ↦ (
-                  let a = alone_row (By r.front) m cell alone in
+                  let a = alone_row (By r.prefix) m cell alone in
                   let state = ap (λ (x : LinkRow). x.state) (same_some (sym r.linked ∙ a.is)) ∙ a.alone in
                   let who = serves_alone m r.server r.row state r.serving in
                   let b = G.been m (G.reached cell) cell r.own (subst (λ k. G.visits k (G.reached cell) cell ≡ Some r.own) who r.visited) in
-                  let b_f = front_on b.front mine_now f b.within on in
-                  let le = places_up setting whole plain b.front f cell b.row row b_f lies b.linked linked in
+                  let b_f = prefix_on b.prefix mine_now f b.within on in
+                  let le = places_up setting whole plain b.prefix f cell b.row row b_f lies b.linked linked in
                   let at_it = b.at in
                   omega arith)
             ]
           where
-            place_stays : (r : HasReached setting whole G.visits cell (G.reached cell)) → IsPrefix f r.front
-                → StaysSo cell row (By f) (By r.front) → place_by setting r.front r.row ≡ place
+            place_stays : (r : HasReached setting whole G.visits cell (G.reached cell)) → IsPrefix f r.prefix
+                → StaysSo cell row (By f) (By r.prefix) → place_by setting r.prefix r.row ≡ place
             place_stays r beyond stays =
-                elim ((log_steady script.servers f (front_plain script.servers f whole plain lies)).linked cell row linked).served [
+                elim ((log_steady script.servers f (prefix_plain script.servers f whole plain lies)).linked cell row linked).served [
                   | ByBoth so first also ↦ (
                       let inc = up_some (By f) row.primary first in
                       let other = up_some (By f) row.secondary also in
-                      ap (place_by setting r.front) (same_some (sym r.linked ∙ stays.same))
-                      ∙ log_both_place script.servers f r.front (front_plain script.servers r.front whole plain r.prefix) beyond cell row inc.0 other.0 linked
+                      ap (place_by setting r.prefix) (same_some (sym r.linked ∙ stays.same))
+                      ∙ log_both_place script.servers f r.prefix
+                      (prefix_plain script.servers r.prefix whole plain r.is_prefix) beyond cell row inc.0 other.0 linked
                       both inc.1 other.1
                       (ap (λ o. option_map_or (λ present. present == inc.0) o false) stays.primary ∙ inc.1)
                       (ap (λ o. option_map_or (λ present. present == other.0) o false) stays.secondary ∙ other.1))
@@ -109,10 +112,10 @@ module _ (it : OneMore) where
     pub there_so : (by : PairState) → visit m ≡ Some by → IsThereNow
     there_so by e =
         let b = G.been m place cell by e in
-        let b_f = front_on b.front mine_now f b.within on in
-        let mine_whole = front_on mine_now f whole on lies in
-        let r = linked_between setting whole plain b.front mine_now f cell b.row row b.within on lies b.linked linked in
-        let low_place = places_up setting whole plain b.front mine_now cell b.row r.0 b.within mine_whole b.linked r.1 in
+        let b_f = prefix_on b.prefix mine_now f b.within on in
+        let mine_whole = prefix_on mine_now f whole on lies in
+        let r = linked_between setting whole plain b.prefix mine_now f cell b.row row b.within on lies b.linked linked in
+        let low_place = places_up setting whole plain b.prefix mine_now cell b.row r.0 b.within mine_whole b.linked r.1 in
         let high_place = places_up setting whole plain mine_now f cell r.0 row on lies r.1 linked in
         let at_it = b.at in
         let same_r : place_by setting mine_now r.0 ≡ place = omega arith in

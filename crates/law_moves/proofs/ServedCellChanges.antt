@@ -5,13 +5,13 @@ use Rattle.law_moves.proofs.Imports.{[], ◌==◌, ◌∙◌, ◌∷◌, ◌≡�
 use Rattle.law_moves.proofs.Imports.{IsCaught, IsLeft, IsLinked, IsOther, IsPrefix, IsSeatedOrMute, IsServing, IsSteady, IsTold, JobResult, Key, LastCopy}
 use Rattle.law_moves.proofs.Imports.{LinkRow, List, Only, Option, PairState, Pending, Run, Setting, Some, Store, Stored, Table, World, about}
 use Rattle.law_moves.proofs.Imports.{alone_or_flagged, alone_row, ap, arith, at, at_most_or_above, by_bool, cell_cmp, cell_holder, cell_of, chain_apart}
-use Rattle.law_moves.proofs.Imports.{chain_in, chosen_caught_was, chosen_state, copying_on, end_of, false, front_itself, held_by, id_of, inl, inr, is_alone}
-use Rattle.law_moves.proofs.Imports.{is_alone_on, is_clients, is_flagged, is_in, is_second, kept, last_copy, last_on, live, nat_cmp, none_some, number_itself}
-use Rattle.law_moves.proofs.Imports.{option_map_or, other_apart, other_of, other_than, own_place, place_by, put, refl, running_timely, same_cell_or_apart}
-use Rattle.law_moves.proofs.Imports.{same_numbers, same_some, server_state, serves, serves_alone, stage_at, stage_live, state_after, subst, sym, taking, true}
-use Rattle.law_moves.proofs.Imports.{true_false, unseen_beyond, ℕ}
+use Rattle.law_moves.proofs.Imports.{chain_in, chosen_caught_was, chosen_state, copying_on, end_of, false, held_by, id_of, inl, inr, is_alone, is_alone_on}
+use Rattle.law_moves.proofs.Imports.{is_clients, is_flagged, is_in, is_second, kept, last_copy, last_on, live, nat_cmp, none_some, number_itself}
+use Rattle.law_moves.proofs.Imports.{option_map_or, other_apart, other_of, other_than, own_place, place_by, prefix_itself, put, refl, running_timely}
+use Rattle.law_moves.proofs.Imports.{same_cell_or_apart, same_numbers, same_some, server_state, serves, serves_alone, stage_at, stage_live, state_after}
+use Rattle.law_moves.proofs.Imports.{subst, sym, taking, true, true_false, unseen_beyond, ℕ}
 use Rattle.law_copies.specs.CopyProgress.{links_of}
-use Rattle.law_copies.proofs.ServedAtLaterFronts.{holder_is_one}
+use Rattle.law_copies.proofs.ServedAtLaterPrefixes.{holder_is_one}
 use Rattle.law_moves.proofs.JobsChangeOneChain.{A_copy, An_asked, An_own, CopiesSo, Is_dropped, Is_dropped_first, Is_put, NeverRetired, Nothing_new}
 use Rattle.law_moves.proofs.JobsChangeOneChain.{Of_the_retired, StoresSo, copied_apart, did_stores, put_on}
 use Rattle.law_moves.proofs.MoveWorlds.{firm, good, own_counts, rests, steady_at, up}
@@ -46,17 +46,17 @@ module _ (it : Run) (opened : AreOpenedComing (end_of it).setting (end_of it).w)
       let k = taking own now op taken in
       let staged = ((rests it).pending n).staged op.cell k.old k.was in
       let born = staged.born in
-      let le = up it mine chosen mine_chosen (front_itself chosen) op.cell in
+      let le = up it mine chosen mine_chosen (prefix_itself chosen) op.cell in
       let low : stage_at (server_state setting w n) op.cell ≤ 2 = by_bool (is_clients k.old.kind)
       (λ clients. let stays = (running_timely script records sound legal n op.cell k.old runs k.was clients).stays in omega arith)
       (λ fills. let one = opened n op.cell k.old runs k.was fills in omega arith) in
       true_false (stage_live (server_state setting w n) op.cell born (omega arith)) off
 
-  module _ (front : List Command) (on : IsPrefix mine front) (lies : IsPrefix front chosen)
+  module _ (prefix : List Command) (on : IsPrefix mine prefix) (lies : IsPrefix prefix chosen)
       (seat : is_in (server_state setting w n) n (w.servers n).life.inc ≡ true) (cell : Cell)
-      (low : stage_at (state_after script.servers front) cell ≤ 3) (serving : IsServing (state_after script.servers front) n cell) where
+      (low : stage_at (state_after script.servers prefix) cell ≤ 3) (serving : IsServing (state_after script.servers prefix) n cell) where
     own_alive : AliveIn (server_state setting w n) cell
-    own_alive = let le = up it mine front on lies cell in omega arith
+    own_alive = let le = up it mine prefix on lies cell in omega arith
 
     abbrev stores : ℕ → Store
     stores = kept setting w
@@ -112,7 +112,7 @@ module _ (it : Run) (opened : AreOpenedComing (end_of it).setting (end_of it).w)
       -- the holder had started a ballot for the Caught at the place
       flagged : (by : PairState) × (visit h ≡ Some by) × (is_flagged by (id_of row) ≡ true)
       flagged = elim (alone_or_flagged setting records w stores (firm it) (good it)
-          (chosen_caught_was script records sound legal) mine front cell row serving.row h whole on lies is alone serving.is (omega arith)
+          (chosen_caught_was script records sound legal) mine prefix cell row serving.row h whole on lies is alone serving.is (omega arith)
           (λ p lt. ap (λ k. (good it).visits k p cell) other_is
           ∙ unseen_beyond setting records w stores (firm it) (good it) n cell row is p lt)) [
             | inl still ↦ true_false (ap (λ k. k == n) (sym (serves_alone h n serving.row still.1 serving.so)) ∙ number_itself n) apart

@@ -1,17 +1,17 @@
--- Who serves a link at a front of what is chosen after a step, after what was chosen before it: a server that served it then, or the other server of
+-- Who serves a link at a prefix of what is chosen after a step, after what was chosen before it: a server that served it then, or the other server of
 -- one that held it alone, by a Caught right after what was chosen then. That one's holder had started the ballot, so the two copies are equal.
-use Rattle.law_moves.proofs.Imports.{[], ◌&&◌, ◌++◌, ◌<◌, ◌==◌, ◌||◌, ◌∙◌, ◌∷◌, ◌≡◌, ◌≢◌, ◌⊎◌, AliveIn, AreSteps, At, Bool, Both, ByBoth, ByNone, ByOne}
-use Rattle.law_moves.proofs.Imports.{By_caught, By_join, By_leave, Caught, Cell, Chain, Command, Copies, Good, HasJoinedSince, HasProperTuples, IsCaughtBy}
-use Rattle.law_moves.proofs.Imports.{IsCaughtIn, IsCaughtStill, IsLast, IsLinked, IsPrefix, IsServing, IsSteady, IsTouchedBy, Join, Leave, LinkRow, LinkState}
-use Rattle.law_moves.proofs.Imports.{List, Lost, OneMore, Only, PairState, Progress, Server, Some, State, Store, WasStarted, alive_on, ap, arith, at}
-use Rattle.law_moves.proofs.Imports.{at-empty, before_part, blank_joins_in, blanked_state, by_bool, cell_link, chain_in, chosen_caught_was, chosen_log}
-use Rattle.law_moves.proofs.Imports.{counted_by, ends_of, false, front_itself, front_long, front_more, front_on, front_plain, has_server, history_grows}
-use Rattle.law_moves.proofs.Imports.{history_is_firm, id_of, if◌then◌else◌, inl, inr, is_flagged, joined_where, kept_by, length, length-append, link_cmp}
-use Rattle.law_moves.proofs.Imports.{linked_between, log_alone, log_lost, log_steady, log_touched, no_copies, number_itself, one_before, one_front}
-use Rattle.law_moves.proofs.Imports.{option_map_or, other_of, other_than, place_by, refl, row_blanked, row_joined, rows_later, same_only, same_or_apart}
+use Rattle.law_moves.proofs.Imports.{[], if◌then◌else◌, ◌&&◌, ◌++◌, ◌<◌, ◌==◌, ◌||◌, ◌∙◌, ◌∷◌, ◌≡◌, ◌≢◌, ◌⊎◌, AliveIn, AreSteps, At, Bool, Both, ByBoth}
+use Rattle.law_moves.proofs.Imports.{ByNone, ByOne, By_caught, By_join, By_leave, Caught, Cell, Chain, Command, Copies, Good, HasJoinedSince, HasProperTuples}
+use Rattle.law_moves.proofs.Imports.{IsCaughtBy, IsCaughtIn, IsCaughtStill, IsLast, IsLinked, IsPrefix, IsServing, IsSteady, IsTouchedBy, Join, Leave}
+use Rattle.law_moves.proofs.Imports.{LinkRow, LinkState, List, Lost, OneMore, Only, PairState, Progress, Server, Some, State, Store, WasStarted, alive_on, ap}
+use Rattle.law_moves.proofs.Imports.{arith, at, at-empty, before_part, blank_joins_in, blanked_state, by_bool, cell_link, chain_in, chosen_caught_was}
+use Rattle.law_moves.proofs.Imports.{chosen_log, counted_by, ends_of, false, has_server, history_grows, history_is_firm, id_of, inl, inr, is_flagged}
+use Rattle.law_moves.proofs.Imports.{joined_where, kept_by, length, length-append, link_cmp, linked_between, log_alone, log_lost, log_steady, log_touched}
+use Rattle.law_moves.proofs.Imports.{no_copies, number_itself, one_before, one_prefix, option_map_or, other_of, other_than, place_by, prefix_itself}
+use Rattle.law_moves.proofs.Imports.{prefix_long, prefix_more, prefix_on, prefix_plain, refl, row_blanked, row_joined, rows_later, same_only, same_or_apart}
 use Rattle.law_moves.proofs.Imports.{serves, serves_alone, serves_its, split_last, stands_in, state_next, subst, sym, true, true_false, ℕ}
 use Rattle.law_moves.proofs.StepsTellEntries.{Goes_on, Is_bare, Keeps, mine_top, Awakes, Works, gone, middle}
-use Rattle.law_copies.proofs.ServedAtLaterFronts.{holder_is_one}
+use Rattle.law_copies.proofs.ServedAtLaterPrefixes.{holder_is_one}
 use Rattle.law_moves.proofs.MoveWorlds.{row_serving, top_last}
 
 join_server : {n inc m other : ℕ} {blank bare : Bool} → Join n inc blank ≡ Join m other bare → n ≡ m
@@ -21,11 +21,11 @@ join_blank : {n inc m other : ℕ} {blank bare : Bool} → Join n inc blank ≡ 
 join_blank e = cc
 
 module _ (it : OneMore) where
-  open it use {prior, prior.{script, sound, records as front}, own, legal}
+  open it use {prior, prior.{script, sound, records as prefix}, own, legal}
   open ends_of it use {setting, w, v, top, whole, By, top_whole, plain, records}
 
   plain_at : (f : List Command) → IsPrefix f whole → HasProperTuples script.servers f
-  plain_at f lies = front_plain script.servers f whole plain lies
+  plain_at f lies = prefix_plain script.servers f whole plain lies
 
   steady_at : (f : List Command) → IsPrefix f whole → IsSteady (By f)
   steady_at f lies = log_steady script.servers f (plain_at f lies)
@@ -44,13 +44,13 @@ module _ (it : OneMore) where
 
   -- the holder of a Caught that is chosen had applied the entries before it, so they were chosen before the step
   started_within : (holder inc : ℕ) (f : List Command) (row : LinkRow) → WasStarted setting records holder inc f (id_of row) → IsPrefix f top
-  started_within holder inc f row was = elim (split_last front own was.before was.later was.is) [
+  started_within holder inc f row was = elim (split_last prefix own was.before was.later was.is) [
     | inr more ↦
-        let part_front = prior.legal in
-        let legal_there = before_part script was.before more.0 (subst (AreSteps script) more.1 part_front) in
-        subst (λ l. IsPrefix l top) was.at (front_on _ (chosen_log setting (At script was.before)) top
+        let part_prefix = prior.legal in
+        let legal_there = before_part script was.before more.0 (subst (AreSteps script) more.1 part_prefix) in
+        subst (λ l. IsPrefix l top) was.at (prefix_on _ (chosen_log setting (At script was.before)) top
         ((history_is_firm script was.before sound legal_there).servers holder)
-        (history_grows script front sound part_front was.before more.0 more.1))
+        (history_grows script prefix sound part_prefix was.before more.0 more.1))
     | inl all ↦ elim (within_or_awake holder) [
       | inl within ↦ subst (λ l. IsPrefix l top) (ap (λ rs. ((At script rs).servers holder).log.applied) (sym all) ∙ was.at) within
       | inr none ↦ true_false (ap (λ rs. is_flagged ((At script rs).servers holder).own (id_of row)) (sym all) ∙ was.minded)
@@ -69,9 +69,9 @@ module _ (it : OneMore) where
       → IsCaughtStill script.servers low f cell row holder fills → ⊥
   no_caught low f cell row holder fills lt lies still =
       let c = still.found in
-      let within = caught_within c.until c.entry _ (front_on (c.until ++ c.entry ∷ []) f whole c.stands lies) c.acts in
-      let a = front_long c.until top within in
-      let b = front_long low c.until c.following in
+      let within = caught_within c.until c.entry _ (prefix_on (c.until ++ c.entry ∷ []) f whole c.stands lies) c.acts in
+      let a = prefix_long c.until top within in
+      let b = prefix_long low c.until c.following in
       omega arith
 
   -- ### A server that serves the link later
@@ -90,16 +90,16 @@ module _ (it : OneMore) where
       joined = j.until ++ Join n inc true ∷ []
 
       until_joined : IsPrefix j.until joined
-      until_joined = front_more j.until (Join n inc true)
+      until_joined = prefix_more j.until (Join n inc true)
 
       joined_whole : IsPrefix joined whole
-      joined_whole = front_on joined f whole j.stands lies
+      joined_whole = prefix_on joined f whole j.stands lies
 
       until_f : IsPrefix j.until f
-      until_f = front_on j.until joined f until_joined j.stands
+      until_f = prefix_on j.until joined f until_joined j.stands
 
       until_whole : IsPrefix j.until whole
-      until_whole = front_on j.until f whole until_f lies
+      until_whole = prefix_on j.until f whole until_f lies
 
       abbrev there : (r : LinkRow) × IsLinked setting j.until cell r
       there = linked_between setting whole plain top j.until f cell row serving.row j.following until_f lies is serving.is
@@ -109,7 +109,7 @@ module _ (it : OneMore) where
           ∙ serving.one_of
 
       following : length top < length joined
-      following = let a = front_long top j.until j.following in omega (arith, length-append j.until (Join n inc true ∷ []))
+      following = let a = prefix_long top j.until j.following in omega (arith, length-append j.until (Join n inc true ∷ []))
 
       -- the link's row then
       by_row : (r : LinkRow) → IsLinked setting joined cell r
@@ -175,21 +175,21 @@ module _ (it : OneMore) where
       was = record row { state = Only h still.later }
 
       stands : IsPrefix (c.until ++ c.entry ∷ []) whole
-      stands = front_on (c.until ++ c.entry ∷ []) f whole c.stands lies
+      stands = prefix_on (c.until ++ c.entry ∷ []) f whole c.stands lies
 
       until_top : IsPrefix c.until top
       until_top = caught_within c.until c.entry was stands c.acts
 
       at_top : c.until ≡ top
-      at_top = one_front c.until top top until_top (front_itself top)
-          (let a = front_long c.until top until_top in let b = front_long top c.until c.following in omega arith)
+      at_top = one_prefix c.until top top until_top (prefix_itself top)
+          (let a = prefix_long c.until top until_top in let b = prefix_long top c.until c.following in omega arith)
 
       until_alive : AliveIn (By c.until) cell
-      until_alive = alive_on setting top (front_plain script.servers top whole plain top_whole) c.until top cell until_top (front_itself top) top_alive
+      until_alive = alive_on setting top (prefix_plain script.servers top whole plain top_whole) c.until top cell until_top (prefix_itself top) top_alive
 
       last : IsLast mid.reached setting c.until cell was
       last = subst (λ l. IsLinked setting l cell was → IsLast mid.reached setting l cell was) (sym at_top)
-          (top_last setting records top (counted_by setting top v) (front_plain script.servers top whole plain top_whole) mid cell was) c.was
+          (top_last setting records top (counted_by setting top v) (prefix_plain script.servers top whole plain top_whole) mid cell was) c.was
 
       mind : (by : PairState) × (mid.visits c.acts.holder (place_by setting c.until was) cell ≡ Some by) × (is_flagged by (id_of was) ≡ true)
       mind = mid.started c.acts.holder c.acts.inc c.acts.whole c.until cell was until_top c.was until_alive c.acts.alone c.acts.holds

@@ -3,8 +3,8 @@ use Rattle.law_moves.proofs.Imports.{◌∙◌, ◌≡◌, ◌≤◌, A_fill, A_
 use Rattle.law_moves.proofs.Imports.{IsMoverOwn, IsNextFill, IsOpenedFor, IsPrefix, IsWithin, Letter, List, OfKey, OneMore, Option, PairState, Pending, Post}
 use Rattle.law_moves.proofs.Imports.{Server, Serves, Some, State, Store, Table, Turns, WasComing, World, all_put, always_firm, ap, arith, at, below_itself}
 use Rattle.law_moves.proofs.Imports.{blank_joins_in, by_bool, cell_cmp, cell_of, chosen_log, chosen_state, comes_after, did_kept, did_said, ends_of, false}
-use Rattle.law_moves.proofs.Imports.{front_itself, front_on, fronts_meet, inl, inr, is_clients, kept, key_at, last_happens, length, log_below, log_comes}
-use Rattle.law_moves.proofs.Imports.{mover_store, next_comes, none_within, of_key_on, of_no_key, own_place, own_plain, refl, resting, same_some, source}
+use Rattle.law_moves.proofs.Imports.{inl, inr, is_clients, kept, key_at, last_happens, length, log_below, log_comes, mover_store, next_comes, none_within}
+use Rattle.law_moves.proofs.Imports.{of_key_on, of_no_key, own_place, own_plain, prefix_itself, prefix_on, prefixes_meet, refl, resting, same_some, source}
 use Rattle.law_moves.proofs.Imports.{stage_at, start, start_comes, start_rests, subst, sym, true, true_false, was_opened, ℕ}
 use Rattle.law_moves.proofs.StepsTellEntries.{Goes_on, HasStore, Is_bare, Keeps, Awakes, Before, Other, Posted, Works, chosen_on, gone, knows, knows_now}
 use Rattle.law_moves.proofs.StepsTellEntries.{sent}
@@ -20,7 +20,7 @@ use Rattle.law_moves.proofs.MoveWorlds.{facts_at, plain_at}
 use Rattle.petal_msg.specs.declared.operation.OpKind.TheVariants as kind
 
 module _ (it : OneMore) (known : WasKnown it) (old : AllNewest (ends_of it).setting (ends_of it).w) where
-  open it use {prior, prior.{script, sound, records as front}, legal}
+  open it use {prior, prior.{script, sound, records as prefix}, legal}
   open ends_of it use {setting, w, records, v, By, present}
 
   abbrev Was : ℕ → Server
@@ -39,7 +39,7 @@ module _ (it : OneMore) (known : WasKnown it) (old : AllNewest (ends_of it).sett
 
   -- ### What was newest is so still
 
-  -- the front at which the cells of a move are known was chosen before
+  -- the prefix at which the cells of a move are known was chosen before
   record IsKnownThen (cell old_cell : Cell) : Type 0 where
     f : List Command
     lies : IsPrefix f (chosen_log setting w)
@@ -48,14 +48,14 @@ module _ (it : OneMore) (known : WasKnown it) (old : AllNewest (ends_of it).sett
 
   known_then : (f : List Command) (old_cell cell : Cell) → IsPrefix f (chosen_log setting v) → source (By f) cell ≡ Some old_cell → stage_at (By f) cell ≤ 1
       → 1 ≤ stage_at (chosen_state setting w) cell → IsKnownThen cell old_cell
-  known_then f old_cell cell lies comes low born = elim (fronts_meet f (chosen_log setting w) (chosen_log setting v) lies on) [
+  known_then f old_cell cell lies comes low born = elim (prefixes_meet f (chosen_log setting w) (chosen_log setting v) lies on) [
     | inl back ↦ record { f = f; lies = back; comes = comes; low = low }
     | inr more ↦
         let plain_f = plain_at present f lies in
         let up = (log_below script.servers (chosen_log setting w) f plain_f more).stages cell in
         let moved = log_comes script.servers f plain_f old_cell cell comes in
         let there = at_coming present f (chosen_log setting w) lies on old_cell cell moved (omega arith) in
-        record { f = chosen_log setting w; lies = front_itself (chosen_log setting w); comes = there.0; low = (omega arith) }
+        record { f = chosen_log setting w; lies = prefix_itself (chosen_log setting w); comes = there.0; low = (omega arith) }
   ]
 
   grown : (cell : Cell) (epoch : ℕ) → IsNewest setting w cell epoch → New cell epoch
@@ -73,8 +73,8 @@ module _ (it : OneMore) (known : WasKnown it) (old : AllNewest (ends_of it).sett
 
   write_newest : (n : ℕ) (cell : Cell) (op : Pending) → at cell_cmp (Was n).own.pairs.pending cell ≡ Some op → is_clients op.kind ≡ true → New cell op.key.epoch
   write_newest n cell op is clients =
-      let o = was_opened script sound front prior.legal n cell op is clients in
-      let opened = front_on o.opened (chosen_log setting w) (chosen_log setting v) o.lies on in
+      let o = was_opened script sound prefix prior.legal n cell op is clients in
+      let opened = prefix_on o.opened (chosen_log setting w) (chosen_log setting v) o.lies on in
       record {
         born = born_on o.opened opened cell o.timely.born;
         newest = λ f old_cell before later lies comes low frozen lt has.
@@ -88,9 +88,9 @@ module _ (it : OneMore) (known : WasKnown it) (old : AllNewest (ends_of it).sett
 
   coming_born : (rev : ℕ) (cell : Cell) → WasComing setting w rev cell → 1 ≤ stage_at (chosen_state setting v) cell
   coming_born rev cell c =
-      let lies = front_on c.front (chosen_log setting w) (chosen_log setting v) c.lies on in
-      let one = (facts_at present c.front lies cell).comes c.coming in
-      born_on c.front lies cell (omega arith)
+      let lies = prefix_on c.prefix (chosen_log setting w) (chosen_log setting v) c.lies on in
+      let one = (facts_at present c.prefix lies cell).comes c.coming in
+      born_on c.prefix lies cell (omega arith)
 
   is_fill : (op : Pending) → IsOpenedFor op → is_clients op.kind ≡ false → op.kind ≡ kind.Fill
   is_fill op (A_write e) f = true_false (ap is_clients e) f
@@ -98,12 +98,12 @@ module _ (it : OneMore) (known : WasKnown it) (old : AllNewest (ends_of it).sett
 
   pending_newest : (n : ℕ) (cell : Cell) (op : Pending) → at cell_cmp (Was n).own.pairs.pending cell ≡ Some op → IsWithin New op.key
   pending_newest n cell op is =
-      let staged = ((resting script sound front prior.legal).pending n).staged cell op is in
+      let staged = ((resting script sound prefix prior.legal).pending n).staged cell op is in
       by_bool (is_clients op.kind)
       (λ clients. subst (λ (c : Cell). New c op.key.epoch) (sym staged.keyed) (write_newest n cell op is clients))
       (λ fills.
       let frozen = frozen_on it known op.rev op.key op.bytes (known.filled.asked n cell op is fills) in
-      let comes = (comes_after setting (start setting) front (always_firm script front sound prior.legal) (start_rests script)
+      let comes = (comes_after setting (start setting) prefix (always_firm script prefix sound prior.legal) (start_rests script)
       (start_comes script) prior.legal).opened n cell op is (is_fill op staged.opened fills) in
       frozen_newest present op.rev op.key op.bytes frozen
       (subst (λ (c : Cell). 1 ≤ stage_at (chosen_state setting v) c) (sym staged.keyed) (coming_born op.rev cell comes)))
@@ -124,7 +124,7 @@ module _ (it : OneMore) (known : WasKnown it) (old : AllNewest (ends_of it).sett
       let kept_store = mover_store (Handled w n) (own_place setting w n) (Was n).own now mover in
       let frozen = next_frozen it known n runs now post kept_store told f in
       let log = (Was n).log.applied in
-      let lies = front_on log (chosen_log setting w) (chosen_log setting v) ((knows it).servers n) on in
+      let lies = prefix_on log (chosen_log setting w) (chosen_log setting v) ((knows it).servers n) on in
       let comes = next_comes script.servers log (own_plain setting w (knows it) n) (own_place setting w n) refl now post f in
       let one = (facts_at present log lies f.cell).comes comes in
       subst (λ (p : Post). OfKey (IsWithin New) p.body) (sym f.is)
@@ -182,6 +182,6 @@ module _ (it : OneMore) (known : WasKnown it) (old : AllNewest (ends_of it).sett
       let state = chosen_state setting v in
       record {
         now = λ n. stores_by n (v.servers n) _ (gone it n);
-        before = before_by state v (last_happens script front it.own (always_firm script records sound legal) legal state (below_itself state));
+        before = before_by state v (last_happens script prefix it.own (always_firm script records sound legal) legal state (below_itself state));
         letters = letters_newest;
       }

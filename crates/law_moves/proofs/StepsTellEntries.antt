@@ -5,9 +5,9 @@ use Rattle.law_moves.proofs.Imports.{JobResult, Join, Key, Letter, LinkId, LinkR
 use Rattle.law_moves.proofs.Imports.{Script, Server, Serves, Serving, Some, State, Stays, Step, Store, Table, Turns, Wakes, Was_sent, Worked, World, after}
 use Rattle.law_moves.proofs.Imports.{all_put, always_firm, ap, arith, aside_none, at, at-where, awake, ballot_store, before_last, below_itself}
 use Rattle.law_moves.proofs.Imports.{blank_joins_in, blanked, by_bool, by_settled, chosen_log, chosen_state, cond, counted_by, crossed, ends_of, entry_after}
-use Rattle.law_moves.proofs.Imports.{false, filter, first_incs, front_itself, front_more, front_on, front_plain, front_same, good_after, happens_sent}
-use Rattle.law_moves.proofs.Imports.{history_grows, history_is_firm, holds_link, in_former, inl, inr, is_eq, is_in, is_of_entries, is_some, join_was_wanted}
-use Rattle.law_moves.proofs.Imports.{kept, last_happens, length, link_cmp, link_named, log_rev, longer, none_some, own_place, proposed, proposed_pairs}
+use Rattle.law_moves.proofs.Imports.{false, filter, first_incs, good_after, happens_sent, history_grows, history_is_firm, holds_link, in_former, inl, inr}
+use Rattle.law_moves.proofs.Imports.{is_eq, is_in, is_of_entries, is_some, join_was_wanted, kept, last_happens, length, link_cmp, link_named, log_rev, longer}
+use Rattle.law_moves.proofs.Imports.{none_some, own_place, prefix_itself, prefix_more, prefix_on, prefix_plain, prefix_same, proposed, proposed_pairs}
 use Rattle.law_moves.proofs.Imports.{put_apart, put_at, put_same, raised, refl, run_of, same_id, same_or_apart, server_state, settling, since, state_after}
 use Rattle.law_moves.proofs.Imports.{step_goes, subject_of, subst, sym, true, true_false, who_is_in, ℕ}
 
@@ -29,27 +29,27 @@ was_at t test id key is =
     (λ off. none_some (e ∙ ap (λ b. cond b (at link_cmp t id) None) off) is)
 
 module _ (it : OneMore) where
-  open it use {prior, prior.{script, sound, records as front}, own, legal}
+  open it use {prior, prior.{script, sound, records as prefix}, own, legal}
   open ends_of it use {setting, w, v, records}
 
   pub knows : Firm setting w
-  knows = history_is_firm script front sound prior.legal
+  knows = history_is_firm script prefix sound prior.legal
 
   pub knows_now : Firm setting v
   knows_now = history_is_firm script records sound legal
 
   pub chosen_on : IsPrefix (chosen_log setting w) (chosen_log setting v)
-  chosen_on = history_grows script records sound legal front (own ∷ []) refl
+  chosen_on = history_grows script records sound legal prefix (own ∷ []) refl
 
   pub mine_top : (n : ℕ) → IsPrefix (w.servers n).log.applied (chosen_log setting w)
   mine_top n = knows.servers n
 
   pub mine_whole : (n : ℕ) → IsPrefix (w.servers n).log.applied (chosen_log setting v)
-  mine_whole n = front_on (w.servers n).log.applied (chosen_log setting w) (chosen_log setting v) (mine_top n) chosen_on
+  mine_whole n = prefix_on (w.servers n).log.applied (chosen_log setting w) (chosen_log setting v) (mine_top n) chosen_on
 
   -- what is kept of two copies by what was chosen before the step
   pub middle : Good setting records (chosen_log setting w) (counted_by setting (chosen_log setting w) v)
-  middle = (step_goes script front own sound legal (good_after script front sound prior.legal)).middle
+  middle = (step_goes script prefix own sound legal (good_after script prefix sound prior.legal)).middle
 
   abbrev Was : ℕ → Server
   Was n = w.servers n
@@ -96,7 +96,7 @@ module _ (it : OneMore) where
     how = inl refl;
     runs = λ on. (on, refl);
     rises = omega arith;
-    onward = front_itself (Was n).log.applied;
+    onward = prefix_itself (Was n).log.applied;
     within = mine_top n;
     pending = refl;
     chains = refl;
@@ -115,7 +115,7 @@ module _ (it : OneMore) where
         how = inr (inl runs);
         runs = λ on. (runs, inc_is);
         rises = omega arith;
-        onward = front_same (Was n).log.applied to.log.applied (log_is ∙ same);
+        onward = prefix_same (Was n).log.applied to.log.applied (log_is ∙ same);
         within = subst (λ l. IsPrefix l (chosen_log setting w)) (sym (log_is ∙ same)) (mine_top n);
         pending = ap (λ (p : Pairs). p.pending) pairs;
         chains = ap (λ (o : PairState). o.store.chains) own_is ∙ ap (λ (s : Store). s.chains) (ballot_store state (Was n).own started);
@@ -133,7 +133,7 @@ module _ (it : OneMore) where
         how = inr (inl runs);
         runs = λ on. (runs, inc_is);
         rises = omega arith;
-        onward = subst (IsPrefix (Was n).log.applied) (sym (log_is ∙ more)) (front_more (Was n).log.applied entry);
+        onward = subst (IsPrefix (Was n).log.applied) (sym (log_is ∙ more)) (prefix_more (Was n).log.applied entry);
         within = subst (λ l. IsPrefix l (chosen_log setting w)) (sym log_is) onward;
         pending = ap (λ (o : PairState). o.pairs.pending) own_is ∙ ap (λ (p : Pairs). p.pending) settled.pairs;
         chains = ap (λ (o : PairState). o.store.chains) own_is ∙ settled.chains;
@@ -151,7 +151,7 @@ module _ (it : OneMore) where
     how = inr (inr refl);
     runs = λ on. true_false on asleep;
     rises = omega arith;
-    onward = front_itself (Was n).log.applied;
+    onward = prefix_itself (Was n).log.applied;
     within = mine_top n;
     pending = refl;
     chains = refl;
@@ -182,7 +182,7 @@ module _ (it : OneMore) where
   happened : Happens setting (chosen_state setting v) w v
   happened =
       let state = chosen_state setting v in
-      last_happens script front own (always_firm script records sound legal) legal state (below_itself state)
+      last_happens script prefix own (always_firm script records sound legal) legal state (below_itself state)
 
   pub gone : (n : ℕ) → HasStore n (v.servers n) (v.before_blank n)
   gone = stores_by (chosen_state setting v) v happened
@@ -247,23 +247,23 @@ incs_up script sound n inc before later legal le =
     by it to b (Is_bare asleep bare same) le = subst (λ (s : Server). inc ≤ s.life.inc) (sym bare) le
 
 module _ (it : OneMore) where
-  open it use {prior, prior.{script, sound, records as front}, own, legal}
+  open it use {prior, prior.{script, sound, records as prefix}, own, legal}
   open ends_of it use {setting as this, w as old, v as new, records}
 
   -- an incarnation that has joined had begun before the step
   begun_before : (n inc : ℕ) (blank : Bool) → In (Join n inc blank) (chosen_log this new) → inc ≤ (old.servers n).life.inc
   begun_before n inc blank i =
       let was = join_was_wanted script records sound legal n inc blank i in
-      let rest = before_last front own was.before was.own was.later was.is in
-      let legal_front = prior.legal in
+      let rest = before_last prefix own was.before was.own was.later was.is in
+      let legal_prefix = prior.legal in
       subst (λ rs. inc ≤ ((At script rs).servers n).life.inc) (sym rest.1)
-      (incs_up script sound n inc was.before rest.0 (subst (AreSteps script) rest.1 legal_front) (let e = was.lives in omega arith))
+      (incs_up script sound n inc was.before rest.0 (subst (AreSteps script) rest.1 legal_prefix) (let e = was.lives in omega arith))
 
   pub not_new : (n : ℕ) (f : List Command) → IsPrefix f (chosen_log this new) → is_in (state_after script.servers f) n ((old.servers n).life.inc + 1) ≡ true → ⊥
   not_new n f lies seat =
-      let plain = front_plain script.servers f (chosen_log this new) (knows_now it).plain lies in
+      let plain = prefix_plain script.servers f (chosen_log this new) (knows_now it).plain lies in
       elim (who_is_in script.servers f n ((old.servers n).life.inc + 1) plain seat) [
-        | inl one ↦ (let first = first_incs script front sound (prior.legal) n in absurd (omega arith))
+        | inl one ↦ (let first = first_incs script prefix sound (prior.legal) n in absurd (omega arith))
         | inr joined ↦ (
             let i = subst (In (Join n ((old.servers n).life.inc + 1) joined.0)) (sym lies.is) (in_former _ f lies.later joined.1) in
             let le = begun_before n ((old.servers n).life.inc + 1) joined.0 i in
@@ -284,7 +284,7 @@ module _ (it : OneMore) where
     | Goes_on (Works job) same ↦ record {
       runs = job.runs;
       inc_is = job.inc_is;
-      onward = front_same (old.servers n).log.applied (new.servers n).log.applied job.log_is;
+      onward = prefix_same (old.servers n).log.applied (new.servers n).log.applied job.log_is;
       within = subst (λ l. IsPrefix l (chosen_log this old)) (sym job.log_is) (mine_top it n);
     }
     | Goes_on (Awakes asleep is) same ↦

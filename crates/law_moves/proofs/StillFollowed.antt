@@ -2,9 +2,9 @@
 -- from then on.
 use Rattle.law_moves.proofs.Imports.{[], ◌++◌, ◌+◌, ◌||◌, ◌∙◌, ◌∷◌, ◌≡◌, ◌≤◌, BeforeBlank, Body, Cell, Command, Handled, In, IsLinked, IsPrefix, LinkRow}
 use Rattle.law_moves.proofs.Imports.{List, None, OneMore, Option, PairState, Server, Some, State, ap, arith, at, at-where, both_true, by_bool, cell_cmp}
-use Rattle.law_moves.proofs.Imports.{cell_cmp_same, cell_link, cell_of, cond, crossed, did_follow, dies, ends_cell, ends_of, false, front_on, front_within}
-use Rattle.law_moves.proofs.Imports.{inl, inr, is_between, is_clients, is_in, is_of_entries, live, live_stage, not, option_map_or, own_place, place_by}
-use Rattle.law_moves.proofs.Imports.{place_of_later, place_touched, places_grow, progress, refl, running_timely, some_or_none, stage_at, stage_live}
+use Rattle.law_moves.proofs.Imports.{cell_cmp_same, cell_link, cell_of, cond, crossed, did_follow, dies, ends_cell, ends_of, false, inl, inr, is_between}
+use Rattle.law_moves.proofs.Imports.{is_clients, is_in, is_of_entries, live, live_stage, not, option_map_or, own_place, place_by, place_of_later}
+use Rattle.law_moves.proofs.Imports.{place_touched, places_grow, prefix_on, prefix_within, progress, refl, running_timely, some_or_none, stage_at, stage_live}
 use Rattle.law_moves.proofs.Imports.{state_next, subject_of, subst, sym, touches, touches_cell, true, true_false, ℕ}
 use Rattle.law_moves.proofs.StepsTellEntries.{Crosses, Goes_on, HasStore, Is_bare, Keeps, Same_last, Awakes, Before, IsPosted, Other, Posted, Works, gone}
 use Rattle.law_moves.proofs.StepsTellEntries.{here, sent}
@@ -18,10 +18,10 @@ use Rattle.law_moves.proofs.MoveScenes.{AsksToPut, IsSecondAt}
 use Rattle.petal_msg.specs.declared.body.Body.TheVariants as body
 
 module _ (it : OneMore) (all : WereKnown it) where
-  open it use {prior, prior.{script, sound, records as front}}
+  open it use {prior, prior.{script, sound, records as prefix}}
   open ends_of it use {setting, w, v, top, whole, By, top_whole, plain, present}
 
-  known : Known script front
+  known : Known script prefix
   known = before it all
 
   abbrev far_of_last : PairState → Cell → ℕ
@@ -41,7 +41,7 @@ module _ (it : OneMore) (all : WereKnown it) where
       here_state = By mine
 
       mine_f : IsPrefix mine f
-      mine_f = front_on mine (mine ++ entry ∷ []) f (record { later = entry ∷ []; is = refl }) on
+      mine_f = prefix_on mine (mine ++ entry ∷ []) f (record { later = entry ∷ []; is = refl }) on
 
       untouched : touches_cell here_state entry cell ≡ false
       untouched = elim (some_or_none (cell_link here_state cell)) [
@@ -61,7 +61,7 @@ module _ (it : OneMore) (all : WereKnown it) where
           (λ t.
           let both = both_true (live here_state cell) (not (live (after here_state entry) cell)) t in
           let born = (live_stage here_state cell both.0).0 in
-          let on_whole = front_on (mine ++ entry ∷ []) f whole on lies in
+          let on_whole = prefix_on (mine ++ entry ∷ []) f whole on lies in
           let a = up present mine (mine ++ entry ∷ []) (record { later = entry ∷ []; is = refl }) on_whole cell in
           let b = up present (mine ++ entry ∷ []) f on lies cell in
           let lives : live (By (mine ++ entry ∷ [])) cell ≡ true = stage_live (By (mine ++ entry ∷ [])) cell (omega arith) (omega arith) in
@@ -109,8 +109,8 @@ module _ (it : OneMore) (all : WereKnown it) where
     past_before high i =
         let h = here it m runs f lies seat in
         let le = (good prior).revs letter i (ap (λ (b : Body). is_between (subject_of b)) is) in
-        let within = front_within f top whole lies top_whole (omega arith) in
-        let on_was = front_on (w.servers m).log.applied (v.servers m).log.applied f h.onward on in
+        let within = prefix_within f top whole lies top_whole (omega arith) in
+        let on_was = prefix_on (w.servers m).log.applied (v.servers m).log.applied f h.onward on in
         let past = known.followed (record {
           m = m;
           f = f;
@@ -143,7 +143,7 @@ module _ (it : OneMore) (all : WereKnown it) where
         let to : o.cell ≡ cell = sym keyed ∙ ap cell_of asks.of ∙ of in
         let at_cell : at cell_cmp (w.servers p.n).own.pairs.pending cell ≡ Some o = ap (at cell_cmp (w.servers p.n).own.pairs.pending) (sym to) ∙ asks.is in
         by_bool (is_clients o.kind)
-        (λ clients. let stays = (running_timely script front sound prior.legal p.n cell o p.job.runs at_cell clients).stays in absurd (omega arith))
+        (λ clients. let stays = (running_timely script prefix sound prior.legal p.n cell o p.job.runs at_cell clients).stays in absurd (omega arith))
         (λ fills. let one = known.filled.opened p.n cell o p.job.runs at_cell fills in absurd (omega arith))
 
     pub past_so : 3 ≤ stage_at (By top) cell → In letter v.sent → IsPast

@@ -2,8 +2,8 @@
 -- second server after it; or the region has moved on, and all of it was told before.
 use Rattle.law_moves.proofs.Imports.{◌∙◌, ◌≡◌, ◌≤◌, Body, Cell, Chain, Command, Handled, IsPrefix, IsServing, Key, Letter, List, OneMore, Pending, Run}
 use Rattle.law_moves.proofs.Imports.{Server, Some, Store, ap, arith, at, at_most_or_above, cell_cmp, cell_of, chain_in, chosen_state, end_of, ends_of, false}
-use Rattle.law_moves.proofs.Imports.{front_itself, front_on, fronts_meet, in_counts, inl, inr, is_clients, is_in, is_of_entries, is_some, kept, kept_by}
-use Rattle.law_moves.proofs.Imports.{kept_store, leads_link, own_place, server_state, stage_at, stage_live, subject_of, subst, sym, true, true_false, ℕ}
+use Rattle.law_moves.proofs.Imports.{in_counts, inl, inr, is_clients, is_in, is_of_entries, is_some, kept, kept_by, kept_store, leads_link, own_place}
+use Rattle.law_moves.proofs.Imports.{prefix_itself, prefix_on, prefixes_meet, server_state, stage_at, stage_live, subject_of, subst, sym, true, true_false, ℕ}
 use Rattle.law_moves.proofs.StepsTellEntries.{gone, Before, Goes_on, IsPosted, Is_bare, Other, Posted, here, sent, mine_top}
 use Rattle.law_moves.specs.Fills.{Has, IsFrozen, IsThere, WasFilled}
 use Rattle.law_moves.proofs.ServedCellChanges.{never_retired}
@@ -23,21 +23,21 @@ pub told_already : (h : Run) → AllMoved (end_of h).setting (end_of h).w → (r
     → IsFrozen (end_of h).setting (end_of h).w rev key bytes → 2 ≤ stage_at (chosen_state (end_of h).setting (end_of h).w) (cell_of key)
     → WasFilled (end_of h).w key
 told_already h moved rev key bytes f two =
-    over_told h moved f.old (cell_of key) f.front f.lies f.from two f.before key.epoch f.frozen (ap is_some f.entry.1)
+    over_told h moved f.old (cell_of key) f.prefix f.lies f.from two f.before key.epoch f.frozen (ap is_some f.entry.1)
 
 fill_not_client : (op : Pending) → op.kind ≡ kind.Fill → is_clients op.kind ≡ false
 fill_not_client op e = ap is_clients e
 
 module _ (it : OneMore) (all : WereKnown it) where
-  open it use {prior, prior.{script, sound, records as front}, legal}
+  open it use {prior, prior.{script, sound, records as prefix}, legal}
   open ends_of it use {setting, w, records, v, top, whole, By, top_whole, present}
 
-  known : Known script front
+  known : Known script prefix
   known = before it all
 
   -- ### More is chosen
 
-  -- of each server that serves the cell's link at this front, the store that counts by it has the entry
+  -- of each server that serves the cell's link at this prefix, the store that counts by it has the entry
   abbrev pub HaveIt : List Command → Cell → ℕ → Type 0
   HaveIt f cell epoch = (n : ℕ) → IsServing (By f) n cell → Has (chain_in (kept_by setting f v n).chains cell) epoch
 
@@ -45,8 +45,8 @@ module _ (it : OneMore) (all : WereKnown it) where
       → stage_at (By f) cell ≤ 3 → HaveIt f cell epoch
   have_grown cell epoch born have f on lies low n serving =
       let le = up present top f on lies cell in
-      let link = (steady_at prior top (front_itself top)).lives cell
-      ((facts_at prior top (front_itself top) cell).alive born (omega arith)) in
+      let link = (steady_at prior top (prefix_itself top)).lives cell
+      ((facts_at prior top (prefix_itself top) cell).alive born (omega arith)) in
       let joins = same_joins it f on lies n cell link.row link.is (omega arith) serving in
       let at_top : Has (chain_in (kept_by setting top v n).chains cell) epoch =
       elim (served_before it f on lies n cell link.row link.is (omega arith) serving) [
@@ -75,9 +75,9 @@ module _ (it : OneMore) (all : WereKnown it) where
   there_now : (cell : Cell) (epoch : ℕ) → IsMiddle cell epoch → IsThere setting v cell epoch
   there_now cell epoch mid = record {
     now = λ n one low serving.
-        let le = up present top whole top_whole (front_itself whole) cell in
-        have_grown cell epoch mid.born (mid.now (omega arith)) whole top_whole (front_itself whole) low n serving;
-    own = λ n f runs on lies seat one low serving. elim (fronts_meet f top whole lies top_whole) [
+        let le = up present top whole top_whole (prefix_itself whole) cell in
+        have_grown cell epoch mid.born (mid.now (omega arith)) whole top_whole (prefix_itself whole) low n serving;
+    own = λ n f runs on lies seat one low serving. elim (prefixes_meet f top whole lies top_whole) [
       | inl within ↦ mid.copies n f runs on within seat one low serving
       | inr beyond ↦
           let le = up present top f beyond lies cell in
@@ -105,8 +105,8 @@ module _ (it : OneMore) (all : WereKnown it) where
         born = born;
         now = λ low n serving. kept_has it all n cell low serving key.epoch (was.now n born low serving);
         copies = λ n f runs on lies seat one low serving.
-            let h = here it n runs f (front_on f top whole lies top_whole) seat in
-            let on_was = front_on (w.servers n).log.applied (v.servers n).log.applied f h.onward on in
+            let h = here it n runs f (prefix_on f top whole lies top_whole) seat in
+            let on_was = prefix_on (w.servers n).log.applied (v.servers n).log.applied f h.onward on in
             kept_own n runs f on_was lies cell low serving key.epoch
             (was.own n f h.runs on_was lies (subst (λ i. is_in (By f) n i ≡ true) h.inc_is seat) one low serving);
       })
@@ -124,7 +124,7 @@ module _ (it : OneMore) (all : WereKnown it) where
         born = omega arith;
         now = λ low. mid;
         copies = λ n f runs on lies seat born low serving.
-            let lies_whole = front_on f top whole lies top_whole in
+            let lies_whole = prefix_on f top whole lies top_whole in
             let serves_top = serving_on present n runs f top lies top_whole seat cell (omega arith) serving in
             let seat_top = runs_on present n runs f top lies top_whole seat in
             own_has cell key.epoch top top_whole mid n runs seat_top serves_top;
@@ -141,7 +141,7 @@ module _ (it : OneMore) (all : WereKnown it) where
     Told k = (1 ≤ stage_at (By top) (cell_of k)) × IsThere setting v (cell_of k) k.epoch
 
     mine_up : (cell : Cell) → stage_at (server_state setting w n) cell ≤ stage_at (By top) cell
-    mine_up cell = up prior (w.servers n).log.applied top (mine_top it n) (front_itself top) cell
+    mine_up cell = up prior (w.servers n).log.applied top (mine_top it n) (prefix_itself top) cell
 
     abbrev IdleAt : Cell → Type 0
     IdleAt cell = (lead : LeadsAt setting w cell n) → IsIdle prior cell n lead
@@ -209,7 +209,7 @@ module _ (it : OneMore) (all : WereKnown it) where
 
   pub born_next : (key : Key) → WasFilled v key → 1 ≤ stage_at (chosen_state setting v) (cell_of key)
   born_next key told =
-      let on = up present top whole top_whole (front_itself whole) (cell_of key) in
+      let on = up present top whole top_whole (prefix_itself whole) (cell_of key) in
       elim (sent it told.letter told.sent) [
         | Before i ↦ (let one = known.born key (record { letter = told.letter; sent = i; is = told.is }) in omega arith)
         | Posted p ↦ (let one = (told_new told.letter key told.is p).0 in omega arith)

@@ -1,7 +1,7 @@
 -- The two-copy rule in a region that is on its way follows from what is kept of moves.
 use Rattle.law_moves.proofs.Imports.{◌∙◌, ◌≡◌, ◌≤◌, Cell, Chain, HasNewer, HasStage, IsFilledFrom, IsSteady, Key, LinkRow, List, Matters, Moves, Run, Some}
-use Rattle.law_moves.proofs.Imports.{State, ap, arith, authority, by_bool, cell_link, cell_of, chain_in, chosen_state, coming, end_of, false, front_itself}
-use Rattle.law_moves.proofs.Imports.{inl, kept, key_at, leaving, log_comes, log_noted, log_plain, log_steady, map_of, noted, region_of, resting}
+use Rattle.law_moves.proofs.Imports.{State, ap, arith, authority, by_bool, cell_link, cell_of, chain_in, chosen_state, coming, end_of, false, inl, kept}
+use Rattle.law_moves.proofs.Imports.{key_at, leaving, log_comes, log_noted, log_plain, log_steady, map_of, noted, prefix_itself, region_of, resting}
 use Rattle.law_moves.proofs.Imports.{running_timely, same_some, source, source_same, stage_at, subst, sym, true, ℕ}
 use Rattle.law_moves.specs.Fills.{AreFilled, Has, IsFrozen, WasFilled}
 use Rattle.law_moves.specs.FrozenCopies.{AreStill}
@@ -20,7 +20,7 @@ module _ (it : Run) (still : AreStill (end_of it).setting (end_of it).w) (filled
   steady = log_steady script.servers chosen (all_plain it)
 
   by_stage : (cell : Cell) → HasStage now cell
-  by_stage cell = facts_at it chosen (front_itself chosen) cell
+  by_stage cell = facts_at it chosen (prefix_itself chosen) cell
 
   -- what a letter says to be there is at each server that matters, while the cell is coming
   told_there : (cell : Cell) (n epoch : ℕ) → coming now cell ≡ true → Matters now cell n → WasFilled w (key_at cell epoch)
@@ -35,7 +35,7 @@ module _ (it : Run) (still : AreStill (end_of it).setting (end_of it).w) (filled
       → HasNewer before key.epoch (chain_in (kept setting w n).chains (cell_of key))
   newer_there key bytes rev n before f comes matters from epoch later has =
       let old : from.old ≡ f.old =
-      source_same script.servers f.front chosen (all_plain it) f.lies (cell_of key) f.old from.old f.from from.is in
+      source_same script.servers f.prefix chosen (all_plain it) f.lies (cell_of key) f.old from.old f.from from.is in
       let same : before ≡ f.before = same_some (sym from.frozen ∙ ap w.frozen old ∙ f.frozen) in
       told_there (cell_of key) n epoch comes matters (f.newer epoch later (subst (λ (c : Chain). Has c epoch) same has))
 
@@ -55,9 +55,9 @@ module _ (it : Run) (still : AreStill (end_of it).setting (end_of it).w) (filled
       let marked : noted now old.map (region_of old.block) row.link ≡ true =
       (λ i. noted now (sym map_is i) (region_of (sym m.block i)) row.link) ∙ is in
       let moved = log_noted script.servers chosen old row.link plain three marked in
-      let own = on_own_link it old row.link moved (link_slot it chosen (front_itself chosen) old row linked) in
+      let own = on_own_link it old row.link moved (link_slot it chosen (prefix_itself chosen) old row linked) in
       told_there cell n epoch comes (inl counts)
-      (moved_filled it filled.moved old cell own chosen (front_itself chosen) m before epoch frozen has)
+      (moved_filled it filled.moved old cell own chosen (prefix_itself chosen) m before epoch frozen has)
 
   pub rule_kept : Moves setting w
   rule_kept = record {

@@ -18,15 +18,15 @@ pub record WasFilled (w : World) (key : Key) : Type 0 where
   pub sent : In letter w.sent
   pub is : letter.body ≡ body.Filled key
 
--- the entry is at each server that serves the cell's link: by what is chosen, while the cell is live; and at one that runs, by each front from its
+-- the entry is at each server that serves the cell's link: by what is chosen, while the cell is live; and at one that runs, by each prefix from its
 -- own on by which it is In as itself
 pub record IsThere (setting : Setting) (w : World) (cell : Cell) (epoch : ℕ) : Type 0 where
   pub now : (n : ℕ) → 1 ≤ stage_at (chosen_state setting w) cell → stage_at (chosen_state setting w) cell ≤ 3
       → IsServing (chosen_state setting w) n cell → Has (chain_in (kept setting w n).chains cell) epoch
-  pub own : (n : ℕ) (front : List Command) → (w.servers n).life.running ≡ true → IsPrefix (w.servers n).log.applied front
-      → IsPrefix front (chosen_log setting w) → is_in (state_after setting.servers front) n (w.servers n).life.inc ≡ true
-      → 1 ≤ stage_at (state_after setting.servers front) cell → stage_at (state_after setting.servers front) cell ≤ 3
-      → IsServing (state_after setting.servers front) n cell → Has (chain_in (w.servers n).own.store.chains cell) epoch
+  pub own : (n : ℕ) (prefix : List Command) → (w.servers n).life.running ≡ true → IsPrefix (w.servers n).log.applied prefix
+      → IsPrefix prefix (chosen_log setting w) → is_in (state_after setting.servers prefix) n (w.servers n).life.inc ≡ true
+      → 1 ≤ stage_at (state_after setting.servers prefix) cell → stage_at (state_after setting.servers prefix) cell ≤ 3
+      → IsServing (state_after setting.servers prefix) n cell → Has (chain_in (w.servers n).own.store.chains cell) epoch
 
 -- the bytes of an entry are those of the frozen one
 abbrev pub IsOf : Chain → (epoch : ℕ) → List ℕ → Type 0
@@ -34,21 +34,21 @@ IsOf before epoch bytes = (version : ℕ) × (at nat_cmp before epoch ≡ Some (
 
 -- an entry that moves, at this revision: it is a frozen one of the cell's source, and of all that is newer after it a letter says that it is there
 pub record IsFrozen (setting : Setting) (w : World) (rev : ℕ) (key : Key) (bytes : List ℕ) : Type 0 where
-  pub front : List Command
-  pub lies : IsPrefix front (chosen_log setting w)
-  pub long : length front ≡ rev
+  pub prefix : List Command
+  pub lies : IsPrefix prefix (chosen_log setting w)
+  pub long : length prefix ≡ rev
   pub old : Cell
-  pub from : source (state_after setting.servers front) (cell_of key) ≡ Some old
+  pub from : source (state_after setting.servers prefix) (cell_of key) ≡ Some old
   pub before : Chain
   pub frozen : w.frozen old ≡ Some before
   pub entry : IsOf before key.epoch bytes
   pub newer : (epoch : ℕ) → key.epoch < epoch → Has before epoch → WasFilled w (key_at (cell_of key) epoch)
 
 -- by these entries a cell is leaving for another one, whose link is this row's
-pub record IsOnWay (servers : ℕ) (front : List Command) (old new : Cell) (row : LinkRow) : Type 0 where
-  pub stage : stage_at (state_after servers front) old ≡ 3
-  pub to : target (state_after servers front) old ≡ Some new
-  pub linked : cell_link (state_after servers front) old ≡ Some row
+pub record IsOnWay (servers : ℕ) (prefix : List Command) (old new : Cell) (row : LinkRow) : Type 0 where
+  pub stage : stage_at (state_after servers prefix) old ≡ 3
+  pub to : target (state_after servers prefix) old ≡ Some new
+  pub linked : cell_link (state_after servers prefix) old ≡ Some row
 
 -- each frozen entry of the cell is at the new one, by a letter
 abbrev pub AllFilled : World → (old new : Cell) → (Which : ℕ → Type 0) → Type 0
@@ -77,17 +77,17 @@ pub record AreFilled (setting : Setting) (w : World) : Type 0 where
       → IsServing (chosen_state setting w) n cell → Has (chain_in (kept setting w n).chains cell) epoch
       → HasNewer before epoch (chain_in (kept setting w n).chains cell)
   -- what an old lead remembers, and what each Moved says
-  pub told : (y : ℕ) (front : List Command) (old new : Cell) (row : LinkRow) (last : Key) → (w.servers y).life.running ≡ true
-      → IsPrefix front (chosen_log setting w) → IsOnWay setting.servers front old new row → at link_cmp (w.servers y).own.filled (id_of row) ≡ Some last
+  pub told : (y : ℕ) (prefix : List Command) (old new : Cell) (row : LinkRow) (last : Key) → (w.servers y).life.running ≡ true
+      → IsPrefix prefix (chosen_log setting w) → IsOnWay setting.servers prefix old new row → at link_cmp (w.servers y).own.filled (id_of row) ≡ Some last
       → AllFilled w old new (IsToldOf last old)
-  pub moved : (front : List Command) (region : ℕ) (old new : Cell) (row : LinkRow)
-      → IsPrefix (front ++ Moved old.map region row.link ∷ []) (chosen_log setting w)
-      → IsOnWay setting.servers front old new row → region_of old.block ≡ region → AllFilled w old new (λ epoch. Unit {0})
+  pub moved : (prefix : List Command) (region : ℕ) (old new : Cell) (row : LinkRow)
+      → IsPrefix (prefix ++ Moved old.map region row.link ∷ []) (chosen_log setting w)
+      → IsOnWay setting.servers prefix old new row → region_of old.block ≡ region → AllFilled w old new (λ epoch. Unit {0})
 
 -- by these entries the cell's region is on its way, and the link of the old map's cell is noted, or it has just come
 pub record HasComeOver (setting : Setting) (w : World) (cell : Cell) : Type 0 where
-  pub all : (n epoch : ℕ) (before : Chain) (old : Cell) (front : List Command) → IsPrefix front (chosen_log setting w)
-      → source (state_after setting.servers front) cell ≡ Some old → w.frozen old ≡ Some before → IsServing (chosen_state setting w) n cell
+  pub all : (n epoch : ℕ) (before : Chain) (old : Cell) (prefix : List Command) → IsPrefix prefix (chosen_log setting w)
+      → source (state_after setting.servers prefix) cell ≡ Some old → w.frozen old ≡ Some before → IsServing (chosen_state setting w) n cell
       → Has before epoch → Has (chain_in (kept setting w n).chains cell) epoch
 
 -- a region that has moved has all that was frozen, while its cells are live

@@ -28,7 +28,7 @@ ghost use Rattle.law_moves.specs.FrozenCopies.{AreStill};
 ghost use Rattle.law_state.specs.Homes.{stage_at};
 
 /// While a cell is leaving, each server that serves its link by what is chosen has exactly what was frozen when its region's fence took
-/// effect. So has one that runs, by each front from its own entries on by which it serves the link while the cell is leaving, also where
+/// effect. So has one that runs, by each prefix from its own entries on by which it serves the link while the cell is leaving, also where
 /// the cell is retired since.
 pub fn old_copies_are_still()
     ensures { (script : Script) (records : List Record) → IsSound script → AreSteps script records
@@ -37,9 +37,9 @@ pub fn old_copies_are_still()
 
 /// What is frozen stays so.
 pub fn what_is_frozen_stays()
-    ensures { (script : Script) (front back : List Record) (cell : Cell) (before : Chain)
-        → IsSound script → AreSteps script (front ++ back) → (world_after (setting_of script) (start (setting_of script)) front).frozen cell ≡ Some before
-        → (world_after (setting_of script) (start (setting_of script)) (front ++ back)).frozen cell ≡ Some before }
+    ensures { (script : Script) (prefix suffix : List Record) (cell : Cell) (before : Chain)
+        → IsSound script → AreSteps script (prefix ++ suffix) → (world_after (setting_of script) (start (setting_of script)) prefix).frozen cell ≡ Some before
+        → (world_after (setting_of script) (start (setting_of script)) (prefix ++ suffix)).frozen cell ≡ Some before }
 {}
 
 /// Each entry that moves, in a letter or pending, is a frozen one, and of each newer one of its block a letter said that it is there. What

@@ -4,19 +4,18 @@ use Rattle.law_requests.proofs.Imports.{Begins, Blanks_it, Body, Bool, By_verdic
 use Rattle.law_requests.proofs.Imports.{Goes_on, HasProperTuples, Has_no_space, Heard, In, IsCalled, IsJudged, IsPrefix, IsReason, IsSame, IsSeenAs}
 use Rattle.law_requests.proofs.Imports.{Is_settled, Is_told, Judges, Letter, Line, List, None, Of_the_log, OnlySays, Option, Pattern, Post, Reaction, Reads}
 use Rattle.law_requests.proofs.Imports.{Says, Setting, Shown, Sight, Some, Starts_it, State, StaysOpen, Stops_at, Stops_it, Turned, WasSent, World, ap}
-use Rattle.law_requests.proofs.Imports.{append_assoc, arith, by_bool, cell_asked, chosen_log, command_of, ended, false, find, found_epoch, front_itself}
-use Rattle.law_requests.proofs.Imports.{front_long, front_more, front_on, front_plain, front_within, in_once, inl, inr, is_in, is_lead, is_read, is_some}
-use Rattle.law_requests.proofs.Imports.{is_the_so, is_write, lead, length, line_by, lines_of, log_plain, log_rev, none_some, pattern_block, put_same, refl}
+use Rattle.law_requests.proofs.Imports.{append_assoc, arith, by_bool, cell_asked, chosen_log, command_of, ended, false, find, found_epoch, in_once, inl, inr}
+use Rattle.law_requests.proofs.Imports.{is_in, is_lead, is_read, is_some, is_the_so, is_write, lead, length, line_by, lines_of, log_plain, log_rev, none_some}
+use Rattle.law_requests.proofs.Imports.{pattern_block, prefix_itself, prefix_long, prefix_more, prefix_on, prefix_plain, prefix_within, put_same, refl}
 use Rattle.law_requests.proofs.Imports.{refusal, same_or_apart, same_some, slice_get, some_or_none, state_after, subject_of, subst, sym, true, true_false}
-use Rattle.law_requests.proofs.Imports.{write_refusal, ℕ}
-use Rattle.law_steps.proofs.ClientStepKinds.{was_open}
+use Rattle.law_requests.proofs.Imports.{was_open, write_refusal, ℕ}
 use Rattle.law_requests.specs.AskedRequests.{HasItsWay, IsWrite, IsAsked, IsOpenFrom, WasToldAt}
 use Rattle.law_requests.specs.KnownRequests.{Lives, Seen, seen, IsLate, Is_past, Had_no_lead, Had_another, IsSent, EndKnown, EndKnownAt, Known, AskingBy}
-use Rattle.law_requests.proofs.WritesAtLaterFronts.{write_stays}
+use Rattle.law_requests.proofs.WritesAtLaterPrefixes.{write_stays}
 use Rattle.law_requests.proofs.RequestsKnownLater.{one_cell, logged_untold, untold}
 use Rattle.law_requests.proofs.LeadsAtTwoPlaces.{led_stage}
 use Rattle.law_requests.proofs.IncarnationsGoOn.{dones_rise, lives_still}
-use Rattle.law_requests.proofs.OpenWhileRunning.{chosen_front}
+use Rattle.law_requests.proofs.OpenWhileRunning.{chosen_prefix}
 use Rattle.law_requests.proofs.ClientStepsKeepRequests.{Closed, TurnOk, seen_with}
 use Rattle.petal_msg.specs.declared.body.Body.TheVariants as body
 use Rattle.petal_msg.specs.declared.letter.Actor.TheVariants as actor
@@ -86,8 +85,8 @@ module _ (setting : Setting) (w : World) (lives : Lives) (firm : Firm setting w)
         record {
           sent = record {
             at = record {
-              front = to.applied;
-              lies = subst (λ (x : Client). IsPrefix to.applied x.applied) (sym now) (front_itself to.applied);
+              prefix = to.applied;
+              lies = subst (λ (x : Client). IsPrefix to.applied x.applied) (sym now) (prefix_itself to.applied);
               long = refl;
             };
             served = write;
@@ -101,8 +100,8 @@ module _ (setting : Setting) (w : World) (lives : Lives) (firm : Firm setting w)
         let long : asked.rev ≡ length to.applied = rev ∙ log_rev setting.servers to.applied in
         record {
           at = record {
-            front = to.applied;
-            lies = subst (λ (x : Client). IsPrefix to.applied x.applied) (sym now) (front_itself to.applied);
+            prefix = to.applied;
+            lies = subst (λ (x : Client). IsPrefix to.applied x.applied) (sym now) (prefix_itself to.applied);
             long = refl;
           };
           told = asked.old_way;
@@ -133,7 +132,7 @@ module _ (setting : Setting) (w : World) (lives : Lives) (firm : Firm setting w)
       }
     where
       reached : WasSent (length to.applied) old new → new.rev ≤ length to.applied
-      reached (As_it_was rev way) = let le = a.reached in let up = front_long client.applied to.applied more in omega arith
+      reached (As_it_was rev way) = let le = a.reached in let up = prefix_long client.applied to.applied more in omega arith
       reached (Anew rev way) = omega arith
 
   same_way : (rev : ℕ) (old new : Asked) → HasItsWay w.sent c old → IsSame rev old new → HasItsWay w.sent c new
@@ -177,7 +176,7 @@ module _ (setting : Setting) (w : World) (lives : Lives) (firm : Firm setting w)
       λ asked is. let b = before asked is in same_known to onward.0 b.0 asked (was b.0 b.1).0 b.2 seq in
       let ways : (asked : Asked) → to.asked ≡ Some asked → HasItsWay w.sent c asked =
       λ asked is. let b = before asked is in same_way rev b.0 asked (was b.0 b.1).1 b.2 in
-      let longer = front_long client.applied to.applied onward.0 in
+      let longer = prefix_long client.applied to.applied onward.0 in
       record {
         seqs = omega arith;
         asked = known;
@@ -201,7 +200,8 @@ module _ (setting : Setting) (w : World) (lives : Lives) (firm : Firm setting w)
   as_told asked is h old e =
       let a = asking.asked c asked is in
       let letter : WasToldAt w.sent c asked.seq asked.rev = record { letter = h.letter; there = h.sent; to = h.own; is = h.is; at = h.at } in
-      let both : IsAsked lines c client (record asked { saw_missing = true; old_way = true }) × HasItsWay w.sent c (record asked { saw_missing = true; old_way = true }) = (
+      let both : IsAsked lines c client (record asked { saw_missing = true; old_way = true })
+      × HasItsWay w.sent c (record asked { saw_missing = true; old_way = true }) = (
         record { line = a.line; is = a.is; number = a.number; asks = a.asks; last = a.last; reached = a.reached; within = a.within },
         record { told = λ t. (asked.rev, letter); old_way = λ t. letter },
       ) in
@@ -228,7 +228,7 @@ module _ (setting : Setting) (w : World) (lives : Lives) (firm : Firm setting w)
         number = called.line_is;
         asks = called.request_is;
         last = called.seq_is ∙ sym seq;
-        reached = let e = called.rev_is in let up = front_long client.applied reacted.client.applied onward.0 in omega arith;
+        reached = let e = called.rev_is in let up = prefix_long client.applied reacted.client.applied onward.0 in omega arith;
         within = within;
       } in
       let known : (other : Asked) → reacted.client.asked ≡ Some other → IsAsked lines c reacted.client other =
@@ -272,12 +272,12 @@ module _ (setting : Setting) (w : World) (lives : Lives) (firm : Firm setting w)
   -- one that is no write has sent none
   read_closed : (to : Client) (asked : Asked) → client.asked ≡ Some asked → is_read asked.request ≡ true → Closes to asked
   read_closed to asked is reads rev le cell epoch bytes sent =
-      true_false reads (ap is_read (write_asked asked is (state_after setting.servers sent.at.front) cell bytes sent.served))
+      true_false reads (ap is_read (write_asked asked is (state_after setting.servers sent.at.prefix) cell bytes sent.served))
 
   seen_closed : (to : Client) (asked : Asked) → client.asked ≡ Some asked → (sight : Sight) (given : Answer)
       → IsSeenAs own_state asked sight given → Closes to asked
   seen_closed to asked is sight given shown rev le cell epoch bytes sent =
-      true_false (ap is_write (write_asked asked is (state_after setting.servers sent.at.front) cell bytes sent.served)) (no_write shown)
+      true_false (ap is_write (write_asked asked is (state_after setting.servers sent.at.prefix) cell bytes sent.served)) (no_write shown)
     where
       no_write : IsSeenAs own_state asked sight given → is_write asked.request ≡ false
       no_write (Stops_it server so e) = ap is_write so
@@ -289,9 +289,9 @@ module _ (setting : Setting) (w : World) (lives : Lives) (firm : Firm setting w)
       no_write (Is_settled so round seen all e) = ap is_write so
 
   -- an entry that answers a write finds its cell without a lead
-  record HadNoLead (front applied : List Command) (cell : Cell) : Type 0 where
+  record HadNoLead (prefix applied : List Command) (cell : Cell) : Type 0 where
     log : List Command
-    more : IsPrefix front log
+    more : IsPrefix prefix log
     lies : IsPrefix log applied
     unled : lead (state_after setting.servers log) cell ≡ None
 
@@ -299,22 +299,23 @@ module _ (setting : Setting) (w : World) (lives : Lives) (firm : Firm setting w)
       → client.asked ≡ Some asked → IsJudged setting.servers c client.applied to.applied asked given
       → (rev : ℕ) (cell : Cell) (epoch : ℕ) (bytes : List ℕ)
       → (sent : IsSent setting (seen lives w) (record { client = c; seq = asked.seq; cell = cell; epoch = epoch; bytes = bytes }) rev)
-      → HadNoLead sent.at.front to.applied cell
+      → HadNoLead sent.at.prefix to.applied cell
   judged_unled to onward asked given is judged rev cell epoch bytes sent = by judged.reason
     where
-      by : IsReason c asked given (state_after setting.servers (judged.front ++ judged.entry ∷ [])) judged.entry
-          → HadNoLead sent.at.front to.applied cell
+      by : IsReason c asked given (state_after setting.servers (judged.prefix ++ judged.entry ∷ [])) judged.entry
+          → HadNoLead sent.at.prefix to.applied cell
       by (By_verdict command its so) =
-          none_some (ap (command_of c asked.seq) (write_asked asked is (state_after setting.servers sent.at.front) cell bytes sent.served)) its
+          none_some (ap (command_of c asked.seq) (write_asked asked is (state_after setting.servers sent.at.prefix) cell bytes sent.served)) its
       by (By_witness none witness so) =
           let served = sent.served in
-          let log = judged.front ++ judged.entry ∷ [] in
+          let log = judged.prefix ++ judged.entry ∷ [] in
           let lies : IsPrefix log to.applied =
-          record { later = judged.rest; is = judged.lies ∙ sym (append_assoc judged.front (judged.entry ∷ []) judged.rest) } in
-          let plain = front_plain setting.servers log to.applied onward.1 lies in
+          record { later = judged.rest; is = judged.lies ∙ sym (append_assoc judged.prefix (judged.entry ∷ []) judged.rest) } in
+          let plain = prefix_plain setting.servers log to.applied onward.1 lies in
           let at = state_after setting.servers log in
-          let before : IsPrefix sent.at.front log =
-          front_on sent.at.front client.applied log sent.at.lies (front_on client.applied judged.front log judged.new (front_more judged.front judged.entry)) in
+          let before : IsPrefix sent.at.prefix log =
+          prefix_on sent.at.prefix client.applied log sent.at.lies
+          (prefix_on client.applied judged.prefix log judged.new (prefix_more judged.prefix judged.entry)) in
           record {
             log = log;
             more = before;
@@ -323,7 +324,7 @@ module _ (setting : Setting) (w : World) (lives : Lives) (firm : Firm setting w)
               | inr none ↦ none
               | inl led ↦ (
                   let stage = led_stage setting.servers log plain cell led.0 (is_the_so (lead at cell) led.0 led.1) in
-                  let now = write_stays setting.servers sent.at.front log plain before lines c asked.seq cell bytes served stage.0 stage.1 in
+                  let now = write_stays setting.servers sent.at.prefix log plain before lines c asked.seq cell bytes served stage.0 stage.1 in
                   let one : asked.request ≡ request.Write now.name now.block now.pattern = write_asked asked is at cell bytes now in
                   ap (lead at) now.cell_is
                   ∙ refused_unled at asked.saw_missing now.name now.block now.pattern now.disk given now.found
@@ -342,25 +343,25 @@ module _ (setting : Setting) (w : World) (lives : Lives) (firm : Firm setting w)
   module _ (to : Client) (onward : IsFurther to) (asked : Asked) (is : client.asked ≡ Some asked) (server : ℕ)
       (end : EndKnown setting (seen lives w) c asked.seq server asked.rev) where
     abbrev end_state : State
-    end_state = state_after setting.servers end.at.front
+    end_state = state_after setting.servers end.at.prefix
 
-    end_chosen : IsPrefix end.at.front (chosen_log setting w)
-    end_chosen = front_on end.at.front _ (chosen_log setting w) end.at.lies (firm.servers server)
+    end_chosen : IsPrefix end.at.prefix (chosen_log setting w)
+    end_chosen = prefix_on end.at.prefix _ (chosen_log setting w) end.at.lies (firm.servers server)
 
-    end_plain : HasProperTuples setting.servers end.at.front
-    end_plain = front_plain setting.servers end.at.front _ firm.plain end_chosen
+    end_plain : HasProperTuples setting.servers end.at.prefix
+    end_plain = prefix_plain setting.servers end.at.prefix _ firm.plain end_chosen
 
-    end_known : IsPrefix end.at.front to.applied
+    end_known : IsPrefix end.at.prefix to.applied
     end_known =
         let long = end.at.long in
         let reached = (asking.asked c asked is).reached in
-        front_on end.at.front client.applied to.applied
-        (front_within end.at.front client.applied (chosen_log setting w) end_chosen (firm.clients c) (omega arith)) onward.0
+        prefix_on end.at.prefix client.applied to.applied
+        (prefix_within end.at.prefix client.applied (chosen_log setting w) end_chosen (firm.clients c) (omega arith)) onward.0
 
     -- the sender led just this cell
-    end_led : (cell : Cell) → end.cell ≡ cell → (front : List Command) → IsPrefix front end.at.front → (n inc : ℕ)
-        → IsLate setting.servers (seen_with lives w sent_then c to) front c asked.seq cell n inc
-    end_led cell same front before n inc =
+    end_led : (cell : Cell) → end.cell ≡ cell → (prefix : List Command) → IsPrefix prefix end.at.prefix → (n inc : ℕ)
+        → IsLate setting.servers (seen_with lives w sent_then c to) prefix c asked.seq cell n inc
+    end_led cell same prefix before n inc =
         let end_leads : is_lead end_state server cell ≡ true =
         subst (λ (q : Cell). is_lead end_state server q ≡ true) same end.led.leads in
         elim (same_or_apart server n) [
@@ -372,22 +373,23 @@ module _ (setting : Setting) (w : World) (lives : Lives) (firm : Firm setting w)
               subst (λ i. asked.seq < lives.done n i c) one_inc (subst (λ i. asked.seq < lives.done i end.inc c) e end.past) in
               let more = dones_rise lives w w asking.lived (lives_still lives w asking.lived) n inc c in
               Is_past (omega arith))
-              (λ gone. Had_another end.at.front server before end.at.lies end_leads (λ same. gone))
-          | inr ne ↦ Had_another end.at.front server before end.at.lies end_leads (λ same. absurd (ne same))
+              (λ gone. Had_another end.at.prefix server before end.at.lies end_leads (λ same. gone))
+          | inr ne ↦ Had_another end.at.prefix server before end.at.lies end_leads (λ same. absurd (ne same))
         ]
 
     end_closed : Closes to asked
     end_closed rev le cell epoch bytes sent n inc led =
         let one = sent.at.long in
         let two = end.at.long in
-        let before : IsPrefix sent.at.front end.at.front =
-        front_within sent.at.front end.at.front (chosen_log setting w) (chosen_front setting w firm c rev sent.at) end_chosen (omega arith) in
+        let before : IsPrefix sent.at.prefix end.at.prefix =
+        prefix_within sent.at.prefix end.at.prefix (chosen_log setting w) (chosen_prefix setting w firm c rev sent.at) end_chosen (omega arith) in
         elim (some_or_none (lead end_state cell)) [
-          | inr none ↦ Had_no_lead end.at.front before (subst (λ (x : Client). IsPrefix end.at.front x.applied) (sym (put_same w.clients c to)) end_known) none
+          | inr none ↦ Had_no_lead end.at.prefix before
+              (subst (λ (x : Client). IsPrefix end.at.prefix x.applied) (sym (put_same w.clients c to)) end_known) none
           | inl leader ↦ (
-              let stage = led_stage setting.servers end.at.front end_plain cell leader.0 (is_the_so (lead end_state cell) leader.0 leader.1) in
-              let now = write_stays setting.servers sent.at.front end.at.front end_plain before lines c asked.seq cell bytes sent.served stage.0 stage.1 in
-              end_led cell (one_cell end_state lines c asked.seq end.cell cell end.bytes bytes end.write now) sent.at.front before n inc)
+              let stage = led_stage setting.servers end.at.prefix end_plain cell leader.0 (is_the_so (lead end_state cell) leader.0 leader.1) in
+              let now = write_stays setting.servers sent.at.prefix end.at.prefix end_plain before lines c asked.seq cell bytes sent.served stage.0 stage.1 in
+              end_led cell (one_cell end_state lines c asked.seq end.cell cell end.bytes bytes end.write now) sent.at.prefix before n inc)
         ]
 
   known_end : (seq rev : ℕ) (from : Actor) → EndKnownAt setting (seen lives w) seq rev from (actor.Client c)

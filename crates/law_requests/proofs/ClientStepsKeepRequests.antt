@@ -1,8 +1,8 @@
 -- A step of a client keeps what is known of requests.
 use Rattle.law_requests.proofs.Imports.{◌∙◌, ◌≡◌, ◌≤◌, ◌⊎◌, Actor, Asked, Body, Cell, Client, In, IsOnward, IsPrefix, Letter, List, Pending, Post, Reaction}
-use Rattle.law_requests.proofs.Imports.{Setting, Some, Wanted, World, all_put, ap, arith, at, cell_cmp, client_sender, front_itself, front_long, front_on}
-use Rattle.law_requests.proofs.Imports.{front_same, in-append, in_later, inl, inr, is_clients, is_in, length, letters_of, own_plain, put_at, reacts, said}
-use Rattle.law_requests.proofs.Imports.{server_state, stamped, subst, sym, true, ℕ}
+use Rattle.law_requests.proofs.Imports.{Setting, Some, Wanted, World, all_put, ap, arith, at, cell_cmp, client_sender, in-append, in_later, inl, inr}
+use Rattle.law_requests.proofs.Imports.{is_clients, is_in, length, letters_of, own_plain, prefix_itself, prefix_long, prefix_on, prefix_same, put_at, reacts}
+use Rattle.law_requests.proofs.Imports.{said, server_state, stamped, subst, sym, true, ℕ}
 use Rattle.law_requests.specs.AskedRequests.{HasItsWay, IsAsked, IsOpenFrom}
 use Rattle.law_requests.specs.KnownRequests.{Lives, Seen, lives_after, seen, done_by, AreLate, IsSent, Known, PendingFor, asked_for, AskingBy}
 use Rattle.law_requests.proofs.ServerStepsKeepRequests.{Scene}
@@ -14,7 +14,7 @@ abbrev pub Closed : Setting → World → Lives → (after : Seen) → (c seq re
 Closed setting w lives after c seq rev =
     (cell : Cell) (epoch : ℕ) (bytes : List ℕ)
     → (sent : IsSent setting (seen lives w) (record { client = c; seq = seq; cell = cell; epoch = epoch; bytes = bytes }) rev)
-    → AreLate setting.servers after (record { client = c; seq = seq; cell = cell; epoch = epoch; bytes = bytes }) sent.at.front
+    → AreLate setting.servers after (record { client = c; seq = seq; cell = cell; epoch = epoch; bytes = bytes }) sent.at.prefix
 
 pub record TurnOk (setting : Setting) (w : World) (lives : Lives) (after : Seen) (c : ℕ) (client : Client) (posts : List Post) : Type 0 where
   pub seqs : (w.clients c).seq ≤ client.seq
@@ -52,20 +52,20 @@ module _ (scene : Scene) (c stamp : ℕ) (reacted : Reaction)
     sent = λ letter h. in_later letter (stamped stamp (letters_of (client_sender c reacted.client) 0 reacted.posts)) w.sent h;
     seqs = all_put w.clients c reacted.client (λ j client. (w.clients j).seq ≤ client.seq) (λ j. omega arith) turn.seqs;
     clients = all_put w.clients c reacted.client (λ j (x : Client). IsPrefix (w.clients j).applied x.applied)
-        (λ j. front_itself (w.clients j).applied) onward.grows;
-    logs = λ n. front_itself (w.servers n).log.applied;
+        (λ j. prefix_itself (w.clients j).applied) onward.grows;
+    logs = λ n. prefix_itself (w.servers n).log.applied;
     logs_plain = own_plain setting w scene.firm;
     dones = dones_rise lives w later asking.lived steps;
-    closes = λ want rev sent is. closed want.client want.seq rev (front_at want rev sent) is want.cell want.epoch want.bytes sent;
+    closes = λ want rev sent is. closed want.client want.seq rev (prefix_at want rev sent) is want.cell want.epoch want.bytes sent;
   }
     where
-      front_at : (want : Wanted) (rev : ℕ) → IsSent setting (seen lives w) want rev → rev ≤ length (w.clients want.client).applied
-      front_at want rev sent = let le = front_long sent.at.front _ sent.at.lies in let e = sent.at.long in omega arith
+      prefix_at : (want : Wanted) (rev : ℕ) → IsSent setting (seen lives w) want rev → rev ≤ length (w.clients want.client).applied
+      prefix_at want rev sent = let le = prefix_long sent.at.prefix _ sent.at.lies in let e = sent.at.long in omega arith
 
       closed : (j seq rev : ℕ) → rev ≤ length (w.clients j).applied → IsOpenFrom (w.clients j) seq rev → (cell : Cell) (epoch : ℕ) (bytes : List ℕ)
           → (sent : IsSent setting (seen lives w) (record { client = j; seq = seq; cell = cell; epoch = epoch; bytes = bytes }) rev)
           → IsOpenFrom (later.clients j) seq rev
-          ⊎ AreLate setting.servers (seen after later) (record { client = j; seq = seq; cell = cell; epoch = epoch; bytes = bytes }) sent.at.front
+          ⊎ AreLate setting.servers (seen after later) (record { client = j; seq = seq; cell = cell; epoch = epoch; bytes = bytes }) sent.at.prefix
       closed j seq rev le is cell epoch bytes sent = elim (by j seq rev le is) [ inl still ↦ inl still | inr late ↦ inr (late cell epoch bytes sent) ]
         where
           by : (i : ℕ) (seq rev : ℕ) → rev ≤ length (w.clients i).applied → IsOpenFrom (w.clients i) seq rev
@@ -90,8 +90,8 @@ module _ (scene : Scene) (c stamp : ℕ) (reacted : Reaction)
       subst (λ i. (q : PendingFor setting (seen after later) n i (asked_for cell op) op.rev) × (q.upto ≡ own)) (sym e)
       (pending_further setting (seen lives w) (seen after later) turn_later n (lives.ran n) (asked_for cell op) op.rev p
       (omega arith) own
-      (front_same p.upto own (sym come)) (front_itself own)
-      (λ log more lies. p.along log (front_on _ p.upto log p.opened more) (subst (IsPrefix log) (sym come) lies)))
+      (prefix_same p.upto own (sym come)) (prefix_itself own)
+      (λ log more lies. p.along log (prefix_on _ p.upto log p.opened more) (subst (IsPrefix log) (sym come) lies)))
 
   ways_now : (j : ℕ) (asked : Asked) → (later.clients j).asked ≡ Some asked → HasItsWay w.sent j asked
   ways_now = all_put w.clients c reacted.client (λ j (x : Client). (asked : Asked) → x.asked ≡ Some asked → HasItsWay w.sent j asked)

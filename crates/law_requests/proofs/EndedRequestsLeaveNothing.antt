@@ -3,7 +3,7 @@ use Rattle.law_requests.proofs.Imports.{◌+◌, ◌∙◌, ◌≡◌, ◌≤◌
 use Rattle.law_requests.proofs.Imports.{cell_cmp, inl, inr, is_clients, length, none_some, own_plain, server_state, subst, sym, true, ℕ}
 use Rattle.law_requests.specs.AskedRequests.{IsWrite}
 use Rattle.law_requests.specs.KnownRequests.{done_by, asked_for, AskingBy}
-use Rattle.law_requests.proofs.WritesAtLaterFronts.{write_stays}
+use Rattle.law_requests.proofs.WritesAtLaterPrefixes.{write_stays}
 use Rattle.law_requests.proofs.ServerStepsKeepRequests.{JobTells, Scene, WasOrNew, same_want}
 use Rattle.law_requests.proofs.RequestsKnownLater.{one_cell, one_open}
 use Rattle.law_requests.proofs.LeadsAtTwoPlaces.{led_stage}
@@ -16,12 +16,12 @@ write_now scene n cell op p =
     let setting = scene.setting in
     let w = scene.w in
     let k = p.known in
-    let front = k.known.sent.at.front in
+    let prefix = k.known.sent.at.prefix in
     let own = (w.servers n).log.applied in
     let plain = own_plain setting w scene.firm n in
     let led = here_led setting w scene.firm scene.lives n (asked_for cell op) op.rev p in
     let at = led_stage setting.servers own plain cell n led.leads in
-    write_stays setting.servers front own plain (subst (IsPrefix front) p.here k.opened) setting.lines op.client op.seq cell
+    write_stays setting.servers prefix own plain (subst (IsPrefix prefix) p.here k.opened) setting.lines op.client op.seq cell
     op.bytes k.known.sent.served at.0 at.1
 
 module _ (scene : Scene) (n : ℕ) (new : PairState) (tells : JobTells scene.setting scene.w scene.lives n new) where

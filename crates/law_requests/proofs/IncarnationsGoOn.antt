@@ -1,6 +1,6 @@
 -- What is known of incarnations goes on with each step of a server.
-use Rattle.law_requests.proofs.Imports.{if◌then◌else◌, ◌<◌, ◌==◌, ◌∙◌, ◌≡◌, ◌≢◌, ◌≤◌, IsPrefix, LinkRow, Server, World, ap, arith, by_bool, front_on, id_of}
-use Rattle.law_requests.proofs.Imports.{inl, inr, is_flagged, number_itself, same_numbers, same_or_apart, subst, sym, true, ℕ}
+use Rattle.law_requests.proofs.Imports.{if◌then◌else◌, ◌<◌, ◌==◌, ◌∙◌, ◌≡◌, ◌≢◌, ◌≤◌, IsPrefix, LinkRow, Server, World, ap, arith, by_bool, id_of, inl, inr}
+use Rattle.law_requests.proofs.Imports.{is_flagged, number_itself, prefix_on, same_numbers, same_or_apart, subst, sym, true, ℕ}
 use Rattle.law_requests.specs.KnownRequests.{Lives, AreLives, done_by, lives_after}
 use Rattle.law_requests.proofs.RequestsKnownLater.{one_log}
 
@@ -94,7 +94,7 @@ module _ (lives : Lives) (w v : World) (known : AreLives w lives) (steps : (n : 
   since_on n before since on = by (steps n)
     where
       grown : IsPrefix before.log.applied (v.servers n).log.applied
-      grown = front_on before.log.applied _ _ since.grows on
+      grown = prefix_on before.log.applied _ _ since.grows on
 
       by : Lived lives n (w.servers n) (v.servers n) → IsSince before (v.servers n) (after.ran n)
       by (Goes_on same rises more keeps) =

@@ -4,8 +4,8 @@ use Rattle.law_requests.proofs.Imports.{Finished, For_a_fill, For_a_write, Had_n
 use Rattle.law_requests.proofs.Imports.{IsFinishedFor, IsNew, IsPrefix, IsSeatedOrMute, Is_declined, Is_done, Is_new, Is_retired, JobContext, JobResult, List}
 use Rattle.law_requests.proofs.Imports.{Moves, Moves_on, None, None_new, PairState, Pending, Post, Refused, Repeats, Setting, Shows_nothing, Some, Stood}
 use Rattle.law_requests.proofs.Imports.{Table, Wanted, Was, World, ap, arith, at, at_apart, at_same, cell_cmp, coming, did_come, did_finish, done_to, ended}
-use Rattle.law_requests.proofs.Imports.{false, front_itself, front_same, held, inl, inr, is_clients, is_in, is_lead, is_logged, is_not_here, is_refused}
-use Rattle.law_requests.proofs.Imports.{is_writes_held, length, letters_of_job, log_rev, nat_cmp, none_some, own_place, own_plain, put, refl, rev_of}
+use Rattle.law_requests.proofs.Imports.{false, held, inl, inr, is_clients, is_in, is_lead, is_logged, is_not_here, is_refused, is_writes_held, length}
+use Rattle.law_requests.proofs.Imports.{letters_of_job, log_rev, nat_cmp, none_some, own_place, own_plain, prefix_itself, prefix_same, put, refl, rev_of}
 use Rattle.law_requests.proofs.Imports.{same_or_apart, state_after, subject_of, subst, sym, true, true_false, was_same, was_taken, ℕ}
 use Rattle.law_requests.specs.AskedRequests.{IsWrite, IsOpen, IsRead}
 use Rattle.law_requests.specs.KnownRequests.{Lives, LedBy, seen, done_by, WriteKnown, Known, asked_for, IsUsed, Has_finished, AskingBy, NothingKnown}
@@ -13,8 +13,8 @@ use Rattle.law_requests.specs.KnownRequests.{ReadKnown}
 use Rattle.law_requests.proofs.EndedRequestsLeaveNothing.{write_now}
 use Rattle.law_requests.proofs.ServerStepsKeepRequests.{Ends, Tells, SaysOk, JobTells, Scene, same_want}
 use Rattle.law_requests.proofs.RequestsKnownLater.{tells_request, logged_untold, one_log}
-use Rattle.law_requests.proofs.OpenWhileRunning.{IsUnleft, PendingHere, here_led, late_where, own_front, open_running, pending_here, unleft_now}
-use Rattle.law_requests.proofs.WritesAtLaterFronts.{coming_untold}
+use Rattle.law_requests.proofs.OpenWhileRunning.{IsUnleft, PendingHere, here_led, late_where, own_prefix, open_running, pending_here, unleft_now}
+use Rattle.law_requests.proofs.WritesAtLaterPrefixes.{coming_untold}
 use Rattle.law_jobs.specs.Sayings.{Says}
 use Rattle.petal_msg.specs.declared.body.Body.TheVariants as body
 use Rattle.petal_msg.specs.declared.letter.Actor.TheVariants as actor
@@ -73,12 +73,12 @@ module _ (scene : Scene) (n : ℕ) (runs : (scene.w.servers n).life.running ≡ 
   abbrev own_log : List Command
   own_log = (w.servers n).log.applied
 
-  at_own : (want : Wanted) (k : WriteKnown setting (seen lives w) want here.state.rev) → own_log ≡ k.sent.at.front
-  at_own want k = own_front setting w scene.firm want.client n here.state.rev k.sent.at (sym (log_rev setting.servers own_log))
+  at_own : (want : Wanted) (k : WriteKnown setting (seen lives w) want here.state.rev) → own_log ≡ k.sent.at.prefix
+  at_own want k = own_prefix setting w scene.firm want.client n here.state.rev k.sent.at (sym (log_rev setting.servers own_log))
 
   -- the server leads the cell at that revision
   led_then : (want : Wanted) (k : WriteKnown setting (seen lives w) want here.state.rev) → IsSeat → is_lead here.state n want.cell ≡ true
-      → LedBy (state_after setting.servers k.sent.at.front) n here.inc want.cell
+      → LedBy (state_after setting.servers k.sent.at.prefix) n here.inc want.cell
   led_then want k seat lead =
       subst (λ log. LedBy (state_after setting.servers log) n here.inc want.cell) (at_own want k) (record { seated = seat; leads = lead })
 
@@ -127,8 +127,8 @@ module _ (scene : Scene) (n : ℕ) (runs : (scene.w.servers n).life.running ≡ 
       elim k.still [
         | inl open_now ↦ open_now.now
         | inr late ↦ elim (late_where setting w scene.firm lives n runs want.cell (record { seated = seat; leads = new.lead })
-            (subst (λ i. IsUnleft setting w n i want.cell) ran_now (unleft_new want seat new)) k.sent.at.front
-            (front_same own_log k.sent.at.front (sym (at_own want k))) want.client want.seq (late n here.inc led)) [
+            (subst (λ i. IsUnleft setting w n i want.cell) ran_now (unleft_new want seat new)) k.sent.at.prefix
+            (prefix_same own_log k.sent.at.prefix (sym (at_own want k))) want.client want.seq (late n here.inc led)) [
               | inl lt ↦ (
                   let newer = new.newer in
                   let tied : lives.done n here.inc want.client ≡ done_by own want.client =
@@ -149,8 +149,8 @@ module _ (scene : Scene) (n : ℕ) (runs : (scene.w.servers n).life.running ≡ 
           known = k;
           unfenced = subst (λ log. is_writes_held (held (state_after setting.servers log) want.cell) ≡ false) at new.unfenced;
           upto = own_log;
-          opened = front_same k.sent.at.front own_log at;
-          applied = front_itself own_log;
+          opened = prefix_same k.sent.at.prefix own_log at;
+          applied = prefix_itself own_log;
           along = λ log more lies.
               let same : log ≡ own_log = one_log log own_log lies (subst (λ f. IsPrefix f log) (sym at) more) in
               subst (λ l. LedBy (state_after setting.servers l) n (lives.ran n) want.cell) (sym same)
@@ -281,16 +281,16 @@ module _ (scene : Scene) (n : ℕ) (runs : (scene.w.servers n).life.running ≡ 
     nothing_known : (client seq : ℕ) (cell : Cell) (epoch : ℕ) → ReadKnown setting (seen lives w) client seq cell epoch (length own_log)
         → coming here.state cell ≡ true → NothingKnown setting (seen lives w) client seq (length own_log)
     nothing_known client seq cell epoch k comes =
-        let same : own_log ≡ k.at.front = own_front setting w scene.firm client n (length own_log) k.at refl in
-        let there : coming (state_after setting.servers k.at.front) cell ≡ true =
+        let same : own_log ≡ k.at.prefix = own_prefix setting w scene.firm client n (length own_log) k.at refl in
+        let there : coming (state_after setting.servers k.at.prefix) cell ≡ true =
         subst (λ log. coming (state_after setting.servers log) cell ≡ true) same comes in
         let plain = subst (HasProperTuples setting.servers) same (own_plain setting w scene.firm n) in
-        let untold = coming_untold setting.servers k.at.front plain setting.lines client seq k.told cell epoch k.read there in
+        let untold = coming_untold setting.servers k.at.prefix plain setting.lines client seq k.told cell epoch k.read there in
         record {
           cell = cell;
           epoch = epoch;
           at = k.at;
-          read = subst (λ b. IsRead (state_after setting.servers k.at.front) setting.lines client seq b cell epoch) untold k.read;
+          read = subst (λ b. IsRead (state_after setting.servers k.at.prefix) setting.lines client seq b cell epoch) untold k.read;
           comes = there;
         }
 

@@ -1,14 +1,13 @@
 -- Who leads a cell at an earlier and at a later place of the log.
-use Rattle.law_requests.proofs.Imports.{if◌then◌else◌, ◌==◌, ◌∙◌, ◌≡◌, ◌≤◌, ◌⊎◌, Bool, ByBoth, ByNone, ByOne, Cell, Command, HasDied, HasLater}
-use Rattle.law_requests.proofs.Imports.{HasProperTuples, HasStage, IsBelow, IsCaughtBy, IsPrefix, IsServed, IsSteady, LinkRow, List, Lost, None, Only, Some}
-use Rattle.law_requests.proofs.Imports.{State, StaysSo, alone_leads_link, alone_row, alone_row_not_both, ap, arith, both_leads, both_up, by_bool, cell_link}
-use Rattle.law_requests.proofs.Imports.{either_true, false, front_more, front_on, front_plain, has_server, has_stage, in_up, inc_of, inl, inr, is_alone_on}
-use Rattle.law_requests.proofs.Imports.{is_in, is_lead, is_the_one, is_the_so, is_up, lead, lead_alone, lead_is, leaving, led_by, led_so, live, log_alone}
-use Rattle.law_requests.proofs.Imports.{log_below, log_plain, log_steady, lost_leads, lost_not_alone, none_some, option_and_then, option_map_or, other_of}
-use Rattle.law_requests.proofs.Imports.{places_from, primary_is_one, row_lead, same_numbers, same_place, same_some, secondary_is_one, so_alone, some_or_none}
-use Rattle.law_requests.proofs.Imports.{stage_at, start, state_after, subst, sym, true, true_false, ℕ}
+use Rattle.law_requests.proofs.Imports.{if◌then◌else◌, ◌==◌, ◌∙◌, ◌≡◌, ◌≤◌, ◌⊎◌, Bool, ByBoth, ByNone, ByOne, Cell, Command, HasLater, HasProperTuples}
+use Rattle.law_requests.proofs.Imports.{HasStage, IsBelow, IsCaughtBy, IsPrefix, IsRetired, IsServed, IsSteady, LinkRow, List, Lost, None, Only, Some, State}
+use Rattle.law_requests.proofs.Imports.{StaysSo, alone_leads_link, alone_row, alone_row_not_both, ap, arith, both_leads, both_up, by_bool, cell_link}
+use Rattle.law_requests.proofs.Imports.{either_true, false, has_server, has_stage, in_up, inc_of, inl, inr, is_alone_on, is_in, is_lead, is_the_one}
+use Rattle.law_requests.proofs.Imports.{is_the_so, is_up, lead, lead_alone, lead_is, leaving, led_by, led_so, live, log_alone, log_below, log_plain}
+use Rattle.law_requests.proofs.Imports.{log_steady, lost_leads, lost_not_alone, none_some, option_and_then, option_map_or, other_of, places_from, prefix_more}
+use Rattle.law_requests.proofs.Imports.{prefix_on, prefix_plain, primary_is_one, row_lead, same_numbers, same_only, same_place, same_some, secondary_is_one}
+use Rattle.law_requests.proofs.Imports.{so_alone, some_or_none, stage_at, start, state_after, subst, sym, true, true_false, ℕ}
 use Rattle.law_state.proofs.LoneHolders.{alone_not_both}
-use Rattle.law_state.proofs.TestFacts.{same_only}
 use Rattle.law_requests.specs.KnownRequests.{LedBy}
 
 -- ### One state
@@ -173,35 +172,35 @@ led_while s t was now cell row is stays takes n inc led =
           })
     ]
 
-module _ (servers : ℕ) (front whole : List Command) (plain : HasProperTuples servers whole) (prefix : IsPrefix front whole) where
+module _ (servers : ℕ) (prefix whole : List Command) (plain : HasProperTuples servers whole) (is_prefix : IsPrefix prefix whole) where
   abbrev earlier : State
-  earlier = state_after servers front
+  earlier = state_after servers prefix
 
   abbrev later : State
   later = state_after servers whole
 
   was_steady : IsSteady earlier
-  was_steady = log_steady servers front (front_plain servers front whole plain prefix)
+  was_steady = log_steady servers prefix (prefix_plain servers prefix whole plain is_prefix)
 
   now_steady : IsSteady later
   now_steady = log_steady servers whole plain
 
   below : IsBelow earlier later
-  below = log_below servers front whole plain prefix
+  below = log_below servers prefix whole plain is_prefix
 
   -- the row of a cell's link, while the cell is not retired
-  later_row : (cell : Cell) (row : LinkRow) → cell_link earlier cell ≡ Some row → (HasDied later cell → ⊥) → HasLater earlier later cell row
+  later_row : (cell : Cell) (row : LinkRow) → cell_link earlier cell ≡ Some row → (IsRetired later cell → ⊥) → HasLater earlier later cell row
   later_row cell row is alive = elim (below.rows cell row is) [ inl h ↦ h | inr died ↦ absurd (alive died) ]
 
   -- a cell that a server led takes writes as long as its stage says so
   pub takes_later : (n : ℕ) (cell : Cell) → is_lead earlier n cell ≡ true → stage_at later cell ≤ 2 → Takes later cell
   takes_later n cell leads most =
-      let low = (led_stage servers front (front_plain servers front whole plain prefix) cell n leads).0 in
+      let low = (led_stage servers prefix (prefix_plain servers prefix whole plain is_prefix) cell n leads).0 in
       let up = below.stages cell in
       takes_at servers whole plain cell (omega arith) most
 
   -- a server of a link is so later
-  pub own_link_on : (n : ℕ) (cell : Cell) → (HasDied later cell → ⊥) → HasOwnLink earlier n cell → HasOwnLink later n cell
+  pub own_link_on : (n : ℕ) (cell : Cell) → (IsRetired later cell → ⊥) → HasOwnLink earlier n cell → HasOwnLink later n cell
   own_link_on n cell alive link =
       let h = later_row cell link.row link.is alive in
       record {
@@ -212,9 +211,9 @@ module _ (servers : ℕ) (front whole : List Command) (plain : HasProperTuples s
       }
 
   pub led_at_place : (n inc : ℕ) (cell : Cell) (row : LinkRow) → cell_link earlier cell ≡ Some row
-      → places_from (start servers) whole row ≡ places_from (start servers) front row → stage_at later cell ≤ 2 → LedBy earlier n inc cell
+      → places_from (start servers) whole row ≡ places_from (start servers) prefix row → stage_at later cell ≤ 2 → LedBy earlier n inc cell
       → LedBy later n inc cell
-  led_at_place n inc cell row is place most led = elim (same_place servers front whole cell row plain prefix is place) [
+  led_at_place n inc cell row is place most led = elim (same_place servers prefix whole cell row plain is_prefix is place) [
     | inl stays ↦ led_while earlier later was_steady now_steady cell row is stays (takes_later n cell led.leads most) n inc led
     | inr died ↦ let e = died.1 in absurd (omega arith)
   ]
@@ -227,19 +226,19 @@ module _ (servers : ℕ) (front whole : List Command) (plain : HasProperTuples s
   ])
 
   -- one that a server holds alone stays so while one of its two is Out, or it is Lost
-  pub held_while : (n : ℕ) → ((log : List Command) → IsPrefix front log → IsPrefix log whole → is_up (state_after servers log) n ≡ false)
+  pub held_while : (n : ℕ) → ((log : List Command) → IsPrefix prefix log → IsPrefix log whole → is_up (state_after servers log) n ≡ false)
       → (cell : Cell) (row : LinkRow) (holder : ℕ) (copied : Bool) → cell_link earlier cell ≡ Some row → has_server n row ≡ true
-      → row.state ≡ Only holder copied → (HasDied later cell → ⊥)
+      → row.state ≡ Only holder copied → (IsRetired later cell → ⊥)
       → (is_alone_on later holder cell ≡ true) ⊎ HasLost later cell
   held_while n out cell row holder copied is has only alive =
       let h = later_row cell row is alive in
-      elim (log_alone servers front whole plain prefix cell row h.now holder copied is only h.is) [
+      elim (log_alone servers prefix whole plain is_prefix cell row h.now holder copied is only h.is) [
         | inl same ↦ inl (so_alone later holder cell h.now same.0 h.is same.1)
         | inr (inl lost) ↦ inr (record { row = h.now; is = h.is; lost = lost.0 })
         | inr (inr c) ↦ (
             let found = c.found in
-            let until_whole = front_on found.until _ whole (front_more found.until found.entry) found.stands in
-            let steady = log_steady servers found.until (front_plain servers found.until whole plain until_whole) in
+            let until_whole = prefix_on found.until _ whole (prefix_more found.until found.entry) found.stands in
+            let steady = log_steady servers found.until (prefix_plain servers found.until whole plain until_whole) in
             true_false (caught_up (state_after servers found.until) (record row { state = Only holder c.later }) found.entry found.acts
             (steady.linked cell (record row { state = Only holder c.later }) found.was).served n has)
             (out found.until found.following until_whole))

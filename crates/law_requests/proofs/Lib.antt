@@ -1,5 +1,5 @@
 pub mod Imports
-pub mod WritesAtLaterFronts
+pub mod WritesAtLaterPrefixes
 pub mod RequestsKnownLater
 pub mod LeadsAtTwoPlaces
 pub mod IncarnationsGoOn

@@ -1,28 +1,28 @@
 -- Where the request of a pending operation is open still, also after its server has stopped: until the server runs again, nobody puts the
 -- cell's link in Both again without it.
-use Rattle.law_requests.proofs.Imports.{◌∙◌, ◌≡◌, ◌≤◌, Bool, Both, ByBoth, ByNone, ByOne, Cell, Command, Firm, HasDied, HasLater, IsPrefix, IsServed}
+use Rattle.law_requests.proofs.Imports.{◌∙◌, ◌≡◌, ◌≤◌, Bool, Both, ByBoth, ByNone, ByOne, Cell, Command, Firm, HasLater, IsPrefix, IsRetired, IsServed}
 use Rattle.law_requests.proofs.Imports.{IsSteady, LinkRow, List, Lost, None, Only, Setting, Some, State, Wanted, World, age_in, alone_left, alone_not_both}
 use Rattle.law_requests.proofs.Imports.{alone_row, ap, arith, both_row, both_up, by_bool, cell_link, chosen_log, chosen_state, chosen_steady, false}
-use Rattle.law_requests.proofs.Imports.{front_itself, front_on, front_plain, has_server, in_age, in_both, in_up, inl, inr, is_alone_on, is_in, is_lead}
-use Rattle.law_requests.proofs.Imports.{is_the_one, is_the_so, is_up, lead, led_by, log_below, log_steady, lost_not_both, none_some, option_map, own_below}
-use Rattle.law_requests.proofs.Imports.{own_steady, primary, same_or_apart, same_some, secondary, server_state, stage_at, state_after, subst, sym, true}
+use Rattle.law_requests.proofs.Imports.{has_server, in_age, in_both, in_up, inl, inr, is_alone_on, is_in, is_lead, is_the_one, is_the_so, is_up, lead, led_by}
+use Rattle.law_requests.proofs.Imports.{log_below, log_steady, lost_not_both, none_some, option_map, own_below, own_steady, prefix_itself, prefix_on}
+use Rattle.law_requests.proofs.Imports.{prefix_plain, primary, same_or_apart, same_some, secondary, server_state, stage_at, state_after, subst, sym, true}
 use Rattle.law_requests.proofs.Imports.{true_false, up_some, ℕ}
 use Rattle.law_requests.specs.AskedRequests.{IsOpen}
 use Rattle.law_requests.specs.KnownRequests.{Lives, seen, LedBy, IsLate, Is_past, Had_no_lead, Had_another}
 use Rattle.law_requests.specs.OpenRequests.{NoOtherHolds, IsStill}
-use Rattle.law_requests.proofs.RequestsKnownLater.{either_front}
+use Rattle.law_requests.proofs.RequestsKnownLater.{either_prefix}
 use Rattle.law_requests.proofs.LeadsAtTwoPlaces.{HasOwnLink, held_out, held_while, leader_alone, led_stage, no_lead_on, one_lead, own_link, own_link_on}
 use Rattle.law_requests.proofs.LeadsAtTwoPlaces.{takes_later}
 use Rattle.law_requests.proofs.OpenWhileRunning.{PendingHere, RemembersCaughts, here_along, here_led, in_between, open_or, open_still}
 
--- whoever is In by a front of what is chosen is so with an incarnation that ran
+-- whoever is In by a prefix of what is chosen is so with an incarnation that ran
 abbrev pub HaveRun : Setting → World → Lives → Type 0
-HaveRun setting w lives = (front : List Command) (n inc : ℕ) → IsPrefix front (chosen_log setting w)
-    → is_in (state_after setting.servers front) n inc ≡ true
+HaveRun setting w lives = (prefix : List Command) (n inc : ℕ) → IsPrefix prefix (chosen_log setting w)
+    → is_in (state_after setting.servers prefix) n inc ≡ true
     → inc ≤ lives.ran n
 
 -- a cell that has a link is not retired
-linked_alive : (state : State) (cell : Cell) (row : LinkRow) → cell_link state cell ≡ Some row → HasDied state cell → ⊥
+linked_alive : (state : State) (cell : Cell) (row : LinkRow) → cell_link state cell ≡ Some row → IsRetired state cell → ⊥
 linked_alive state cell row is died = none_some died.0 is
 
 -- of two servers beside one of a cell's two, the other one alone may hold it
@@ -63,8 +63,8 @@ module _ (setting : Setting) (w : World) (firm : Firm setting w) (lives : Lives)
   abbrev inc : ℕ
   inc = lives.ran n
 
-  abbrev front : List Command
-  front = p.known.known.sent.at.front
+  abbrev prefix : List Command
+  prefix = p.known.known.sent.at.prefix
 
   abbrev own : List Command
   own = (w.servers n).log.applied
@@ -75,32 +75,32 @@ module _ (setting : Setting) (w : World) (firm : Firm setting w) (lives : Lives)
   abbrev chosen : List Command
   chosen = chosen_log setting w
 
-  first_led : LedBy (At front) n inc want.cell
-  first_led = p.known.along front (front_itself front) p.known.opened
+  first_led : LedBy (At prefix) n inc want.cell
+  first_led = p.known.along prefix (prefix_itself prefix) p.known.opened
 
   steady_at : (log : List Command) → IsPrefix log chosen → IsSteady (At log)
-  steady_at log all = log_steady setting.servers log (front_plain setting.servers log _ firm.plain all)
+  steady_at log all = log_steady setting.servers log (prefix_plain setting.servers log _ firm.plain all)
 
   -- while it is In it leads the cell
-  led_at : (log : List Command) → IsPrefix front log → IsPrefix log chosen → is_in (At log) n inc ≡ true → LedBy (At log) n inc want.cell
-  led_at log more all still = elim (either_front log own chosen all (firm.servers n)) [
+  led_at : (log : List Command) → IsPrefix prefix log → IsPrefix log chosen → is_in (At log) n inc ≡ true → LedBy (At log) n inc want.cell
+  led_at log more all still = elim (either_prefix log own chosen all (firm.servers n)) [
     | inl before ↦ p.known.along log more (subst (IsPrefix log) (sym p.here) before)
     | inr following ↦ here_along setting w firm lives n want rev p remembers log following all still
   ]
 
   -- ### Once it is Out
 
-  module _ (log : List Command) (more : IsPrefix front log) (all : IsPrefix log chosen) (gone : is_in (At log) n inc ≡ false) where
+  module _ (log : List Command) (more : IsPrefix prefix log) (all : IsPrefix log chosen) (gone : is_in (At log) n inc ≡ false) where
     -- it stays so
     out_from : (later : List Command) → IsPrefix log later → IsPrefix later chosen → is_up (At later) n ≡ false
     out_from later on lies = by_bool (is_up (At later) n)
         (λ up.
         let s = up_some (At later) n up in
         let low = run later n s.0 lies s.1 in
-        let first = in_age (At front) n inc first_led.seated in
+        let first = in_age (At prefix) n inc first_led.seated in
         let last = in_age (At later) n s.0 s.1 in
-        let one = (log_below setting.servers front log (front_plain setting.servers log _ firm.plain all) more).ages n in
-        let two = (log_below setting.servers log later (front_plain setting.servers later _ firm.plain lies) on).ages n in
+        let one = (log_below setting.servers prefix log (prefix_plain setting.servers log _ firm.plain all) more).ages n in
+        let two = (log_below setting.servers log later (prefix_plain setting.servers later _ firm.plain lies) on).ages n in
         true_false (age_in (At log) n inc (omega arith)) gone)
         (λ no. no)
 
@@ -113,12 +113,12 @@ module _ (setting : Setting) (w : World) (firm : Firm setting w) (lives : Lives)
           let most = now.1 in
           omega arith
 
-      alive : (later : List Command) → IsPrefix later chosen → HasDied (At later) want.cell → ⊥
+      alive : (later : List Command) → IsPrefix later chosen → IsRetired (At later) want.cell → ⊥
       alive later lies died = let e = died.1 in let le = unleft later lies in omega arith
 
       link : HasOwnLink (At log) n want.cell
-      link = own_link_on setting.servers front log (front_plain setting.servers log _ firm.plain all) more n want.cell (alive log all)
-          (own_link (At front) (steady_at front (front_on front log chosen more all)) n want.cell first_led.leads)
+      link = own_link_on setting.servers prefix log (prefix_plain setting.servers log _ firm.plain all) more n want.cell (alive log all)
+          (own_link (At prefix) (steady_at prefix (prefix_on prefix log chosen more all)) n want.cell first_led.leads)
 
       -- a link that is Lost has no lead from there on
       not_lost : {A : Type 0} (later : List Command) → IsPrefix later chosen → (row : LinkRow) → cell_link (At later) want.cell ≡ Some row
@@ -130,8 +130,8 @@ module _ (setting : Setting) (w : World) (firm : Firm setting w) (lives : Lives)
           → cell_link (At log) want.cell ≡ Some row
           → has_server n row ≡ true → row.state ≡ Only holder copied → is_alone_on (At later) holder want.cell ≡ true
       held_by later on lies row holder copied is has only =
-          elim (held_while setting.servers log later (front_plain setting.servers later _ firm.plain lies) on n
-          (λ between from upto. out_from between from (front_on between later chosen upto lies)) want.cell row holder copied is has only (alive later lies)) [
+          elim (held_while setting.servers log later (prefix_plain setting.servers later _ firm.plain lies) on n
+          (λ between from upto. out_from between from (prefix_on between later chosen upto lies)) want.cell row holder copied is has only (alive later lies)) [
             | inl alone ↦ alone
             | inr gone ↦ not_lost later lies gone.row gone.is gone.lost
           ]
@@ -141,7 +141,7 @@ module _ (setting : Setting) (w : World) (firm : Firm setting w) (lives : Lives)
         no_another : (other : ℕ) → IsPrefix log (w.servers other).log.applied → is_lead (At log) other want.cell ≡ true → ⊥
         no_another other lies leads = elim (same_or_apart other n) [
           | inl e ↦ true_false
-              (in_between setting w firm front log own more (subst (λ k. IsPrefix log (w.servers k).log.applied) e lies)
+              (in_between setting w firm prefix log own more (subst (λ k. IsPrefix log (w.servers k).log.applied) e lies)
               (firm.servers n) n inc first_led.seated
               (here_led setting w firm lives n want rev p).seated) gone
           | inr ne ↦ elim (led_by (At log) (steady_at log all) want.cell other (is_the_one (lead (At log) want.cell) other leads)) [
@@ -159,30 +159,30 @@ module _ (setting : Setting) (w : World) (firm : Firm setting w) (lives : Lives)
           where
             n_in : (row : LinkRow) → row.state ≡ Both → IsServed (At log) row → has_server n row ≡ true → ⊥
             n_in row both (ByBoth so one two) has = true_false (both_up (is_up (At log)) row n one two has)
-                (out_from log (front_itself log) all)
+                (out_from log (prefix_itself log) all)
             n_in row both (ByOne holder beside whole only pair out) has = alone_not_both row holder only both
             n_in row both (ByNone one beside lost pair out) has = lost_not_both row lost both
 
         -- nor has the cell been without a lead
         no_unled : IsStill setting w leader → lead (At log) want.cell ≡ None → ⊥
         no_unled still none = elim (held_out (At log) (steady_at log all) want.cell link.row link.is
-            (takes_later setting.servers front log (front_plain setting.servers log _ firm.plain all) more n want.cell first_led.leads (unleft log all))
+            (takes_later setting.servers prefix log (prefix_plain setting.servers log _ firm.plain all) more n want.cell first_led.leads (unleft log all))
             none) [
               | inr lost ↦ not_lost log all link.row link.is lost
               | inl held ↦ (
                   let h = held.holder in
-                  let now = held_by chosen all (front_itself chosen) link.row h held.whole link.is link.has held.alone in
+                  let now = held_by chosen all (prefix_itself chosen) link.row h held.whole link.is link.has held.alone in
                   let same : leader ≡ h = leader_alone (chosen_state setting w) (chosen_steady setting w firm) leader h want.cell
                   (is_the_so (lead (chosen_state setting w) want.cell) leader led) now in
                   let stays = subst (IsStill setting w) same still in
-                  elim (either_front (w.servers h).log.applied log chosen (firm.servers h) all) [
+                  elim (either_prefix (w.servers h).log.applied log chosen (firm.servers h) all) [
                     | inl before ↦ true_false
                         (in_up (At log) h stays.inc
-                        (in_between setting w firm _ log chosen before all (front_itself chosen) h stays.inc stays.own stays.now)) held.out
+                        (in_between setting w firm _ log chosen before all (prefix_itself chosen) h stays.inc stays.own stays.now)) held.out
                     | inr knows ↦ elim (same_or_apart h n) [
                       | inl e ↦ true_false (in_up (chosen_state setting w) n stays.inc
                           (subst (λ k. is_in (chosen_state setting w) k stays.inc ≡ true) e stays.now))
-                          (out_from chosen all (front_itself chosen))
+                          (out_from chosen all (prefix_itself chosen))
                       | inr ne ↦ true_false (held_by (w.servers h).log.applied knows (firm.servers h) link.row h held.whole link.is link.has held.alone)
                           (no_other h ne)
                     ]
@@ -193,15 +193,15 @@ module _ (setting : Setting) (w : World) (firm : Firm setting w) (lives : Lives)
 
   module _ (leader : ℕ) (led : lead (chosen_state setting w) want.cell ≡ Some leader) (still : IsStill setting w leader)
       (no_other : NoOtherHolds setting w n want.cell) where
-    not_late : IsLate setting.servers (seen lives w) front want.client want.seq want.cell n inc → ⊥
+    not_late : IsLate setting.servers (seen lives w) prefix want.client want.seq want.cell n inc → ⊥
     not_late (Is_past lt) = let u = p.known.unfinished in omega arith
     not_late (Had_no_lead log more lies none) =
-        let all = front_on log _ chosen lies (firm.clients want.client) in
+        let all = prefix_on log _ chosen lies (firm.clients want.client) in
         by_bool (is_in (At log) n inc)
         (λ here. none_some none (is_the_one _ n (led_at log more all here).leads))
         (λ gone. no_unled log more all gone leader led no_other still none)
     not_late (Had_another log other more lies leads apart) =
-        let all = front_on log _ chosen lies (firm.servers other) in
+        let all = prefix_on log _ chosen lies (firm.servers other) in
         by_bool (is_in (At log) n inc)
         (λ here. true_false here (apart (one_lead (At log) other n want.cell leads (led_at log more all here).leads)))
         (λ gone. no_another log more all gone leader led no_other other lies leads)
@@ -234,7 +234,7 @@ module _ (setting : Setting) (w : World) (firm : Firm setting w) (lives : Lives)
       by row both (ByBoth so one two) has =
           let led = here_led setting w firm lives n want rev p in
           let s = up_some (chosen_state setting w) n (both_up (is_up (chosen_state setting w)) row n one two has) in
-          let low = run chosen n s.0 (front_itself chosen) s.1 in
+          let low = run chosen n s.0 (prefix_itself chosen) s.1 in
           let first = in_age (server_state setting w n) n inc led.seated in
           let last = in_age (chosen_state setting w) n s.0 s.1 in
           let on = (log_below setting.servers own chosen firm.plain (firm.servers n)).ages n in

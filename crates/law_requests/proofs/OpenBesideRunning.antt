@@ -2,13 +2,13 @@
 -- the place up to which the operation's incarnation is known to have led the cell, and the cell has not been left by what is chosen. That
 -- incarnation may have stopped, and be forgotten.
 use Rattle.law_requests.proofs.Imports.{◌<◌, ◌∙◌, ◌≡◌, ◌≤◌, ◌⊎◌, Both, Command, Firm, IsPrefix, IsSteady, LinkRow, List, Setting, Some, State, StaysSo}
-use Rattle.law_requests.proofs.Imports.{Wanted, World, ap, arith, both_not_alone, cell_link, chosen_log, chosen_state, front_itself, front_on, front_plain}
-use Rattle.law_requests.proofs.Imports.{has_server, in_up, inl, inr, is_alone_on, is_in, is_the_one, log_below, log_steady, none_some, places_from}
-use Rattle.law_requests.proofs.Imports.{places_grow, running_fronts, runs_at, same_place, server_state, serves, so_both, stage_at, start, state_after}
+use Rattle.law_requests.proofs.Imports.{Wanted, World, ap, arith, both_not_alone, cell_link, chosen_log, chosen_state, has_server, in_up, inl, inr}
+use Rattle.law_requests.proofs.Imports.{is_alone_on, is_in, is_the_one, log_below, log_steady, none_some, places_from, places_grow, prefix_itself, prefix_on}
+use Rattle.law_requests.proofs.Imports.{prefix_plain, running_prefixes, runs_at, same_place, server_state, serves, so_both, stage_at, start, state_after}
 use Rattle.law_requests.proofs.Imports.{stays_both, subst, sym, true, true_false, ℕ}
 use Rattle.law_requests.specs.AskedRequests.{IsOpen}
 use Rattle.law_requests.specs.KnownRequests.{Lives, seen, LedBy, IsLate, Is_past, Had_no_lead, Had_another, PendingFor}
-use Rattle.law_requests.proofs.RequestsKnownLater.{either_front, one_log}
+use Rattle.law_requests.proofs.RequestsKnownLater.{either_prefix, one_log}
 use Rattle.law_requests.proofs.LeadsAtTwoPlaces.{Takes, alone_leads, leader_alone, led_at_place, led_while, one_lead, takes_later}
 use Rattle.law_requests.proofs.OpenWhileRunning.{open_or, upto_chosen}
 
@@ -39,8 +39,8 @@ module _ (setting : Setting) (w : World) (firm : Firm setting w) (lives : Lives)
   abbrev chosen : List Command
   chosen = chosen_log setting w
 
-  abbrev front : List Command
-  front = p.known.sent.at.front
+  abbrev prefix : List Command
+  prefix = p.known.sent.at.prefix
 
   abbrev At : List Command → State
   At log = state_after setting.servers log
@@ -49,27 +49,27 @@ module _ (setting : Setting) (w : World) (firm : Firm setting w) (lives : Lives)
   Led log = LedBy (At log) n inc want.cell
 
   steady_at : (log : List Command) → IsPrefix log chosen → IsSteady (At log)
-  steady_at log all = log_steady setting.servers log (front_plain setting.servers log _ firm.plain all)
+  steady_at log all = log_steady setting.servers log (prefix_plain setting.servers log _ firm.plain all)
 
   upto_all : IsPrefix p.upto chosen
   upto_all = upto_chosen setting w firm lives n inc want rev p
 
   upto_led : Led p.upto
-  upto_led = p.along p.upto p.opened (front_itself p.upto)
+  upto_led = p.along p.upto p.opened (prefix_itself p.upto)
 
-  -- the cell takes writes by each front from the opening on
+  -- the cell takes writes by each prefix from the opening on
   unleft : (log : List Command) → IsPrefix log chosen → stage_at (At log) want.cell ≤ 2
   unleft log all = let up = (log_below setting.servers log chosen firm.plain all).stages want.cell in omega arith
 
-  takes_on : (log : List Command) → IsPrefix front log → IsPrefix log chosen → Takes (At log) want.cell
-  takes_on log more all = takes_later setting.servers front log (front_plain setting.servers log _ firm.plain all) more n want.cell
-      (p.along front (front_itself front) p.opened).leads (unleft log all)
+  takes_on : (log : List Command) → IsPrefix prefix log → IsPrefix log chosen → Takes (At log) want.cell
+  takes_on log more all = takes_later setting.servers prefix log (prefix_plain setting.servers log _ firm.plain all) more n want.cell
+      (p.along prefix (prefix_itself prefix) p.opened).leads (unleft log all)
 
   -- from the place of both on the incarnation leads, while the link stays so
   led_on : (log : List Command) → IsPrefix p.upto log → IsPrefix log chosen → StaysSo want.cell row (At own) (At log) → Led log
-  led_on log late all stays = elim (either_front own p.upto chosen (firm.servers m) upto_all) [
+  led_on log late all stays = elim (either_prefix own p.upto chosen (firm.servers m) upto_all) [
     | inl before ↦
-        elim (same_place setting.servers own p.upto want.cell row (front_plain setting.servers p.upto _ firm.plain upto_all) before there (sym place)) [
+        elim (same_place setting.servers own p.upto want.cell row (prefix_plain setting.servers p.upto _ firm.plain upto_all) before there (sym place)) [
           | inl same ↦ led_while (At p.upto) (At log) (steady_at p.upto upto_all) (steady_at log all) want.cell row known
               (record {
                 same = stays.same;
@@ -80,12 +80,12 @@ module _ (setting : Setting) (w : World) (firm : Firm setting w) (lives : Lives)
         ]
     | inr on ↦
         led_while (At own) (At log) (steady_at own (firm.servers m)) (steady_at log all) want.cell row there stays takes n inc
-        (led_at_place setting.servers p.upto own (front_plain setting.servers own _ firm.plain (firm.servers m)) on n inc want.cell row known place
+        (led_at_place setting.servers p.upto own (prefix_plain setting.servers own _ firm.plain (firm.servers m)) on n inc want.cell row known place
         (unleft own (firm.servers m)) upto_led)
   ]
     where
       takes : Takes (At log) want.cell
-      takes = takes_on log (front_on front p.upto log p.opened late) all
+      takes = takes_on log (prefix_on prefix p.upto log p.opened late) all
 
   -- the other server holds the link alone by these entries, after its own
   record IsLeftTo (log : List Command) : Type 0 where
@@ -93,16 +93,16 @@ module _ (setting : Setting) (w : World) (firm : Firm setting w) (lives : Lives)
     alone : is_alone_on (At log) m want.cell ≡ true
 
   -- from the opening on the incarnation leads the cell, until that
-  leads_or_left : (log : List Command) → IsPrefix front log → IsPrefix log chosen → Led log ⊎ IsLeftTo log
-  leads_or_left log more all = elim (either_front log p.upto chosen all upto_all) [
+  leads_or_left : (log : List Command) → IsPrefix prefix log → IsPrefix log chosen → Led log ⊎ IsLeftTo log
+  leads_or_left log more all = elim (either_prefix log p.upto chosen all upto_all) [
     | inl early ↦ inl (p.along log more early)
-    | inr late ↦ elim (either_front log own chosen all (firm.servers m)) [
+    | inr late ↦ elim (either_prefix log own chosen all (firm.servers m)) [
       | inl before ↦ (
           let one = places_grow setting.servers p.upto log row late in
           let two = places_grow setting.servers log own row before in
-          inl (led_at_place setting.servers p.upto log (front_plain setting.servers log _ firm.plain all) late n inc want.cell row known
+          inl (led_at_place setting.servers p.upto log (prefix_plain setting.servers log _ firm.plain all) late n inc want.cell row known
           (omega arith) (unleft log all) upto_led))
-      | inr following ↦ elim (stays_both (running_fronts firm m runs (front_itself own) following all seat) want.cell row there has
+      | inr following ↦ elim (stays_both (running_prefixes firm m runs (prefix_itself own) following all seat) want.cell row there has
           (ap (serves m row) both ∙ has) (below_four log all) both) [
             | inl stays ↦ inl (led_on log late all stays)
             | inr alone ↦ inr (record { following = following; alone = alone })
@@ -113,17 +113,17 @@ module _ (setting : Setting) (w : World) (firm : Firm setting w) (lives : Lives)
       below_four : (log : List Command) → IsPrefix log chosen → stage_at (At log) want.cell < 4
       below_four log all = let le = unleft log all in omega arith
 
-  not_late : IsLate setting.servers (seen lives w) front want.client want.seq want.cell n inc → ⊥
+  not_late : IsLate setting.servers (seen lives w) prefix want.client want.seq want.cell n inc → ⊥
   not_late (Is_past lt) = let u = p.unfinished in omega arith
   not_late (Had_no_lead log more lies none) =
-      let all = front_on log _ chosen lies (firm.clients want.client) in
+      let all = prefix_on log _ chosen lies (firm.clients want.client) in
       elim (leads_or_left log more all) [
         | inl led ↦ none_some none (is_the_one _ n led.leads)
         | inr left ↦ none_some none (alone_leads (At log) m want.cell (takes_on log more all) left.alone
             (in_up (At log) m (w.servers m).life.inc (runs_at setting w firm own log left.following all m runs seat)))
       ]
   not_late (Had_another log other more lies leads apart) =
-      let all = front_on log _ chosen lies (firm.servers other) in
+      let all = prefix_on log _ chosen lies (firm.servers other) in
       elim (leads_or_left log more all) [
         | inl led ↦ true_false led.seated (apart (one_lead (At log) other n want.cell leads led.leads))
         | inr left ↦ (

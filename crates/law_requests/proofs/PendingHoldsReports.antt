@@ -1,8 +1,6 @@
 -- A client's write that is pending on a cell of which the active fence holds the writes keeps its server from a report.
-use Rattle.law_requests.proofs.Imports.{◌&&◌, ◌∙◌, ◌≡◌, Cell, PairState, Pending, Some, State, ap}
-use Rattle.law_requests.proofs.Imports.{at, cell_cmp, cell_cmp_same, has_held_write, held, is_clients, is_writes_held}
-use Rattle.law_requests.proofs.Imports.{subst, true}
-use Rattle.law_steps.proofs.HeldBackForCaughts.{any_at}
+use Rattle.law_requests.proofs.Imports.{◌&&◌, ◌∙◌, ◌≡◌, Cell, PairState, Pending, Some, State, any_at, ap, at, cell_cmp, cell_cmp_same, has_held_write, held}
+use Rattle.law_requests.proofs.Imports.{is_clients, is_writes_held, subst, true}
 
 pub held_write : (state : State) (own : PairState) (cell : Cell) (op : Pending) → at cell_cmp own.pairs.pending cell ≡ Some op → is_clients op.kind ≡ true
     → is_writes_held (held state cell) ≡ true → has_held_write state own ≡ true

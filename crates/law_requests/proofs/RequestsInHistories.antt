@@ -3,11 +3,11 @@ use Rattle.law_requests.proofs.Imports.{[], ◌++◌, ◌<◌, ◌∙◌, ◌∷
 use Rattle.law_requests.proofs.Imports.{In, IsLateAt, IsOver, IsPrefix, IsSound, Join, Letter, List, No, None, OneMore, Option, Pending, Ready, Record}
 use Rattle.law_requests.proofs.Imports.{Requests, Rests, Script, Server, Setting, Some, State, Wanted, WasDraining, World, Writes, after, ap, arith, at}
 use Rattle.law_requests.proofs.Imports.{at-empty, below_itself, both_true, by_bool, by_run, cell_cmp, chosen_below, chosen_caught_was, chosen_log}
-use Rattle.law_requests.proofs.Imports.{chosen_state, done_to, false, firm_in, front_itself, front_long, front_on, front_plain, front_same, grown_in}
-use Rattle.law_requests.proofs.Imports.{happened_in, has_held_write, held, history_is_firm, in_former, inl, inr, is_clients, is_in, is_lead, is_writes_held}
-use Rattle.law_requests.proofs.Imports.{join_was_wanted, length, longer, may_wake, more_of, nat_cmp, none_before_none, none_some, one_front, ready_in, refl}
-use Rattle.law_requests.proofs.Imports.{report_was_made, rests_in, rev_of, run_of, same_or_apart, server_state, setting_in, setting_of, split_last, split_one}
-use Rattle.law_requests.proofs.Imports.{state_after, subst, sym, true, true_false, who_is_in, world_after, ℕ}
+use Rattle.law_requests.proofs.Imports.{chosen_state, done_to, false, firm_in, grown_in, happened_in, has_held_write, held, history_is_firm, in_former, inl}
+use Rattle.law_requests.proofs.Imports.{inr, is_clients, is_in, is_lead, is_writes_held, join_was_wanted, length, longer, may_wake, more_of, nat_cmp}
+use Rattle.law_requests.proofs.Imports.{none_before_none, none_some, one_prefix, prefix_itself, prefix_long, prefix_on, prefix_plain, prefix_same, ready_in}
+use Rattle.law_requests.proofs.Imports.{refl, report_was_made, rests_in, rev_of, run_of, same_or_apart, server_state, setting_in, setting_of, split_last}
+use Rattle.law_requests.proofs.Imports.{split_one, state_after, subst, sym, true, true_false, who_is_in, world_after, ℕ}
 use Rattle.spec_rules.specs.World.{start}
 use Rattle.spec_history.specs.Claims.{HasFinished}
 use Rattle.law_requests.specs.AskedRequests.{IsOpen}
@@ -17,7 +17,7 @@ use Rattle.law_requests.specs.OpenRequests.{AreOpen}
 use Rattle.law_requests.proofs.PendingHoldsReports.{held_write}
 use Rattle.law_requests.proofs.RequestsKnownLater.{one_log}
 use Rattle.law_requests.proofs.IncarnationsGoOn.{IsSince, no_earlier, ran_now, since_on}
-use Rattle.law_requests.proofs.OpenWhileRunning.{IsUnleft, PendingHere, RemembersCaughts, chosen_front, late_where, own_front, open_running, pending_here}
+use Rattle.law_requests.proofs.OpenWhileRunning.{IsUnleft, PendingHere, RemembersCaughts, chosen_prefix, late_where, own_prefix, open_running, pending_here}
 use Rattle.law_requests.proofs.OpenWhileRunning.{unleft_now}
 use Rattle.law_requests.proofs.StepsKeepRequests.{GoesOn, happens_asking, happens_later}
 use Rattle.law_requests.proofs.OpenAfterStop.{HadPending, HaveRun, open_in_both, open_led, open_secondary}
@@ -70,7 +70,7 @@ since_itself : (server : Server) (last : ℕ) → (server.life.running ≡ true 
 since_itself server last ran = record {
   ran = ran;
   incs = omega arith;
-  grows = front_itself server.log.applied;
+  grows = prefix_itself server.log.applied;
   flags = λ is same row flag. flag;
 }
 
@@ -152,8 +152,8 @@ module _ (script : Script) (sound : IsSound script) where
     not_then n cell op is clients until lies holds rev =
         let p = asking_now.pending n cell op is clients in
         let at = p.known.sent.at in
-        let same : at.front ≡ until =
-        one_front at.front until (chosen_log setting v) (chosen_front setting v firm_now op.client op.rev at) lies (at.long ∙ rev) in
+        let same : at.prefix ≡ until =
+        one_prefix at.prefix until (chosen_log setting v) (chosen_prefix setting v firm_now op.client op.rev at) lies (at.long ∙ rev) in
         true_false holds (subst (λ log. is_writes_held (held (state_after setting.servers log) cell) ≡ false) same p.unfenced)
 
     -- a server that had reported before
@@ -162,7 +162,7 @@ module _ (script : Script) (sound : IsSound script) where
         → is_writes_held (held (state_after setting.servers until) cell) ≡ true → length until < op.rev
     drained_before n inc until was cell op is clients holds =
         let before = subst (λ log. IsPrefix log (w.servers n).log.applied) was.at (k.since was.before (was.own ∷ was.later) was.is n).grows in
-        let le = front_long until (w.servers n).log.applied before in
+        let le = prefix_long until (w.servers n).log.applied before in
         elim (goes.opened n cell op is clients) [
           | inl stood ↦ (
               let lt = k.drained n inc until was cell stood.was stood.is (ap is_clients stood.same.kind ∙ clients) holds in
@@ -170,7 +170,7 @@ module _ (script : Script) (sound : IsSound script) where
               omega arith)
           | inr new ↦ elim (same_or_apart op.rev (length until)) [
             | inl same ↦ absurd (not_then n cell op is clients until
-                (front_on until (w.servers n).log.applied _ before (front_on _ (chosen_log setting w) _ (ready.firm.servers n) grows)) holds same)
+                (prefix_on until (w.servers n).log.applied _ before (prefix_on _ (chosen_log setting w) _ (ready.firm.servers n) grows)) holds same)
             | inr ne ↦ omega arith
           ]
         ]
@@ -185,7 +185,7 @@ module _ (script : Script) (sound : IsSound script) where
           | inl stood ↦ true_false
               (held_write (state_after setting.servers until) (w.servers n).own cell stood.was stood.is (ap is_clients stood.same.kind ∙ clients) holds) drained
           | inr new ↦ absurd (not_then n cell op is clients until
-              (subst (λ log. IsPrefix log (chosen_log setting v)) here (front_on _ (chosen_log setting w) _ (ready.firm.servers n) grows)) holds
+              (subst (λ log. IsPrefix log (chosen_log setting v)) here (prefix_on _ (chosen_log setting w) _ (ready.firm.servers n) grows)) holds
               (new ∙ ap length here))
         ]
 
@@ -227,15 +227,15 @@ module _ (script : Script) (sound : IsSound script) where
   -- ### What is known of incarnations
 
   module _ (records : List Record) (legal : AreSteps script records) (along : AskingAlong setting records (At script records)) where
-    -- whoever is In by a front of what is chosen is so with an incarnation that ran
+    -- whoever is In by a prefix of what is chosen is so with an incarnation that ran
     pub have_run : HaveRun setting (At script records) along.asks.lives
-    have_run front n inc lies is =
-        let plain = front_plain setting.servers front _ (history_is_firm script records sound legal).plain lies in
-        elim (who_is_in setting.servers front n inc plain is) [
+    have_run prefix n inc lies is =
+        let plain = prefix_plain setting.servers prefix _ (history_is_firm script records sound legal).plain lies in
+        elim (who_is_in setting.servers prefix n inc plain is) [
           | inl one ↦ let first = along.first n in omega arith
           | inr joined ↦ (
               let there : In (Join n inc joined.0) (chosen_log setting (At script records)) =
-              subst (In (Join n inc joined.0)) (sym lies.is) (in_former (Join n inc joined.0) front lies.later joined.1) in
+              subst (In (Join n inc joined.0)) (sym lies.is) (in_former (Join n inc joined.0) prefix lies.later joined.1) in
               let was = join_was_wanted script records sound legal n inc joined.0 there in
               let low = (along.since was.before (was.own ∷ was.later) was.is n).ran was.runs in
               let same = was.lives in
@@ -244,11 +244,11 @@ module _ (script : Script) (sound : IsSound script) where
 
     -- the incarnation that ran last remembers each ballot that it started for a Caught, also when it has stopped
     pub remembers : (n : ℕ) → RemembersCaughts setting (At script records) n (along.asks.lives.ran n)
-    remembers n front row other other_inc more stands =
+    remembers n prefix row other other_inc more stands =
         let own = ((At script records).servers n).log.applied in
-        let was = chosen_caught_was script records sound legal front row.map row.link n (along.asks.lives.ran n) other other_inc stands in
+        let was = chosen_caught_was script records sound legal prefix row.map row.link n (along.asks.lives.ran n) other other_inc stands in
         let since = along.since was.before was.later was.is n in
-        let same : front ≡ own = one_log front own (subst (λ l. IsPrefix l own) was.at since.grows) more in
+        let same : prefix ≡ own = one_log prefix own (subst (λ l. IsPrefix l own) was.at since.grows) more in
         since.flags was.lives (was.at ∙ same) row was.minded
 
 -- after each legal history
@@ -305,14 +305,14 @@ module _ (setting : Setting) (w : World) (firm : Firm setting w) (rests : Rests 
           let at = k.sent.at in
           let own = (w.servers n).log.applied in
           let ran = asking.lived.ran n runs in
-          let same : own ≡ at.front = own_front setting w firm want.client n letter.rev at rev in
-          let then : LedBy (state_after setting.servers at.front) n (w.servers n).life.inc want.cell =
+          let same : own ≡ at.prefix = own_prefix setting w firm want.client n letter.rev at rev in
+          let then : LedBy (state_after setting.servers at.prefix) n (w.servers n).life.inc want.cell =
           subst (λ log. LedBy (state_after setting.servers log) n (w.servers n).life.inc want.cell) same led in
           let stays : IsUnleft setting w n (w.servers n).life.inc want.cell =
           subst (λ i. IsUnleft setting w n i want.cell) ran
           (unleft_now setting w firm lives reports n want.cell (subst (λ i. LedBy (server_state setting w n) n i want.cell) (sym ran) led)
           (ap is_writes_held free)) in
-          elim (late_where setting w firm lives n runs want.cell led stays at.front (front_same own at.front (sym same)) want.client want.seq
+          elim (late_where setting w firm lives n runs want.cell led stays at.prefix (prefix_same own at.prefix (sym same)) want.client want.seq
           (late n (w.servers n).life.inc then)) [
             | inl past ↦ (
                 let tied : lives.done n (w.servers n).life.inc want.client ≡ done_by (w.servers n).own want.client =

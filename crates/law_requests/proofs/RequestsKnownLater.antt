@@ -1,8 +1,8 @@
 -- What was known of requests is known later.
 use Rattle.law_requests.proofs.Imports.{◌∙◌, ◌≡◌, ◌≤◌, ◌⊎◌, Actor, Answered, Asked, Body, Bool, Cell, Client, Command, HasProperTuples, In, IsPrefix, Letter}
 use Rattle.law_requests.proofs.Imports.{Line, List, Logged, Option, Read_asked, Refused, Request, Setting, State, Subject, Wanted, Write_asked, ap, arith}
-use Rattle.law_requests.proofs.Imports.{cases_lt, cell_asked, false, find, front_itself, front_long, front_on, front_within, inl, inr, is_logged, length}
-use Rattle.law_requests.proofs.Imports.{names, one_front, refl, same_some, subject_of, sym, true, true_false, ℕ}
+use Rattle.law_requests.proofs.Imports.{cases_lt, cell_asked, false, find, inl, inr, is_logged, length, names, one_prefix, prefix_itself, prefix_long}
+use Rattle.law_requests.proofs.Imports.{prefix_on, prefix_within, refl, same_some, subject_of, sym, true, true_false, ℕ}
 use Rattle.law_requests.specs.AskedRequests.{IsWrite, IsOpen, IsOpenFrom, HasItsWay, WasToldAt}
 use Rattle.law_requests.specs.KnownRequests.{Seen, IsLate, Is_past, Had_no_lead, Had_another, IsLedAlong, AreLate, IsSent, WriteKnown, EndKnownAt}
 use Rattle.law_requests.specs.KnownRequests.{NothingKnownAt, Known, PendingFor}
@@ -10,17 +10,17 @@ use Rattle.petal_msg.specs.declared.body.Body.TheVariants as body
 use Rattle.petal_msg.specs.declared.letter.Actor.TheVariants as actor
 use Rattle.script_lines.specs.declared.request.Request.TheVariants as request
 
--- of two fronts of one log one stands at the front of the other
-pub either_front : (one two whole : List Command) → IsPrefix one whole → IsPrefix two whole → IsPrefix one two ⊎ IsPrefix two one
-either_front one two whole a b = elim (cases_lt (length two) (length one)) [
-  | inl shorter ↦ inr (front_within two one whole b a (omega arith))
-  | inr longer ↦ inl (front_within one two whole a b (omega arith))
+-- of two prefixes of one log one stands at the front of the other
+pub either_prefix : (one two whole : List Command) → IsPrefix one whole → IsPrefix two whole → IsPrefix one two ⊎ IsPrefix two one
+either_prefix one two whole a b = elim (cases_lt (length two) (length one)) [
+  | inl shorter ↦ inr (prefix_within two one whole b a (omega arith))
+  | inr longer ↦ inl (prefix_within one two whole a b (omega arith))
 ]
 
--- two that stand at each other's front are one
+-- two that stand at each other's prefix are one
 pub one_log : (a b : List Command) → IsPrefix a b → IsPrefix b a → a ≡ b
 one_log a b one two =
-    let le = front_long a b one in let ge = front_long b a two in one_front a b b one (front_itself b) (omega arith)
+    let le = prefix_long a b one in let ge = prefix_long b a two in one_prefix a b b one (prefix_itself b) (omega arith)
 
 disk_named : Request → Option (List ℕ)
 disk_named asked = (names asked).disk
@@ -79,7 +79,7 @@ pub record Later (setting : Setting) (v u : Seen) : Type 0 where
   pub logs_plain : (n : ℕ) → HasProperTuples setting.servers (u.logs n)
   pub dones : (n inc c : ℕ) → v.done n inc c ≤ u.done n inc c
   pub closes : (want : Wanted) (rev : ℕ) → (sent : IsSent setting v want rev) → IsOpenFrom (v.clients want.client) want.seq rev
-      → IsOpenFrom (u.clients want.client) want.seq rev ⊎ AreLate setting.servers u want sent.at.front
+      → IsOpenFrom (u.clients want.client) want.seq rev ⊎ AreLate setting.servers u want sent.at.prefix
 
 module _ (setting : Setting) (v u : Seen) (later : Later setting v u) where
   told_later : (c seq rev : ℕ) → WasToldAt v.sent c seq rev → WasToldAt u.sent c seq rev
@@ -91,19 +91,19 @@ module _ (setting : Setting) (v u : Seen) (later : Later setting v u) where
     old_way = λ e. told_later c asked.seq asked.rev (h.old_way e);
   }
 
-  late_later : (front : List Command) (c seq : ℕ) (cell : Cell) (n inc : ℕ) → IsLate setting.servers v front c seq cell n inc
-      → IsLate setting.servers u front c seq cell n inc
-  late_later front c seq cell n inc (Is_past lt) = let le = later.dones n inc c in Is_past (omega arith)
-  late_later front c seq cell n inc (Had_no_lead log more lies none) = Had_no_lead log more (front_on log _ _ lies (later.clients c)) none
-  late_later front c seq cell n inc (Had_another log other more lies leads apart) =
-      Had_another log other more (front_on log _ _ lies (later.logs other)) leads apart
+  late_later : (prefix : List Command) (c seq : ℕ) (cell : Cell) (n inc : ℕ) → IsLate setting.servers v prefix c seq cell n inc
+      → IsLate setting.servers u prefix c seq cell n inc
+  late_later prefix c seq cell n inc (Is_past lt) = let le = later.dones n inc c in Is_past (omega arith)
+  late_later prefix c seq cell n inc (Had_no_lead log more lies none) = Had_no_lead log more (prefix_on log _ _ lies (later.clients c)) none
+  late_later prefix c seq cell n inc (Had_another log other more lies leads apart) =
+      Had_another log other more (prefix_on log _ _ lies (later.logs other)) leads apart
 
   sent_later : (want : Wanted) (rev : ℕ) → IsSent setting v want rev → IsSent setting u want rev
   sent_later want rev s =
       let up = later.seqs want.client in
       let old = s.old in
       record {
-        at = record { front = s.at.front; lies = front_on s.at.front _ _ s.at.lies (later.clients want.client); long = s.at.long };
+        at = record { prefix = s.at.prefix; lies = prefix_on s.at.prefix _ _ s.at.lies (later.clients want.client); long = s.at.long };
         served = s.served;
         epoch = s.epoch;
         old = omega arith;
@@ -115,7 +115,7 @@ module _ (setting : Setting) (v u : Seen) (later : Later setting v u) where
     sent = sent_later want rev k.sent;
     still = elim k.still [
       | inl open_now ↦ later.closes want rev k.sent open_now
-      | inr late ↦ inr (λ n inc led. late_later k.sent.at.front want.client want.seq want.cell n inc (late n inc led))
+      | inr late ↦ inr (λ n inc led. late_later k.sent.at.prefix want.client want.seq want.cell n inc (late n inc led))
     ];
   }
 
@@ -127,7 +127,7 @@ module _ (setting : Setting) (v u : Seen) (later : Later setting v u) where
     unfenced = p.unfenced;
     upto = p.upto;
     opened = p.opened;
-    applied = front_on p.upto _ _ p.applied (later.logs n);
+    applied = prefix_on p.upto _ _ p.applied (later.logs n);
     along = p.along;
     unfinished = le;
   }
@@ -143,9 +143,9 @@ module _ (setting : Setting) (v u : Seen) (later : Later setting v u) where
       known = write_later want rev p.known;
       unfenced = p.unfenced;
       upto = more;
-      opened = front_on p.known.sent.at.front p.upto more p.opened on;
+      opened = prefix_on p.known.sent.at.prefix p.upto more p.opened on;
       applied = applied;
-      along = λ log from lies. elim (either_front log p.upto more lies on) [
+      along = λ log from lies. elim (either_prefix log p.upto more lies on) [
         | inl before ↦ p.along log from before
         | inr following ↦ along log following lies
       ];
@@ -165,7 +165,7 @@ module _ (setting : Setting) (v u : Seen) (later : Later setting v u) where
         cell = h.cell;
         bytes = h.bytes;
         old = omega arith;
-        at = record { front = h.at.front; lies = front_on h.at.front _ _ h.at.lies (later.logs n); long = h.at.long };
+        at = record { prefix = h.at.prefix; lies = prefix_on h.at.prefix _ _ h.at.lies (later.logs n); long = h.at.long };
         write = h.write;
         led = record { seated = h.led.seated; leads = h.led.leads };
         past = omega arith;
@@ -178,7 +178,7 @@ module _ (setting : Setting) (v u : Seen) (later : Later setting v u) where
   nothing_later seq rev (actor.Client c) h = record {
     cell = h.cell;
     epoch = h.epoch;
-    at = record { front = h.at.front; lies = front_on h.at.front _ _ h.at.lies (later.clients c); long = h.at.long };
+    at = record { prefix = h.at.prefix; lies = prefix_on h.at.prefix _ _ h.at.lies (later.clients c); long = h.at.long };
     read = h.read;
     comes = h.comes;
   }
@@ -188,7 +188,7 @@ module _ (setting : Setting) (v u : Seen) (later : Later setting v u) where
   known_later from to rev (body.Write client seq cell epoch bytes) h =
       write_later (record { client = client; seq = seq; cell = cell; epoch = epoch; bytes = bytes }) rev h
   known_later from to rev (body.Read client seq cell epoch) h = record {
-    at = record { front = h.at.front; lies = front_on h.at.front _ _ h.at.lies (later.clients client); long = h.at.long };
+    at = record { prefix = h.at.prefix; lies = prefix_on h.at.prefix _ _ h.at.lies (later.clients client); long = h.at.long };
     told = h.told;
     read = h.read;
     why = λ e. told_later client seq rev (h.why e);

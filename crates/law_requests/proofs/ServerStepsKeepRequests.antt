@@ -1,8 +1,8 @@
 -- A step of a server keeps what is known of requests.
 use Rattle.law_requests.proofs.Imports.{◌+◌, ◌<◌, ◌∙◌, ◌≡◌, ◌≢◌, ◌≤◌, ◌⊎◌, Acted, Actor, Body, Cell, Firm, HasProperTuples, In, IsPrefix, Letter, List, None}
 use Rattle.law_requests.proofs.Imports.{PairState, Pending, Rests, Server, Setting, Some, State, Step, Was, World, acts, all_put, all_put_apart, ap, arith}
-use Rattle.law_requests.proofs.Imports.{at, cell_cmp, front_itself, front_on, front_same, in-append, in_later, inl, inr, is_clients, is_in, length, own_plain}
-use Rattle.law_requests.proofs.Imports.{put_apart, put_same, server_state, stamped, state_in, subst, sym, true, was_same, ℕ}
+use Rattle.law_requests.proofs.Imports.{at, cell_cmp, in-append, in_later, inl, inr, is_clients, is_in, length, own_plain, prefix_itself, prefix_on}
+use Rattle.law_requests.proofs.Imports.{prefix_same, put_apart, put_same, server_state, stamped, state_in, subst, sym, true, was_same, ℕ}
 use Rattle.law_steps.proofs.Restages.{IsSame}
 use Rattle.law_requests.specs.AskedRequests.{IsWrite, IsOpen}
 use Rattle.law_requests.specs.KnownRequests.{Lives, LedBy, lives_after, seen, done_by, EndKnownAt, NothingKnownAt, Known, KnownLetter, asked_for, IsLedAlong}
@@ -119,9 +119,9 @@ module _ (scene : Scene) (n stamp : ℕ) (what : Step) (acted : Acted) (step : I
   goes_on = record {
     sent = λ letter h. in_later letter (stamped stamp acted.letters) w.sent h;
     seqs = λ c. omega arith;
-    clients = λ c. front_itself (w.clients c).applied;
+    clients = λ c. prefix_itself (w.clients c).applied;
     logs = all_put w.servers n acted.server (λ m (x : Server). IsPrefix (w.servers m).log.applied x.log.applied)
-        (λ m. front_itself (w.servers m).log.applied) step.more;
+        (λ m. prefix_itself (w.servers m).log.applied) step.more;
     logs_plain = all_put w.servers n acted.server (λ m (x : Server). HasProperTuples setting.servers x.log.applied) (own_plain setting w scene.firm) step.plain;
     dones = dones_rise lives w later asking.lived steps;
     closes = λ want rev sent is. inl is;
@@ -155,7 +155,7 @@ module _ (scene : Scene) (n stamp : ℕ) (what : Step) (acted : Acted) (step : I
       subst (λ i. (q : PendingFor setting (seen after later) m i (asked_for cell op) op.rev) × (q.upto ≡ x.log.applied)) (sym e)
       (pending_further setting (seen lives w) (seen after later) goes_on m (lives.ran m) (asked_for cell op) op.rev p
       (omega arith) x.log.applied on
-      (front_same x.log.applied _ (ap (λ (y : Server). y.log.applied) same)) along)
+      (prefix_same x.log.applied _ (ap (λ (y : Server). y.log.applied) same)) along)
 
   -- of the server that took the step
   pending_acted : (cell : Cell) (op : Pending) → at cell_cmp acted.server.own.pairs.pending cell ≡ Some op → is_clients op.kind ≡ true
@@ -180,8 +180,8 @@ module _ (scene : Scene) (n stamp : ℕ) (what : Step) (acted : Acted) (step : I
       let un = p.unfinished in
       let unfinished : done_by (later.servers m).own op.client ≤ op.seq =
       subst (λ (x : Server). done_by x.own op.client ≤ op.seq) (sym server) (omega arith) in
-      goes_pending m (ran_beside m ne) cell op p unfinished (w.servers m) server (front_same p.upto (w.servers m).log.applied (sym come))
-      (λ log more lies. p.along log (front_on _ p.upto log p.opened more) (subst (IsPrefix log) (sym come) lies))
+      goes_pending m (ran_beside m ne) cell op p unfinished (w.servers m) server (prefix_same p.upto (w.servers m).log.applied (sym come))
+      (λ log more lies. p.along log (prefix_on _ p.upto log p.opened more) (subst (IsPrefix log) (sym come) lies))
 
   pending_now : (m : ℕ) (cell : Cell) (op : Pending) → at cell_cmp (later.servers m).own.pairs.pending cell ≡ Some op
       → is_clients op.kind ≡ true → PendingUpto m (later.servers m) cell op
@@ -239,7 +239,7 @@ module _ (scene : Scene) (n stamp : ℕ) (what : Step) (acted : Acted) (step : I
           cell = t.cell;
           bytes = t.bytes;
           old = t.old;
-          at = record { front = (w.servers n).log.applied; lies = goes_on.logs n; long = long };
+          at = record { prefix = (w.servers n).log.applied; lies = goes_on.logs n; long = long };
           write = t.write;
           led = record { seated = t.led.seated; leads = t.led.leads };
           past = omega arith;

@@ -2,9 +2,9 @@
 use Rattle.law_requests.proofs.Imports.{[], ◌+◌, ◌<◌, ◌∙◌, ◌∷◌, ◌≡◌, ◌≤◌, Acted, AllMayWake, By_ballot, By_entry, By_job, Cell, Command, Copies, Ends, Fails}
 use Rattle.law_requests.proofs.Imports.{Firm, Goes, HasProperTuples, In, IsPrefix, JobResult, Log, PairState, Pairs, Pending, Progress, Ready, Server}
 use Rattle.law_requests.proofs.Imports.{Serving, Setting, Some, Stays, Step, Wakes, Wanted, Worked, World, ap, arith, at, at-empty, awake, blanked, cell_cmp}
-use Rattle.law_requests.proofs.Imports.{chosen_log, crossed, done_to, false, front_itself, front_on, front_plain, front_same, id_of, inl, inr, is_flagged}
-use Rattle.law_requests.proofs.Imports.{is_in, link_cmp, nat_cmp, no_pairs, none_some, option_map_or, own_place, own_plain, proposed_pairs, raised, refl}
-use Rattle.law_requests.proofs.Imports.{runs_at, served_so, server_state, settled_by, settling, state_after, state_in, stopped_so, subst, sym, true}
+use Rattle.law_requests.proofs.Imports.{chosen_log, crossed, done_to, false, id_of, inl, inr, is_flagged, is_in, link_cmp, nat_cmp, no_pairs, none_some}
+use Rattle.law_requests.proofs.Imports.{option_map_or, own_place, own_plain, prefix_itself, prefix_on, prefix_plain, prefix_same, proposed_pairs, raised}
+use Rattle.law_requests.proofs.Imports.{refl, runs_at, served_so, server_state, settled_by, settling, state_after, state_in, stopped_so, subst, sym, true}
 use Rattle.law_requests.proofs.Imports.{true_false, was_same, ℕ}
 use Rattle.law_requests.specs.KnownRequests.{LedBy, done_by, IsLedAlong, asked_for, IsUsed, Has_pending, Has_finished}
 use Rattle.law_requests.proofs.EndedRequestsLeaveNothing.{bound_now, pending_new, rises}
@@ -23,13 +23,13 @@ worked_grows setting w firm n log done works = by log done works
     same_grows : (log : Log) → log.applied ≡ (w.servers n).log.applied
         → IsPrefix (w.servers n).log.applied log.applied × IsPrefix log.applied (chosen_log setting w)
     same_grows log same =
-        (front_same _ log.applied same, subst (λ own. IsPrefix own (chosen_log setting w)) (sym same) (firm.servers n))
+        (prefix_same _ log.applied same, subst (λ own. IsPrefix own (chosen_log setting w)) (sym same) (firm.servers n))
 
     by : (log : Log) (done : JobResult) → Worked setting w n log done
         → IsPrefix (w.servers n).log.applied log.applied × IsPrefix log.applied (chosen_log setting w)
     by _ _ (By_job log done same did seat) = same_grows log same
     by _ _ (By_ballot log started posts same starts says) = same_grows log same
-    by _ _ (By_entry log entry more front) = (record { later = entry ∷ []; is = more }, front)
+    by _ _ (By_entry log entry more prefix) = (record { later = entry ∷ []; is = more }, prefix)
 
 module _ (scene : Scene) (ready : Ready scene.setting scene.state scene.w) (n stamp : ℕ) (what : Step) where
   open scene use {setting, w, lives, asking}
@@ -49,13 +49,13 @@ module _ (scene : Scene) (ready : Ready scene.setting scene.state scene.w) (n st
       kept_tells scene n runs _ posts
       (ap (λ (p : Pairs). p.pending) (proposed_pairs (server_state setting w n) (w.servers n).own started))
       (ap (λ (p : Pairs). p.finished) (proposed_pairs (server_state setting w n) (w.servers n).own started)) says
-  worked_shows runs _ _ (By_entry log entry more front) =
+  worked_shows runs _ _ (By_entry log entry more prefix) =
       let pairs = entry_pairs entry in
       kept_tells scene n runs _ [] (ap (λ (p : Pairs). p.pending) pairs)
       (ap (λ (p : Pairs). p.finished) pairs) (λ post i. absurd i)
 
   worked_plain : (log : Log) → IsPrefix log.applied (chosen_log setting w) → HasProperTuples setting.servers log.applied
-  worked_plain log chosen = front_plain setting.servers log.applied _ scene.firm.plain chosen
+  worked_plain log chosen = prefix_plain setting.servers log.applied _ scene.firm.plain chosen
 
   -- what is used stands where the server is In as itself
   used_by : (new old : PairState) → new.pairs.pending ≡ old.pairs.pending → new.pairs.finished ≡ old.pairs.finished → IsUsed new → IsUsed old
@@ -83,12 +83,12 @@ module _ (scene : Scene) (ready : Ready scene.setting scene.state scene.w) (n st
       let own = (w.servers n).own in
       subst (λ applied. is_in (state_after setting.servers applied) n (lives.ran n) ≡ true) (sym same)
       (asking.used n (used_same _ own (proposed_pairs (server_state setting w n) own started) u))
-  worked_used runs _ _ (By_entry log entry more front) u =
+  worked_used runs _ _ (By_entry log entry more prefix) u =
       let ran = asking.lived.ran n runs in
       let was : is_in (server_state setting w n) n (w.servers n).life.inc ≡ true =
       subst (λ i. is_in (server_state setting w n) n i ≡ true) ran (asking.used n (entered_used entry u)) in
       subst (λ i. is_in (state_in setting.servers log) n i ≡ true) (sym ran)
-      (runs_at setting w scene.firm (w.servers n).log.applied log.applied (record { later = entry ∷ []; is = more }) front n runs was)
+      (runs_at setting w scene.firm (w.servers n).log.applied log.applied (record { later = entry ∷ []; is = more }) prefix n runs was)
 
   -- while it runs it leads the cell of its operation
   worked_along : (w.servers n).life.running ≡ true → (want : Wanted) (rev : ℕ) → PendingHere setting w lives n want rev
@@ -129,7 +129,7 @@ module _ (scene : Scene) (ready : Ready scene.setting scene.state scene.w) (n st
               since = p.1;
               along = λ before more lies.
                   worked_along runs (asked_for cell op) op.rev p.0 before more
-                  (front_on before log.applied _ (subst (λ (l : Log). IsPrefix before l.applied) logs lies) grows.1);
+                  (prefix_on before log.applied _ (subst (λ (l : Log). IsPrefix before l.applied) logs lies) grows.1);
               unfinished = subst (λ (o : PairState). done_by o op.client ≤ op.seq) (sym owns) p.2;
             };
       }
@@ -143,7 +143,7 @@ module _ (scene : Scene) (ready : Ready scene.setting scene.state scene.w) (n st
       record {
         life = Goes_on same later (λ c. let e = done c in omega arith)
             (λ all row flag. ap (λ (c : Copies). option_map_or (λ (p : Progress). p.caught) (at link_cmp c.progress (id_of row)) false) copies ∙ flag);
-        more = subst (IsPrefix (w.servers n).log.applied) (sym logs) (front_itself (w.servers n).log.applied);
+        more = subst (IsPrefix (w.servers n).log.applied) (sym logs) (prefix_itself (w.servers n).log.applied);
         plain = subst (HasProperTuples setting.servers) (sym logs) (own_plain setting w scene.firm n);
         bound = λ c. let e = done c in let le = asking.finished n c in omega arith;
         used = λ u. record {
@@ -198,7 +198,7 @@ module _ (scene : Scene) (ready : Ready scene.setting scene.state scene.w) (n st
   serves_step wake _ (Stays who posts from shown) = still_stepped (w.servers n) refl refl refl (λ on. sym (asking.lived.ran n on)) (omega arith)
   serves_step wake _ (Wakes booted asleep) =
       boot_stepped (awake (raised (w.servers n))) refl refl (omega arith) (wake n).onward
-      (front_plain setting.servers _ _ scene.firm.plain (wake n).chosen)
+      (prefix_plain setting.servers _ _ scene.firm.plain (wake n).chosen)
   serves_step wake _ (Fails booted asleep) = still_stepped (raised (w.servers n)) refl refl refl (λ on. true_false on asleep) (omega arith)
 
   -- a stopped server keeps what it had in memory, whatever becomes of its data device

@@ -49,47 +49,47 @@ pub record LedBy (state : State) (n inc : ℕ) (cell : Cell) : Type 0 where
   pub seated : is_in state n inc ≡ true
   pub leads : is_lead state n cell ≡ true
 
--- the front of a log that has so many entries as the revision says
+-- the prefix of a log that has so many entries as the revision says
 pub record IsAt (log : List Command) (rev : ℕ) : Type 0 where
-  pub front : List Command
-  pub lies : IsPrefix front log
-  pub long : length front ≡ rev
+  pub prefix : List Command
+  pub lies : IsPrefix prefix log
+  pub long : length prefix ≡ rev
 
 -- ### Writes
 
 -- why an incarnation that led the cell by these entries can't take a client's write any more: it is past it; or the cell had
 -- no lead by a later state of the client; or another server, or this one as another incarnation, led it by a later state of its own
-pub data IsLate (servers : ℕ) (v : Seen) (front : List Command) (client seq : ℕ) (cell : Cell) (n inc : ℕ) : Type 0 where
-  Is_past : seq < v.done n inc client → IsLate servers v front client seq cell n inc
-  Had_no_lead : (log : List Command) → IsPrefix front log → IsPrefix log (v.clients client).applied → lead (state_after servers log) cell ≡ None
-      → IsLate servers v front client seq cell n inc
-  Had_another : (log : List Command) (other : ℕ) → IsPrefix front log → IsPrefix log (v.logs other)
+pub data IsLate (servers : ℕ) (v : Seen) (prefix : List Command) (client seq : ℕ) (cell : Cell) (n inc : ℕ) : Type 0 where
+  Is_past : seq < v.done n inc client → IsLate servers v prefix client seq cell n inc
+  Had_no_lead : (log : List Command) → IsPrefix prefix log → IsPrefix log (v.clients client).applied → lead (state_after servers log) cell ≡ None
+      → IsLate servers v prefix client seq cell n inc
+  Had_another : (log : List Command) (other : ℕ) → IsPrefix prefix log → IsPrefix log (v.logs other)
       → is_lead (state_after servers log) other cell ≡ true → (other ≡ n → is_in (state_after servers log) n inc ≡ false)
-      → IsLate servers v front client seq cell n inc
+      → IsLate servers v prefix client seq cell n inc
 
 -- whoever leads the cell by the state that these entries make can't take the write any more
 abbrev pub AreLate : (servers : ℕ) → Seen → Wanted → List Command → Type 0
-AreLate servers v want front =
-    (n inc : ℕ) → LedBy (state_after servers front) n inc want.cell → IsLate servers v front want.client want.seq want.cell n inc
+AreLate servers v want prefix =
+    (n inc : ℕ) → LedBy (state_after servers prefix) n inc want.cell → IsLate servers v prefix want.client want.seq want.cell n inc
 
 -- a write that its client has sent at this revision: its request is a write of this cell by the state of that revision, and it is of the epoch
 -- that the cell's disk has by that state
 pub record IsSent (setting : Setting) (v : Seen) (want : Wanted) (rev : ℕ) : Type 0 where
   pub at : IsAt (v.clients want.client).applied rev
-  pub served : IsWrite (state_after setting.servers at.front) setting.lines want.client want.seq want.cell want.bytes
-  pub epoch : want.epoch ≡ epoch_at (state_after setting.servers at.front) want.cell
+  pub served : IsWrite (state_after setting.servers at.prefix) setting.lines want.client want.seq want.cell want.bytes
+  pub epoch : want.epoch ≡ epoch_at (state_after setting.servers at.prefix) want.cell
   pub old : want.seq ≤ (v.clients want.client).seq
 
 -- and its request is open, or the server that leads the cell at that revision can't take it any more
 pub record WriteKnown (setting : Setting) (v : Seen) (want : Wanted) (rev : ℕ) : Type 0 where
   pub sent : IsSent setting v want rev
-  pub still : IsOpenFrom (v.clients want.client) want.seq rev ⊎ AreLate setting.servers v want sent.at.front
+  pub still : IsOpenFrom (v.clients want.client) want.seq rev ⊎ AreLate setting.servers v want sent.at.prefix
 
 -- a read that its client has sent at this revision, by the state of that revision: it asks an old map only where a letter of this revision told it to
 pub record ReadKnown (setting : Setting) (v : Seen) (client seq : ℕ) (cell : Cell) (epoch rev : ℕ) : Type 0 where
   pub at : IsAt (v.clients client).applied rev
   pub told : Bool
-  pub read : IsRead (state_after setting.servers at.front) setting.lines client seq told cell epoch
+  pub read : IsRead (state_after setting.servers at.prefix) setting.lines client seq told cell epoch
   pub why : told ≡ true → WasToldAt v.sent client seq rev
 
 -- of a reply that ends a write: its sender led the cell at its revision, by whose state it is the write's cell, and is past the write
@@ -99,8 +99,8 @@ pub record EndKnown (setting : Setting) (v : Seen) (client seq server rev : ℕ)
   pub bytes : List ℕ
   pub old : seq ≤ (v.clients client).seq
   pub at : IsAt (v.logs server) rev
-  pub write : IsWrite (state_after setting.servers at.front) setting.lines client seq cell bytes
-  pub led : LedBy (state_after setting.servers at.front) server inc cell
+  pub write : IsWrite (state_after setting.servers at.prefix) setting.lines client seq cell bytes
+  pub led : LedBy (state_after setting.servers at.prefix) server inc cell
   pub past : seq < v.done server inc client
 
 -- of a reply that the new map has nothing of what a read asked for: the read was sent at this revision to a cell that is coming by its state,
@@ -109,8 +109,8 @@ pub record NothingKnown (setting : Setting) (v : Seen) (client seq rev : ℕ) : 
   pub cell : Cell
   pub epoch : ℕ
   pub at : IsAt (v.clients client).applied rev
-  pub read : IsRead (state_after setting.servers at.front) setting.lines client seq false cell epoch
-  pub comes : coming (state_after setting.servers at.front) cell ≡ true
+  pub read : IsRead (state_after setting.servers at.prefix) setting.lines client seq false cell epoch
+  pub comes : coming (state_after setting.servers at.prefix) cell ≡ true
 
 -- ### Letters
 
@@ -142,19 +142,19 @@ abbrev pub asked_for : Cell → Pending → Wanted
 asked_for cell op = record { client = op.client; seq = op.seq; cell = cell; epoch = op.key.epoch; bytes = op.bytes }
 
 -- by these entries, and by all from there to those, this incarnation is In and leads the cell
-abbrev pub IsLedAlong : (servers : ℕ) → (front whole : List Command) → (n inc : ℕ) → Cell → Type 0
-IsLedAlong servers front whole n inc cell = (log : List Command) → IsPrefix front log → IsPrefix log whole
+abbrev pub IsLedAlong : (servers : ℕ) → (prefix whole : List Command) → (n inc : ℕ) → Cell → Type 0
+IsLedAlong servers prefix whole n inc cell = (log : List Command) → IsPrefix prefix log → IsPrefix log whole
     → LedBy (state_after servers log) n inc cell
 
 -- a write that is pending at this incarnation was sent at the revision at which it was opened, and no fence held the cell's writes there;
 -- from there on the incarnation has led the cell, as far as it had come while the write was pending; and it is not past it
 pub record PendingFor (setting : Setting) (v : Seen) (n inc : ℕ) (want : Wanted) (rev : ℕ) : Type 0 where
   pub known : WriteKnown setting v want rev
-  pub unfenced : is_writes_held (held (state_after setting.servers known.sent.at.front) want.cell) ≡ false
+  pub unfenced : is_writes_held (held (state_after setting.servers known.sent.at.prefix) want.cell) ≡ false
   pub upto : List Command
-  pub opened : IsPrefix known.sent.at.front upto
+  pub opened : IsPrefix known.sent.at.prefix upto
   pub applied : IsPrefix upto (v.logs n)
-  pub along : IsLedAlong setting.servers known.sent.at.front upto n inc want.cell
+  pub along : IsLedAlong setting.servers known.sent.at.prefix upto n inc want.cell
   pub unfinished : v.done n inc want.client ≤ want.seq
 
 -- something is pending or was finished

@@ -1,9 +1,9 @@
 -- A server that came back with nothing serves none of its links until the other server has filled it.
 use Rattle.law_run.proofs.Imports.{[], if◌then◌else◌, ◌&&◌, ◌++◌, ◌==◌, ◌||◌, ◌∙◌, ◌∷◌, ◌≡◌, ◌⊎◌, Bool, ByBoth, ByNone, ByOne, By_caught, By_join, By_leave}
 use Rattle.law_run.proofs.Imports.{Caught, Cell, Command, HasJoinedSince, HasLater, HasProperTuples, IsCaughtStill, IsPrefix, Join, Leave, LinkRow, List}
-use Rattle.law_run.proofs.Imports.{Lost, Only, Some, State, ap, blank_joins_from, blanked_state, by_bool, cell_link, false, fold-append, front_more, front_on}
-use Rattle.law_run.proofs.Imports.{front_plain, has_server, inl, inr, joined_where, log_alone, log_below, log_lost, log_steady, log_touched, none_some}
-use Rattle.law_run.proofs.Imports.{one_before, other_of, row_blanked, row_joined, same_or_apart, serves, state_after, sym, touches, true, ℕ}
+use Rattle.law_run.proofs.Imports.{Lost, Only, Some, State, ap, blank_joins_from, blanked_state, by_bool, cell_link, false, fold-append, has_server, inl, inr}
+use Rattle.law_run.proofs.Imports.{joined_where, log_alone, log_below, log_lost, log_steady, log_touched, none_some, one_before, other_of, prefix_more}
+use Rattle.law_run.proofs.Imports.{prefix_on, prefix_plain, row_blanked, row_joined, same_or_apart, serves, state_after, sym, touches, true, ℕ}
 use Rattle.spec_state.specs.Command.{after}
 use Rattle.spec_state.specs.State.{start}
 
@@ -13,15 +13,15 @@ module _ (servers : ℕ) (n : ℕ) where
   abbrev joins : List Command → ℕ
   joins log = blank_joins_from (start servers) log n
 
-  abbrev JoinsSince : (front whole : List Command) → Type 0
-  JoinsSince front whole = (inc : ℕ) × HasJoinedSince servers front whole n inc true
+  abbrev JoinsSince : (prefix whole : List Command) → Type 0
+  JoinsSince prefix whole = (inc : ℕ) × HasJoinedSince servers prefix whole n inc true
 
   -- a longer log has as many of its Joins with an empty store, or it joined with one since
-  pub more_joins : (front whole : List Command) → IsPrefix front whole → (joins whole ≡ joins front) ⊎ JoinsSince front whole
-  more_joins front whole prefix =
-      elim (same_or_apart (joins whole) (joins front)) [
+  pub more_joins : (prefix whole : List Command) → IsPrefix prefix whole → (joins whole ≡ joins prefix) ⊎ JoinsSince prefix whole
+  more_joins prefix whole is_prefix =
+      elim (same_or_apart (joins whole) (joins prefix)) [
         | inl same ↦ inl same
-        | inr apart ↦ inr (joined_where servers n front whole prefix (λ e. apart (sym e)))
+        | inr apart ↦ inr (joined_where servers n prefix whole is_prefix (λ e. apart (sym e)))
       ]
 
 -- ### What becomes of its links
@@ -31,9 +31,9 @@ same_join e = (cc, cc)
 
 module _ (servers : ℕ) (whole : List Command) (all : HasProperTuples servers whole) (cell : Cell) where
   abbrev IsLinkedBy : List Command → LinkRow → Type 0
-  IsLinkedBy front row = cell_link (state_after servers front) cell ≡ Some row
+  IsLinkedBy prefix row = cell_link (state_after servers prefix) cell ≡ Some row
 
-  module _ (front : List Command) (n inc : ℕ) (j : HasJoinedSince servers front whole n inc true) where
+  module _ (prefix : List Command) (n inc : ℕ) (j : HasJoinedSince servers prefix whole n inc true) where
     abbrev entry : Command
     entry = Join n inc true
 
@@ -41,7 +41,7 @@ module _ (servers : ℕ) (whole : List Command) (all : HasProperTuples servers w
     following = j.until ++ entry ∷ []
 
     until_whole : IsPrefix j.until whole
-    until_whole = front_on j.until following whole (front_more j.until entry) j.stands
+    until_whole = prefix_on j.until following whole (prefix_more j.until entry) j.stands
 
     -- no Caught of the link stands after the Join
     abbrev pub IsUncaught : Type 0
@@ -59,7 +59,7 @@ module _ (servers : ℕ) (whole : List Command) (all : HasProperTuples servers w
     -- what the Join makes of the row
     joined_row : (row : LinkRow) → IsLinkedBy j.until row → has_server n row ≡ true → IsLinkedBy following (row_blanked n row) × IsLeftSo row
     joined_row row is has =
-        let plain = front_plain servers j.until whole all until_whole in
+        let plain = prefix_plain servers j.until whole all until_whole in
         elim (log_touched servers j.until entry cell row plain tt is (touched_by row has)) [
           | By_leave left at seats ↦ (let f : entry ≡ Leave left.server left.inc = left.is in absurd cc)
           | By_caught acts stays ↦
@@ -85,11 +85,11 @@ module _ (servers : ℕ) (whole : List Command) (all : HasProperTuples servers w
         ]
 
     -- by all of the log it serves the link no more
-    pub serves_none : IsUncaught → (row now : LinkRow) → IsLinkedBy front row → IsLinkedBy whole now → has_server n row ≡ true
+    pub serves_none : IsUncaught → (row now : LinkRow) → IsLinkedBy prefix row → IsLinkedBy whole now → has_server n row ≡ true
         → serves n now now.state ≡ false
     serves_none never row now is end has =
-        let until : HasLater (state_after servers front) (state_after servers j.until) cell row =
-        elim ((log_below servers front j.until (front_plain servers j.until whole all until_whole) j.following).rows cell row is) [
+        let until : HasLater (state_after servers prefix) (state_after servers j.until) cell row =
+        elim ((log_below servers prefix j.until (prefix_plain servers j.until whole all until_whole) j.following).rows cell row is) [
           | inl later ↦ later
           | inr died ↦ none_some ((log_below servers j.until whole all until_whole).died cell died).0 end
         ] in

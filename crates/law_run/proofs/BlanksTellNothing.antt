@@ -2,9 +2,9 @@
 use Rattle.law_run.proofs.Imports.{[], if◌then◌else◌, ◌++◌, ◌==◌, ◌∙◌, ◌≡◌, BeforeBlank, Blank, Cell, DiskRow, Firm, IsLinked, None, Option, Pending, Plain}
 use Rattle.law_run.proofs.Imports.{Server, Setting, Some, Store, World, acts, all_put_apart, ap, at, authority, blank_joins_in, blanked, bytes_of, cell_cmp}
 use Rattle.law_run.proofs.Imports.{chain_in, change_by, chosen_log, chosen_same, chosen_state, content_at, content_where, counted, disk_at, drop, entry_at}
-use Rattle.law_run.proofs.Imports.{entry_by, entry_of, false, flat_map, freezes, freezes_on, has_content_at, has_content_where, in_both, inl, inr, is_some}
-use Rattle.law_run.proofs.Imports.{kept, kept_store, length, make_of, makes, map, named_cell, nat_cmp, number_itself, old_cell, option_and_then, put_apart}
-use Rattle.law_run.proofs.Imports.{put_same, refl, same_or_apart, state_after, state_in, stays, subst, sym, takes, told_with, true, true_false, ℕ}
+use Rattle.law_run.proofs.Imports.{entry_by, entry_of, events_with, false, flat_map, freezes, freezes_on, has_content_at, has_content_where, in_both, inl}
+use Rattle.law_run.proofs.Imports.{inr, is_some, kept, kept_store, length, make_of, makes, map, named_cell, nat_cmp, number_itself, old_cell, option_and_then}
+use Rattle.law_run.proofs.Imports.{put_apart, put_same, refl, same_or_apart, state_after, state_in, stays, subst, sym, takes, true, true_false, ℕ}
 use Rattle.law_run.proofs.ContentsByCells.{entry_named, entry_over, has_named, has_over, is_between}
 use Rattle.law_run.specs.MachineTies.{Follow, HasCounted, Is_counted, Is_followed, Is_told}
 use Rattle.law_run.proofs.ChosenDisks.{disks_now, rows_in}
@@ -111,8 +111,8 @@ module _ (setting : Setting) (w : World) (n stamp : ℕ) where
         ap (λ s. flat_map (freezes_on (change_by setting w v)) s.disks.rows) state_same
         ∙ no_freezes (rows_in setting w) (rows_in setting w) (λ row h. (disks_now setting w firm).at row h)
 
-    pub blank_told : told_with [] (takes (change_by setting w v)) (makes (change_by setting w v) ++ freezes (change_by setting w v) ++ []) (Some []) ≡ Some []
-    blank_told = (λ i. told_with [] (blank_takes i) (blank_makes i ++ blank_freezes i ++ []) (Some []))
+    pub blank_told : events_with [] (takes (change_by setting w v)) (makes (change_by setting w v) ++ freezes (change_by setting w v) ++ []) (Some []) ≡ Some []
+    blank_told = (λ i. events_with [] (blank_takes i) (blank_makes i ++ blank_freezes i ++ []) (Some []))
 
   -- ### Servers and clients stay tied to the machine
 

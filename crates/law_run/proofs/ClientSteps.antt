@@ -4,8 +4,8 @@ use Rattle.law_run.proofs.Imports.{By_witness, Client, Command, DiskView, End, E
 use Rattle.law_run.proofs.Imports.{IsOpen, IsReason, IsSeenAs, IsUnderWay, Is_settled, Is_told, Judges, Line, List, May, MayEnd, None, Obeys, OnlySays, Open}
 use Rattle.law_run.proofs.Imports.{Option, Reaction, Reads, Request, Shown, Sight, Some, Starts_it, State, StaysOpen, Stops_at, Stops_it, World, Write}
 use Rattle.law_run.proofs.Imports.{WriteEnd, after, answer_of, answers, ap, arith, begun, by_bool, cell_asked, change_by, command_of, end_by, end_of, ended}
-use Rattle.law_run.proofs.Imports.{false, find, flat_map, freezes, inl, inr, is_read, is_some, is_write, length, makes, next_line, none_some, open_of}
-use Rattle.law_run.proofs.Imports.{open_write, put_same, reacts, refl, refusal, replay, same_some, subst, sym, takes, told_with, true, write_asked, write_by}
+use Rattle.law_run.proofs.Imports.{events_with, false, find, flat_map, freezes, inl, inr, is_read, is_some, is_write, length, makes, next_line, none_some}
+use Rattle.law_run.proofs.Imports.{open_of, open_write, put_same, reacts, refl, refusal, replay, same_some, subst, sym, takes, true, write_asked, write_by}
 use Rattle.law_run.proofs.Imports.{write_refusal, ℕ}
 use Rattle.spec_rules.specs.State.{lead}
 use Rattle.law_steps.specs.DidClient.{Ends}
@@ -113,7 +113,7 @@ module _ (this : ClientStep) where
   -- what is told of a client's step
   pub record ClientTold (in_call : Bool) (reacted : Reaction) : Type 0 where
     pub es : List Event
-    pub is : told_with (begins_by this.c in_call (after_turn this reacted)) (takes (change_by this.setting this.w (after_turn this reacted)))
+    pub is : events_with (begins_by this.c in_call (after_turn this reacted)) (takes (change_by this.setting this.w (after_turn this reacted)))
         (makes (change_by this.setting this.w (after_turn this reacted)) ++ freezes (change_by this.setting this.w (after_turn this reacted))
         ++ flat_map (look_here this reacted) (reacts this.w this.c this.stamp reacted).letters)
         (events.ended (open_write this.w this.c) reacted.answer) ≡ Some es
@@ -130,7 +130,7 @@ module _ (this : ClientStep) where
       → events.ended (open_write this.w this.c) reacted.answer ≡ Some [] → TurnFollow this.w this.m this.m this.c reacted.client → ClientTold in_call reacted
   silent in_call reacted turned begins ends turn = record {
     es = [];
-    is = (λ i. told_with (begins i) (nothing_taken this reacted i)
+    is = (λ i. events_with (begins i) (nothing_taken this reacted i)
         (nothing_made this reacted i ++ nothing_frozen this reacted i ++ no_looks this in_call reacted turned i) (ends i));
     may = tt;
     follows = turn_follow this this.m reacted turn (unwritten this in_call reacted turned);
@@ -207,7 +207,7 @@ module _ (this : ClientStep) where
           let k = after this.m (Begin write) in
           record {
             es = Begin write ∷ [];
-            is = (λ i. told_with (begun ((open_now reacted ∙ asked_is ∙ e) i)) (nothing_taken this reacted i)
+            is = (λ i. events_with (begun ((open_now reacted ∙ asked_is ∙ e) i)) (nothing_taken this reacted i)
                 (nothing_made this reacted i ++ nothing_frozen this reacted i ++ no_looks this true reacted turned i) (unanswered reacted only i));
             may = (none, tt);
             follows = turn_follow this k reacted (record {
@@ -236,7 +236,7 @@ module _ (this : ClientStep) where
       let k = after this.m event in
       record {
         es = event ∷ [];
-        is = (λ i. told_with [] (nothing_taken this reacted i)
+        is = (λ i. events_with [] (nothing_taken this reacted i)
             (nothing_made this reacted i ++ nothing_frozen this reacted i ++ no_looks this false reacted turned i)
             ((ap (λ o. events.ended o reacted.answer) there ∙ is) i));
         may = (may, tt);

@@ -4,9 +4,8 @@ use Rattle.law_run.proofs.Imports.{Request, Some, Take, World, Write, after_step
 use Rattle.law_run.proofs.Imports.{both_true, by_bool, cell_cmp, cell_cmp_same, changed_blocks, false, filter_map, flat_map, had_content, has_content_next}
 use Rattle.law_run.proofs.Imports.{in_flat, in_flat_map, in_kept, in_left, in_map, in_mapped, inl, inr, is_changed, map, nat_list_eq_equiv, nat_lists_same}
 use Rattle.law_run.proofs.Imports.{none_some, not, number_itself, open_write, range_with_len, refl, same_bytes, same_numbers, same_some, subst, sym, taken}
-use Rattle.law_run.proofs.Imports.{taker, takes, takes_on, true, true_false, with_first, write_asked, write_by, writes_so, ℕ}
+use Rattle.law_run.proofs.Imports.{taker, takes, takes_on, true, true_false, was_true, with_first, write_asked, write_by, writes_so, ℕ}
 use Rattle.law_run.proofs.ListMembers.{all_empty, into_range, into_filter_map, of_filter_map, found_one, row_at, key_at, put_key}
-use Rattle.law_state.proofs.TestFacts.{was_true}
 use Rattle.script_lines.specs.declared.request.Request.TheVariants as request
 
 unlike : (xs ys : List ℕ) → xs ≡ ys → not (same_bytes xs ys) ≡ false
@@ -131,11 +130,11 @@ module _ (change : Change) where
     abbrev changes : DiskRow → ℕ → Bool
     changes row b = not (had_content change row b) || not (same_bytes (before_step change row b) (after_step change row b))
 
-    abbrev told_of : DiskRow → ℕ → Option Event
-    told_of row b = taken (taker change.w row.name b (after_step change row b))
+    abbrev events_of_moves : DiskRow → ℕ → Option Event
+    events_of_moves row b = taken (taker change.w row.name b (after_step change row b))
 
     -- what is told of a block
-    told_one : (row : DiskRow) (b : ℕ) → Gives row b → (e : Event) × (told_of row b ≡ Some e) × TakesIt row b e
+    told_one : (row : DiskRow) (b : ℕ) → Gives row b → (e : Event) × (events_of_moves row b ≡ Some e) × TakesIt row b e
     told_one row b g =
         let bytes = after_step change row b in
         let test = writes_so row.name b bytes in
@@ -170,7 +169,7 @@ module _ (change : Change) where
     told_so x h =
         let of_row = in_flat_map (takes_on change) rows x h in
         let row = of_row.0 in
-        let of_block = in_map (told_of row) (changed_blocks change row) x of_row.2 in
+        let of_block = in_map (events_of_moves row) (changed_blocks change row) x of_row.2 in
         let b = of_block.0 in
         let changed = (in_left (is_changed change row) (blocks_in change.setting change.next) b of_block.1).1 in
         let one = told_one row b (told_changed row of_row.1 b changed) in
@@ -188,8 +187,8 @@ module _ (change : Change) where
               let changed : is_changed change row b ≡ true = (λ i. has i && differs i) in
               let g = told_changed row h b changed in
               let one = told_one row b g in
-              let place = in_flat (takes_on change) rows row (told_of row b) h
-              (in_mapped (told_of row) (changed_blocks change row) b
+              let place = in_flat (takes_on change) rows row (events_of_moves row b) h
+              (in_mapped (events_of_moves row) (changed_blocks change row) b
               (in_kept (is_changed change row) (blocks_in change.setting change.next) b g.looked changed)) in
               inr (one.0, there.on one.0 (subst (λ (x : Option Event). In x (flat_map (takes_on change) rows)) one.1 place), one.2))
               (λ same. inl (had_same _ _ _ same));

@@ -2,9 +2,9 @@
 use Rattle.law_run.proofs.Imports.{◌∙◌, ◌≡◌, ◌≤◌, ◌⊎◌, AreDisks, Body, Bool, Cell, Command, DiskRow, DiskView, Firm, Handled, HasLaterView, Holds, In}
 use Rattle.law_run.proofs.Imports.{IsBelow, IsGrown, IsPrefix, IsRead, IsServing, IsSettledState, Known, Line, List, MayLook, None, Option, PlainDisk}
 use Rattle.law_run.proofs.Imports.{PlainSnapshot, ReadKnown, Setting, Snapshot, Some, State, Store, World, ap, arith, asks_old, cell_asked, chain_in}
-use Rattle.law_run.proofs.Imports.{chosen_log, chosen_state, disk_at, disk_on, epoch_at, epoch_for, false, front_on, front_plain, get_in, has_map}
-use Rattle.law_run.proofs.Imports.{holder_is_one, inl, inr, is_in, job_asks_old, leaving, log_below, log_disks, log_grown, log_plain, map_made, none_some}
-use Rattle.law_run.proofs.Imports.{number_itself, one_front, option_and_then, option_map, own_steady, owns_of, read_by, readable, reads_old, refl, same_some}
+use Rattle.law_run.proofs.Imports.{chosen_log, chosen_state, disk_at, disk_on, epoch_at, epoch_for, false, get_in, has_map, holder_is_one, inl, inr, is_in}
+use Rattle.law_run.proofs.Imports.{job_asks_old, leaving, log_below, log_disks, log_grown, log_plain, map_made, none_some, number_itself, one_prefix}
+use Rattle.law_run.proofs.Imports.{option_and_then, option_map, own_steady, owns_of, prefix_on, prefix_plain, read_by, readable, reads_old, refl, same_some}
 use Rattle.law_run.proofs.Imports.{seen, server_state, serves, snapshot, snapshot_named, some_or_none, state_after, subst, sym, true, view_of, ℕ}
 use Rattle.law_run.proofs.EntryAtEpoch.{AreUpTo}
 use Rattle.law_run.proofs.GroundGives.{kept_up_to}
@@ -41,24 +41,24 @@ may_look disks row has contents holds epoch block bytes _ (A_snapshot name snap 
       has = found.2.1 block k.0 ∙ k.1;
     }
 
-module _ (setting : Setting) (w : World) (firm : Firm setting w) (front : List Command) (lies : IsPrefix front (chosen_log setting w)) where
+module _ (setting : Setting) (w : World) (firm : Firm setting w) (prefix : List Command) (lies : IsPrefix prefix (chosen_log setting w)) where
   abbrev s : State
-  s = state_after setting.servers front
+  s = state_after setting.servers prefix
 
   abbrev chosen : State
   chosen = chosen_state setting w
 
-  plain_front : IsSettledState setting.servers s
-  plain_front = log_plain setting.servers front (front_plain setting.servers front (chosen_log setting w) firm.plain lies)
+  plain_prefix : IsSettledState setting.servers s
+  plain_prefix = log_plain setting.servers prefix (prefix_plain setting.servers prefix (chosen_log setting w) firm.plain lies)
 
-  disks_front : AreDisks s
-  disks_front = log_disks setting.servers front (front_plain setting.servers front (chosen_log setting w) firm.plain lies)
+  disks_prefix : AreDisks s
+  disks_prefix = log_disks setting.servers prefix (prefix_plain setting.servers prefix (chosen_log setting w) firm.plain lies)
 
   below : IsBelow s chosen
-  below = log_below setting.servers front (chosen_log setting w) firm.plain lies
+  below = log_below setting.servers prefix (chosen_log setting w) firm.plain lies
 
   grown : IsGrown s chosen
-  grown = log_grown setting.servers front (chosen_log setting w) firm.plain lies
+  grown = log_grown setting.servers prefix (chosen_log setting w) firm.plain lies
 
   -- the disk of a read, by these entries and by what is chosen
   pub record IsOfDisk (lines : List Line) (client seq : ℕ) (told : Bool) (cell : Cell) (epoch : ℕ)
@@ -105,7 +105,7 @@ module _ (setting : Setting) (w : World) (firm : Firm setting w) (front : List C
   }
     where
       was : IsFound s read.name read.disk
-      was = found_row setting.servers s plain_front read.name read.disk read.found
+      was = found_row setting.servers s plain_prefix read.name read.disk read.found
 
       later : HasLaterView chosen read.name read.disk
       later = below.finds read.name read.disk read.found
@@ -114,10 +114,10 @@ module _ (setting : Setting) (w : World) (firm : Firm setting w) (front : List C
       now = found_row setting.servers chosen (plain_now setting w firm) read.name later.now later.is
 
       of_told : (told : Bool) → has_map (cell_asked s (view_of was.row) read.block told).map was.row ≡ true
-      of_told false = ap (λ (c : Cell). has_map c.map was.row) (asked_named s was.row (disks_front.at was.row was.there) read.block)
-          ∙ named_map_is setting.servers s plain_front disks_front was.row was.there read.block
-      of_told true = ap (λ (c : Cell). has_map c.map was.row) (asked_read s was.row (disks_front.at was.row was.there) read.block)
-          ∙ read_has was.row read.block (left_apart setting.servers s plain_front disks_front was.row was.there)
+      of_told false = ap (λ (c : Cell). has_map c.map was.row) (asked_named s was.row (disks_prefix.at was.row was.there) read.block)
+          ∙ named_map_is setting.servers s plain_prefix disks_prefix was.row was.there read.block
+      of_told true = ap (λ (c : Cell). has_map c.map was.row) (asked_read s was.row (disks_prefix.at was.row was.there) read.block)
+          ∙ read_has was.row read.block (left_apart setting.servers s plain_prefix disks_prefix was.row was.there)
 
       asked_by : (told : Bool) → has_map (cell_asked s read.disk read.block told).map was.row ≡ true
       asked_by told = ap (λ d. has_map (cell_asked s d read.block told).map was.row) (sym was.view) ∙ of_told told
@@ -143,16 +143,16 @@ module _ (setting : Setting) (w : World) (firm : Firm setting w) (front : List C
         let plain_chosen = plain_now setting w firm in
         let at = get_in s.disks.rows o.was o.was_there in
         let at_d = get_in (rows_in setting w) d.row d.there in
-        let here = map_made s.maps at.0 other.map o.was (plain_front.rows at.0 o.was at.1) has in
+        let here = map_made s.maps at.0 other.map o.was (plain_prefix.rows at.0 o.was at.1) has in
         let there = map_made chosen.maps at_d.0 other.map d.row (plain_chosen.rows at_d.0 d.row at_d.1) d.has in
         let place : at.0 ≡ at_d.0 = same_some (sym (disk_on s.maps chosen.maps other.map at.0 grown.maps here) ∙ there) in
         let id : d.row.id ≡ o.row.id =
-        (plain_chosen.rows at_d.0 d.row at_d.1).id ∙ sym place ∙ sym (plain_front.rows at.0 o.was at.1).id ∙ sym o.id_is in
+        (plain_chosen.rows at_d.0 d.row at_d.1).id ∙ sym place ∙ sym (plain_prefix.rows at.0 o.was at.1).id ∙ sym o.id_is in
         same_some (sym ((disks_now setting w firm).at d.row d.there) ∙ ap (disk_at chosen.disks.rows) id ∙ (disks_now setting w firm).at o.row o.there)
 
     -- a read of the disk's own content is of the epoch of its cells
     pub own_epoch : (other : Cell) → has_map other.map o.was ≡ true → read.snap ≡ None → epoch_at s other ≡ epoch
-    own_epoch other has none = epoch_here setting.servers s plain_front disks_front o.was o.was_there other has ∙ o.own none
+    own_epoch other has none = epoch_here setting.servers s plain_prefix disks_prefix o.was o.was_there other has ∙ o.own none
 
 -- ### A read that a server handles
 
@@ -174,12 +174,12 @@ module _ (g : Grounded) (n : ℕ) where
       subst (λ (b : Body). Known setting (seen ground.lives w) h.letter.from h.letter.to h.letter.rev b) h.is
       (ground.asking.letters h.letter h.sent) in
       let top = chosen_log setting w in
-      let front : known.at.front ≡ (w.servers n).log.applied =
-      one_front known.at.front (w.servers n).log.applied top (front_on known.at.front _ top known.at.lies (firm.clients client))
+      let prefix : known.at.prefix ≡ (w.servers n).log.applied =
+      one_prefix known.at.prefix (w.servers n).log.applied top (prefix_on known.at.prefix _ top known.at.lies (firm.clients client))
       (firm.servers n) (known.at.long ∙ h.at) in
       record {
         told = known.told;
-        read = subst (λ (log : List Command). IsRead (state_after setting.servers log) setting.lines client seq known.told cell epoch) front known.read;
+        read = subst (λ (log : List Command). IsRead (state_after setting.servers log) setting.lines client seq known.told cell epoch) prefix known.read;
       }
 
   -- it is of the old map where the cell is leaving

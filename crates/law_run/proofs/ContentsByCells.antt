@@ -1,10 +1,9 @@
 -- A block's content is told by the cell under which requests name it and, between two maps, by what was frozen.
-use Rattle.law_run.proofs.Imports.{◌&&◌, ◌==◌, ◌||◌, ◌∙◌, ◌≡◌, ◌≤◌, Bool, Cell, DiskRow, DiskView, Fenced, Move, New, None, Old, Option, RegionState, Some}
-use Rattle.law_run.proofs.Imports.{State, Stored, World, ap, arith, authority, by_bool, cell_asked, disk_at, entry_at_home, entry_before, entry_of, false}
-use Rattle.law_run.proofs.Imports.{first_entry, has_at_home, has_map, home_of, if◌then◌else◌, is_fenced, is_some, leaves, map_asked, move_region, named_cell}
-use Rattle.law_run.proofs.Imports.{named_map, new_stage, number_itself, old_cell, old_map, old_stage, option_map, read_cell, read_map, refl, region_at}
-use Rattle.law_run.proofs.Imports.{region_of, same_numbers, stage_under, subst, sym, true, true_false, view_of, ℕ}
-use Rattle.law_state.proofs.Stages.{new_most}
+use Rattle.law_run.proofs.Imports.{if◌then◌else◌, ◌&&◌, ◌==◌, ◌||◌, ◌∙◌, ◌≡◌, ◌≤◌, Bool, Cell, DiskRow, DiskView, Fenced, Move, New, None, Old, Option}
+use Rattle.law_run.proofs.Imports.{RegionState, Some, State, Stored, World, ap, arith, authority, by_bool, cell_asked, disk_at, entry_at_home, entry_before}
+use Rattle.law_run.proofs.Imports.{entry_of, false, first_entry, has_at_home, has_map, home_of, is_fenced, is_some, leaves, map_asked, move_region}
+use Rattle.law_run.proofs.Imports.{named_cell, named_map, new_most, new_stage, number_itself, old_cell, old_map, old_stage, option_map, read_cell, read_map}
+use Rattle.law_run.proofs.Imports.{refl, region_at, region_of, same_numbers, stage_under, subst, sym, true, true_false, view_of, ℕ}
 
 -- ### Contents
 

@@ -4,9 +4,9 @@ use Rattle.law_run.proofs.Imports.{[], ◌==◌, ◌||◌, ◌∙◌, ◌∷◌,
 use Rattle.law_run.proofs.Imports.{HasSent, IsCaught, IsLastCopy, IsLater, IsLeft, IsLeftBy, IsLinked, IsOther, IsPrefix, IsTold, IsTrimming, Is_dropped}
 use Rattle.law_run.proofs.Imports.{Is_dropped_first, Is_put, LastCopy, LinkRow, List, Lost, Only, Option, PairState, PutsCopy, Some, State, Table, about}
 use Rattle.law_run.proofs.Imports.{alive_on, alone_authority, alone_by, alone_or_flagged, ap, arith, authority, been_below, by_bool, chosen_log, chosen_state}
-use Rattle.law_run.proofs.Imports.{epochs_beyond, front_itself, fronts_meet, has_server, held_by, holder_is_one, id_of, inl, inr, is_flagged, kept}
-use Rattle.law_run.proofs.Imports.{linked_alive, links_of, live, lost_authority, none_some, of_last, one_row, other_apart, other_of, other_than, own_place}
-use Rattle.law_run.proofs.Imports.{own_steady, owns_of, past_last, past_of, place_by, places_up, refl, retired_authority, rows_later, same_numbers, same_some}
+use Rattle.law_run.proofs.Imports.{epochs_beyond, has_server, held_by, holder_is_one, id_of, inl, inr, is_flagged, kept, linked_alive, links_of, live}
+use Rattle.law_run.proofs.Imports.{lost_authority, none_some, of_last, one_row, other_apart, other_of, other_than, own_place, own_steady, owns_of, past_last}
+use Rattle.law_run.proofs.Imports.{past_of, place_by, places_up, prefix_itself, prefixes_meet, refl, retired_authority, rows_later, same_numbers, same_some}
 use Rattle.law_run.proofs.Imports.{server_state, subst, sym, true, unseen_beyond, ℕ}
 use Rattle.law_run.proofs.OwnPlacesAreLatest.{IsSharing, visit_here, alive_here}
 use Rattle.law_run.proofs.RunScenes.{Grounded}
@@ -63,8 +63,8 @@ module _ (g : Grounded) (n : ℕ) (runs : (g.w.servers n).life.running ≡ true)
   abbrev chosen : List Command
   chosen = chosen_log setting w
 
-  abbrev own_front : ℕ → List Command
-  own_front k = (w.servers k).log.applied
+  abbrev own_prefix : ℕ → List Command
+  own_prefix k = (w.servers k).log.applied
 
   abbrev cell : Cell
   cell = puts.cell
@@ -72,16 +72,16 @@ module _ (g : Grounded) (n : ℕ) (runs : (g.w.servers n).life.running ≡ true)
   -- the server is the other one of the cell's link, which the holder has marked
   pub record IsCopiedTo : Type 0 where
     pub row : LinkRow
-    pub linked : IsLinked setting (own_front n) cell row
+    pub linked : IsLinked setting (own_prefix n) cell row
     pub holder : ℕ
     pub whole : Bool
     pub alone : row.state ≡ Only holder whole
     pub other : other_of holder row ≡ n
     pub apart : holder ≢ n
     pub holds : has_server holder row ≡ true
-    pub left : IsLeftBy row (ground.good.visits holder (place_by setting (own_front n) row) cell) cell
+    pub left : IsLeftBy row (ground.good.visits holder (place_by setting (own_prefix n) row) cell) cell
     -- so it has started no ballot for the link's Caught
-    pub unflagged : (own : PairState) → ground.good.visits holder (place_by setting (own_front n) row) cell ≡ Some own
+    pub unflagged : (own : PairState) → ground.good.visits holder (place_by setting (own_prefix n) row) cell ≡ Some own
         → is_flagged own (id_of row) ≡ true → ⊥
 
   there : (row : LinkRow) × IsOther (own_place setting w n) cell row puts.holder
@@ -94,7 +94,7 @@ module _ (g : Grounded) (n : ℕ) (runs : (g.w.servers n).life.running ≡ true)
   h = other_of n link
 
   abbrev place : ℕ
-  place = place_by setting (own_front n) link
+  place = place_by setting (own_prefix n) link
 
   own_alive : AliveIn (server_state setting w n) cell
   own_alive = alive_here g n cell alive
@@ -123,12 +123,13 @@ module _ (g : Grounded) (n : ℕ) (runs : (g.w.servers n).life.running ≡ true)
 
   copying : AreCopying links link cell visit (Some (owns_of w n))
   copying = subst (AreCopying links link cell visit) own_visit
-      (ground.good.alone (own_front n) cell link h alone.0 (firm.servers n) there.1.is alone.1).copying
+      (ground.good.alone (own_prefix n) cell link h alone.0 (firm.servers n) there.1.is alone.1).copying
 
   told : (said : Body) → Handled w n said → (about said).cell ≡ Some cell → IsTold link visit (Some (owns_of w n)) said
   told said heard of =
-      let front = own_front n in
-      let letter = (ground.good.letters heard.letter heard.sent front cell link (firm.servers n) (sym heard.at) there.1.is own_alive).alone h alone.0 alone.1 in
+      let prefix = own_prefix n in
+      let letter =
+      (ground.good.letters heard.letter heard.sent prefix cell link (firm.servers n) (sym heard.at) there.1.is own_alive).alone h alone.0 alone.1 in
       let both : Body → Type 0 = λ b. IsTold link visit (ground.good.visits (other_of h link) place cell) b in
       subst (λ o. IsTold link visit o said) own_visit (subst (λ (b : Body). (about b).cell ≡ Some cell → both b) heard.is letter of)
 
@@ -150,13 +151,13 @@ module _ (g : Grounded) (n : ℕ) (runs : (g.w.servers n).life.running ≡ true)
         nothing_left own (copying.caught own e flagged) (subst (λ (o : PairState). IsLeft o link cell) (same_some (sym left.met ∙ e)) left.left);
   }
 
-  -- at each later front the other one holds the link alone still, or it is Lost
-  pub holds_still : (c : IsCopiedTo) (more : List Command) (now : LinkRow) → IsPrefix (own_front n) more → IsPrefix more chosen
+  -- at each later prefix the other one holds the link alone still, or it is Lost
+  pub holds_still : (c : IsCopiedTo) (more : List Command) (now : LinkRow) → IsPrefix (own_prefix n) more → IsPrefix more chosen
       → IsLinked setting more cell now → ((later : Bool) × (now.state ≡ Only c.holder later)) ⊎ (now.state ≡ Lost)
   holds_still c more now one two end =
       elim (alone_or_flagged setting ground.records w (λ k. kept setting w k) firm ground.good ground.started
-      (own_front n) more cell c.row now c.holder c.whole one two c.linked c.alone end
-      (alive_on setting chosen firm.plain more chosen cell two (front_itself chosen) alive)
+      (own_prefix n) more cell c.row now c.holder c.whole one two c.linked c.alone end
+      (alive_on setting chosen firm.plain more chosen cell two (prefix_itself chosen) alive)
       (λ place lt. ap (λ k. ground.good.visits k place cell) c.other
       ∙ unseen_beyond setting ground.records w (λ k. kept setting w k) firm ground.good n cell c.row c.linked place lt)) [
         | inl still ↦ inl (still.0, still.1)
@@ -165,7 +166,7 @@ module _ (g : Grounded) (n : ℕ) (runs : (g.w.servers n).life.running ≡ true)
       ]
 
   -- so it is not in Both
-  not_in_both : {B : Type 0} (c : IsCopiedTo) (more : List Command) (now : LinkRow) → IsPrefix (own_front n) more → IsPrefix more chosen
+  not_in_both : {B : Type 0} (c : IsCopiedTo) (more : List Command) (now : LinkRow) → IsPrefix (own_prefix n) more → IsPrefix more chosen
       → IsLinked setting more cell now → now.state ≡ Both → B
   not_in_both c more now one two end both = elim (holds_still c more now one two end) [
     | inl only ↦ (let f : Only c.holder only.0 ≡ Both = sym only.1 ∙ both in absurd cc)
@@ -176,9 +177,9 @@ module _ (g : Grounded) (n : ℕ) (runs : (g.w.servers n).life.running ≡ true)
   pub copied_uncounted : authority (chosen_state setting w) cell ≡ Some n → ⊥
   copied_uncounted counts =
       let c = copied_to in
-      let now = linked_alive setting chosen firm.plain (own_front n) chosen cell c.row (firm.servers n) (front_itself chosen) c.linked alive in
+      let now = linked_alive setting chosen firm.plain (own_prefix n) chosen cell c.row (firm.servers n) (prefix_itself chosen) c.linked alive in
       let lives = counted_lives (chosen_state setting w) cell n counts in
-      elim (holds_still c chosen now.0 (firm.servers n) (front_itself chosen) now.1) [
+      elim (holds_still c chosen now.0 (firm.servers n) (prefix_itself chosen) now.1) [
         | inl only ↦
             let holder = alone_authority (chosen_state setting w) cell now.0 now.1 lives c.holder only.0 only.1 in
             c.apart (same_some (sym holder ∙ counts))
@@ -189,8 +190,8 @@ module _ (g : Grounded) (n : ℕ) (runs : (g.w.servers n).life.running ≡ true)
   pub copied_unfollowed : (p : ℕ) (row : LinkRow) → IsSharing g p cell row → p ≢ n → ⊥
   copied_unfollowed p row s apart =
       let c = copied_to in
-      elim (fronts_meet (own_front n) (own_front p) chosen (firm.servers n) (firm.servers p)) [
-        | inl before ↦ not_in_both c (own_front p) row before (firm.servers p) s.linked s.both
+      elim (prefixes_meet (own_prefix n) (own_prefix p) chosen (firm.servers n) (firm.servers p)) [
+        | inl before ↦ not_in_both c (own_prefix p) row before (firm.servers p) s.linked s.both
         | inr following ↦ absurd (further c following)
       ]
     where
@@ -202,16 +203,16 @@ module _ (g : Grounded) (n : ℕ) (runs : (g.w.servers n).life.running ≡ true)
       holder_is c has = by_bool (c.holder == p) (λ t. same_numbers c.holder p t)
           (λ f. absurd (apart (sym (other_than c.holder p c.row c.holds has f) ∙ c.other)))
 
-      further : (c : IsCopiedTo) → IsPrefix (own_front p) (own_front n) → ⊥
+      further : (c : IsCopiedTo) → IsPrefix (own_prefix p) (own_prefix n) → ⊥
       further c following =
-          let up = places_up setting chosen firm.plain (own_front p) (own_front n) cell row c.row following
+          let up = places_up setting chosen firm.plain (own_prefix p) (own_prefix n) cell row c.row following
           (firm.servers n) s.linked c.linked in
           let has : has_server p c.row ≡ true = later_has c.row
-          (rows_later setting chosen firm.plain (own_front p) (own_front n) cell row c.row following (firm.servers n) s.linked c.linked) in
+          (rows_later setting chosen firm.plain (own_prefix p) (own_prefix n) cell row c.row following (firm.servers n) s.linked c.linked) in
           let holder = holder_is c has in
-          let been = been_below setting ground.records w (λ k. kept setting w k) firm ground.good p (place_by setting (own_front n) c.row) cell c.left.by row
-          (subst (λ k. ground.good.visits k (place_by setting (own_front n) c.row) cell ≡ Some c.left.by) holder c.left.met) s.linked in
-          let same : place_by setting (own_front p) row ≡ place_by setting (own_front n) c.row = omega arith in
-          let one = one_row setting chosen firm.plain (own_front p) (own_front n) cell row c.row (firm.servers p)
+          let been = been_below setting ground.records w (λ k. kept setting w k) firm ground.good p (place_by setting (own_prefix n) c.row) cell c.left.by row
+          (subst (λ k. ground.good.visits k (place_by setting (own_prefix n) c.row) cell ≡ Some c.left.by) holder c.left.met) s.linked in
+          let same : place_by setting (own_prefix p) row ≡ place_by setting (own_prefix n) c.row = omega arith in
+          let one = one_row setting chosen firm.plain (own_prefix p) (own_prefix n) cell row c.row (firm.servers p)
           (firm.servers n) s.linked c.linked same in
           (let f : Only c.holder c.whole ≡ Both = sym c.alone ∙ ap (λ (r : LinkRow). r.state) one ∙ s.both in absurd cc)

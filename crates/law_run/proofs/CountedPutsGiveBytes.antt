@@ -2,9 +2,9 @@
 use Rattle.law_run.proofs.Imports.{◌∙◌, ◌≡◌, A_copy, AliveIn, An_asked, An_own, Cell, Drops, IsLinked, IsOpen, IsOwn, IsSecondary, None, Nothing_new}
 use Rattle.law_run.proofs.Imports.{Of_the_retired, Pending, Plain, PutsAsked, PutsCopy, PutsOwn, Some, StoresSo, alone_authority, ap, arith, asked_for, at}
 use Rattle.law_run.proofs.Imports.{authority, both_authority, by_bool, cell_cmp, cell_of, chain_apart, chain_in, chosen_log, copied_apart, counted, epoch_at}
-use Rattle.law_run.proofs.Imports.{false, front_on, inl, inr, is_clients, log_roles, named_cell, nat_cmp, none_some, one_row, open_beside, open_running}
-use Rattle.law_run.proofs.Imports.{pending_here, place_by, replay, retired_not, runs_now, same_or_apart, same_some, some_or_none, stage_at, stage_facts}
-use Rattle.law_run.proofs.Imports.{subst, sym, true, true_false, ℕ}
+use Rattle.law_run.proofs.Imports.{false, inl, inr, is_clients, log_roles, named_cell, nat_cmp, none_some, one_row, open_beside, open_running, pending_here}
+use Rattle.law_run.proofs.Imports.{place_by, prefix_on, replay, retired_not, runs_now, same_or_apart, same_some, some_or_none, stage_at, stage_facts, subst}
+use Rattle.law_run.proofs.Imports.{sym, true, true_false, ℕ}
 use Rattle.law_run.specs.WritesGoOn.{is_held, Onward}
 use Rattle.law_run.proofs.CopiesThatDontCount.{copied_uncounted}
 use Rattle.law_run.proofs.MachineTakesWrites.{Taken, all_given, takes_of}
@@ -53,7 +53,7 @@ module _ (this : ServerStep) (same : chosen_log this.setting (later_world this) 
       let known = remembered this.setting this.w this.ground.lives this.ground.asking f.row.primary (spot a f) cell f.putting.op clients
       (followed_recalled (grounded this) this.along.steady this.n a.number a.key a.bytes f clients) in
       let timely = followed_timely (grounded this) this.along.steady this.n a.number a.key a.bytes f clients in
-      let upto = front_on known.known.upto _ _ known.known.applied (firm.servers f.row.primary) in
+      let upto = prefix_on known.known.upto _ _ known.known.applied (firm.servers f.row.primary) in
       let one : known.row ≡ f.row = one_row this.setting (chosen_log this.setting this.w) firm.plain
       (this.w.servers this.n).log.applied known.known.upto cell
       f.row known.row (firm.servers this.n) upto f.shares.linked known.linked (sym known.at) in
@@ -81,8 +81,9 @@ module _ (this : ServerStep) (same : chosen_log this.setting (later_world this) 
     abbrev Jobs : StoresSo hears here own (new this).store.chains → Type 0
     Jobs s = (k : Plain) → Onward this.m k → PutHeld this k s → OwnFollow this k (new this)
 
-    told_of : (taken : Taken this) (s : StoresSo hears here own (new this).store.chains) → Jobs s → PutHeld this (replay this.m taken.es) s → TakesTold this
-    told_of taken s job held =
+    events_of_moves : (taken : Taken this) (s : StoresSo hears here own (new this).store.chains) → Jobs s
+        → PutHeld this (replay this.m taken.es) s → TakesTold this
+    events_of_moves taken s job held =
         let k = replay this.m taken.es in
         takes_of this taken (job k taken.onward held) (counts this same k) (says k taken.onward)
 
@@ -101,7 +102,7 @@ module _ (this : ServerStep) (same : chosen_log this.setting (later_world this) 
           (λ mine. ap (λ c. chain_in c (named_cell row b)) chains
           ∙ chain_apart own.store.chains (cell_of op.key) _ (named_cell row b)
           (λ e. never (ap (authority chosen) (sym keyed ∙ sym e) ∙ mine))))) in
-          told_of taken (An_own p) job
+          events_of_moves taken (An_own p) job
           (λ clients e. absurd (never e))
 
       mine : is_clients op.kind ≡ true → authority chosen op.cell ≡ Some this.n → TakesTold this
@@ -119,7 +120,7 @@ module _ (this : ServerStep) (same : chosen_log this.setting (later_world this) 
           let here_mine : authority chosen (cell_of op.key) ≡ Some this.n = ap (authority chosen) keyed ∙ counted in
           let put : PutsHere this same = record { key = op.key; entry = entry; chains = chains; own_counts = own_counts; mine = here_mine } in
           let taken = all_given this (given_put this same put epoch op bytes place) in
-          told_of taken (An_own p) job
+          events_of_moves taken (An_own p) job
           (λ clients e. put_held this same put epoch op bytes place taken)
 
       -- a fill
@@ -133,7 +134,7 @@ module _ (this : ServerStep) (same : chosen_log this.setting (later_world this) 
           let put : PutsHere this same = record { key = op.key; entry = entry; chains = chains; own_counts = own_counts; mine = here_mine } in
           let taken = all_given this (fill_given this same put op.bytes bytes one op.rev
           (this.ground.moves.fills.asked this.n op.cell op is fill) lacks) in
-          told_of taken (An_own p) job
+          events_of_moves taken (An_own p) job
           (λ clients e. true_false clients fill)
 
       own_told : TakesTold this
@@ -168,7 +169,7 @@ module _ (this : ServerStep) (same : chosen_log this.setting (later_world this) 
             let taken = all_given this (calm_given this same (λ row there b. own_unchanged this same (this.ground.own this.n runs a.seat) row there b (λ mine.
             ap (λ c. chain_in c (named_cell row b)) a.chains ∙ chain_apart own.store.chains (cell_of a.key) _ (named_cell row b)
             (λ e. retired_apart this same row there b (ap (stage_at chosen) e ∙ retired))))) in
-            told_of taken (An_asked a) job (λ g clients. let alive = g.shares.alive in absurd (omega (arith, alive, retired)))
+            events_of_moves taken (An_asked a) job (λ g clients. let alive = g.shares.alive in absurd (omega (arith, alive, retired)))
 
         write_told : (a : PutsAsked hears here own (new this).store.chains) → AliveIn chosen (cell_of a.key) → (f : FollowedHere a)
             → is_clients f.putting.op.kind ≡ true → Jobs (An_asked a) → TakesTold this
@@ -187,7 +188,7 @@ module _ (this : ServerStep) (same : chosen_log this.setting (later_world this) 
             let own_counts = this.ground.own this.n runs a.seat in
             let put : PutsHere this same = record { key = a.key; entry = a.entry; chains = a.chains; own_counts = own_counts; mine = counts_here } in
             let taken = all_given this (given_put this same put epoch f.putting.op bytes place) in
-            told_of taken (An_asked a) job (λ g clients.
+            events_of_moves taken (An_asked a) job (λ g clients.
             ap (λ (o : Pending). is_held (replay this.m taken.es) o.client) (sym (same_op a f g))
             ∙ put_held this same put epoch f.putting.op bytes place taken)
 
@@ -203,7 +204,7 @@ module _ (this : ServerStep) (same : chosen_log this.setting (later_world this) 
             record { key = a.key; entry = a.entry; chains = a.chains; own_counts = own_counts; mine = after_second runs a alive } in
             let taken = all_given this (fill_given this same put a.bytes a.put one f.putting.op.rev
             frozen lacks) in
-            told_of taken (An_asked a) job (λ g clients. true_false (ap (λ (o : Pending). is_clients o.kind) (same_op a f g) ∙ clients) fill)
+            events_of_moves taken (An_asked a) job (λ g clients. true_false (ap (λ (o : Pending). is_clients o.kind) (same_op a f g) ∙ clients) fill)
 
     -- a copy is to a server whose copy doesn't count
     copy_told : (c : PutsCopy hears here own (new this).store.chains) → Jobs (A_copy c) → TakesTold this
@@ -213,7 +214,7 @@ module _ (this : ServerStep) (same : chosen_log this.setting (later_world this) 
         (λ e. copied_uncounted (grounded this) this.n runs (new this).store.chains c
         (subst (AliveIn chosen) e (named_alive this same row there b))
         (ap (authority chosen) (sym e) ∙ mine))))) in
-        told_of taken (A_copy c) job tt
+        events_of_moves taken (A_copy c) job tt
 
     -- a sweep is of a cell that is retired by what is chosen, or has nothing
     retired_drops : (d : Drops here own (new this).store.chains) → Jobs (Of_the_retired d) → TakesTold this
@@ -221,7 +222,7 @@ module _ (this : ServerStep) (same : chosen_log this.setting (later_world this) 
         let taken = all_given this (calm_given this same (λ row there b. own_unchanged this same (this.ground.own this.n runs d.seat) row there b
         (λ mine. dropped_same (grounded this) this.along.steady this.n (new this).store.chains d (named_cell row b)
         (named_alive this same row there b)))) in
-        told_of taken (Of_the_retired d) job tt
+        events_of_moves taken (Of_the_retired d) job tt
 
     -- a job that changes at most one chain
     pub stored_told : (s : StoresSo hears here own (new this).store.chains) → Jobs s → TakesTold this

@@ -4,11 +4,12 @@ use Rattle.law_run.proofs.Imports.{[], ◌++◌, ◌+◌, ◌<◌, ◌==◌, ◌
 use Rattle.law_run.proofs.Imports.{Good, HasProperTuples, IsCaughtStill, IsFrozen, IsLast, IsLater, IsLinked, IsOpen, IsSteady, IsTimely, LinkRow, Lost, None}
 use Rattle.law_run.proofs.Imports.{Only, PairState, Pending, Some, Store, Stored, WasThere, alone_authority, ap, arith, asked_for, at, authority}
 use Rattle.law_run.proofs.Imports.{both_authority, by_bool, cell_cmp, chain_in, chosen_steady, counted, counted_by, entry_at, entry_by, entry_of, epoch_at}
-use Rattle.law_run.proofs.Imports.{false, far, front_itself, front_long, front_more, front_on, half, half_store, has_server, holder_is_one, inl, inr}
-use Rattle.law_run.proofs.Imports.{is_alone_on, is_clients, is_some, kept, length, linked_alive, live, log_alone, log_lost, lost_authority, nat_cmp}
-use Rattle.law_run.proofs.Imports.{none_some, number_itself, one_before, one_put_ahead, one_row, op_there, open_at_place, other_of, other_than, owns_of}
-use Rattle.law_run.proofs.Imports.{pair_at, pair_of, place_by, places_up, primary_is_one, put, refl, rows_later, same_numbers, same_only, same_or_apart}
-use Rattle.law_run.proofs.Imports.{secondary_is_one, serves, so_alone, some_or_none, stage_at, stage_facts, subst, sym, true, unwrap_or, version_of, ℕ}
+use Rattle.law_run.proofs.Imports.{false, far, half, half_store, has_server, holder_is_one, inl, inr, is_alone_on, is_clients, is_some, kept, length}
+use Rattle.law_run.proofs.Imports.{linked_alive, live, log_alone, log_lost, lost_authority, nat_cmp, none_some, number_itself, one_before, one_put_ahead}
+use Rattle.law_run.proofs.Imports.{one_row, op_there, open_at_place, other_of, other_than, owns_of, pair_at, pair_of, place_by, places_up, prefix_itself}
+use Rattle.law_run.proofs.Imports.{prefix_long, prefix_more, prefix_on, primary_is_one, put, refl, rows_later, same_numbers, same_only, same_or_apart}
+use Rattle.law_run.proofs.Imports.{secondary_is_one, serves, so_alone, some_or_none, stage_at, stage_facts, subst, sym, top_last, true, unwrap_or, version_of}
+use Rattle.law_run.proofs.Imports.{ℕ}
 use Rattle.law_run.specs.MachineTies.{IsRemembered}
 use Rattle.law_run.proofs.ChosenDisks.{disks_now, plain_now, named_epoch}
 use Rattle.law_run.proofs.EntryAtEpoch.{entry_below, entry_put}
@@ -18,7 +19,6 @@ use Rattle.law_run.proofs.OpenWritesAreOnDisks.{Placed, placed}
 use Rattle.law_run.proofs.EventsOfServerSteps.{ServerStep, ends_of, grounded, joined_now, joined_then, kept_chain, kept_middle, new}
 use Rattle.law_run.proofs.OwnPlacesAreLatest.{chosen_last, chosen_store, chosen_twins}
 use Rattle.law_run.proofs.FirstIsOneAhead.{copied_low}
-use Rattle.law_moves.proofs.MoveWorlds.{top_last}
 
 module _ (this : ServerStep) (same_store : (new this).store.chains ≡ (owns_of this.w this.n).store.chains) where
   open ends_of this use {v, top, end, chosen, after}
@@ -87,7 +87,7 @@ module _ (this : ServerStep) (same_store : (new this).store.chains ≡ (owns_of 
   module _ (cell : Cell) (link now : LinkRow) (is : IsLinked this.setting top cell link) (then : IsLinked this.setting end cell now)
       (lives : live chosen cell ≡ true) (lives_after : live after cell ≡ true) (alive : AliveIn after cell) where
     so : IsLater link now
-    so = rows_later this.setting end plain_end top end cell link now this.grows (front_itself end) is then
+    so = rows_later this.setting end plain_end top end cell link now this.grows (prefix_itself end) is then
 
     -- a server of the link that serves it after the step has the blocks that it had
     still_has : (n : ℕ) → has_server n link ≡ true → serves n now now.state ≡ true → joined_now this n ≡ joined_then this n
@@ -172,10 +172,10 @@ module _ (this : ServerStep) (same_store : (new this).store.chains ≡ (owns_of 
             let seen : visits this a (place_by this.setting f.until found) cell ≡ Some visit.0 =
             subst (λ k. visits this k (place_by this.setting f.until found) cell ≡ Some visit.0) holder_is visit.1 in
             let le = been_within this a (place_by this.setting f.until found) cell visit.0 link seen is in
-            let until_end = front_on f.until (f.until ++ f.entry ∷ []) end (front_more f.until f.entry) f.stands in
+            let until_end = prefix_on f.until (f.until ++ f.entry ∷ []) end (prefix_more f.until f.entry) f.stands in
             let up = places_up this.setting end plain_end top f.until cell link found f.following until_end is f.was in
             let same : place_by this.setting top link ≡ place_by this.setting f.until found = omega arith in
-            let beside = (middle.alone top cell link a whole (front_itself top) is held).beside alive_then (middle_last cell link is) in
+            let beside = (middle.alone top cell link a whole (prefix_itself top) is held).beside alive_then (middle_last cell link is) in
             sym (middle_chain a cell)
             ∙ beside.alike.caught visit.0
             (this.middle.visits_are a (place_by this.setting top link) cell ∙ ap (λ p. visits this a p cell) same ∙ seen) visit.2
@@ -239,7 +239,7 @@ module _ (this : ServerStep) (same_store : (new this).store.chains ≡ (owns_of 
       let lives_after = (stage_facts this.setting.servers end plain_end cell).alive (omega arith) high in
       let alive : AliveIn after cell = omega arith in
       let link = steady.lives cell lives in
-      let later = linked_alive this.setting end plain_end top end cell link.row this.grows (front_itself end) link.is alive in
+      let later = linked_alive this.setting end plain_end top end cell link.row this.grows (prefix_itself end) link.is alive in
       elim (steady.linked cell link.row link.is).served [
         | ByBoth both one two ↦ both_moves cell link.row later.0 link.is later.1 lives lives_after alive both
         | ByOne holder other whole alone pair out ↦ alone_moves cell link.row later.0 link.is later.1 lives lives_after alive holder whole alone
@@ -288,7 +288,7 @@ module _ (this : ServerStep) (same_store : (new this).store.chains ≡ (owns_of 
       module _ (clients : is_clients op.kind ≡ true) where
         -- it is open
         first_recalled : IsRemembered this.setting this.w this.ground.lives p spot cell op
-        first_recalled = this.ground.recalled top cell left.link p own op (front_itself top) left.linked left.both
+        first_recalled = this.ground.recalled top cell left.link p own op (prefix_itself top) left.linked left.both
             (chosen_last (grounded this) cell left.link left.linked) visit is clients
 
         timely : IsTimely this.setting.servers top cell op
@@ -299,10 +299,10 @@ module _ (this : ServerStep) (same_store : (new this).store.chains ≡ (owns_of 
         first_open =
             let firm = this.along.firm in
             let known = remembered this.setting this.w this.ground.lives this.ground.asking p spot cell op clients first_recalled in
-            let upto = front_on known.known.upto _ _ known.known.applied (firm.servers p) in
+            let upto = prefix_on known.known.upto _ _ known.known.applied (firm.servers p) in
             let one : known.row ≡ left.link =
             one_row this.setting top firm.plain top known.known.upto cell left.link known.row
-            (front_itself top) upto left.linked known.linked (sym known.at) in
+            (prefix_itself top) upto left.linked known.linked (sym known.at) in
             open_at_place this.setting this.w firm this.ground.lives p known.inc (asked_for cell op) op.rev known.known left.link
             (subst (IsLinked this.setting known.known.upto cell) one known.linked)
             (sym known.at ∙ ap (place_by this.setting known.known.upto) one) timely.stays
@@ -340,7 +340,7 @@ module _ (this : ServerStep) (same_store : (new this).store.chains ≡ (owns_of 
         fill_frozen = this.ground.moves.filling p spot cell own.pairs op was_there is fill
 
         rev_low : op.rev ≤ length top
-        rev_low = let le = front_long fill_frozen.front top fill_frozen.lies in let long = fill_frozen.long in omega arith
+        rev_low = let le = prefix_long fill_frozen.prefix top fill_frozen.lies in let long = fill_frozen.long in omega arith
 
         pub fill_comes : stage_at chosen cell ≤ 3 → stage_at chosen cell ≡ 1
         fill_comes = this.ground.moves.coming p spot cell own.pairs op left.link was_there is fill left.linked refl rev_low

@@ -1,18 +1,14 @@
 -- What a server's step sends: which letters have data, and that one ends a write as written only where that has had its bytes.
-use Rattle.law_run.proofs.Imports.{◌==◌, ◌∙◌, ◌≡◌, ◌⊎◌, Answered, Body, Bool, Did, Ending, Ends_fill, Finished, Glanced, In, IsOpen, IsRefusal, JobContext}
-use Rattle.law_run.proofs.Imports.{JobResult, Letter, List, Moves, Moves_on, NeverRetired, Of_the_log, OpKind, PairState, Plain, Post, Refused, Refuses}
-use Rattle.law_run.proofs.Imports.{Repeats, Says, Sender, Subject, about, ap, down_posts, ended, false, filter, inl, inr, is_logged, is_notice, is_refused}
-use Rattle.law_run.proofs.Imports.{letters_of, letters_of_job, not, own_place, owns_of, range_with_len, refl, said, same_some, stamped, subject_of, subst}
-use Rattle.law_run.proofs.Imports.{sym, to_client, true, true_false, ℕ}
+use Rattle.law_run.proofs.Imports.{◌==◌, ◌∙◌, ◌≡◌, ◌⊎◌, Answered, Body, Bool, Did, Ending, Ends_fill, Finished, Glanced, In, IsOfRead, IsOpen, IsRefusal}
+use Rattle.law_run.proofs.Imports.{JobContext, JobResult, Letter, List, Moves, Moves_on, NeverRetired, Of_the_log, OpKind, PairState, Plain, Post, Refused}
+use Rattle.law_run.proofs.Imports.{Refuses, Repeats, Says, SaysOf, Sender, Subject, about, ap, down_posts, ended, false, filter, inl, inr, is_logged}
+use Rattle.law_run.proofs.Imports.{is_notice, is_refused, letters_by, letters_of, letters_of_job, logged_notice, not, own_place, owns_of, range_with_len}
+use Rattle.law_run.proofs.Imports.{refl, said, said_to_all, same_some, stamped, subject_of, subst, sym, to_client, true, true_false, ℕ}
 use Rattle.law_run.specs.WritesGoOn.{is_held, Onward}
 use Rattle.law_run.proofs.ReadsLookWhereSent.{is_looked, one_client}
 use Rattle.law_run.proofs.Machine.{held_onward}
 use Rattle.law_run.proofs.LeadPutsThatCount.{finish_held}
 use Rattle.law_run.proofs.EventsOfServerSteps.{ServerStep, ends_of}
-use Rattle.law_jobs.specs.Sayings.{SaysOf}
-use Rattle.law_jobs.proofs.JobsSay.{IsOfRead, letters_by}
-use Rattle.law_steps.proofs.LettersOfSteps.{logged_notice}
-use Rattle.law_log.proofs.ProposersInSchedule.{said_to_all}
 use Rattle.petal_msg.specs.declared.body.Body.TheVariants as body
 use Rattle.petal_msg.specs.declared.letter.Actor.TheVariants as actor
 use Rattle.petal_msg.specs.declared.operation.Ending.TheVariants as ending

@@ -1,7 +1,7 @@
 -- Disks that are made: the machine makes those that a step chose, each with zeros and without snapshots.
 use Rattle.law_run.proofs.Imports.{[], ◌++◌, ◌∙◌, ◌∷◌, ◌≡◌, ◌≢◌, AreFresh, AreSnapshots, DiskRow, Event, Holds, In, List, Make, None, Obeys, Plain, Setting}
 use Rattle.law_run.proofs.Imports.{Some, World, after, ap, append-nil, append_assoc, at-empty, by_bool, cond, content, content_at, drop, find_after}
-use Rattle.law_run.proofs.Imports.{find_front, get_in, has_content_at, in-append, inl, inr, length, make_of, map, named, nat_cmp, none_find, none_some, refl}
+use Rattle.law_run.proofs.Imports.{find_prefix, get_in, has_content_at, in-append, inl, inr, length, make_of, map, named, nat_cmp, none_find, none_some, refl}
 use Rattle.law_run.proofs.Imports.{replay, same_name, some_or_none, subst, sym, text_itself, true_false, unwrap_or, zero_block, ℕ}
 use Rattle.law_run.specs.WritesGoOn.{Onward}
 use Rattle.law_run.specs.MachineTies.{Stores}
@@ -28,7 +28,7 @@ new_row row = record row { epoch = 0; snaps = [] }
 none_new : (rows news : List DiskRow) (row : DiskRow) → ((name : List ℕ) → named rows name ≡ None → named news name ≡ None) → (name : List ℕ)
     → named (rows ++ row ∷ []) name ≡ None → named (news ++ new_row row ∷ []) name ≡ None
 none_new rows news row same name none = elim (some_or_none (named rows name)) [
-  | inl h ↦ none_some none (find_front (λ other. same_name other.name name) rows (row ∷ []) h.0 h.1)
+  | inl h ↦ none_some none (find_prefix (λ other. same_name other.name name) rows (row ∷ []) h.0 h.1)
   | inr gone ↦
       find_after (λ other. same_name other.name name) news (new_row row ∷ []) (same name gone)
       ∙ by_bool (same_name row.name name)
@@ -82,7 +82,7 @@ module _ (setting : Setting) (v : World) where
       ]
     ];
     unknown = λ name none. elim (some_or_none (named rows name)) [
-      | inl h ↦ none_some none (find_front (λ row. same_name row.name name) rows (row ∷ []) h.0 h.1)
+      | inl h ↦ none_some none (find_prefix (λ row. same_name row.name name) rows (row ∷ []) h.0 h.1)
       | inr gone ↦
           make_others m row.name name (λ e. none_some none (find_after (λ row. same_name row.name name) rows (row ∷ []) gone
           ∙ ap (λ b. cond b (Some row) None) (ap (same_name row.name) e ∙ text_itself row.name))) ∙ stores.unknown name gone

@@ -3,10 +3,10 @@ use Rattle.law_run.proofs.Imports.{[], ◌++◌, ◌<◌, ◌∙◌, ◌∷◌, 
 use Rattle.law_run.proofs.Imports.{Firm, Goes, Good, Handled, In, IsBelow, IsGrown, IsOwn, IsPrefix, IsSettledState, JobContext, Letter, List, None, Obeys}
 use Rattle.law_run.proofs.Imports.{Option, PairState, Plain, Record, Server, Serving, Setting, Some, State, Stays, Step, Store, Visits, Wakes, World, acts}
 use Rattle.law_run.proofs.Imports.{all_put, ap, arith, at_row, authority, before_blanks, begins_to_leave, blank_joins_in, by_test, chain_in}
-use Rattle.law_run.proofs.Imports.{chain_that_counts, change_by, chosen_log, chosen_state, counted, counted_by, entry_at, entry_by, epoch_at, false, flat_map}
-use Rattle.law_run.proofs.Imports.{freezes, front_itself, inl, inr, kept, kept_by, kept_store, log_below, look_of, makes, nat_cmp_total, none_some}
-use Rattle.law_run.proofs.Imports.{option_map, own_place, owns_of, put_apart, put_same, refl, replay, same_or_apart, same_some, server_state, stage_at}
-use Rattle.law_run.proofs.Imports.{stamped, state_after, subst, sym, takes, told_with, worked_grows, ℕ}
+use Rattle.law_run.proofs.Imports.{chain_that_counts, change_by, chosen_log, chosen_state, counted, counted_by, entry_at, entry_by, epoch_at, events_with}
+use Rattle.law_run.proofs.Imports.{false, flat_map, freezes, inl, inr, kept, kept_by, kept_store, log_below, look_of, makes, nat_cmp_total, none_some}
+use Rattle.law_run.proofs.Imports.{option_map, own_place, owns_of, prefix_itself, put_apart, put_same, refl, replay, same_or_apart, same_some, server_state}
+use Rattle.law_run.proofs.Imports.{stage_at, stamped, state_after, subst, sym, takes, worked_grows, ℕ}
 use Rattle.law_run.specs.MachineTies.{Ground, Follow}
 use Rattle.law_run.proofs.ChosenDisks.{Along, plain_now, rows_in}
 use Rattle.law_run.proofs.StoresThatCount.{of_kept, same_kept, frozen_stays}
@@ -66,9 +66,9 @@ grounded_after this = record {
 }
 
 -- a server's own state is below what is chosen, where its entries are
-pub below_at : (setting : Setting) (w : World) → Firm setting w → (front : List Command) → IsPrefix front (chosen_log setting w)
-    → IsBelow (state_after setting.servers front) (chosen_state setting w)
-below_at setting w firm front prefix = log_below setting.servers front (chosen_log setting w) firm.plain prefix
+pub below_at : (setting : Setting) (w : World) → Firm setting w → (prefix : List Command) → IsPrefix prefix (chosen_log setting w)
+    → IsBelow (state_after setting.servers prefix) (chosen_state setting w)
+below_at setting w firm prefix is_prefix = log_below setting.servers prefix (chosen_log setting w) firm.plain is_prefix
 
 -- the entries that a server has applied stay, and are of what was chosen before the step
 serves_grow : (setting : Setting) (w : World) → AllMayWake setting w → Firm setting w → (n : ℕ) (what : Step) (acted : Acted)
@@ -76,9 +76,9 @@ serves_grow : (setting : Setting) (w : World) → AllMayWake setting w → Firm 
     → IsPrefix (w.servers n).log.applied acted.server.log.applied × IsPrefix acted.server.log.applied (chosen_log setting w)
 serves_grow setting w wake firm n what _ (Goes log done queue runs worked queued works) = worked_grows setting w firm n log done worked
 serves_grow setting w wake firm n what _ (Ends log done runs worked) = worked_grows setting w firm n log done worked
-serves_grow setting w wake firm n what _ (Stays who posts from shown) = (front_itself _, firm.servers n)
+serves_grow setting w wake firm n what _ (Stays who posts from shown) = (prefix_itself _, firm.servers n)
 serves_grow setting w wake firm n what _ (Wakes booted asleep) = ((wake n).onward, (wake n).chosen)
-serves_grow setting w wake firm n what _ (Fails booted asleep) = (front_itself _, firm.servers n)
+serves_grow setting w wake firm n what _ (Fails booted asleep) = (prefix_itself _, firm.servers n)
 
 -- where a step begins and ends, and the server that takes it
 pub record StepEnds : Type 1 where
@@ -91,7 +91,7 @@ pub record StepEnds : Type 1 where
   pub here : JobContext
   pub hears : Body → Type 0
   pub own_state : State
-  pub front : List Command
+  pub prefix : List Command
 
 module _ (this : ServerStep) where
   abbrev setting : Setting
@@ -127,7 +127,7 @@ module _ (this : ServerStep) where
     here = own_place this.setting this.w this.n;
     hears = Handled this.w this.n;
     own_state = server_state this.setting this.w this.n;
-    front = (this.w.servers this.n).log.applied;
+    prefix = (this.w.servers this.n).log.applied;
   }
 
   pub plain_chosen : IsSettledState this.setting.servers (chosen_state this.setting this.w)
@@ -143,7 +143,7 @@ module _ (this : ServerStep) where
 
   pub logs_grow : (i : ℕ) → IsPrefix (this.w.servers i).log.applied (v.servers i).log.applied
   logs_grow = all_put this.w.servers this.n this.acted.server (λ i (x : Server). IsPrefix (this.w.servers i).log.applied x.log.applied)
-      (λ i. front_itself _) (serves_grow this.setting this.w this.ground.wake this.along.firm this.n this.what this.acted this.serving).0
+      (λ i. prefix_itself _) (serves_grow this.setting this.w this.ground.wake this.along.firm this.n this.what this.acted this.serving).0
 
   pub logs_within : (i : ℕ) → IsPrefix (v.servers i).log.applied (chosen_log this.setting this.w)
   logs_within = all_put this.w.servers this.n this.acted.server (λ i (x : Server). IsPrefix x.log.applied (chosen_log this.setting this.w))
@@ -261,7 +261,7 @@ module _ (this : ServerStep) where
   -- what is told of the step
   pub record ServerTold : Type 0 where
     pub es : List Event
-    pub is : told_with [] (takes (change_by this.setting this.w v))
+    pub is : events_with [] (takes (change_by this.setting this.w v))
         (makes (change_by this.setting this.w v) ++ freezes (change_by this.setting this.w v) ++ looks_here) (Some [])
         ≡ Some es
     pub may : Obeys this.m es

@@ -2,11 +2,11 @@
 use Rattle.law_run.proofs.Imports.{[], ◌++◌, ◌==◌, ◌∙◌, ◌≡◌, ◌≤◌, AreDisks, AreSnapshots, Bool, Cell, Chain, DiskRow, Event, Holds, In, IsLaterDisk}
 use Rattle.law_run.proofs.Imports.{IsSettledState, List, None, Obeys, Option, Plain, Snapshot, Some, State, Stored, ap, append-nil, arith, authority, by_bool}
 use Rattle.law_run.proofs.Imports.{bytes_of, chain_in, chosen_state, content_at, counted, disk_at, disk_of, entry_at, entry_before, entry_by, entry_of}
-use Rattle.law_run.proofs.Imports.{epoch_at, false, find_none, first_entry, flat_map, found_at, fresh_rows, get_in, has_content_at, has_map, in-append}
-use Rattle.law_run.proofs.Imports.{in_former, in_get, in_later, in_map, in_mapped, in_none, inl, inr, is_disk, is_some, kept, later_place, later_rows, length}
-use Rattle.law_run.proofs.Imports.{make_of, map, named, named_cell, nat_lists_same, old_cell, old_or_new, option_and_then, refl, replay, same_name}
-use Rattle.law_run.proofs.Imports.{same_numbers, same_some, slice_get, slice_get_within, snapshots_of, some_or_none, stage_at, stays_row, subst, sym}
-use Rattle.law_run.proofs.Imports.{told_with, true, zero_block, ℕ}
+use Rattle.law_run.proofs.Imports.{epoch_at, events_with, false, find_none, first_entry, flat_map, found_at, fresh_rows, get_in, has_content_at, has_map}
+use Rattle.law_run.proofs.Imports.{in-append, in_former, in_get, in_later, in_map, in_mapped, in_none, inl, inr, is_disk, is_some, kept, later_place}
+use Rattle.law_run.proofs.Imports.{later_rows, length, make_of, map, named, named_cell, nat_lists_same, old_cell, old_or_new, option_and_then, refl, replay}
+use Rattle.law_run.proofs.Imports.{same_name, same_numbers, same_some, slice_get, slice_get_within, snapshots_of, some_or_none, stage_at, stays_row, subst}
+use Rattle.law_run.proofs.Imports.{sym, true, zero_block, ℕ}
 use Rattle.law_run.specs.MachineTies.{Follow, Stores}
 use Rattle.law_run.proofs.ChosenDisks.{rows_in, content_is, disks_now, has_content_is, made_before, named_map_is, old_map_is, plain_now}
 use Rattle.law_run.proofs.EntryAtEpoch.{AreUpTo, entry_later}
@@ -338,7 +338,7 @@ module _ (this : ServerStep) where
       } in
       record {
         es = taken.es ++ (following ++ ls);
-        is = (λ i. told_with [] (taken.is i) (sym (made_same more) i ++ fs taken ++ ls) (Some []))
+        is = (λ i. events_with [] (taken.is i) (sym (made_same more) i ++ fs taken ++ ls) (Some []))
             ∙ ap (λ told. Some (taken.es ++ told)) (append-nil (following ++ ls));
         may = Obeys-append this.m taken.es (following ++ ls) taken.may
             (Obeys-append m1 following ls (Obeys-append m1 (ms taken) (fs taken) made_now.may frozen.may) (subst (λ k. Obeys k ls) (sym there) seen.may));

@@ -43,7 +43,7 @@ module _ (g : Grounded) where
     serves = counts_serves setting w firm cell n counts
 
     old_is : frozen.old ≡ old_cell row cell.block
-    old_is = source_stays setting.servers frozen.front (chosen_log setting w) firm.plain frozen.lies cell frozen.old frozen.from row there has one
+    old_is = source_stays setting.servers frozen.prefix (chosen_log setting w) firm.plain frozen.lies cell frozen.old frozen.from row there has one
 
     pub frozen_old : w.frozen (old_cell row cell.block) ≡ Some frozen.before
     frozen_old = ap w.frozen (sym old_is) ∙ frozen.frozen

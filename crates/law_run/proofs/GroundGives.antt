@@ -3,10 +3,10 @@
 use Rattle.law_run.proofs.Imports.{[], ◌+◌, ◌∙◌, ◌∷◌, ◌≡◌, ◌≤◌, ◌⊎◌, AliveIn, AreEarly, AskingBy, Body, Cell, Chain, Drops, Handled, IsFrozen, IsLinked}
 use Rattle.law_run.proofs.Imports.{IsPutting, IsSteady, IsTimely, IsWrite, JobContext, Key, LinkRow, List, Lives, NeverRetired, None, Option, PairState}
 use Rattle.law_run.proofs.Imports.{Pending, PendingFor, PutsAsked, Setting, Some, State, Store, Table, WasThere, World, ap, arith, asked_for, at, at-empty}
-use Rattle.law_run.proofs.Imports.{at_row, cases_lt, cell_cmp, cell_of, chain_in, chosen_log, chosen_state, epoch_at, false, front_itself, front_long}
-use Rattle.law_run.proofs.Imports.{front_on, half, inl, inr, is_clients, is_in, kept, length, live, nat_cmp, nat_cmp_total, none_some, own_below, own_place}
-use Rattle.law_run.proofs.Imports.{own_plain, owns_of, place_by, progress, refl, runs_now, same_cell_or_apart, seen, server_state, stage_at, stage_facts}
-use Rattle.law_run.proofs.Imports.{subst, sym, taking, true, true_false, write_stays, ℕ}
+use Rattle.law_run.proofs.Imports.{at_row, cases_lt, cell_cmp, cell_of, chain_in, chosen_log, chosen_state, epoch_at, false, half, inl, inr, is_clients}
+use Rattle.law_run.proofs.Imports.{is_in, kept, length, live, nat_cmp, nat_cmp_total, none_some, own_below, own_place, own_plain, owns_of, place_by}
+use Rattle.law_run.proofs.Imports.{prefix_itself, prefix_long, prefix_on, progress, refl, runs_now, same_cell_or_apart, seen, server_state, stage_at}
+use Rattle.law_run.proofs.Imports.{stage_facts, subst, sym, taking, true, true_false, write_stays, ℕ}
 use Rattle.law_run.specs.MachineTies.{Ground, IsRemembered, Is_pending, Was_pending}
 use Rattle.law_run.proofs.StoresThatCount.{of_kept}
 use Rattle.law_run.proofs.EntryAtEpoch.{AreUpTo}
@@ -81,7 +81,7 @@ module _ (g : Grounded) (steady : IsSteady g.state) (n : ℕ) where
   opened_within p place cell op clients r =
       let k = (remembered setting w ground.lives ground.asking p place cell op clients r).known in
       let long = k.known.sent.at.long in
-      let le = front_long k.known.sent.at.front k.upto k.opened in
+      let le = prefix_long k.known.sent.at.prefix k.upto k.opened in
       omega arith
 
   -- the write of an operation that a server remembers, by what is chosen, where its cell takes writes still
@@ -90,8 +90,8 @@ module _ (g : Grounded) (steady : IsSteady g.state) (n : ℕ) where
       → IsWrite (chosen_state setting w) setting.lines op.client op.seq cell op.bytes
   write_of p place cell op clients r timely =
       let k = (remembered setting w ground.lives ground.asking p place cell op clients r).known in
-      let whole = front_on k.known.sent.at.front k.upto _ k.opened (front_on k.upto _ (chosen_log setting w) k.applied (firm.servers p)) in
-      write_stays setting.servers k.known.sent.at.front (chosen_log setting w) firm.plain whole setting.lines op.client op.seq cell op.bytes
+      let whole = prefix_on k.known.sent.at.prefix k.upto _ k.opened (prefix_on k.upto _ (chosen_log setting w) k.applied (firm.servers p)) in
+      write_stays setting.servers k.known.sent.at.prefix (chosen_log setting w) firm.plain whole setting.lines op.client op.seq cell op.bytes
       k.known.sent.served timely.born timely.stays
 
   -- ### Epochs
@@ -104,9 +104,9 @@ module _ (g : Grounded) (steady : IsSteady g.state) (n : ℕ) where
       let opened = k.known.sent.at in
       let ran = ground.asking.lived.ran p runs in
       let seat = runs_now setting w firm p runs (op_seat g p cell op runs is) in
-      ground.epochs.pending p (ground.lives.ran p) cell op opened.front (chosen_log setting w) is clients
-      (front_on opened.front k.upto (chosen_log setting w) k.opened (front_on k.upto _ (chosen_log setting w) k.applied (firm.servers p)))
-      (front_itself (chosen_log setting w)) opened.long (k.along opened.front (front_itself opened.front) k.opened).seated
+      ground.epochs.pending p (ground.lives.ran p) cell op opened.prefix (chosen_log setting w) is clients
+      (prefix_on opened.prefix k.upto (chosen_log setting w) k.opened (prefix_on k.upto _ (chosen_log setting w) k.applied (firm.servers p)))
+      (prefix_itself (chosen_log setting w)) opened.long (k.along opened.prefix (prefix_itself opened.prefix) k.opened).seated
       (subst (λ i. is_in (chosen_state setting w) p i ≡ true) (sym ran) seat)
 
   -- and is its client's, by what is chosen
@@ -116,8 +116,8 @@ module _ (g : Grounded) (steady : IsSteady g.state) (n : ℕ) where
   pending_write p cell op runs is clients =
       let k = ground.asking.pending p cell op is clients in
       let timely = pending_timely p cell op runs is clients in
-      let whole = front_on k.known.sent.at.front k.upto _ k.opened (front_on k.upto _ (chosen_log setting w) k.applied (firm.servers p)) in
-      write_stays setting.servers k.known.sent.at.front (chosen_log setting w) firm.plain whole setting.lines op.client op.seq cell op.bytes
+      let whole = prefix_on k.known.sent.at.prefix k.upto _ k.opened (prefix_on k.upto _ (chosen_log setting w) k.applied (firm.servers p)) in
+      write_stays setting.servers k.known.sent.at.prefix (chosen_log setting w) firm.plain whole setting.lines op.client op.seq cell op.bytes
       k.known.sent.served timely.born timely.stays
 
   -- so is one that was pending at the place of what is chosen
@@ -129,9 +129,9 @@ module _ (g : Grounded) (steady : IsSteady g.state) (n : ℕ) where
   recalled_timely p cell row linked visit there op is clients r =
       let k = (remembered setting w ground.lives ground.asking p (place_by setting (chosen_log setting w) row) cell op clients r).known in
       let le = opened_within p (place_by setting (chosen_log setting w) row) cell op clients r in
-      let long = front_long k.upto (chosen_log setting w) (front_on k.upto _ (chosen_log setting w) k.applied (firm.servers p)) in
+      let long = prefix_long k.upto (chosen_log setting w) (prefix_on k.upto _ (chosen_log setting w) k.applied (firm.servers p)) in
       ground.epochs.place p (place_by setting (chosen_log setting w) row) cell visit.pairs op (chosen_log setting w) row
-      (ground.good.came p (place_by setting (chosen_log setting w) row) cell visit there) is clients (front_itself (chosen_log setting w)) linked refl
+      (ground.good.came p (place_by setting (chosen_log setting w) row) cell visit there) is clients (prefix_itself (chosen_log setting w)) linked refl
       (omega arith)
 
   -- no operation is on a cell that is retired by the server's own state
@@ -215,7 +215,7 @@ module _ (g : Grounded) (steady : IsSteady g.state) (n : ℕ) where
         let m = remembered setting w ground.lives ground.asking f.row.primary place (cell_of key) f.putting.op clients followed_recalled in
         ground.epochs.second f.row.primary n (cell_of key) f.own.pairs f.putting.op f.row f.shares.runs f.shares.seat f.shares.linked f.shares.both
         refl f.second (ground.good.came f.row.primary place (cell_of key) f.own f.visited) f.putting.is clients m.known.upto m.row
-        (front_on m.known.upto _ (chosen_log setting w) m.known.applied (firm.servers f.row.primary)) m.linked m.at
+        (prefix_on m.known.upto _ (chosen_log setting w) m.known.applied (firm.servers f.row.primary)) m.linked m.at
         (opened_within f.row.primary place (cell_of key) f.putting.op clients followed_recalled)
 
     pub followed_epoch : epoch_at (chosen_state setting w) (cell_of key) ≡ key.epoch

@@ -2,13 +2,12 @@
 use Rattle.law_run.proofs.Imports.{[], ◌++◌, ◌∙◌, ◌∷◌, ◌≡◌, ◌⊎◌, AllMayWake, AllStarted, AreSteps, AskingAlong, At, Cell, Command, Firm, Follows, Good}
 use Rattle.law_run.proofs.Imports.{Happens, HasProperTuples, In, IsGrown, IsOwn, IsPrefix, IsSound, IsSteady, KeepsOn, KnowsReports, List, OneMore, Option}
 use Rattle.law_run.proofs.Imports.{PairState, Ready, Record, Run, Script, Setting, Some, State, World, ap, at_by, blank_joins_in, by_run, by_test}
-use Rattle.law_run.proofs.Imports.{chosen_caught_was, chosen_log, chosen_state, counted, early_after, firm_in, firm_then, first_lives, follows_in, front_on}
-use Rattle.law_run.proofs.Imports.{grown_in, grown_then, happens, happens_asking, happens_later, in_counts, in_own, inl, inr, is_in, lives_after, log_below}
-use Rattle.law_run.proofs.Imports.{log_grown, log_plain, log_steady, longer, may_wake, more_lives, none_chosen, none_some, one_more, pending_timely, place_by}
-use Rattle.law_run.proofs.Imports.{place_timely, refl, reports_known, rests_in, rests_next, run_of, same_some, second_timely, server_state, setting_in}
-use Rattle.law_run.proofs.Imports.{setting_of, start, start_along, start_asking, start_good, start_lives, start_visits, state_after, step_goes, stepped}
-use Rattle.law_run.proofs.Imports.{stepped_in, subst, sym, true, world_after, world_more, ℕ}
-use Rattle.law_copies.specs.Visits.{is_at}
+use Rattle.law_run.proofs.Imports.{chosen_caught_was, chosen_log, chosen_state, counted, early_after, firm_in, firm_then, first_lives, follows_in, grown_in}
+use Rattle.law_run.proofs.Imports.{grown_then, happens, happens_asking, happens_later, in_counts, in_own, inl, inr, is_at, is_in, lives_after, log_below}
+use Rattle.law_run.proofs.Imports.{log_grown, log_plain, log_steady, longer, may_wake, more_lives, none_before_none, none_chosen, none_in, none_some}
+use Rattle.law_run.proofs.Imports.{one_more, pending_timely, place_by, place_timely, prefix_on, refl, reports_known, rests_in, rests_next, run_of, same_some}
+use Rattle.law_run.proofs.Imports.{second_timely, server_state, setting_in, setting_of, start, start_along, start_asking, start_good, start_lives}
+use Rattle.law_run.proofs.Imports.{start_visits, state_after, step_goes, stepped, stepped_in, subst, sym, true, world_after, world_more, ℕ}
 use Rattle.law_copies.proofs.VisitsAfterSteps.{seen}
 use Rattle.law_jobs.proofs.Runs.{after}
 use Rattle.law_run.specs.MachineTies.{Ground, KnowEpochs, KnowMoves}
@@ -18,8 +17,6 @@ use Rattle.law_run.proofs.StepsLeaveServers.{happens_leaves}
 use Rattle.law_run.proofs.LetterNames.{happens_named, start_named}
 use Rattle.law_run.proofs.OperationsRecalled.{GoesOnFrom, IsVisit, remembered_next}
 use Rattle.law_run.proofs.EventsOfServerSteps.{IsMiddle}
-use Rattle.law_moves.proofs.MovesInHistories.{none_in}
-use Rattle.law_steps.proofs.Records.{none_before_none}
 
 -- what is known of epochs after each legal history
 epochs_after : (script : Script) (records : List Record) → IsSound script → AreSteps script records
@@ -42,12 +39,12 @@ module _ (script : Script) (sound : IsSound script) (whole : List Command) (all 
   steady = log_steady setting.servers whole all
 
   pub along_at : (w : World) → Firm setting w → IsPrefix (chosen_log setting w) whole → Along setting state w
-  along_at w firm front = record {
+  along_at w firm prefix = record {
     steady = steady;
     last = log_plain setting.servers whole all;
     firm = firm;
-    grown = log_grown setting.servers _ whole all front;
-    below = log_below setting.servers _ whole all front;
+    grown = log_grown setting.servers _ whole all prefix;
+    below = log_below setting.servers _ whole all prefix;
   }
 
   pub grown_at : (w v : World) → Firm setting v → IsPrefix (chosen_log setting w) (chosen_log setting v)
@@ -92,9 +89,9 @@ module _ (script : Script) (sound : IsSound script) (whole : List Command) (all 
     OwnCounts u = (n : ℕ) → (u.servers n).life.running ≡ true → is_in (server_state setting u n) n (u.servers n).life.inc ≡ true → IsOwn setting u n
 
     abbrev JoinsCount : World → Type 0
-    JoinsCount u = (n : ℕ) (front : List Command) → IsPrefix front (chosen_log setting u)
-        → is_in (state_after setting.servers front) n (u.servers n).life.inc ≡ true
-        → blank_joins_in setting front n ≡ blank_joins_in setting (chosen_log setting u) n
+    JoinsCount u = (n : ℕ) (prefix : List Command) → IsPrefix prefix (chosen_log setting u)
+        → is_in (state_after setting.servers prefix) n (u.servers n).life.inc ≡ true
+        → blank_joins_in setting prefix n ≡ blank_joins_in setting (chosen_log setting u) n
 
     -- two copies, one record on
     goes_from : KeepsOn setting ground.records w v ground.good own
@@ -141,7 +138,7 @@ module _ (script : Script) (sound : IsSound script) (whole : List Command) (all 
             come = then_is;
             good = goes_from.good;
             own = subst (λ u. OwnCounts u) then_is (λ n runs seat. in_own script records n sound legal runs seat);
-            joined = subst (λ u. JoinsCount u) then_is (λ n front prefix seat. in_counts script records n front sound legal prefix seat);
+            joined = subst (λ u. JoinsCount u) then_is (λ n prefix is_prefix seat. in_counts script records n prefix sound legal is_prefix seat);
             started = subst (λ u. AllStarted setting records u) then_is (chosen_caught_was script records sound legal);
             lives = lives_after ground.lives v;
             asking = asking;
@@ -185,17 +182,17 @@ start_ground state script sound ready wake =
       records = [];
       come = refl;
       good = start_good setting;
-      started = λ front of link holder inc other other_inc prefix.
-          absurd (none_in front _ (sym (none_before_none _ prefix.later (sym (none_chosen setting) ∙ prefix.is))));
+      started = λ prefix of link holder inc other other_inc is_prefix.
+          absurd (none_in prefix _ (sym (none_before_none _ is_prefix.later (sym (none_chosen setting) ∙ is_prefix.is))));
       lives = first_lives;
       asking = start_asking script;
       reports = subst (λ l. KnowsReports setting (start setting) l) (start_lives script) (reports_known script sound [] tt (start_along script));
-      recalled = λ front cell row n own op prefix is both last visit there clients.
-          none_some (start_visits setting n (place_by setting front row) cell) visit;
+      recalled = λ prefix cell row n own op is_prefix is both last visit there clients.
+          none_some (start_visits setting n (place_by setting prefix row) cell) visit;
       named = start_named script;
       own = λ n runs seat store. refl;
-      joined = λ n front prefix seat.
-          ap (λ log. blank_joins_in setting log n) (none_before_none front prefix.later (sym (none_chosen setting) ∙ prefix.is)
+      joined = λ n prefix is_prefix seat.
+          ap (λ log. blank_joins_in setting log n) (none_before_none prefix is_prefix.later (sym (none_chosen setting) ∙ is_prefix.is)
           ∙ sym (none_chosen setting));
       epochs = epochs_after script [] sound tt;
       moves = moves_known script [] sound tt;
@@ -208,16 +205,16 @@ pub record IsFooted (run : Run) (whole : List Command) (all : HasProperTuples ru
   pub footing : Footing run.script run.sound whole all w
   pub records_are : footing.ground.records ≡ run.records
 
--- in view of a log, of which what is chosen is a front
+-- in view of a log, of which what is chosen is a prefix
 abbrev FootedBelow : Run → Type 0
 FootedBelow run = (whole : List Command) (all : HasProperTuples run.script.servers whole) → IsPrefix (chosen_log (setting_in run) (after run)) whole
     → IsFooted run whole all (after run)
 
 footed_first : (script : Script) (sound : IsSound script) (legal : AreSteps script []) → FootedBelow (run_of script sound [] legal)
 unfolding start_ground
-footed_first script sound legal whole all front =
+footed_first script sound legal whole all prefix =
     let run = run_of script sound [] legal in
-    let along = along_at script sound whole all (after run) (firm_in run) front in
+    let along = along_at script sound whole all (after run) (firm_in run) prefix in
     record {
       footing = record {
         ground = start_ground (state_after script.servers whole) script sound (record { rests = rests_in run; firm = along.firm; below = along.below })
@@ -237,23 +234,23 @@ pub record IsOn (it : OneMore) (whole : List Command) (all : HasProperTuples it.
 pub footed_on : (it : OneMore) (whole : List Command) (all : HasProperTuples it.prior.script.servers whole)
     → IsPrefix (chosen_log (setting_in it.prior) (after (longer it))) whole → FootedBelow it.prior
     → IsOn it whole all (stepped (setting_in it.prior) (after it.prior) it.own).world
-footed_on it whole all front old =
+footed_on it whole all prefix old =
     let script = it.prior.script in
     let sound = it.prior.sound in
     let setting = setting_in it.prior in
     let w = after it.prior in
     let v = (stepped setting w it.own).world in
-    let before = front_on _ _ whole (grown_in it) front in
+    let before = prefix_on _ _ whole (grown_in it) prefix in
     let f = old whole all before in
     let next = next_ground script sound whole all w it.own f.footing (subst (λ rs. AreSteps script (rs ++ it.own ∷ [])) (sym f.records_are) it.legal)
     (along_at script sound whole all w (firm_in it.prior) before)
-    (along_at script sound whole all v (firm_then it) (subst (λ u. IsPrefix (chosen_log setting u) whole) (stepped_in it) front)) (grown_then it)
+    (along_at script sound whole all v (firm_then it) (subst (λ u. IsPrefix (chosen_log setting u) whole) (stepped_in it) prefix)) (grown_then it)
     (subst (AllMayWake setting) (stepped_in it) (may_wake script (longer it).records sound it.legal)) (follows_in it) in
     record { footing = next.now; records_are = next.records_are ∙ ap (λ rs. rs ++ it.own ∷ []) f.records_are; middle = next.middle }
 
 footed_next : (it : OneMore) → FootedBelow it.prior → FootedBelow (longer it)
-footed_next it old whole all front =
-    let on = footed_on it whole all front old in
+footed_next it old whole all prefix =
+    let on = footed_on it whole all prefix old in
     subst (IsFooted (longer it) whole all) (sym (stepped_in it)) (record { footing = on.footing; records_are = on.records_are })
 
 pub footing_after : (run : Run) → FootedBelow run

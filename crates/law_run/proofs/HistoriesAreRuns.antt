@@ -3,12 +3,12 @@ use Rattle.law_run.proofs.Imports.{[], ◌++◌, ◌∙◌, ◌∷◌, ◌≡◌
 use Rattle.law_run.proofs.Imports.{HasProperTuples, In, IsMoment, IsPrefix, IsRunOf, IsSound, Law, Letter, List, MayActor, Obeys, Option, Plain, Record, Run}
 use Rattle.law_run.proofs.Imports.{Script, Setting, SnapshotsStay, Some, State, Step, World, acts, always_empty, ap, append-nil, append_assoc, at-empty}
 use Rattle.law_run.proofs.Imports.{at_moment, before_part, begins, blank, cell_cmp, change_by, chosen_log, client_state, client_step, client_turns}
-use Rattle.law_run.proofs.Imports.{copies_after, covered_after, events_of, firm_in, firm_then, flat_map, follows_in, freezes, front_legal, grown_then}
-use Rattle.law_run.proofs.Imports.{history_agrees, history_grows, is_call, joined, longer, look_of, machine_after, makes, marks_first, nat_cmp, next_line}
-use Rattle.law_run.proofs.Imports.{none_chosen, none_some, open_write, out_has_stopped, own_steady, reacts, refl, replay, reports_hold, requests_after}
-use Rattle.law_run.proofs.Imports.{rule_after, run_of, server_serves, server_state, server_step, setting_in, setting_of, start, state_after, step, stepped}
-use Rattle.law_run.proofs.Imports.{stepped_in, subst, sym, takes, told, told_from, told_with, ℕ}
-use Rattle.spec_history.specs.Events.{ended, ends}
+use Rattle.law_run.proofs.Imports.{copies_after, covered_after, ends, events_at, events_from, events_of, events_with, firm_in, firm_then, flat_map}
+use Rattle.law_run.proofs.Imports.{follows_in, freezes, grown_then, history_agrees, history_grows, is_call, joined, longer, look_of, machine_after, makes}
+use Rattle.law_run.proofs.Imports.{marks_first, nat_cmp, next_line, none_chosen, none_some, open_write, out_has_stopped, own_steady, prefix_legal, reacts}
+use Rattle.law_run.proofs.Imports.{refl, replay, reports_hold, requests_after, rule_after, run_of, server_serves, server_state, server_step, setting_in}
+use Rattle.law_run.proofs.Imports.{setting_of, start, state_after, step, stepped, stepped_in, subst, sym, takes, ℕ}
+use Rattle.spec_history.specs.Events.{ended}
 use Rattle.law_jobs.proofs.Runs.{after}
 use Rattle.law_run.specs.MachineTies.{Follow, Ground}
 use Rattle.law_run.proofs.ChosenDisks.{Along, rows_in}
@@ -26,7 +26,7 @@ use Rattle.law_run.proofs.GroundInHistories.{along_at, footed_on, footing_after,
 use Rattle.law_run.proofs.RunScenes.{Followed}
 use Rattle.petal_msg.specs.declared.letter.Actor.TheVariants as actor
 
--- ### Steps, where the chosen logs are fronts of one
+-- ### Steps, where the chosen logs are prefixes of one
 
 module _ (script : Script) (sound : IsSound script) (whole : List Command) (all : HasProperTuples (setting_of script).servers whole) where
   abbrev setting : Setting
@@ -72,7 +72,7 @@ module _ (script : Script) (sound : IsSound script) (whole : List Command) (all 
     -- a step of an actor, with the letters that it sent and the answer that it gave
     step_tells : (who : Actor) (what : Step) → MayActor who what setting w → Onwards (step who what setting w stamp).world
         → Tells m (step who what setting w stamp).world
-        (told_with (begins what who (step who what setting w stamp).world) (takes (change_by setting w (step who what setting w stamp).world))
+        (events_with (begins what who (step who what setting w stamp).world) (takes (change_by setting w (step who what setting w stamp).world))
         (makes (change_by setting w (step who what setting w stamp).world) ++ freezes (change_by setting w (step who what setting w stamp).world)
         ++ flat_map (look_told who (step who what setting w stamp).world) (step who what setting w stamp).letters)
         (ends who w (step who what setting w stamp).answer))
@@ -108,7 +108,7 @@ module _ (script : Script) (sound : IsSound script) (whole : List Command) (all 
         (record { grounds = next.grounds; legal = next.legal }) in
         record {
           es = t.es;
-          is = ap (λ b. told_with b (takes (change_by setting w v))
+          is = ap (λ b. events_with b (takes (change_by setting w v))
               (makes (change_by setting w v) ++ freezes (change_by setting w v)
               ++ flat_map (look_told (actor.Server n) v) (acts setting w n what stamp acted).letters) (Some []))
               (server_begins what n v) ∙ t.is;
@@ -121,7 +121,7 @@ module _ (script : Script) (sound : IsSound script) (whole : List Command) (all 
         let t = turn_told this (is_call what) reacted (client_turns setting w c what may.1).turned in
         record {
           es = t.es;
-          is = ap (λ b. told_with b (takes (change_by setting w (reacts w c stamp reacted).world))
+          is = ap (λ b. events_with b (takes (change_by setting w (reacts w c stamp reacted).world))
               (makes (change_by setting w (reacts w c stamp reacted).world) ++ freezes (change_by setting w (reacts w c stamp reacted).world)
               ++ flat_map (look_told (actor.Client c) (reacts w c stamp reacted).world) (reacts w c stamp reacted).letters)
               (ended (open_write w c) reacted.answer))
@@ -137,14 +137,14 @@ module _ (script : Script) (sound : IsSound script) (whole : List Command) (all 
       → (now : Ground setting state (stepped setting w own).world)
       → IsMiddle setting w (stepped setting w own).world now.records now.good.visits
       → AreGrounded setting state (stepped setting w own).world later → AreStepsFrom setting (stepped setting w own).world later
-      → Tells m (stepped setting w own).world (told setting w own later)
+      → Tells m (stepped setting w own).world (events_at setting w own later)
   record_tells w m along ground follow own later follows then grows now middle grounds legal =
       let v = (stepped setting w own).world in
       let t = step_tells w m along ground follow own.stamp later own.actor own.step follows.may.may
       (record { after = then; grows = grows; now = now; middle = middle; grounds = grounds; legal = legal }) in
       record {
         es = t.es;
-        is = (λ i. told_with (begins own.step own.actor v) (takes (change_by setting w v))
+        is = (λ i. events_with (begins own.step own.actor v) (takes (change_by setting w v))
             (makes (change_by setting w v) ++ freezes (change_by setting w v)
             ++ flat_map (λ (letter : Letter). look_of setting w v own.actor later letter letter.body) (follows.sent i))
             (ends own.actor w (follows.answer i))) ∙ t.is;
@@ -188,20 +188,20 @@ module _ (run : Run) where
   plain = (firm_in run).plain
 
   -- what is chosen on the way is at the front of what is chosen at the end
-  reaches : (front later : List Record) → records ≡ front ++ later → IsPrefix (chosen_log of_run (At script front)) whole_log
+  reaches : (prefix later : List Record) → records ≡ prefix ++ later → IsPrefix (chosen_log of_run (At script prefix)) whole_log
   reaches = history_grows script records sound run.legal
 
   -- the ground holds on the way
-  grounds : (front later : List Record) → records ≡ front ++ later → AreGrounded of_run (state_after script.servers whole_log) (At script front) later
-  grounds front [] is =
-      (footing_after (run_of script sound front (before_part script front [] (subst (AreSteps script) is run.legal))) whole_log plain
-      (reaches front [] is)).footing.ground
-  grounds front (own ∷ later) is =
-      let it = at_moment run (record { front = front; own = own; following = later; is = is }) in (
-        (footing_after it.prior whole_log plain (reaches front (own ∷ later) is)).footing.ground,
+  grounds : (prefix later : List Record) → records ≡ prefix ++ later → AreGrounded of_run (state_after script.servers whole_log) (At script prefix) later
+  grounds prefix [] is =
+      (footing_after (run_of script sound prefix (before_part script prefix [] (subst (AreSteps script) is run.legal))) whole_log plain
+      (reaches prefix [] is)).footing.ground
+  grounds prefix (own ∷ later) is =
+      let it = at_moment run (record { prefix = prefix; own = own; following = later; is = is }) in (
+        (footing_after it.prior whole_log plain (reaches prefix (own ∷ later) is)).footing.ground,
         grown_then it,
         subst (λ v. AreGrounded of_run (state_after script.servers whole_log) v later) (stepped_in it)
-            (grounds (front ++ own ∷ []) later (is ∙ sym (append_assoc front (own ∷ []) later))),
+            (grounds (prefix ++ own ∷ []) later (is ∙ sym (append_assoc prefix (own ∷ []) later))),
       )
 
   abbrev T : Plain → World → Option (List Event) → Type 0
@@ -211,14 +211,14 @@ module _ (run : Run) where
   F w m = Follow of_run (rows_in of_run w) w m
 
   -- what one of the records tells
-  tells_at : (at : IsMoment records) (m : Plain) → F (At script at.front) m
-      → T m (stepped of_run (At script at.front) at.own).world (told of_run (At script at.front) at.own at.following)
+  tells_at : (at : IsMoment records) (m : Plain) → F (At script at.prefix) m
+      → T m (stepped of_run (At script at.prefix) at.own).world (told of_run (At script at.prefix) at.own at.following)
   tells_at at m follow =
       let it = at_moment run at in
       let w = after it.prior in
       let v = (stepped of_run w at.own).world in
-      let before = reaches at.front (at.own ∷ at.following) at.is in
-      let is = at.is ∙ sym (append_assoc at.front (at.own ∷ []) at.following) in
+      let before = reaches at.prefix (at.own ∷ at.following) at.is in
+      let is = at.is ∙ sym (append_assoc at.prefix (at.own ∷ []) at.following) in
       let then = reaches (longer it).records at.following is in
       let on = footed_on it whole_log plain then (footing_after it.prior) in
       record_tells script sound whole_log plain w m (along_at script sound whole_log plain w (firm_in it.prior) before)
@@ -226,20 +226,20 @@ module _ (run : Run) where
       (along_at script sound whole_log plain v (firm_then it) (subst (λ u. IsPrefix (chosen_log of_run u) whole_log) (stepped_in it) then)) (grown_then it)
       on.footing.ground on.middle
       (subst (λ u. AreGrounded of_run (state_after script.servers whole_log) u at.following) (stepped_in it) (grounds (longer it).records at.following is))
-      (front_legal of_run (start of_run) at.front (at.own ∷ at.following) (subst (AreSteps script) at.is run.legal)).1.1
+      (prefix_legal of_run (start of_run) at.prefix (at.own ∷ at.following) (subst (AreSteps script) at.is run.legal)).1.1
 
   -- and all that follow these
-  tells_from : (front later : List Record) → records ≡ front ++ later → (m : Plain) → F (At script front) m
-      → T m (after run) (told_from of_run (At script front) later)
-  tells_from front [] is m follow =
-      record { es = []; is = refl; may = tt; follows = subst (λ rs. F (At script rs) m) (sym (is ∙ append-nil front)) follow }
-  tells_from front (own ∷ later) is m follow =
-      let at : IsMoment records = record { front = front; own = own; following = later; is = is } in
+  tells_from : (prefix later : List Record) → records ≡ prefix ++ later → (m : Plain) → F (At script prefix) m
+      → T m (after run) (events_from of_run (At script prefix) later)
+  tells_from prefix [] is m follow =
+      record { es = []; is = refl; may = tt; follows = subst (λ rs. F (At script rs) m) (sym (is ∙ append-nil prefix)) follow }
+  tells_from prefix (own ∷ later) is m follow =
+      let at : IsMoment records = record { prefix = prefix; own = own; following = later; is = is } in
       let e = stepped_in (at_moment run at) in
       let now = tells_at at m follow in
-      let rest = tells_from (front ++ own ∷ []) later (is ∙ sym (append_assoc front (own ∷ []) later)) (replay m now.es)
+      let rest = tells_from (prefix ++ own ∷ []) later (is ∙ sym (append_assoc prefix (own ∷ []) later)) (replay m now.es)
       (subst (λ v. F v (replay m now.es)) (sym e) now.follows) in
-      let rest_is = subst (λ v. told_from of_run v later ≡ Some rest.es) e rest.is in
+      let rest_is = subst (λ v. events_from of_run v later ≡ Some rest.es) e rest.is in
       record {
         es = now.es ++ rest.es;
         is = (λ i. joined (now.is i) (rest_is i));
@@ -251,10 +251,10 @@ pub history_tells : (run : Run)
     → Tells run.script run.sound (whole_log run) (plain run) blank (after run) (events_of run.script run.records)
 history_tells run = tells_from run [] run.records refl blank (start_follow run.script)
 
-on_the_way : (run : Run) (front later : List Record) → run.records ≡ front ++ later → IsOnTheWay (setting_in run) (At run.script front) (after run)
-on_the_way run front later is =
-    let first = history_tells (run_of run.script run.sound front (before_part run.script front later (subst (AreSteps run.script) is run.legal))) in
-    let rest = tells_from run front later is (replay blank first.es) first.follows in
+on_the_way : (run : Run) (prefix later : List Record) → run.records ≡ prefix ++ later → IsOnTheWay (setting_in run) (At run.script prefix) (after run)
+on_the_way run prefix later is =
+    let first = history_tells (run_of run.script run.sound prefix (before_part run.script prefix later (subst (AreSteps run.script) is run.legal))) in
+    let rest = tells_from run prefix later is (replay blank first.es) first.follows in
     record { m = replay blank first.es; then = first.follows; es = rest.es; now = rest.follows }
 
 -- ### The law
@@ -270,16 +270,16 @@ held_after run =
 
 -- snapshots never change on the way
 snapshots_after : (script : Script) (records : List Record) → IsSound script → AreSteps script records → SnapshotsStay script records
-snapshots_after script records sound legal front back is =
+snapshots_after script records sound legal prefix suffix is =
     let run = run_of script sound records legal in
-    let way = on_the_way run front back is in
+    let way = on_the_way run prefix suffix is in
     contents_still (record {
       setting = setting_of script;
-      w = At script front;
+      w = At script prefix;
       v = after run;
-      one = firm_in (run_of script sound front (before_part script front back (subst (AreSteps script) is legal)));
+      one = firm_in (run_of script sound prefix (before_part script prefix suffix (subst (AreSteps script) is legal)));
       two = firm_in run;
-      grows = history_grows script records sound legal front back is;
+      grows = history_grows script records sound legal prefix suffix is;
       m = way.m;
       es = way.es;
       was = way.then.stores;

@@ -21,53 +21,48 @@ pub use Rattle.law_log.proofs.Imports.{Acted, Actor, After, Answer, AreSteps, Ar
 pub use Rattle.law_log.proofs.Imports.{Equal, Firm, HasProperTuples, IsSettledState, IsSound, Job, JobContext, JobResult, Key, LastCopy, Letter, Log, LogDone}
 pub use Rattle.law_log.proofs.Imports.{MayActor, OpKind, Pending, Post, Reaction, Sight, Step, StopIn, Stored, Table, Work, WorkEnd, about, acts, all_put}
 pub use Rattle.law_log.proofs.Imports.{all_put_apart, answers, awake, blanked, boots, cell_of, chain_in, client_sender, client_state, client_step, command_of}
-pub use Rattle.law_log.proofs.Imports.{copying_on, crossing, down_posts, ended, ends, entered, epoch_for, fill_operation, first_wanted, get_within}
-pub use Rattle.law_log.proofs.Imports.{gives_back, has_proposed, hears, hears_any, hears_of, here_of, id_of, is_eq, is_flagged, is_log_job, is_logged}
-pub use Rattle.law_log.proofs.Imports.{is_overfull, is_read, is_second, is_under_way, is_write, job_done, known, log_plain, nat_cmp, nat_cmp_total, next_line}
-pub use Rattle.law_log.proofs.Imports.{next_place, post_of, put_apart, put_same, raised, ranked, reacts, rev_of, sender, server_state, server_step}
-pub use Rattle.law_log.proofs.Imports.{setting_of, stamped, start, state_in, stays, stepped, stopped, stops, subject_of, voter_of, wakes, wanted_by}
-pub use Rattle.law_log.proofs.Imports.{without_pending, worked, works, world_after}
+pub use Rattle.law_log.proofs.Imports.{copying_on, crossing, down_posts, ended, entered, epoch_for, first_wanted, get_within, has_proposed, hears, hears_any}
+pub use Rattle.law_log.proofs.Imports.{hears_of, here_of, id_of, is_eq, is_flagged, is_log_job, is_logged, is_overfull, is_read, is_second, is_under_way}
+pub use Rattle.law_log.proofs.Imports.{is_write, job_done, known, log_plain, nat_cmp, nat_cmp_total, next_line, next_place, put_apart, put_same, raised}
+pub use Rattle.law_log.proofs.Imports.{ranked, reacts, rev_of, sender, server_state, server_step, setting_of, stamped, start, state_in, stays, stepped}
+pub use Rattle.law_log.proofs.Imports.{stopped, stops, subject_of, voter_of, wakes, wanted_by, worked, works, world_after}
 unfoldable pub use Rattle.law_log.proofs.Imports.{applies, does, heard, log_does, refusal, starts, step}
-pub use Rattle.law_steps.specs.Imports.{Busy, Finished, Glanced, IsBelow, Refused, Sender, Stage, Stale, StaysSo, Subject, before_blanks, bytes_of, cell_cmp}
-pub use Rattle.law_steps.specs.Imports.{coming, crossed, entry_at, epochs_beyond, letters_of, live, old_lead, operation, pattern_block, puts, stage_at}
-pub use Rattle.law_steps.specs.Imports.{with_paired, with_reserved}
-pub use Rattle.law_steps.proofs.Imports.{ByBoth, ByNone, ByOne, Chain, Follows, Greater, HasDied, HasLater, HasStage, IsCaughtStill, IsHeldBy, IsSteady, Less}
-pub use Rattle.law_steps.proofs.Imports.{Ordering, Pairs, Store, alone_not_both, at-empty, cell_apart, cell_cmp_same, cell_same, clock_of, found_at}
-pub use Rattle.law_steps.proofs.Imports.{front_itself, front_long, front_more, front_on, front_plain, history_agrees, history_grows, history_is_firm, in_once}
-pub use Rattle.law_steps.proofs.Imports.{insert_entry, is_at, is_clients, log_alone, log_below, log_rev, log_roles, log_steady, lookup, match_ordering, max}
-pub use Rattle.law_steps.proofs.Imports.{new_stage, old_stage, one_front, out_has_stopped, same_place, settling, so_alone, so_both, stage_by, version_of}
-pub use Rattle.law_steps.proofs.Imports.{with_mark_at}
+pub use Rattle.law_steps.specs.Imports.{Finished, Glanced, IsBelow, Refused, Sender, Stage, StaysSo, Subject, before_blanks, bytes_of, cell_cmp, coming}
+pub use Rattle.law_steps.specs.Imports.{crossed, entry_at, epochs_beyond, letters_of, live, pattern_block, stage_at}
+pub use Rattle.law_steps.proofs.Imports.{ByBoth, ByNone, ByOne, Chain, Follows, Greater, HasLater, HasStage, IsCaughtStill, IsHeldBy, IsRetired, IsSteady}
+pub use Rattle.law_steps.proofs.Imports.{Less, Ordering, Pairs, Store, alone_not_both, at-empty, cell_cmp_same, cell_same, clock_of, found_at, history_agrees}
+pub use Rattle.law_steps.proofs.Imports.{history_grows, history_is_firm, in_once, insert_entry, log_alone, log_below, log_rev, log_roles, log_steady, lookup}
+pub use Rattle.law_steps.proofs.Imports.{match_ordering, new_stage, old_stage, one_prefix, or_true, out_has_stopped, prefix_itself, prefix_long, prefix_more}
+pub use Rattle.law_steps.proofs.Imports.{prefix_on, prefix_plain, said_to_all, same_only, same_place, settling, so_alone, so_both, stage_by, version_of}
+pub use Rattle.law_steps.proofs.Imports.{was_true}
 unfoldable pub use Rattle.law_steps.proofs.Imports.{put}
-pub use Rattle.law_jobs.specs.Imports.{By_holder, By_lead, By_other, By_second, Closes, Closes_alone, Did, DidLead, DidOther, DidSecond, Gives_up}
-pub use Rattle.law_jobs.specs.Imports.{Goes_on_retired, IsReadable, IsRefusal, Marks, Marks_alone, Opens, Opens_alone, Opens_fill, Opens_fill_alone, Puts}
-pub use Rattle.law_jobs.specs.Imports.{Puts_alone, Taken, Unmarks, Unmarks_alone, answering, progress}
-pub use Rattle.law_jobs.proofs.Imports.{An_entry_to_move, Asks, Asks_for, By_filler, By_read, By_sweep, Handled, Happens, Has_fill, Has_no_room, Ignores}
-pub use Rattle.law_jobs.proofs.Imports.{IsMoment, Is_full, Not_here, Of_the_log, Ready, Refuses, Repeats, Rests, Shows, Sweeps, always_firm, at_apart}
-pub use Rattle.law_jobs.proofs.Imports.{at_same, chains_with, front_legal, of_read, of_sweep, own_place, rests_after, retired_second, same_cell_or_apart}
-pub use Rattle.law_jobs.proofs.Imports.{start_rests, stood, taking, world_more}
-pub use Rattle.law_copies.specs.Imports.{IsRising, blank_joins_in, kept_store, no_pairs, one_put_ahead}
-pub use Rattle.law_copies.proofs.Imports.{AllMayWake, At, BeforeBlank, Blanks, By_ballot, By_caught, By_entry, By_job, By_join, By_leave, Ends, Ends_fill}
-pub use Rattle.law_copies.proofs.Imports.{Fails, Goes, HasJoinedSince, IsLater, Moves, Moves_on, OneMore, Run, Says, Serves, Serving, Stays, Turns, Wakes}
-pub use Rattle.law_copies.proofs.Imports.{Worked, alone_by, at_row, before_part, both_row, by_run, cases_lt, chain_apart, chain_put, chosen_caught_was}
-pub use Rattle.law_copies.proofs.Imports.{counted, counted_by, either_true, firm_in, get_in, grown_in, held_as_flag, in_get, in_map, in_none, is_at_work}
-pub use Rattle.law_copies.proofs.Imports.{kept, kept_by, lead_links, letters_of_job, live_stage, log_grown, log_lost, log_touched, longer, may_wake}
-pub use Rattle.law_copies.proofs.Imports.{of_ending, of_filler, of_holder, of_second, one_before, other_between, places_grow, primary_is_one, put_rises}
-pub use Rattle.law_copies.proofs.Imports.{putting, rests_in, row_joined, run_of, said, second_by, secondary_is_one, served_so, setting_in, shown_so}
-pub use Rattle.law_copies.proofs.Imports.{stepped_in, stopped_so, turned_asks, without_rev}
+pub use Rattle.law_jobs.specs.Imports.{Did, IsReadable, IsRefusal, Taken, answering, chains_with, progress}
+pub use Rattle.law_jobs.proofs.Imports.{As_it_is, As_told, Blanks, By_ballot, By_entry, By_job, By_read, Ends, Fails, Goes, Handled, Happens, IsMoment}
+pub use Rattle.law_jobs.proofs.Imports.{IsSame, Not_here, Of_the_log, Ready, Refuses, Repeats, Rests, Serves, Serving, Shows, Stays, Turns, Wakes, Worked}
+pub use Rattle.law_jobs.proofs.Imports.{always_firm, at_apart, at_same, happens, own_place, own_plain, prefix_legal, rests_after, rests_next, retired_second}
+pub use Rattle.law_jobs.proofs.Imports.{same_cell_or_apart, start_rests, taking, world_more}
+pub use Rattle.law_copies.specs.Imports.{IsRising, blank_joins_in, is_clients, kept_store, no_pairs, one_put_ahead}
+pub use Rattle.law_copies.proofs.Imports.{AllMayWake, At, BeforeBlank, By_caught, By_join, By_leave, Ends_fill, HasJoinedSince, IsLater, Moves, Moves_on}
+pub use Rattle.law_copies.proofs.Imports.{OneMore, Run, Says, alone_by, at_row, before_part, both_row, by_run, cases_lt, chain_apart, chain_put}
+pub use Rattle.law_copies.proofs.Imports.{chosen_caught_was, counted, counted_by, either_true, firm_in, get_in, grown_in, held_as_flag, in_get, in_map}
+pub use Rattle.law_copies.proofs.Imports.{in_none, is_at_work, kept, kept_by, lead_links, letters_of_job, live_stage, log_grown, log_lost, log_touched}
+pub use Rattle.law_copies.proofs.Imports.{longer, may_wake, none_before_none, one_before, other_between, places_grow, primary_is_one, put_rises, putting}
+pub use Rattle.law_copies.proofs.Imports.{rests_in, row_joined, run_of, said, second_by, secondary_is_one, served_so, setting_in, shown_so, stepped_in}
+pub use Rattle.law_copies.proofs.Imports.{stopped_so, turned_asks, without_rev}
 pub use Rattle.law_requests.specs.Imports.{done_to, line_by}
 pub use Rattle.law_requests.proofs.Imports.{Alone_has, Answered, Begins, Blanks_it, Both_have, By_operation, By_verdict, By_witness, Fails_it, Goes_on}
 pub use Rattle.law_requests.proofs.Imports.{Had_no_slot, Has_no_space, Heard, IsCalled, IsFinishedFor, IsJudged, IsReason, IsSeatedOrMute, IsSeenAs}
 pub use Rattle.law_requests.proofs.Imports.{Is_declined, Is_retired, Is_settled, Is_told, Judges, OnlySays, Reads, Shown, Starts_it, StaysOpen, Stops_at}
-pub use Rattle.law_requests.proofs.Imports.{Stops_it, Turned, both_leads, chosen_steady, did_finish, disk_on, epoch_at, is_refused, leaving, led_by, of_other}
-pub use Rattle.law_requests.proofs.Imports.{own_below, own_plain, own_steady, runs_now, write_refusal}
+pub use Rattle.law_requests.proofs.Imports.{Stops_it, Turned, both_leads, chosen_steady, did_finish, disk_on, epoch_at, is_notice, is_refused, leaving}
+pub use Rattle.law_requests.proofs.Imports.{led_by, own_below, own_steady, runs_now, serves_sent, write_refusal}
 pub use Rattle.law_moves.specs.Imports.{HasNewer, IsFilledFrom, IsServing}
 pub use Rattle.law_moves.proofs.Imports.{AliveIn, AreCopies, AreCopying, AreTwins, Good, HasSent, IsAt, IsCaught, IsLast, IsLeft, IsLinked, IsOther, IsOwn}
-pub use Rattle.law_moves.proofs.Imports.{IsStaged, IsTold, PairOk, WasThere, Working, alive_on, alone_authority, alone_or_flagged, at_by, ballot_store}
-pub use Rattle.law_moves.proofs.Imports.{begins_to_leave, both_authority, both_last, both_since, chain_that_counts, far, fronts_meet, frozen_by, good_after}
-pub use Rattle.law_moves.proofs.Imports.{half, half_store, held_by, in_counts, in_kept, in_left, in_mapped, in_own, joined_where, lead, linked_between}
-pub use Rattle.law_moves.proofs.Imports.{no_home, one_place, one_row, other_apart, other_than, pair_at, pair_of, place_by, place_of_later, place_touched}
-pub use Rattle.law_moves.proofs.Imports.{places_up, rows_later, source_same, split_fronts, stage_facts, stage_in, stage_is, start_good, step_goes, store_by}
-pub use Rattle.law_moves.proofs.Imports.{unseen_beyond}
+pub use Rattle.law_moves.proofs.Imports.{IsPaired, IsStaged, IsTold, Is_apart, Is_replicated, PairOk, WasThere, Was_paired, Working, alive_on}
+pub use Rattle.law_moves.proofs.Imports.{alone_authority, alone_or_flagged, at_by, ballot_store, begins_to_leave, both_authority, both_last, both_since}
+pub use Rattle.law_moves.proofs.Imports.{chain_that_counts, chains_ahead, far, frozen_by, good_after, half, half_store, held_by, in_counts, in_kept, in_left}
+pub use Rattle.law_moves.proofs.Imports.{in_mapped, in_own, is_at, joined_where, lead, linked_between, no_home, one_place, one_row, other_apart, other_than}
+pub use Rattle.law_moves.proofs.Imports.{pair_at, pair_of, place_by, place_of_later, place_touched, places_up, prefixes_meet, rows_later, source_same}
+pub use Rattle.law_moves.proofs.Imports.{split_prefixes, stage_facts, stage_in, stage_is, start_good, step_goes, store_by, unseen_beyond}
 pub use Rattle.std.proofs.Math.Seq.{drop-append_seam}
 pub use Rattle.std.proofs.lemmas.Cmp.{nat_list_eq_equiv}
 pub use Rattle.std.proofs.lemmas.List.{length-append}
@@ -80,33 +75,34 @@ pub use Rattle.law_copies.proofs.LastCopies.{of_last, past_last, past_of}
 pub use Rattle.law_copies.proofs.LeftToCopy.{tied}
 pub use Rattle.law_copies.proofs.MarksPrecedePuts.{marks_first}
 pub use Rattle.law_copies.proofs.OtherIsNotHolder.{held_not_lead}
-pub use Rattle.law_copies.proofs.PlacesByFronts.{linked_alive, retired_not}
+pub use Rattle.law_copies.proofs.PlacesByPrefixes.{linked_alive, retired_not}
 pub use Rattle.law_copies.proofs.RolesOfWorkers.{other_alone}
-pub use Rattle.law_copies.proofs.ServedAtLaterFronts.{AllStarted, been_below, holder_is_one, holds_since, reached_here}
+pub use Rattle.law_copies.proofs.ServedAtLaterPrefixes.{AllStarted, been_below, holder_is_one, holds_since, reached_here}
 pub use Rattle.law_copies.proofs.StoreHistories.{always_empty}
 pub use Rattle.law_copies.proofs.TwoCopyRules.{copies_after, covered_after}
 pub use Rattle.law_copies.specs.CopyProgress.{IsLastCopy, IsTrimming, links_of}
 pub use Rattle.law_copies.specs.LoneSteps.{IsLeftBy}
 pub use Rattle.law_copies.specs.Pair.{IsAhead, IsPutting, Pair, number_of, owns_of}
 pub use Rattle.law_copies.specs.Visits.{Visits}
+pub use Rattle.law_jobs.proofs.JobsSay.{IsOfRead, letters_by}
 pub use Rattle.law_jobs.proofs.OperationsCome.{finished_of}
 pub use Rattle.law_jobs.proofs.Runs.{at_moment, firm_then, follows_in, grown_then}
-pub use Rattle.law_jobs.specs.Sayings.{to_client}
+pub use Rattle.law_jobs.specs.Sayings.{SaysOf, to_client}
 pub use Rattle.law_moves.proofs.EpochHistories.{early_after, pending_timely, place_timely, second_timely}
 pub use Rattle.law_moves.proofs.FillsAtSeconds.{second_after}
 pub use Rattle.law_moves.proofs.JobsChangeOneChain.{A_copy, An_asked, An_own, CopiesSo, Drops, Is_dropped, Is_dropped_first, Is_put, NeverRetired}
 pub use Rattle.law_moves.proofs.JobsChangeOneChain.{Nothing_new, Of_the_retired, PutsAsked, PutsCopy, PutsOwn, StoresSo, copied_apart, did_stores, not_ahead}
-pub use Rattle.law_moves.proofs.PendingAfterJobs.{Is_new, It_was, did_was}
 pub use Rattle.law_moves.proofs.KnownOfMoves.{comes_after, filling_after, over_after, retired_frozen, rule_after}
-pub use Rattle.law_moves.proofs.MovesInHistories.{known_after, none_chosen}
+pub use Rattle.law_moves.proofs.MoveWorlds.{top_last}
+pub use Rattle.law_moves.proofs.MovesInHistories.{known_after, none_chosen, none_in}
 pub use Rattle.law_moves.proofs.NextFill.{in_flat}
 pub use Rattle.law_moves.proofs.NoPutsToLeavingCells.{op_there}
+pub use Rattle.law_moves.proofs.PendingAfterJobs.{Is_new, It_was, did_was}
 pub use Rattle.law_moves.specs.EntryEpochs.{AreEarly}
 pub use Rattle.law_moves.specs.Fills.{Has, IsFrozen}
 pub use Rattle.law_moves.specs.InTime.{IsTimely}
 pub use Rattle.law_requests.proofs.IncarnationsGoOn.{no_earlier, ran_now}
 pub use Rattle.law_requests.proofs.LeadsAtTwoPlaces.{leader_alone, one_lead}
-pub use Rattle.law_state.proofs.TestFacts.{same_only}
 pub use Rattle.law_requests.proofs.OpenBesideRunning.{open_beside}
 pub use Rattle.law_requests.proofs.OpenWhileRunning.{open_at_place, open_running, pending_here}
 pub use Rattle.law_requests.proofs.OpenedAfterReport.{reports_hold}
@@ -115,20 +111,21 @@ pub use Rattle.law_requests.proofs.RequestsInHistories.{start_along, start_askin
 pub use Rattle.law_requests.proofs.RequestsKnownLater.{pending_further}
 pub use Rattle.law_requests.proofs.StepsGoOnOrBoot.{worked_grows}
 pub use Rattle.law_requests.proofs.StepsKeepRequests.{GoesOn, ended_later, happens_asking, happens_later, proposed_pairs}
-pub use Rattle.law_requests.proofs.WritesAtLaterFronts.{write_stays}
+pub use Rattle.law_requests.proofs.WritesAtLaterPrefixes.{write_stays}
 pub use Rattle.law_requests.specs.AskedRequests.{IsOpen, IsRead, IsWrite}
 pub use Rattle.law_requests.specs.KnownRequests.{AskingBy, EndKnownAt, Has_pending, Known, KnowsReports, Lives, PendingFor, ReadKnown, asked_for, lives_after}
 pub use Rattle.law_requests.specs.KnownRequests.{seen}
 pub use Rattle.law_script.proofs.TakenLines.{is_accepted}
-pub use Rattle.law_script.specs.Laws.{Does, asks, line_at, nets, skipped, waits}
+pub use Rattle.law_script.specs.Laws.{Asks, Does, asks, line_at, nets, skipped, waits}
 pub use Rattle.law_state.proofs.CaughtsMadeBoth.{log_held_or_both}
 pub use Rattle.law_state.proofs.CellsByLinkRows.{lost_authority, read_by, retired_authority, retired_reader}
 pub use Rattle.law_state.proofs.Disks.{log_disks}
 pub use Rattle.law_state.proofs.ErasRiseAfterReports.{log_unread}
 pub use Rattle.law_state.proofs.LaterDisks.{AreFresh, HasRowLater, fresh_rows, known_row, later_place, later_rows, old_or_new, stays_row}
 pub use Rattle.law_state.proofs.LinksAreNoted.{log_twins}
-pub use Rattle.law_state.proofs.ListLookups.{find_after, find_front, find_none, get_front, none_find, text_itself}
+pub use Rattle.law_state.proofs.ListLookups.{find_after, find_none, find_prefix, get_prefix, none_find, text_itself}
 pub use Rattle.law_state.proofs.Owners.{epoch_in, epoch_is, home_later, map_made}
+pub use Rattle.law_state.proofs.Stages.{new_most}
 pub use Rattle.law_state.proofs.Steady.{viewed}
 pub use Rattle.law_state.specs.Disks.{AreDisks}
 pub use Rattle.law_state.specs.Homes.{stage_under}
@@ -137,9 +134,9 @@ pub use Rattle.law_state.specs.LinkRows.{IsBetween}
 pub use Rattle.law_state.specs.Tables.{IsGrown, IsLaterDisk, IsRowAt}
 pub use Rattle.law_steps.proofs.ClientLetters.{is_ask}
 pub use Rattle.law_steps.proofs.ClientStepKinds.{client_turns, is_call}
-pub use Rattle.law_steps.proofs.KindsInHistories.{happens, ready_chosen, rests_next}
-pub use Rattle.law_steps.proofs.Letters.{one_post, posted}
-pub use Rattle.law_steps.proofs.LettersOfSteps.{is_notice, serves_sent}
+pub use Rattle.law_steps.proofs.KindsInHistories.{ready_chosen}
+pub use Rattle.law_steps.proofs.Letters.{one_post}
+pub use Rattle.law_steps.proofs.LettersOfSteps.{logged_notice}
 pub use Rattle.law_steps.proofs.LogJobs.{LogFrame, applied_entry, applied_none, letter_frame_of, start_frame_of}
 pub use Rattle.law_steps.proofs.ServerStepKinds.{chosen_same, server_serves}
 pub use Rattle.law_steps.proofs.TicksAskAgain.{in_flat_map}
@@ -152,11 +149,11 @@ pub use Rattle.spec_history.specs.Claims.{Holds, IsCatching, IsStill, Law, Snaps
 pub use Rattle.spec_history.specs.Contents.{content_at, content_where, entry_at_home, entry_before, entry_by, entry_of, first_entry, has_at_home}
 pub use Rattle.spec_history.specs.Contents.{has_content_at, has_content_where, home_of, old_cell}
 pub use Rattle.spec_history.specs.Events.{Change, IsRunOf, NotThere, accepted, accepts, after_step, all_there, asks_old, before_step, begins, begun}
-pub use Rattle.spec_history.specs.Events.{blocks_in, blocks_of, change_by, changed_blocks, data_among, data_line, data_of, end_by, end_of, events_of}
-pub use Rattle.spec_history.specs.Events.{first_data, first_of, freeze_of, freezes, freezes_on, had_content, has_content_next, is_changed, job_asks_old}
-pub use Rattle.spec_history.specs.Events.{joined, look_by, look_for, look_for_data, look_of, make_of, makes, old_data, open_write, reads_old, same_actor}
-pub use Rattle.spec_history.specs.Events.{snapshots_of, taken, taker, takes, takes_on, told, told_from, told_with, turns, with_first, write_asked, write_by}
-pub use Rattle.spec_history.specs.Events.{writes_so}
+pub use Rattle.spec_history.specs.Events.{blocks_in, blocks_of, change_by, changed_blocks, data_among, data_line, data_of, end_by, end_of, ends, events_at}
+pub use Rattle.spec_history.specs.Events.{events_from, events_of, events_with, first_data, first_of, freeze_of, freezes, freezes_on, had_content}
+pub use Rattle.spec_history.specs.Events.{has_content_next, is_changed, job_asks_old, joined, look_by, look_for, look_for_data, look_of, make_of, makes}
+pub use Rattle.spec_history.specs.Events.{old_data, open_write, reads_old, same_actor, snapshots_of, taken, taker, takes, takes_on, turns, with_first}
+pub use Rattle.spec_history.specs.Events.{write_asked, write_by, writes_so}
 pub use Rattle.spec_machine.specs.Machine.{Plain, blank, but_of, disk_of, has_content, is_named, is_of, is_snap_named, open_of, remembers, same_bytes, stands}
 pub use Rattle.spec_machine.specs.Machine.{with_disk}
 unfoldable pub use Rattle.spec_machine.specs.Machine.{content}

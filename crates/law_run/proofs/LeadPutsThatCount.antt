@@ -1,11 +1,12 @@
 -- What a job leaves pending and finished at its server: the write of what is put where it counts, or is closed, has had its bytes.
-use Rattle.law_run.proofs.Imports.{◌+◌, ◌∙◌, ◌≡◌, ◌≤◌, ◌⊎◌, A_copy, Alone_has, An_asked, An_own, AreCopies, Bool, Both, Both_have, By_operation, Cell, Chain}
-use Rattle.law_run.proofs.Imports.{Did, Finished, Had_no_slot, IsFinishedFor, IsLinked, IsOpen, IsSteady, Is_declined, Is_new, Is_retired, It_was, JobResult}
-use Rattle.law_run.proofs.Imports.{LinkRow, NeverRetired, None, Nothing_new, Of_the_retired, Only, Option, PairOk, PairState, Pending, Plain, Some, Stage}
-use Rattle.law_run.proofs.Imports.{Store, StoresSo, Table, Taken, Working, alone_not_both, answering, ap, at, authority, cell_cmp, cell_of, chain_apart}
-use Rattle.law_run.proofs.Imports.{chain_in, chosen_state, copied_apart, did_was, false, far, half, held_not_lead, in_both, inl, inr, is_alone_on, is_clients}
-use Rattle.law_run.proofs.Imports.{is_lead, is_second, is_the_one, kept, lead_links, led_by, live, nat_cmp, not_ahead, own_steady, pair_of, put, putting}
-use Rattle.law_run.proofs.Imports.{refl, same_cell_or_apart, same_some, second_by, secondary_is_one, so_both, subst, sym, true, true_false, ℕ}
+use Rattle.law_run.proofs.Imports.{◌+◌, ◌∙◌, ◌≡◌, ◌≤◌, ◌⊎◌, A_copy, Alone_has, An_asked, An_own, AreCopies, As_it_is, As_told, Bool, Both, Both_have}
+use Rattle.law_run.proofs.Imports.{By_operation, Cell, Chain, Did, Finished, Had_no_slot, IsFinishedFor, IsLinked, IsOpen, IsPaired, IsSame, IsSteady}
+use Rattle.law_run.proofs.Imports.{Is_apart, Is_declined, Is_new, Is_replicated, Is_retired, It_was, JobResult, LinkRow, NeverRetired, None, Nothing_new}
+use Rattle.law_run.proofs.Imports.{Of_the_retired, Only, Option, PairOk, PairState, Pending, Plain, Some, Stage, Store, StoresSo, Table, Taken, Was_paired}
+use Rattle.law_run.proofs.Imports.{Working, alone_not_both, answering, ap, at, authority, cell_cmp, cell_of, chain_apart, chain_in, chains_ahead}
+use Rattle.law_run.proofs.Imports.{chosen_state, copied_apart, did_was, false, far, half, held_not_lead, in_both, inl, inr, is_alone_on, is_clients, is_lead}
+use Rattle.law_run.proofs.Imports.{is_second, is_the_one, kept, lead_links, led_by, live, nat_cmp, not_ahead, own_steady, pair_of, put, putting, refl}
+use Rattle.law_run.proofs.Imports.{same_cell_or_apart, same_some, second_by, secondary_is_one, so_both, subst, sym, true, true_false, ℕ}
 use Rattle.law_run.specs.WritesGoOn.{is_held, Onward}
 use Rattle.law_run.specs.MachineTies.{HasCounted, Is_told, Is_followed, Is_counted}
 use Rattle.law_run.proofs.ServerFrames.{kept_finished, own_counted}
@@ -14,9 +15,6 @@ use Rattle.law_run.proofs.Machine.{held_onward}
 use Rattle.law_run.proofs.OwnPlacesAreLatest.{IsSharing, first_ok, heard_shared, op_alone, op_shared, peer, place_of, shared_or_alone, shared_store}
 use Rattle.law_run.proofs.OwnPlacesAreLatest.{store_there, op_lead}
 use Rattle.law_run.proofs.EventsOfServerSteps.{ServerStep, ends_of, grounded}
-use Rattle.law_steps.specs.DidLead.{As_it_is, As_told}
-use Rattle.law_jobs.specs.Effects.{IsPaired, Is_apart, Is_replicated, Was_paired, chains_ahead}
-use Rattle.law_steps.proofs.Restages.{IsSame}
 use Rattle.petal_msg.specs.declared.body.Body.TheVariants as body
 use Rattle.petal_msg.specs.declared.operation.Ending.TheVariants as ending
 

@@ -2,10 +2,10 @@
 -- else that is told of a block is as before. Of a link that is Lost nothing is told.
 use Rattle.law_run.proofs.Imports.{◌&&◌, ◌+◌, ◌||◌, ◌∙◌, ◌≡◌, ◌≤◌, ◌⊎◌, AreDisks, Bool, Cell, DiskRow, In, IsLinked, IsOpen, Letter, None, Option, PairOk}
 use Rattle.law_run.proofs.Imports.{Pending, Server, Some, Store, Stored, all_put_apart, ap, arith, at, authority, by_bool, bytes_of, cases_lt, cell_cmp}
-use Rattle.law_run.proofs.Imports.{cell_of, chain_in, change_by, counted, entry_at, entry_before, entry_by, entry_of, false, far, first_entry, front_itself}
-use Rattle.law_run.proofs.Imports.{half, half_store, has_map, inl, inr, is_clients, is_some, kept, leader_alone, named_cell, nat_cmp, none_some, old_cell}
-use Rattle.law_run.proofs.Imports.{one_put_ahead, one_row, option_and_then, own_below, owns_of, pair_of, place_by, put, refl, replay, same_some, so_both}
-use Rattle.law_run.proofs.Imports.{stage_at, subject_of, subst, sym, true, true_false, ℕ}
+use Rattle.law_run.proofs.Imports.{cell_of, chain_in, change_by, counted, entry_at, entry_before, entry_by, entry_of, false, far, first_entry, half}
+use Rattle.law_run.proofs.Imports.{half_store, has_map, inl, inr, is_clients, is_some, kept, leader_alone, named_cell, nat_cmp, none_some, old_cell}
+use Rattle.law_run.proofs.Imports.{one_put_ahead, one_row, option_and_then, or_true, own_below, owns_of, pair_of, place_by, prefix_itself, put, refl, replay}
+use Rattle.law_run.proofs.Imports.{same_some, so_both, stage_at, subject_of, subst, sym, true, true_false, ℕ}
 use Rattle.law_run.proofs.ContentsAsRegionsBegin.{IsNow, By_both, By_entry, HasAll, high_after, is_now}
 use Rattle.law_run.proofs.FillsComeInTurn.{ComesTo, fill_there, frozen_old}
 use Rattle.law_run.proofs.Overlay.{come_over, fill_same}
@@ -26,7 +26,6 @@ use Rattle.law_run.proofs.ContentChanges.{block_there}
 use Rattle.law_run.proofs.CountingAsLogGrows.{steady, IsLeftToFirst, Moves, Stays_there, Is_left, Is_handed_on, Is_lost, moves, entry, was_second, now_first}
 use Rattle.law_run.proofs.CountingAsLogGrows.{place, now_entry, below_entry, was_there, fill_frozen, fill_comes, IsPutAhead, Turns, Is_same, Is_gone}
 use Rattle.law_run.proofs.CountingAsLogGrows.{Is_written, Is_filled, turns, spot, there}
-use Rattle.law_state.proofs.NewMapLinks.{or_true}
 
 module _ (this : ServerStep) (same_store : (new this).store.chains ≡ (owns_of this.w this.n).store.chains) where
   open ends_of this use {v, top, chosen, after}
@@ -252,10 +251,10 @@ module _ (this : ServerStep) (same_store : (new this).store.chains ≡ (owns_of 
       let q = left.link.secondary in
       let firm = this.along.firm in
       let s = shared_before (grounded this) p cell op runs is top left.link (firm.servers p)
-      (front_itself top) left.linked left.both in
+      (prefix_itself top) left.linked left.both in
       let f = s.first in
       let row : f.row ≡ left.link = sym (one_row this.setting top firm.plain (this.w.servers p).log.applied top cell f.row left.link
-      (firm.servers p) (front_itself top)
+      (firm.servers p) (prefix_itself top)
       f.shares.linked left.linked (sym s.at)) in
       let visit : this.ground.good.visits p (place_by this.setting top left.link) cell ≡ Some (owns_of this.w p) =
       ap (λ k. this.ground.good.visits p k cell) s.at ∙ visit_here (grounded this) p cell f.row

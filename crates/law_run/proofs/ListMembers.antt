@@ -1,7 +1,8 @@
 -- What stands in lists that are made of others, and in tables.
 use Rattle.law_run.proofs.Imports.{[], ◌++◌, ◌+◌, ◌<◌, ◌∙◌, ◌∷◌, ◌≡◌, ◌≤◌, Bool, Equal, In, List, None, Option, Ordering, Some, Table, ap, arith, at}
-use Rattle.law_run.proofs.Imports.{at_apart, at_same, cond, cons_option, false, filter_map, flat_map, fold, in_mapped, inl, inr, is_at, is_eq, lookup, map}
-use Rattle.law_run.proofs.Imports.{nat_cmp, none_some, put, range_with_len, ranked, refl, same_or_apart, subst, suc, sym, tied, true, zero, ℕ}
+use Rattle.law_run.proofs.Imports.{at_apart, at_same, cond, cons_option, false, filter_map, flat_map, fold, in_mapped, inl, inr, is_eq, lookup, map, nat_cmp}
+use Rattle.law_run.proofs.Imports.{none_some, put, range_with_len, ranked, refl, same_or_apart, subst, suc, sym, tied, true, zero, ℕ}
+use Rattle.std.specs.BTreeMap.{is_at}
 use Rattle.std.specs.Prelude.{find}
 
 pub into_range : (start n i : ℕ) → start ≤ i → i < start + n → In i (range_with_len start n)

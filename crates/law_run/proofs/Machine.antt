@@ -2,13 +2,12 @@
 use Rattle.law_run.proofs.Imports.{[], ◌++◌, ◌==◌, ◌||◌, ◌∙◌, ◌∷◌, ◌≡◌, ◌≢◌, ◌⊎◌, AreSnapshots, Begin, Bool, DiskRow, End, Event, Holds, In, List, Look, Make}
 use Rattle.law_run.proofs.Imports.{None, Obeys, Open, Option, Plain, PlainDisk, Setting, Some, Table, Take, World, Write, WriteEnd, after, ap, at_apart}
 use Rattle.law_run.proofs.Imports.{at_same, but_of, by_bool, changed, cond, content, disk_of, false, find-append, has_content, inl, inr, is_named, is_of, map}
-use Rattle.law_run.proofs.Imports.{nat_cmp, nat_list_eq_equiv, nat_lists_same, none_some, not, number_itself, open_of, open_write, option_map, option_or, put}
-use Rattle.law_run.proofs.Imports.{refl, remembers, replay, same_bytes, same_numbers, same_or_apart, same_some, some_or_none, stands, subst, sym, true}
-use Rattle.law_run.proofs.Imports.{true_false, unwrap_or, with_disk, written, zero_block, ℕ}
+use Rattle.law_run.proofs.Imports.{nat_cmp, nat_list_eq_equiv, nat_lists_same, none_some, not, number_itself, open_of, open_write, option_map, option_or}
+use Rattle.law_run.proofs.Imports.{or_true, put, refl, remembers, replay, same_bytes, same_numbers, same_or_apart, same_some, some_or_none, stands, subst}
+use Rattle.law_run.proofs.Imports.{sym, true, true_false, unwrap_or, with_disk, written, zero_block, ℕ}
 use Rattle.std.specs.Prelude.{find}
 use Rattle.spec_machine.specs.Run.{IsOpen}
 use Rattle.law_run.specs.WritesGoOn.{IsMindful, held_in, Onward, Seat}
-use Rattle.law_state.proofs.NewMapLinks.{or_true}
 use Rattle.law_run.specs.MachineTies.{Follow, Stores}
 
 pub Obeys-append : (m : Plain) (es fs : List Event) → Obeys m es → Obeys (replay m es) fs → Obeys m (es ++ fs)

@@ -2,11 +2,11 @@
 use Rattle.law_run.proofs.Imports.{[], if◌then◌else◌, ◌++◌, ◌∙◌, ◌∷◌, ◌≡◌, ◌≤◌, ◌⊎◌, Actor, AreSteps, At, Bool, Cell, Chain, Drained, Firm, IsPrefix}
 use Rattle.law_run.proofs.Imports.{IsRising, IsSound, List, None, Option, Pairs, Pending, Record, Script, Setting, Some, State, Step, WasThere, World}
 use Rattle.law_run.proofs.Imports.{always_firm, ap, arith, asking_along, at, at_row, authority, begins_to_leave, by_run, cases_lt, cell_cmp, cell_of}
-use Rattle.law_run.proofs.Imports.{chain_in, chain_that_counts, chosen_log, chosen_state, comes_after, false, filling_after, front_itself, front_legal}
-use Rattle.law_run.proofs.Imports.{front_long, good_after, held, history_is_firm, inl, inr, is_all_held, is_in, is_some, kept, known_after, log_unread}
-use Rattle.law_run.proofs.Imports.{nat_cmp, nat_cmp_total, none_some, one_front, option_map, over_after, refl, reports_known, rests_after, retired_frozen}
-use Rattle.law_run.proofs.Imports.{run_of, runs_now, same_some, second_after, server_state, setting_in, setting_of, stage_at, start, start_rests, state_after}
-use Rattle.law_run.proofs.Imports.{step, stepped, subst, sym, true, true_false, world_more, ℕ}
+use Rattle.law_run.proofs.Imports.{chain_in, chain_that_counts, chosen_log, chosen_state, comes_after, false, filling_after, good_after, held}
+use Rattle.law_run.proofs.Imports.{history_is_firm, inl, inr, is_all_held, is_in, is_some, kept, known_after, log_unread, nat_cmp, nat_cmp_total, none_some}
+use Rattle.law_run.proofs.Imports.{one_prefix, option_map, over_after, prefix_itself, prefix_legal, prefix_long, refl, reports_known, rests_after}
+use Rattle.law_run.proofs.Imports.{retired_frozen, run_of, runs_now, same_some, second_after, server_state, setting_in, setting_of, stage_at, start}
+use Rattle.law_run.proofs.Imports.{start_rests, state_after, step, stepped, subst, sym, true, true_false, world_more, ℕ}
 use Rattle.law_jobs.proofs.Runs.{after}
 use Rattle.law_run.specs.MachineTies.{IsFrozenSo, KnowMoves}
 use Rattle.petal_msg.specs.declared.letter.Actor.TheVariants as actor
@@ -95,15 +95,15 @@ module _ (script : Script) (records : List Record) (sound : IsSound script) (leg
             let reached = (reports_known script sound records legal k).reached n report.fence report.until
             (subst (λ (i : ℕ). IsPrefix (report.until ++ Drained n i report.fence ∷ []) (chosen_log setting w)) (sym ran) report.stands) in
             let same : report.until ≡ own =
-            one_front report.until own own reached (front_itself own)
-            (let a = front_long report.until own reached in let b = front_long own report.until report.following in omega arith) in
+            one_prefix report.until own own reached (prefix_itself own)
+            (let a = prefix_long report.until own reached in let b = prefix_long own report.until report.following in omega arith) in
             true_false (subst (λ log. is_all_held (held (state_after setting.servers log) cell) ≡ true) same report.holds) free
       ]
 
   keyed : (n place : ℕ) (cell : Cell) (pairs : Pairs) (op : Pending) → WasThere setting records n place cell pairs
       → at cell_cmp pairs.pending cell ≡ Some op → cell_of op.key ≡ cell
   keyed n place cell pairs op was is =
-      let past = (front_legal setting (start setting) was.before was.later (subst (AreSteps script) was.is legal)).0 in
+      let past = (prefix_legal setting (start setting) was.before was.later (subst (AreSteps script) was.is legal)).0 in
       let rests = rests_after setting (start setting) was.before (always_firm script was.before sound past) (start_rests script) past in
       ((rests.pending n).staged cell op (ap (λ (p : Pairs). at cell_cmp p.pending cell) was.had ∙ is)).keyed
 

@@ -2,9 +2,9 @@
 use Rattle.law_run.proofs.Imports.{[], ◌++◌, ◌∙◌, ◌∷◌, ◌≡◌, ◌≤◌, AreDisks, AreStepsFrom, Body, Bool, Cell, Chain, Handled, Has, HasStage, In, IsPrefix}
 use Rattle.law_run.proofs.Imports.{IsRead, IsReadable, IsRising, IsSettledState, Letter, Line, List, None, NotThere, Option, Some, State, Store, Stored}
 use Rattle.law_run.proofs.Imports.{World, ap, arith, at, by_bool, bytes_of, cases_lt, cell_asked, cell_cmp, chain_in, chosen_log, chosen_state, coming}
-use Rattle.law_run.proofs.Imports.{counted, entry_at, entry_of, epoch_at, epoch_for, false, find, flat_map, front_itself, front_on, has_map, inl, inr}
-use Rattle.law_run.proofs.Imports.{is_lead, is_some, kept, leaving, log_disks, log_plain, log_rev, look_for, look_for_data, look_of, named_cell, nat_cmp}
-use Rattle.law_run.proofs.Imports.{none_some, old_cell, old_data, one_front, option_and_then, own_below, own_place, own_plain, owns_of, refl, same_some}
+use Rattle.law_run.proofs.Imports.{counted, entry_at, entry_of, epoch_at, epoch_for, false, find, flat_map, has_map, inl, inr, is_lead, is_some, kept}
+use Rattle.law_run.proofs.Imports.{leaving, log_disks, log_plain, log_rev, look_for, look_for_data, look_of, named_cell, nat_cmp, none_some, old_cell}
+use Rattle.law_run.proofs.Imports.{old_data, one_prefix, option_and_then, own_below, own_place, own_plain, owns_of, prefix_itself, prefix_on, refl, same_some}
 use Rattle.law_run.proofs.Imports.{server_state, source, stage_at, stage_facts, state_after, subst, sym, true, true_false, ℕ}
 use Rattle.law_run.proofs.ChosenDisks.{cell_comes, cell_lives, cell_old, content_is, disks_now, has_content_is, plain_now}
 use Rattle.law_run.proofs.MachineTakesWrites.{was_has, was_kept}
@@ -44,7 +44,7 @@ twins state lines client seq told told_old cell old epoch epoch_old one other =
     }
 
 module _ (this : ServerStep) where
-  open ends_of this use {chosen, own, own_state, front}
+  open ends_of this use {chosen, own, own_state, prefix}
 
   -- a read of a cell that is coming, of which the server has nothing, and the data that another server then finds for it
   pub record IsFoundElsewhere : Type 0 where
@@ -66,24 +66,24 @@ module _ (this : ServerStep) where
   module _ (it : IsFoundElsewhere) where
     open it use {client, seq, cell, epoch, r, k, comes, none, same, to, rev, given, f}
 
-    abbrev o : IsOfDisk this.setting this.w this.along.firm front (this.along.firm.servers this.n) this.setting.lines client seq k.told cell epoch k.read
+    abbrev o : IsOfDisk this.setting this.w this.along.firm prefix (this.along.firm.servers this.n) this.setting.lines client seq k.told cell epoch k.read
     o = of this cell r client seq epoch k
 
     facts : HasStage own_state cell
-    facts = stage_facts this.setting.servers front (own_plain this.setting this.w this.along.firm this.n) cell
+    facts = stage_facts this.setting.servers prefix (own_plain this.setting this.w this.along.firm this.n) cell
 
     one_own : stage_at own_state cell ≡ 1
     one_own = facts.comes comes
 
     -- whoever answered had come as far
-    front_is : (f.u.servers f.old.y).log.applied ≡ front
-    front_is = one_front (f.u.servers f.old.y).log.applied front (chosen_log this.setting f.u) (f.firm.servers f.old.y)
-        (front_on front (chosen_log this.setting (later_world this)) (chosen_log this.setting f.u)
-        (subst (IsPrefix front) (sym same) (this.along.firm.servers this.n)) f.grows)
-        (f.old.at ∙ rev ∙ log_rev this.setting.servers front)
+    prefix_is : (f.u.servers f.old.y).log.applied ≡ prefix
+    prefix_is = one_prefix (f.u.servers f.old.y).log.applied prefix (chosen_log this.setting f.u) (f.firm.servers f.old.y)
+        (prefix_on prefix (chosen_log this.setting (later_world this)) (chosen_log this.setting f.u)
+        (subst (IsPrefix prefix) (sym same) (this.along.firm.servers this.n)) f.grows)
+        (f.old.at ∙ rev ∙ log_rev this.setting.servers prefix)
 
     abbrev state_is : server_state this.setting f.u f.old.y ≡ own_state
-    state_is = ap (state_after this.setting.servers) front_is
+    state_is = ap (state_after this.setting.servers) prefix_is
 
     same_client : f.client ≡ client
     same_client = one_client (sym f.to ∙ to)
@@ -118,10 +118,10 @@ module _ (this : ServerStep) where
 
     -- it is the cell from which the new one is filled
     plain_own : IsSettledState this.setting.servers own_state
-    plain_own = log_plain this.setting.servers front (own_plain this.setting this.w this.along.firm this.n)
+    plain_own = log_plain this.setting.servers prefix (own_plain this.setting this.w this.along.firm this.n)
 
     disks_own : AreDisks own_state
-    disks_own = log_disks this.setting.servers front (own_plain this.setting this.w this.along.firm this.n)
+    disks_own = log_disks this.setting.servers prefix (own_plain this.setting this.w this.along.firm this.n)
 
     from_old : source own_state cell ≡ Some old
     from_old =
@@ -152,7 +152,7 @@ module _ (this : ServerStep) where
         let disks = disks_now this.setting this.w this.along.firm in
         let between = cell_comes this.setting.servers chosen plain disks o.row o.there cell has one in
         let is_old : old ≡ old_cell o.row cell.block =
-        source_stays this.setting.servers front (chosen_log this.setting this.w) this.along.firm.plain (this.along.firm.servers this.n) cell old from_old
+        source_stays this.setting.servers prefix (chosen_log this.setting this.w) this.along.firm.plain (this.along.firm.servers this.n) cell old from_old
         o.row o.there has one in
         let at_old : this.w.frozen (old_cell o.row cell.block) ≡ Some before = ap this.w.frozen (sym is_old) ∙ frozen in
         let top : entry_of chosen (counted this.setting this.w) (named_cell o.row cell.block) e ≡ None =
@@ -176,7 +176,7 @@ module _ (this : ServerStep) where
         let kept_is : kept this.setting this.w this.n ≡ own.store = this.ground.own this.n r.runs r.seat own.store in
         let there : Has (chain_in own.store.chains cell) low.0 =
         subst (λ (x : Store). Has (chain_in x.chains cell) low.0) kept_is
-        ((this.ground.moves.over cell two (omega arith)).all this.n low.0 before old front (this.along.firm.servers this.n) from_old frozen
+        ((this.ground.moves.over cell two (omega arith)).all this.n low.0 before old prefix (this.along.firm.servers this.n) from_old frozen
         (serving_now this cell r) low.2) in
         let rises : IsRising nat_cmp (chain_in own.store.chains cell) =
         subst (λ (x : Store). IsRising nat_cmp (chain_in x.chains cell)) kept_is (this.ground.good.rising this.n cell) in
@@ -231,7 +231,7 @@ module _ (this : ServerStep) where
       by : (o : Option (ℕ × List ℕ)) → old_data this.setting v this.later told false ≡ o → Looked m (look_for_data this.setting.lines o ++ [])
       by None e = nothing_looked this m following
       by (Some given) e =
-          let facts = stage_facts this.setting.servers front (own_plain this.setting this.w this.along.firm this.n) cell in
+          let facts = stage_facts this.setting.servers prefix (own_plain this.setting this.w this.along.firm this.n) cell in
           let one = facts.comes comes in
           let stays : leaving own_state cell ≡ false =
           by_bool (leaving own_state cell) (λ t. let three = facts.leaves t in absurd (omega arith)) (λ x. x) in
@@ -239,7 +239,7 @@ module _ (this : ServerStep) where
           record { runs = runs; seat = readable.seated; may = readable.readable; unheld = readable.unheld; idle = idle; stays = stays } in
           let known = known_read (grounded this) this.n client seq cell epoch readable.asked in
           let o = of this cell r client seq epoch known in
-          let f = found this.setting this.state this.along.steady v told given v this.later false grounds legal (front_itself _) (λ c left. refl) e in
+          let f = found this.setting this.state this.along.steady v told given v this.later false grounds legal (prefix_itself _) (λ c left. refl) e in
           let may = look_may this same calm m following o.row o.there epoch known.read.block given.1 known.read.snap o.asks
           (old_content (record {
             client = client;

@@ -1,17 +1,17 @@
 -- A server at work that has started a ballot for a Caught has nothing under way on the link: an operation would be held, and a copy was closed.
 -- And the two copies are equal while nothing touches the link.
 use Rattle.law_run.proofs.Imports.{◌++◌, ◌==◌, ◌∙◌, ◌≡◌, ◌≢◌, ◌⊎◌, AliveIn, AreCaughtUp, AreInAsThen, AreSteps, Bool, Both, Cell, Command, CopiesStayEqual}
-use Rattle.law_run.proofs.Imports.{CopiesWaitEqual, HasAppliedNone, HasDied, HasEqualCopies, HasProperTuples, IsAt, IsBetween, IsCatching, IsLast, IsPrefix}
+use Rattle.law_run.proofs.Imports.{CopiesWaitEqual, HasAppliedNone, HasEqualCopies, HasProperTuples, IsAt, IsBetween, IsCatching, IsLast, IsPrefix, IsRetired}
 use Rattle.law_run.proofs.Imports.{IsSound, KeptAfter, LinkRow, List, None, Only, Option, PairOk, PairState, Record, Rests, Script, Server, Setting, Some}
 use Rattle.law_run.proofs.Imports.{State, StaysSo, Store, WasThere, World, alive_on, alone_by, always_firm, ap, arith, asking_along, at, at_by, both_true}
-use Rattle.law_run.proofs.Imports.{cell_cmp, cell_link, chain_in, chosen_log, chosen_state, copying_on, counted, false, front_itself, front_legal, front_on}
-use Rattle.law_run.proofs.Imports.{front_plain, good_after, has_proposed, held_as_flag, history_agrees, history_grows, history_is_firm, holder_is_one, id_of}
-use Rattle.law_run.proofs.Imports.{in_once, inc_of, inl, inr, is_at_work, is_flagged, is_in, live, live_stage, log_held_or_both, log_steady, none_some}
-use Rattle.law_run.proofs.Imports.{one_place, one_row, option_map_or, other_alone, other_between, other_of, pair_at, place_by, place_in, place_of_later}
-use Rattle.law_run.proofs.Imports.{places_grow, refl, rests_after, same_or_apart, same_place, server_state, setting_of, some_or_none, split_fronts, start}
-use Rattle.law_run.proofs.Imports.{start_rests, state_after, store_by, subst, sym, true, true_false, world_after, ℕ}
+use Rattle.law_run.proofs.Imports.{cell_cmp, cell_link, chain_in, chosen_log, chosen_state, copying_on, counted, false, good_after, has_proposed}
+use Rattle.law_run.proofs.Imports.{held_as_flag, history_agrees, history_grows, history_is_firm, holder_is_one, id_of, in_once, inc_of, inl, inr, is_at_work}
+use Rattle.law_run.proofs.Imports.{is_flagged, is_in, live, live_stage, log_held_or_both, log_steady, none_some, one_place, one_row, option_map_or}
+use Rattle.law_run.proofs.Imports.{other_alone, other_between, other_of, pair_at, place_by, place_in, place_of_later, places_grow, prefix_itself}
+use Rattle.law_run.proofs.Imports.{prefix_legal, prefix_on, prefix_plain, refl, rests_after, same_or_apart, same_place, server_state, setting_of}
+use Rattle.law_run.proofs.Imports.{some_or_none, split_prefixes, start, start_rests, state_after, store_by, subst, sym, top_last, true, true_false}
+use Rattle.law_run.proofs.Imports.{world_after, ℕ}
 use Rattle.law_run.proofs.OwnPlacesAreLatest.{equal_pair, unfollowed_halves}
-use Rattle.law_moves.proofs.MoveWorlds.{top_last}
 
 module _ (script : Script) (records : List Record) (sound : IsSound script) (legal : AreSteps script records) where
   abbrev setting : Setting
@@ -65,26 +65,26 @@ module _ (script : Script) (records : List Record) (sound : IsSound script) (leg
   plain : HasProperTuples script.servers chosen
   plain = (history_is_firm script records sound legal).plain
 
-  legal_front : (front back : List Record) → records ≡ front ++ back → AreSteps script front
-  legal_front front back is = (front_legal setting (start setting) front back (subst (AreSteps script) is legal)).0
+  legal_prefix : (prefix suffix : List Record) → records ≡ prefix ++ suffix → AreSteps script prefix
+  legal_prefix prefix suffix is = (prefix_legal setting (start setting) prefix suffix (subst (AreSteps script) is legal)).0
 
   -- what a server has applied on the way is chosen
-  applied_within : (front back : List Record) → records ≡ front ++ back → (n : ℕ)
-      → IsPrefix ((world_after setting (start setting) front).servers n).log.applied chosen
-  applied_within front back is n =
-      front_on _ (chosen_log setting (world_after setting (start setting) front)) chosen
-      ((history_agrees script front sound (legal_front front back is)).servers n) (history_grows script records sound legal front back is)
+  applied_within : (prefix suffix : List Record) → records ≡ prefix ++ suffix → (n : ℕ)
+      → IsPrefix ((world_after setting (start setting) prefix).servers n).log.applied chosen
+  applied_within prefix suffix is n =
+      prefix_on _ (chosen_log setting (world_after setting (start setting) prefix)) chosen
+      ((history_agrees script prefix sound (legal_prefix prefix suffix is)).servers n) (history_grows script records sound legal prefix suffix is)
 
-  module _ (front back : List Record) (is : records ≡ front ++ back) (n : ℕ) (cell : Cell) (row : LinkRow)
-      (catching : IsCatching setting (world_after setting (start setting) front) n cell row) (lives : live (chosen_state setting w) cell ≡ true) where
+  module _ (prefix suffix : List Record) (is : records ≡ prefix ++ suffix) (n : ℕ) (cell : Cell) (row : LinkRow)
+      (catching : IsCatching setting (world_after setting (start setting) prefix) n cell row) (lives : live (chosen_state setting w) cell ≡ true) where
     abbrev then : World
-    then = world_after setting (start setting) front
+    then = world_after setting (start setting) prefix
 
     abbrev entries : List Command
     entries = (then.servers n).log.applied
 
-    prefix : IsPrefix entries chosen
-    prefix = applied_within front back is n
+    is_prefix : IsPrefix entries chosen
+    is_prefix = applied_within prefix suffix is n
 
     whole : (b : Bool) × (row.state ≡ Only n b)
     whole = alone_by n row.state catching.alone
@@ -93,7 +93,7 @@ module _ (script : Script) (records : List Record) (sound : IsSound script) (leg
     alive = (live_stage (chosen_state setting w) cell lives).1
 
     alive_then : AliveIn (state_after script.servers entries) cell
-    alive_then = alive_on setting chosen plain entries chosen cell prefix (front_itself chosen) alive
+    alive_then = alive_on setting chosen plain entries chosen cell is_prefix (prefix_itself chosen) alive
 
     seat_then : is_in (server_state setting then n) n (then.servers n).life.inc ≡ true
     seat_then = (both_true (then.servers n).life.running (is_in (server_state setting then n) n (then.servers n).life.inc) catching.works).1
@@ -113,16 +113,16 @@ module _ (script : Script) (records : List Record) (sound : IsSound script) (leg
 
     module _ (same : place_in script.servers chosen row ≡ place_in script.servers entries row) where
       linked : cell_link (chosen_state setting w) cell ≡ Some row
-      linked = elim (same_place script.servers entries chosen cell row plain prefix catching.linked same) [
+      linked = elim (same_place script.servers entries chosen cell row plain is_prefix catching.linked same) [
         | inl stays ↦ stays.same
         | inr died ↦ (let retired = died.1 in let on = alive in absurd (omega arith))
       ]
 
       -- at its place the server had the ballot in mind
       minded : (own : PairState) × (good.visits n (place_by setting entries row) cell ≡ Some own) × (is_flagged own (id_of row) ≡ true)
-      minded = good.started n (then.servers n).life.inc whole.0 entries cell row prefix catching.linked alive_then whole.1 seat_then (record {
-        before = front;
-        later = back;
+      minded = good.started n (then.servers n).life.inc whole.0 entries cell row is_prefix catching.linked alive_then whole.1 seat_then (record {
+        before = prefix;
+        later = suffix;
         is = is;
         lives = refl;
         at = refl;
@@ -134,22 +134,22 @@ module _ (script : Script) (records : List Record) (sound : IsSound script) (leg
           let found = minded in
           let visit : good.visits n (place_by setting chosen row) cell ≡ Some found.0 = ap (λ place. good.visits n place cell) same ∙ found.1 in
           by_stores n (other_of n row)
-          (((good.alone chosen cell row n whole.0 (front_itself chosen) linked whole.1).beside alive (last row linked)).alike.caught found.0 visit found.2)
+          (((good.alone chosen cell row n whole.0 (prefix_itself chosen) linked whole.1).beside alive (last row linked)).alike.caught found.0 visit found.2)
 
     -- ### While the server has not applied the entry that touched it
 
     module _ (apart : place_in script.servers chosen row ≢ place_in script.servers entries row) (ins : AreInAsThen setting then w n row)
-        (unapplied : HasAppliedNone script front back n row) where
+        (unapplied : HasAppliedNone script prefix suffix n row) where
       abbrev now : LinkRow
       now = record row { state = Both }
 
       between : IsBetween row (other_of n row) n
       between = other_between row n
           (holder_is_one (state_after script.servers entries)
-          (log_steady script.servers entries (front_plain script.servers entries chosen plain prefix)) n cell row catching.linked whole.1)
+          (log_steady script.servers entries (prefix_plain script.servers entries chosen plain is_prefix)) n cell row catching.linked whole.1)
 
       -- that entry was the Caught
-      touched_by : (cell_link (chosen_state setting w) cell ≡ Some now) ⊎ HasDied (chosen_state setting w) cell
+      touched_by : (cell_link (chosen_state setting w) cell ≡ Some now) ⊎ IsRetired (chosen_state setting w) cell
       touched_by = elim between [
         | inl pair ↦ put_in ins.other_inc (then.servers n).life.inc (was_at pair.0 ins.other_inc ins.was) (was_at pair.1 _ seat_then)
             (is_at_end pair.0 ins.other_inc ins.is) (is_at_end pair.1 _ ins.inc)
@@ -167,9 +167,9 @@ module _ (script : Script) (records : List Record) (sound : IsSound script) (leg
           put_in : (one other : ℕ) → is_in (state_after script.servers entries) row.primary one ≡ true
               → is_in (state_after script.servers entries) row.secondary other ≡ true → is_in (chosen_state setting w) row.primary one ≡ true
               → is_in (chosen_state setting w) row.secondary other ≡ true
-              → (cell_link (chosen_state setting w) cell ≡ Some now) ⊎ HasDied (chosen_state setting w) cell
+              → (cell_link (chosen_state setting w) cell ≡ Some now) ⊎ IsRetired (chosen_state setting w) cell
           put_in one other first second first_on second_on =
-              elim (log_held_or_both script.servers entries chosen plain prefix cell row one other catching.linked first second first_on second_on) [
+              elim (log_held_or_both script.servers entries chosen plain is_prefix cell row one other catching.linked first second first_on second_on) [
                 | inl same ↦ absurd (apart same)
                 | inr later ↦ later
               ]
@@ -182,7 +182,7 @@ module _ (script : Script) (records : List Record) (sound : IsSound script) (leg
 
       -- the later row counts the same places
       counts : (log : List Command) → place_by setting log now ≡ place_by setting log row
-      counts log = place_of_later setting chosen plain entries chosen log cell row now prefix (front_itself chosen) catching.linked both
+      counts log = place_of_later setting chosen plain entries chosen log cell row now is_prefix (prefix_itself chosen) catching.linked both
 
       -- who was at the last place was so as this incarnation, after its ballot
       module _ (own : PairState) (visited : good.visits n (place_by setting chosen now) cell ≡ Some own) where
@@ -202,13 +202,13 @@ module _ (script : Script) (records : List Record) (sound : IsSound script) (leg
         within = applied_within was.before was.later was.is n
 
         row_is : now ≡ there.row
-        row_is = one_row setting chosen plain log chosen cell there.row now within (front_itself chosen) there.linked both (sym there.at)
+        row_is = one_row setting chosen plain log chosen cell there.row now within (prefix_itself chosen) there.linked both (sym there.at)
 
         here : place_by setting chosen now ≡ place_by setting log now
         here = there.at ∙ ap (λ (r : LinkRow). place_by setting log r) (sym row_is)
 
         stays : StaysSo cell there.row (state_after script.servers log) (chosen_state setting w)
-        stays = one_place setting chosen plain log chosen cell there.row now within (front_itself chosen) there.linked both (sym there.at)
+        stays = one_place setting chosen plain log chosen cell there.row now within (prefix_itself chosen) there.linked both (sym there.at)
 
         same_seat : inc_of (chosen_state setting w) n ≡ inc_of (state_after script.servers log) n
         same_seat = elim between [
@@ -223,15 +223,15 @@ module _ (script : Script) (records : List Record) (sound : IsSound script) (leg
             (ap (λ o. option_map_or (λ present. present == (server_at was.before).life.inc) o false) same_seat ∙ there.seat) ins.inc
 
         unseen : ⊥
-        unseen = elim (split_fronts front back was.before was.later (sym is ∙ was.is)) [
+        unseen = elim (split_prefixes prefix suffix was.before was.later (sym is ∙ was.is)) [
           | inl past ↦ (
               let none = unapplied past.0 was.later past.2 (ap (λ done. (server_at done).life.inc) (sym past.1) ∙ same_inc) in
               let same_log = ap (λ done. place_in script.servers (server_at done).log.applied row) past.1 in
               apart (omega (arith, here, counts chosen, counts log, none, same_log)))
           | inr earlier ↦ (
-              let grows = ((asking_along script sound front (legal_front front back is)).since was.before earlier.0 earlier.1 n).grows in
+              let grows = ((asking_along script sound prefix (legal_prefix prefix suffix is)).since was.before earlier.0 earlier.1 n).grows in
               let up = places_grow script.servers log entries now grows in
-              let on = places_grow script.servers entries chosen row prefix in
+              let on = places_grow script.servers entries chosen row is_prefix in
               apart (omega (arith, here, counts chosen, counts entries, up, on)))
         ]
 
@@ -243,7 +243,7 @@ module _ (script : Script) (records : List Record) (sound : IsSound script) (leg
 
       -- so nothing was written since
       pair : PairOk (pair_at (store_by setting good.stores chosen) good.visits (place_by setting chosen now) cell row.primary row.secondary)
-      pair = ((good.both chosen cell now (front_itself chosen) both refl).twins alive (last now both)).pair
+      pair = ((good.both chosen cell now (prefix_itself chosen) both refl).twins alive (last now both)).pair
 
       abbrev visit_of : ℕ → Option PairState
       visit_of k = good.visits k (place_by setting chosen now) cell
@@ -267,12 +267,12 @@ module _ (script : Script) (records : List Record) (sound : IsSound script) (leg
               (ap (λ i. chain_in (store_at i).chains cell) e ∙ same ∙ ap (λ i. chain_in (store_at i).chains cell) (sym f))
 
   pub equal_after : CopiesStayEqual script records
-  equal_after front back n cell row is catching lives same = equal front back is n cell row catching lives same
+  equal_after prefix suffix n cell row is catching lives same = equal prefix suffix is n cell row catching lives same
 
   pub waiting_after : CopiesWaitEqual script records
-  waiting_after front back n cell row is catching lives ins unapplied =
+  waiting_after prefix suffix n cell row is catching lives ins unapplied =
       elim (same_or_apart (place_in script.servers chosen row)
-      (place_in script.servers ((world_after setting (start setting) front).servers n).log.applied row)) [
-        | inl same ↦ equal front back is n cell row catching lives same
-        | inr apart ↦ wait front back is n cell row catching lives apart ins unapplied
+      (place_in script.servers ((world_after setting (start setting) prefix).servers n).log.applied row)) [
+        | inl same ↦ equal prefix suffix is n cell row catching lives same
+        | inr apart ↦ wait prefix suffix is n cell row catching lives apart ins unapplied
       ]

@@ -1,11 +1,11 @@
 -- A read that was told that the new map has nothing, and is answered under the old one: whoever answers has what was frozen.
-use Rattle.law_run.proofs.Imports.{[], ◌&&◌, ◌||◌, ◌∙◌, ◌∷◌, ◌≡◌, ◌≤◌, Acted, Actor, AreStepsFrom, Blank, Bool, By_read, Cell, Did, Firm, Handled, In}
-use Rattle.law_run.proofs.Imports.{IsPrefix, IsRead, IsReadable, IsSteady, JobResult, Letter, List, MayActor, None, NotThere, Not_here, Record, Serving}
-use Rattle.law_run.proofs.Imports.{Setting, Shows, Some, State, Step, World, acts, ap, arith, begins_to_leave, both_true, by_bool, by_test, bytes_of}
-use Rattle.law_run.proofs.Imports.{chain_in, chain_that_counts, chosen_log, chosen_state, data_among, entry_at, epoch_at, front_itself, front_on}
-use Rattle.law_run.proofs.Imports.{if◌then◌else◌, in_former, inl, inr, leaving, length, letters_of, log_below, log_rev, none_some, not, old_data, one_post}
-use Rattle.law_run.proofs.Imports.{own_place, own_plain, own_steady, owns_of, reads_old, refl, said, sender, server_serves, server_state, server_step}
-use Rattle.law_run.proofs.Imports.{serves_sent, stage_at, stage_facts, stamped, step, stepped, subject_of, subst, sym, true, true_false, turns, ℕ}
+use Rattle.law_run.proofs.Imports.{[], if◌then◌else◌, ◌&&◌, ◌||◌, ◌∙◌, ◌∷◌, ◌≡◌, ◌≤◌, Acted, Actor, AreStepsFrom, Blank, Bool, By_read, Cell, Did, Firm}
+use Rattle.law_run.proofs.Imports.{Handled, In, IsPrefix, IsRead, IsReadable, IsSteady, JobResult, Letter, List, MayActor, None, NotThere, Not_here, Record}
+use Rattle.law_run.proofs.Imports.{Serving, Setting, Shows, Some, State, Step, World, acts, ap, arith, begins_to_leave, both_true, by_bool, by_test, bytes_of}
+use Rattle.law_run.proofs.Imports.{chain_in, chain_that_counts, chosen_log, chosen_state, data_among, entry_at, epoch_at, in_former, inl, inr, leaving}
+use Rattle.law_run.proofs.Imports.{length, letters_of, log_below, log_rev, none_some, not, old_data, one_post, own_place, own_plain, own_steady, owns_of}
+use Rattle.law_run.proofs.Imports.{prefix_itself, prefix_on, reads_old, refl, said, sender, server_serves, server_state, server_step, serves_sent, stage_at}
+use Rattle.law_run.proofs.Imports.{stage_facts, stamped, step, stepped, subject_of, subst, sym, true, true_false, turns, ℕ}
 use Rattle.law_run.specs.MachineTies.{Ground}
 use Rattle.law_run.proofs.EntryAtEpoch.{AreUpTo}
 use Rattle.law_run.proofs.ReadsLookWhereSent.{Accepts, AreGrounded, ground_now, is_looked, who_accepts}
@@ -101,7 +101,7 @@ shown_old g y letter seq bytes s old =
       epoch = s.epoch;
       read = known.read;
       leaves = three;
-      frozen = g.ground.moves.still.own y (g.w.servers y).log.applied s.cell s.runs (front_itself _) (g.firm.servers y) s.readable.seated three
+      frozen = g.ground.moves.still.own y (g.w.servers y).log.applied s.cell s.runs (prefix_itself _) (g.firm.servers y) s.readable.seated three
           (reader_serves g y s.cell s.readable.readable);
       early = own_up_to g y s.cell s.runs s.readable.seated;
       is = s.is;
@@ -194,7 +194,7 @@ module _ (setting : Setting) (state : State) (steady : IsSteady state) where
               step_found u own.actor own.step own.stamp later grounded.0 grounded.2 legal.1 follows.may.may grows stays both.1
               (in_data told later _ given (sym (ap (data_among told later) follows.sent) ∙ is)))
               (λ f. none_some (ap (λ b. if b then data_among told later own.sent else None) f) now)
-          | inr on ↦ found next later _ grounded.2 legal.1 (front_on _ _ _ grows grounded.1)
+          | inr on ↦ found next later _ grounded.2 legal.1 (prefix_on _ _ _ grows grounded.1)
               (λ cell left.
               let up = (log_below setting.servers (chosen_log setting v) (chosen_log setting u) grounded.0.ready.firm.plain grows).stages cell in
               frozen_on u own.actor own.step own.stamp grounded.0.ready.firm (ground_now setting state next later grounded.2).ready.firm grounded.1 cell

@@ -2,10 +2,10 @@
 -- that has ended.
 use Rattle.law_run.proofs.Imports.{◌<◌, ◌∙◌, ◌≡◌, ◌≤◌, ◌⊎◌, AliveIn, AskingBy, Both, Cell, Command, Firm, GoesOn, Good, HasStage, Has_pending, IsLast}
 use Rattle.law_run.proofs.Imports.{IsLinked, IsPrefix, IsSteady, LinkRow, List, PairState, Pairs, Pending, PendingFor, Record, Rests, Setting, Some, State}
-use Rattle.law_run.proofs.Imports.{World, ap, arith, asked_for, at, by_test, cell_cmp, cell_link, chosen_log, counted, ended_later, front_itself, front_on}
-use Rattle.law_run.proofs.Imports.{fronts_meet, inl, inr, is_clients, is_in, is_lead, is_the_one, lead, led_by, linked_alive, linked_between, lives_after}
-use Rattle.law_run.proofs.Imports.{no_earlier, number_itself, one_row, own_plain, own_steady, owns_of, pending_further, place_by, places_up, primary_is_one}
-use Rattle.law_run.proofs.Imports.{ran_now, refl, same_some, seen, server_state, serves, stage_facts, state_after, subst, sym, true, ℕ}
+use Rattle.law_run.proofs.Imports.{World, ap, arith, asked_for, at, by_test, cell_cmp, cell_link, chosen_log, counted, ended_later, inl, inr, is_clients}
+use Rattle.law_run.proofs.Imports.{is_in, is_lead, is_the_one, lead, led_by, linked_alive, linked_between, lives_after, no_earlier, number_itself, one_row}
+use Rattle.law_run.proofs.Imports.{own_plain, own_steady, owns_of, pending_further, place_by, places_up, prefix_itself, prefix_on, prefixes_meet}
+use Rattle.law_run.proofs.Imports.{primary_is_one, ran_now, refl, same_some, seen, server_state, serves, stage_facts, state_after, subst, sym, true, ℕ}
 use Rattle.law_run.proofs.StepsLeaveServers.{Leaves, As_it_was, In_place, Goes_further, Boots}
 use Rattle.law_run.specs.MachineTies.{AreRemembered, IsRemembered, Is_pending, Was_pending}
 use Rattle.law_run.proofs.RunScenes.{Grounded}
@@ -60,32 +60,32 @@ module _ (g : Grounded) (to : GoesTo g) where
   -- ### Before the step
 
   -- a place that counts then is one of what was chosen before the step, where a server had been there
-  was_there : (front : List Command) (cell : Cell) (row : LinkRow) (n : ℕ) (own : PairState) → IsPrefix front (chosen_log setting v)
-      → IsLinked setting front cell row
-      → row.state ≡ Both → IsLast ground.good.reached setting front cell row
-      → ground.good.visits n (place_by setting front row) cell ≡ Some own
+  was_there : (prefix : List Command) (cell : Cell) (row : LinkRow) (n : ℕ) (own : PairState) → IsPrefix prefix (chosen_log setting v)
+      → IsLinked setting prefix cell row
+      → row.state ≡ Both → IsLast ground.good.reached setting prefix cell row
+      → ground.good.visits n (place_by setting prefix row) cell ≡ Some own
       → (op : Pending) → at cell_cmp own.pairs.pending cell ≡ Some op → is_clients op.kind ≡ true
-      → IsRemembered setting w ground.lives n (place_by setting front row) cell op
-  was_there front cell row n own prefix is both last visit op there clients =
-      elim (fronts_meet front (chosen_log setting w) (chosen_log setting v) prefix grows) [
-        | inl before ↦ ground.recalled front cell row n own op before is both last visit there clients
+      → IsRemembered setting w ground.lives n (place_by setting prefix row) cell op
+  was_there prefix cell row n own is_prefix is both last visit op there clients =
+      elim (prefixes_meet prefix (chosen_log setting w) (chosen_log setting v) is_prefix grows) [
+        | inl before ↦ ground.recalled prefix cell row n own op before is both last visit there clients
         | inr following ↦
-            let been = ground.good.been n (place_by setting front row) cell own visit in
-            let been_front = front_on been.front _ (chosen_log setting w) been.within (firm.servers n) in
-            let old = linked_between setting (chosen_log setting v) then.plain been.front (chosen_log setting w) front cell been.row row
-            been_front following prefix been.linked is in
-            let up = places_up setting (chosen_log setting w) firm.plain been.front
-            (chosen_log setting w) cell been.row old.0 been_front (front_itself (chosen_log setting w)) been.linked old.1 in
+            let been = ground.good.been n (place_by setting prefix row) cell own visit in
+            let been_prefix = prefix_on been.prefix _ (chosen_log setting w) been.within (firm.servers n) in
+            let old = linked_between setting (chosen_log setting v) then.plain been.prefix (chosen_log setting w) prefix cell been.row row
+            been_prefix following is_prefix been.linked is in
+            let up = places_up setting (chosen_log setting w) firm.plain been.prefix
+            (chosen_log setting w) cell been.row old.0 been_prefix (prefix_itself (chosen_log setting w)) been.linked old.1 in
             let on_row = places_up setting (chosen_log setting v) then.plain
-            (chosen_log setting w) front cell old.0 row following prefix old.1 is in
+            (chosen_log setting w) prefix cell old.0 row following is_prefix old.1 is in
             let at = been.at in
-            let same : place_by setting front row ≡ place_by setting (chosen_log setting w) old.0 = omega arith in
-            let one : old.0 ≡ row = one_row setting (chosen_log setting v) then.plain front
-            (chosen_log setting w) cell row old.0 prefix grows is old.1 same in
-            let place : place_by setting front row ≡ place_by setting (chosen_log setting w) row = same
+            let same : place_by setting prefix row ≡ place_by setting (chosen_log setting w) old.0 = omega arith in
+            let one : old.0 ≡ row = one_row setting (chosen_log setting v) then.plain prefix
+            (chosen_log setting w) cell row old.0 is_prefix grows is old.1 same in
+            let place : place_by setting prefix row ≡ place_by setting (chosen_log setting w) row = same
             ∙ ap (place_by setting (chosen_log setting w)) one in
             subst (λ p. IsRemembered setting w ground.lives n p cell op) (sym place)
-            (ground.recalled (chosen_log setting w) cell row n own op (front_itself (chosen_log setting w))
+            (ground.recalled (chosen_log setting w) cell row n own op (prefix_itself (chosen_log setting w))
             (subst (IsLinked setting (chosen_log setting w) cell) one old.1) both
             (subst (λ p. ground.good.reached cell ≤ p) place last) (subst (λ p. ground.good.visits n p cell ≡ Some own) place visit) there clients)
       ]
@@ -99,8 +99,8 @@ module _ (g : Grounded) (to : GoesTo g) where
       let un = (ended_later setting w v ground.lives ground.asking.lived on n inc (asked_for cell op) op.rev later p).unfinished in
       let q = pending_further setting (seen ground.lives w) (seen (lives_after ground.lives v) v) on.later n inc
       (asked_for cell op) op.rev p un p.upto
-      (front_itself p.upto) (front_on p.upto _ _ p.applied (on.later.logs n))
-      (λ log more lies. p.along log (front_on _ p.upto log p.opened more) lies) in
+      (prefix_itself p.upto) (prefix_on p.upto _ _ p.applied (on.later.logs n))
+      (λ log more lies. p.along log (prefix_on _ p.upto log p.opened more) lies) in
       Was_pending inc later q.0 row (subst (λ log. IsLinked setting log cell row) (sym q.1) linked)
       (ap (λ log. place_by setting log row) q.1 ∙ at)
 
@@ -120,18 +120,18 @@ module _ (g : Grounded) (to : GoesTo g) where
   own_stage n cell = stage_facts setting.servers (v.servers n).log.applied (own_plain setting v then n) cell
 
   -- where its place counts still, it is the same place
-  pending_still : (front : List Command) (cell : Cell) (row : LinkRow) (n : ℕ) (op : Pending) → IsLast next.reached setting front cell row
+  pending_still : (prefix : List Command) (cell : Cell) (row : LinkRow) (n : ℕ) (op : Pending) → IsLast next.reached setting prefix cell row
       → at cell_cmp (owns_of v n).pairs.pending cell ≡ Some op → is_clients op.kind ≡ true
       → is_in (server_state setting v n) n (v.servers n).life.inc ≡ true
       → (old : LinkRow) → IsLinked setting (w.servers n).log.applied cell old
-      → place_by setting (w.servers n).log.applied old ≡ place_by setting front row
-      → R n (place_by setting front row) cell op
-  pending_still front cell row n op last there clients seat old linked spot =
+      → place_by setting (w.servers n).log.applied old ≡ place_by setting prefix row
+      → R n (place_by setting prefix row) cell op
+  pending_still prefix cell row n op last there clients seat old linked spot =
       let top = chosen_log setting v in
       let applied = (v.servers n).log.applied in
       let p = asking.pending n cell op there clients in
       let led = subst (λ log. is_lead (state_after setting.servers log) n cell ≡ true) (asking.come n cell op there clients)
-      (p.along p.upto p.opened (front_itself p.upto)).leads in
+      (p.along p.upto p.opened (prefix_itself p.upto)).leads in
       let high = (own_stage n cell).leads n led in
       let alive : AliveIn (server_state setting v n) cell = omega (arith, high.1, high.2) in
       let now = linked_alive setting top then.plain (w.servers n).log.applied applied cell old (logs n) (then.servers n) linked alive in
@@ -154,51 +154,51 @@ module _ (g : Grounded) (to : GoesTo g) where
   still_alive n cell op was clients applied =
       let p = ground.asking.pending n cell op was clients in
       let led = subst (λ log. is_lead (state_after setting.servers log) n cell ≡ true) (ground.asking.come n cell op was clients ∙ sym applied)
-      (p.along p.upto p.opened (front_itself p.upto)).leads in
+      (p.along p.upto p.opened (prefix_itself p.upto)).leads in
       let high = (own_stage n cell).leads n led in
       omega (arith, high.1, high.2)
 
-  still : (front : List Command) (cell : Cell) (row : LinkRow) (n : ℕ) (own : PairState) (op : Pending)
-      → IsLast next.reached setting front cell row
-      → next.visits n (place_by setting front row) cell ≡ Some own → at cell_cmp own.pairs.pending cell ≡ Some op → is_clients op.kind ≡ true
+  still : (prefix : List Command) (cell : Cell) (row : LinkRow) (n : ℕ) (own : PairState) (op : Pending)
+      → IsLast next.reached setting prefix cell row
+      → next.visits n (place_by setting prefix row) cell ≡ Some own → at cell_cmp own.pairs.pending cell ≡ Some op → is_clients op.kind ≡ true
       → Leaves setting n (w.servers n) (v.servers n) → at cell_cmp (owns_of w n).pairs.pending cell ≡ Some op
       → (old : LinkRow) → IsLinked setting (w.servers n).log.applied cell old
-      → place_by setting (w.servers n).log.applied old ≡ place_by setting front row
-      → R n (place_by setting front row) cell op
-  still front cell row n own op last visit there clients (As_it_was pending applied) was old linked spot =
+      → place_by setting (w.servers n).log.applied old ≡ place_by setting prefix row
+      → R n (place_by setting prefix row) cell op
+  still prefix cell row n own op last visit there clients (As_it_was pending applied) was old linked spot =
       Is_pending (ap (λ t. at cell_cmp t cell) pending ∙ was) old (subst (λ log. IsLinked setting log cell old) (sym applied) linked)
       (ap (λ log. place_by setting log old) applied ∙ spot)
-  still front cell row n own op last visit there clients (In_place applied seat) was old linked spot =
+  still prefix cell row n own op last visit there clients (In_place applied seat) was old linked spot =
       let linked' = subst (λ log. IsLinked setting log cell old) (sym applied) linked in
-      let at' : place_by setting (v.servers n).log.applied old ≡ place_by setting front row = ap
+      let at' : place_by setting (v.servers n).log.applied old ≡ place_by setting prefix row = ap
       (λ log. place_by setting log old) applied ∙ spot in
       let here = next.here n cell old linked' seat (still_alive n cell op was clients applied) in
       let same : own.pairs ≡ (owns_of v n).pairs =
       ap (λ (o : PairState). o.pairs) (same_some (sym visit ∙ ap (λ p. next.visits n p cell) (sym at') ∙ here.is) ∙ here.same) in
       Is_pending (ap (λ (p : Pairs). at cell_cmp p.pending cell) (sym same) ∙ there) old linked' at'
-  still front cell row n own op last visit there clients (Goes_further runs inc pending) was old linked spot =
+  still prefix cell row n own op last visit there clients (Goes_further runs inc pending) was old linked spot =
       let is : at cell_cmp (owns_of v n).pairs.pending cell ≡ Some op = ap (λ t. at cell_cmp t cell) pending ∙ was in
-      pending_still front cell row n op last is clients
+      pending_still prefix cell row n op last is clients
       (subst (λ i. is_in (server_state setting v n) n i ≡ true) (ran_as n runs inc)
       (asking.used n (Has_pending cell op is))) old linked spot
-  still front cell row n own op last visit there clients (Boots runs inc none) was old linked spot =
+  still prefix cell row n own op last visit there clients (Boots runs inc none) was old linked spot =
       let known = ground.asking.lived in
       let now : (lives_after ground.lives v).ran n ≡ (v.servers n).life.inc = ran_now ground.lives w v known on.steps n runs in
       let begun = known.begun n in
       let later : ground.lives.ran n < (lives_after ground.lives v).ran n = omega arith in
       let come = ground.asking.come n cell op was clients in
-      ended_so n (place_by setting front row) cell op (ground.lives.ran n) later (ground.asking.pending n cell op was clients) old
+      ended_so n (place_by setting prefix row) cell op (ground.lives.ran n) later (ground.asking.pending n cell op was clients) old
       (subst (λ log. IsLinked setting log cell old) (sym come) linked) (ap (λ log. place_by setting log old) come ∙ spot)
 
   -- ### After the step
 
   pub remembered_next : ((n : ℕ) → Leaves setting n (w.servers n) (v.servers n))
       → AreRemembered setting v (lives_after ground.lives v) next.visits next.reached
-  remembered_next leaves front cell row n own op prefix is both last visit there clients =
-      elim (from.visits n (place_by setting front row) cell own visit) [
+  remembered_next leaves prefix cell row n own op is_prefix is both last visit there clients =
+      elim (from.visits n (place_by setting prefix row) cell own visit) [
         | inl old ↦
             let up = from.reached cell in
-            ended n (place_by setting front row) cell op (was_there front cell row n own prefix is both (omega arith) old op there clients)
-            (λ was row' linked at. still front cell row n own op last visit there clients (leaves n) was row' linked at)
+            ended n (place_by setting prefix row) cell op (was_there prefix cell row n own is_prefix is both (omega arith) old op there clients)
+            (λ was row' linked at. still prefix cell row n own op last visit there clients (leaves n) was row' linked at)
         | inr now ↦ Is_pending (ap (λ (p : Pairs). at cell_cmp p.pending cell) (sym now.same) ∙ there) now.row now.linked (sym now.at)
       ]

@@ -3,18 +3,17 @@
 use Rattle.law_run.proofs.Imports.{[], ◌&&◌, ◌++◌, ◌∙◌, ◌∷◌, ◌≡◌, ◌≤◌, ◌⊎◌, AliveIn, AreCopies, AreTwins, Body, Both, Cell, Command, Handled, HasProperTuples}
 use Rattle.law_run.proofs.Imports.{HasStage, IsHeldBy, IsLast, IsLinked, IsPrefix, IsStaged, Join, LinkRow, List, None, Only, Option, Pair, PairOk, PairState}
 use Rattle.law_run.proofs.Imports.{Pending, Setting, Some, Store, about, alive_on, alone_authority, alone_not_both, ap, arith, at, at-empty, authority}
-use Rattle.law_run.proofs.Imports.{blank_joins_in, both_last, both_row, both_since, by_bool, cell_cmp, chain_in, chosen_log, chosen_state, counted, far}
-use Rattle.law_run.proofs.Imports.{front_itself, front_more, front_on, half, half_store, has_proposed, has_server, held_as_flag, holds_since, in_both, inl}
-use Rattle.law_run.proofs.Imports.{inr, is_alone_on, is_clients, is_in, is_lead, is_second, is_the_one, kept, lead, led_by, linked_alive, linked_between}
-use Rattle.law_run.proofs.Imports.{live, live_stage, none_some, one_before, one_row, op_there, own_below, own_plain, own_steady, owns_of, pair_at, pair_of}
-use Rattle.law_run.proofs.Imports.{place_by, place_of_later, place_touched, places_up, primary_is_one, reached_here, ready_chosen, refl, retired_second}
+use Rattle.law_run.proofs.Imports.{blank_joins_in, both_last, both_row, both_since, by_bool, cell_cmp, chain_in, chosen_log, chosen_state, counted, far, half}
+use Rattle.law_run.proofs.Imports.{half_store, has_proposed, has_server, held_as_flag, holds_since, in_both, inl, inr, is_alone_on, is_clients, is_in}
+use Rattle.law_run.proofs.Imports.{is_lead, is_second, is_the_one, kept, lead, led_by, linked_alive, linked_between, live, live_stage, none_some, one_before}
+use Rattle.law_run.proofs.Imports.{one_row, op_there, own_below, own_plain, own_steady, owns_of, pair_at, pair_of, place_by, place_of_later, place_touched}
+use Rattle.law_run.proofs.Imports.{places_up, prefix_itself, prefix_more, prefix_on, primary_is_one, reached_here, ready_chosen, refl, retired_second}
 use Rattle.law_run.proofs.Imports.{rows_later, runs_now, second, second_by, secondary_is_one, server_state, serves, so_alone, so_both, stage_at, stage_facts}
-use Rattle.law_run.proofs.Imports.{subst, sym, true, true_false, ℕ}
+use Rattle.law_run.proofs.Imports.{subst, sym, top_last, true, true_false, ℕ}
 use Rattle.law_copies.specs.Pair.{Known}
 use Rattle.law_run.proofs.FirstIsOneAhead.{unfollowed_equal}
 use Rattle.law_run.proofs.BlankedServeNothing.{more_joins}
 use Rattle.law_run.proofs.RunScenes.{Grounded}
-use Rattle.law_moves.proofs.MoveWorlds.{top_last}
 
 -- ### What is remembered of a place
 
@@ -42,25 +41,25 @@ unfollowed_halves one other a b cell ok none =
     ∙ ap (λ (s : Store). chain_in s.chains cell) (half_store other b)
 
 -- at one place of a link none of its servers has joined with an empty store since
-place_joins : (setting : Setting) (whole : List Command) → HasProperTuples setting.servers whole → (front : List Command) (cell : Cell) (row now : LinkRow)
-    → IsPrefix front whole → IsLinked setting front cell row → IsLinked setting whole cell now
-    → place_by setting front row ≡ place_by setting whole now → (n : ℕ) → has_server n row ≡ true
-    → blank_joins_in setting whole n ≡ blank_joins_in setting front n
-place_joins setting whole all front cell row now prefix is end same n has = elim (more_joins setting.servers n front whole prefix) [
+place_joins : (setting : Setting) (whole : List Command) → HasProperTuples setting.servers whole → (prefix : List Command) (cell : Cell) (row now : LinkRow)
+    → IsPrefix prefix whole → IsLinked setting prefix cell row → IsLinked setting whole cell now
+    → place_by setting prefix row ≡ place_by setting whole now → (n : ℕ) → has_server n row ≡ true
+    → blank_joins_in setting whole n ≡ blank_joins_in setting prefix n
+place_joins setting whole all prefix cell row now is_prefix is end same n has = elim (more_joins setting.servers n prefix whole is_prefix) [
   | inl joins ↦ joins
   | inr j ↦
       let until = j.1.until in
       let following = until ++ Join n j.0 true ∷ [] in
-      let until_whole = front_on until following whole (front_more until (Join n j.0 true)) j.1.stands in
-      let mid = linked_between setting whole all front until whole cell row now j.1.following until_whole (front_itself whole) is end in
-      let later = rows_later setting whole all front until cell row mid.0 j.1.following until_whole is mid.1 in
+      let until_whole = prefix_on until following whole (prefix_more until (Join n j.0 true)) j.1.stands in
+      let mid = linked_between setting whole all prefix until whole cell row now j.1.following until_whole (prefix_itself whole) is end in
+      let later = rows_later setting whole all prefix until cell row mid.0 j.1.following until_whole is mid.1 in
       let has_mid : has_server n mid.0 ≡ true = one_before row mid.0 n later ∙ has in
-      let next = linked_between setting whole all until following whole cell mid.0 now (front_more until (Join n j.0 true)) j.1.stands
-      (front_itself whole) mid.1 end in
-      let one = places_up setting whole all front until cell row mid.0 j.1.following until_whole is mid.1 in
+      let next = linked_between setting whole all until following whole cell mid.0 now (prefix_more until (Join n j.0 true)) j.1.stands
+      (prefix_itself whole) mid.1 end in
+      let one = places_up setting whole all prefix until cell row mid.0 j.1.following until_whole is mid.1 in
       let two = place_touched setting until (Join n j.0 true) mid.0 (λ i. j.1.may i && has_mid i) in
-      let three = place_of_later setting whole all until following following cell mid.0 next.0 (front_more until (Join n j.0 true)) j.1.stands mid.1 next.1 in
-      let four = places_up setting whole all following whole cell next.0 now j.1.stands (front_itself whole) next.1 end in
+      let three = place_of_later setting whole all until following following cell mid.0 next.0 (prefix_more until (Join n j.0 true)) j.1.stands mid.1 next.1 in
+      let four = places_up setting whole all following whole cell next.0 now j.1.stands (prefix_itself whole) next.1 end in
       absurd (omega arith)
 ]
 
@@ -70,19 +69,19 @@ module _ (g : Grounded) where
   abbrev chosen : List Command
   chosen = chosen_log setting w
 
-  abbrev own_front : ℕ → List Command
-  own_front n = (w.servers n).log.applied
+  abbrev own_prefix : ℕ → List Command
+  own_prefix n = (w.servers n).log.applied
 
   abbrev stores : ℕ → Store
   stores n = kept setting w n
 
   abbrev pub place_of : ℕ → LinkRow → ℕ
-  place_of n row = place_by setting (own_front n) row
+  place_of n row = place_by setting (own_prefix n) row
 
   -- what it was at its own place it is now
   pub visit_here : (n : ℕ) (cell : Cell) (row : LinkRow) → (w.servers n).life.running ≡ true
       → is_in (server_state setting w n) n (w.servers n).life.inc ≡ true
-      → IsLinked setting (own_front n) cell row → AliveIn (server_state setting w n) cell
+      → IsLinked setting (own_prefix n) cell row → AliveIn (server_state setting w n) cell
       → ground.good.visits n (place_of n row) cell ≡ Some (owns_of w n)
   visit_here n cell row runs seat is alive =
       let h = ground.good.here n cell row is seat alive in
@@ -95,7 +94,7 @@ module _ (g : Grounded) where
 
   -- the other server's store by the server's own entries
   abbrev pub store_there : (n m : ℕ) → Store
-  store_there n m = ground.good.stores m (blank_joins_in setting (own_front n) m)
+  store_there n m = ground.good.stores m (blank_joins_in setting (own_prefix n) m)
 
   -- ### By what is chosen
 
@@ -105,7 +104,7 @@ module _ (g : Grounded) where
 
   pub chosen_twins : (cell : Cell) (row : LinkRow) → IsLinked setting chosen cell row → row.state ≡ Both → AliveIn (chosen_state setting w) cell
       → AreTwins chosen_store ground.good.visits (place_by setting chosen row) cell row.primary row.secondary
-  chosen_twins cell row is both alive = (ground.good.both chosen cell row (front_itself chosen) is both).twins alive (chosen_last cell row is)
+  chosen_twins cell row is both alive = (ground.good.both chosen cell row (prefix_itself chosen) is both).twins alive (chosen_last cell row is)
 
   -- a cell that is not retired by what is chosen is not by a server's own state
   pub alive_here : (n : ℕ) (cell : Cell) → AliveIn (chosen_state setting w) cell → AliveIn (server_state setting w n) cell
@@ -118,14 +117,14 @@ module _ (g : Grounded) where
   pub record IsSharing (n : ℕ) (cell : Cell) (row : LinkRow) : Type 0 where
     pub runs : (w.servers n).life.running ≡ true
     pub seat : is_in (server_state setting w n) n (w.servers n).life.inc ≡ true
-    pub linked : IsLinked setting (own_front n) cell row
+    pub linked : IsLinked setting (own_prefix n) cell row
     pub both : row.state ≡ Both
     pub has : has_server n row ≡ true
     pub low : 1 ≤ stage_at (server_state setting w n) cell
     pub alive : AliveIn (chosen_state setting w) cell
 
   pub sharing_last : (n : ℕ) (cell : Cell) (row : LinkRow) → IsSharing n cell row
-      → IsLast ground.good.reached setting (own_front n) cell row
+      → IsLast ground.good.reached setting (own_prefix n) cell row
   sharing_last n cell row s = both_last setting ground.records w stores firm ground.good n s.runs s.seat cell row s.linked s.both s.has
 
   -- two such servers of one cell are at one place
@@ -140,14 +139,14 @@ module _ (g : Grounded) where
       (ap (serves m other) t.both ∙ t.has) in
       let same : place_of n row ≡ place_of m other = omega arith in (
         same,
-        one_row setting chosen firm.plain (own_front n) (own_front m) cell row other (firm.servers n)
+        one_row setting chosen firm.plain (own_prefix n) (own_prefix m) cell row other (firm.servers n)
             (firm.servers m) s.linked t.linked same,
       )
 
   pub shared_ok : (n : ℕ) (cell : Cell) (row : LinkRow) → IsSharing n cell row
       → PairOk (pair_at (store_there n) ground.good.visits (place_of n row) cell row.primary row.secondary)
   shared_ok n cell row s =
-      ((ground.good.both (own_front n) cell row (firm.servers n) s.linked s.both).twins s.alive (sharing_last n cell row s)).pair
+      ((ground.good.both (own_prefix n) cell row (firm.servers n) s.linked s.both).twins s.alive (sharing_last n cell row s)).pair
 
   -- what the server's peer has in memory of the place
   abbrev pub peer : (n m : ℕ) → Cell → LinkRow → PairState
@@ -157,7 +156,7 @@ module _ (g : Grounded) where
   pub own_there : (n : ℕ) → (w.servers n).life.running ≡ true → is_in (server_state setting w n) n (w.servers n).life.inc ≡ true
       → store_there n n ≡ (owns_of w n).store
   own_there n runs seat =
-      ap (ground.good.stores n) (ground.joined n (own_front n) (firm.servers n) seat) ∙ ground.good.now n ∙ ground.own n runs seat (owns_of w n).store
+      ap (ground.good.stores n) (ground.joined n (own_prefix n) (firm.servers n) seat) ∙ ground.good.now n ∙ ground.own n runs seat (owns_of w n).store
 
   pub first_ok : (n : ℕ) (cell : Cell) (row : LinkRow) → IsSharing n cell row → row.primary ≡ n
       → PairOk (pair_of (owns_of w n) (peer n row.secondary cell row) cell)
@@ -181,11 +180,11 @@ module _ (g : Grounded) where
   pub shared_or_alone : (n : ℕ) (cell : Cell) (row : LinkRow) → IsSharing n cell row
       → (in_both (chosen_state setting w) cell ≡ true) ⊎ (authority (chosen_state setting w) cell ≡ Some n)
   shared_or_alone n cell row s =
-      let now = linked_alive setting chosen firm.plain (own_front n) chosen cell row (firm.servers n) (front_itself chosen) s.linked s.alive in
+      let now = linked_alive setting chosen firm.plain (own_prefix n) chosen cell row (firm.servers n) (prefix_itself chosen) s.linked s.alive in
       elim (both_since setting ground.records w stores firm ground.good n s.runs s.seat cell row s.linked s.both s.has chosen now.0
-      (firm.servers n) (front_itself chosen) now.1 s.alive) [
+      (firm.servers n) (prefix_itself chosen) now.1 s.alive) [
         | inl same ↦
-            let one = one_row setting chosen firm.plain (own_front n) chosen cell row now.0 (firm.servers n) (front_itself chosen)
+            let one = one_row setting chosen firm.plain (own_prefix n) chosen cell row now.0 (firm.servers n) (prefix_itself chosen)
             s.linked now.1 (sym same) in
             inl (so_both (chosen_state setting w) cell now.0 now.1 (ap (λ (r : LinkRow). r.state) one ∙ s.both))
         | inr only ↦ inr (alone_authority (chosen_state setting w) cell now.0 now.1 (lives_now n cell s.low s.alive) n only.0 only.1)
@@ -196,10 +195,10 @@ module _ (g : Grounded) where
       → (m : ℕ) → has_server m row ≡ true → store_there n m ≡ kept setting w m
   shared_store n cell row s shared m has =
       let b = both_row (chosen_state setting w) cell shared in
-      let same : blank_joins_in setting chosen m ≡ blank_joins_in setting (own_front n) m =
+      let same : blank_joins_in setting chosen m ≡ blank_joins_in setting (own_prefix n) m =
       elim (both_since setting ground.records w stores firm ground.good n s.runs s.seat cell row s.linked s.both s.has chosen b.row
-      (firm.servers n) (front_itself chosen) b.is s.alive) [
-        | inl place ↦ place_joins setting chosen firm.plain (own_front n) cell row b.row (firm.servers n) s.linked b.is (sym place) m has
+      (firm.servers n) (prefix_itself chosen) b.is s.alive) [
+        | inl place ↦ place_joins setting chosen firm.plain (own_prefix n) cell row b.row (firm.servers n) s.linked b.is (sym place) m has
         | inr only ↦ (let f : Only n only.0 ≡ Both = sym only.1 ∙ b.both in absurd cc)
       ] in
       ap (ground.good.stores m) (sym same) ∙ ground.good.now m
@@ -212,7 +211,7 @@ module _ (g : Grounded) where
       let own_alive = alive_here n cell s.alive in
       subst (λ (b : Body). (about b).cell ≡ Some cell
       → Known (pair_at (store_there n) ground.good.visits (place_of n row) cell row.primary row.secondary) b) h.is
-      ((ground.good.letters h.letter h.sent (own_front n) cell row (firm.servers n) (sym h.at) s.linked own_alive).both s.alive s.both
+      ((ground.good.letters h.letter h.sent (own_prefix n) cell row (firm.servers n) (sym h.at) s.linked own_alive).both s.alive s.both
       (sharing_last n cell row s)) of
 
   -- the second server
@@ -265,9 +264,9 @@ module _ (g : Grounded) where
         let opened = k.known.sent.at in
         let ran = ground.asking.lived.ran n runs in
         let seat = runs_now setting w firm n runs op_seat in
-        (ground.epochs.pending n (ground.lives.ran n) cell op opened.front chosen is clients
-        (front_on opened.front k.upto chosen k.opened (front_on k.upto _ chosen k.applied (firm.servers n)))
-        (front_itself chosen) opened.long (k.along opened.front (front_itself opened.front) k.opened).seated
+        (ground.epochs.pending n (ground.lives.ran n) cell op opened.prefix chosen is clients
+        (prefix_on opened.prefix k.upto chosen k.opened (prefix_on k.upto _ chosen k.applied (firm.servers n)))
+        (prefix_itself chosen) opened.long (k.along opened.prefix (prefix_itself opened.prefix) k.opened).seated
         (subst (λ i. is_in (chosen_state setting w) n i ≡ true) (sym ran) seat)).stays)
         (λ fill. let one = ground.moves.fills.opened n cell op runs is fill in omega arith)
 
@@ -278,7 +277,7 @@ module _ (g : Grounded) where
     op_alive = let high = op_high in omega arith
 
     op_facts : HasStage (server_state setting w n) cell
-    op_facts = stage_facts setting.servers (own_front n) (own_plain setting w firm n) cell
+    op_facts = stage_facts setting.servers (own_prefix n) (own_plain setting w firm n) cell
 
     pub op_lives : live (server_state setting w n) cell ≡ true
     op_lives = let high = op_own_high in op_facts.alive staged.born (omega arith)
@@ -333,32 +332,32 @@ module _ (g : Grounded) where
       | inl first ↦ true_false (so_both (server_state setting w n) cell first.row first.shares.linked first.shares.both)
           (alone_not_both (server_state setting w n) n cell alone)
       | inr held ↦
-          let now = linked_alive setting chosen firm.plain (own_front n) chosen cell held.row (firm.servers n) (front_itself chosen) held.is op_alive in
+          let now = linked_alive setting chosen firm.plain (own_prefix n) chosen cell held.row (firm.servers n) (prefix_itself chosen) held.is op_alive in
           elim (holds_since setting ground.records w stores firm ground.good n runs op_seat cell held.row held.is ground.started
-          held.whole held.so chosen now.0 (firm.servers n) (front_itself chosen) now.1 op_alive) [
+          held.whole held.so chosen now.0 (firm.servers n) (prefix_itself chosen) now.1 op_alive) [
             | inl only ↦ alone_authority (chosen_state setting w) cell now.0 now.1 (lives_now n cell staged.born op_alive) n only.0 only.1
             | inr flagged ↦ true_false (held_as_flag (server_state setting w n) (owns_of w n) cell held.row held.is ∙ flagged) (staged.unheld op_lives)
           ]
     ]
 
-    -- a front at which the link is in Both: so it is by the server's own state, at the same place
-    pub record IsSharedAt (front : List Command) (now : LinkRow) : Type 0 where
+    -- a prefix at which the link is in Both: so it is by the server's own state, at the same place
+    pub record IsSharedAt (prefix : List Command) (now : LinkRow) : Type 0 where
       pub first : IsSharedFirst
-      pub at : place_by setting front now ≡ place_of n first.row
+      pub at : place_by setting prefix now ≡ place_of n first.row
 
-    pub shared_before : (front : List Command) (now : LinkRow) → IsPrefix (own_front n) front
-        → IsPrefix front chosen → IsLinked setting front cell now → now.state ≡ Both → IsSharedAt front now
-    shared_before front now one two there both =
-        let alive = alive_on setting chosen firm.plain front chosen cell two (front_itself chosen) op_alive in
+    pub shared_before : (prefix : List Command) (now : LinkRow) → IsPrefix (own_prefix n) prefix
+        → IsPrefix prefix chosen → IsLinked setting prefix cell now → now.state ≡ Both → IsSharedAt prefix now
+    shared_before prefix now one two there both =
+        let alive = alive_on setting chosen firm.plain prefix chosen cell two (prefix_itself chosen) op_alive in
         elim op_place [
           | inl first ↦ elim (both_since setting ground.records w stores firm ground.good n runs op_seat cell first.row first.shares.linked
               first.shares.both
-              first.shares.has front now one two there alive) [
+              first.shares.has prefix now one two there alive) [
                 | inl same ↦ record { first = first; at = same }
                 | inr only ↦ (let f : Only n only.0 ≡ Both = sym only.1 ∙ both in absurd cc)
               ]
           | inr held ↦ elim (holds_since setting ground.records w stores firm ground.good n runs op_seat cell held.row held.is ground.started
-              held.whole held.so front now one two there alive) [
+              held.whole held.so prefix now one two there alive) [
                 | inl only ↦ (let f : Only n only.0 ≡ Both = sym only.1 ∙ both in absurd cc)
                 | inr flagged ↦ true_false (held_as_flag (server_state setting w n) (owns_of w n) cell held.row held.is ∙ flagged) (staged.unheld op_lives)
               ]

@@ -4,7 +4,7 @@ use Rattle.law_run.proofs.Imports.{◌&&◌, ◌<◌, ◌∙◌, ◌≡◌, ◌�
 use Rattle.law_run.proofs.Imports.{Option, Pending, Plain, Some, State, Store, Stored, ap, arith, at, authority, blank_joins_in, bytes_of, cell_cmp, cell_of}
 use Rattle.law_run.proofs.Imports.{cell_same, chain_apart, chain_in, chain_put, chains_with, change_by, chosen_log, chosen_state, counted, entry_at}
 use Rattle.law_run.proofs.Imports.{entry_before, entry_by, entry_of, epoch_at, false, first_entry, inl, inr, is_some, kept, named_cell, nat_cmp, old_cell}
-use Rattle.law_run.proofs.Imports.{option_and_then, put, refl, replay, same_cell_or_apart, stage_at, state_after, subst, sym, true, ℕ}
+use Rattle.law_run.proofs.Imports.{option_and_then, or_true, put, refl, replay, same_cell_or_apart, stage_at, state_after, subst, sym, true, ℕ}
 use Rattle.law_run.proofs.FillsComeInTurn.{fill_there}
 use Rattle.law_run.proofs.SourceCells.{source_stays}
 use Rattle.law_run.proofs.Overlay.{IsFill, fill_same}
@@ -19,7 +19,6 @@ use Rattle.law_run.proofs.OpenWritesAreOnDisks.{Placed, placed_given}
 use Rattle.law_run.proofs.EventsOfServerSteps.{ServerStep, TakesTold, ends_of, frozen_same, grounded, joined_now, joined_then, kept_here, later_world, new}
 use Rattle.law_run.proofs.EventsOfServerSteps.{own_after, same_entry, plain_chosen}
 use Rattle.law_run.proofs.ContentChanges.{block_there}
-use Rattle.law_state.proofs.NewMapLinks.{or_true}
 
 module _ (this : ServerStep) (same : chosen_log this.setting (later_world this) ≡ chosen_log this.setting this.w) where
   open ends_of this use {v, chosen, own, here}
@@ -270,7 +269,7 @@ module _ (this : ServerStep) (same : chosen_log this.setting (later_world this) 
 
     -- what was frozen is of the cell of the old map
     old_is : frozen.old ≡ old_cell disk.row cell.block
-    old_is = source_stays this.setting.servers frozen.front (chosen_log this.setting this.w) this.along.firm.plain frozen.lies cell frozen.old
+    old_is = source_stays this.setting.servers frozen.prefix (chosen_log this.setting this.w) this.along.firm.plain frozen.lies cell frozen.old
         frozen.from disk.row disk.there disk.has one
 
     frozen_here : this.w.frozen (old_cell disk.row cell.block) ≡ Some frozen.before

@@ -1,17 +1,17 @@
 -- A script that is read is sound.
-use Rattle.law_run.proofs.Imports.{[], ◌&&◌, ◌++◌, ◌+◌, ◌<◌, ◌==◌, ◌>>=◌, ◌||◌, ◌∙◌, ◌∷◌, ◌≡◌, ◌≤◌, ◌⊎◌, BadNumber, BadTuple, Bool, Cause, Does, Err, In}
-use Rattle.law_run.proofs.Imports.{IsSound, Line, List, None, Ok, Pattern, Request, Result, Script, Some, TextLine, Word, a_block, a_byte, a_call, a_device}
-use Rattle.law_run.proofs.Imports.{a_kind, a_name, a_server, a_tuple, ap, arith, asks, boot_of, both_true, by_test, client_request, codes, cond, false}
-use Rattle.law_run.proofs.Imports.{fault_of, filled_of, first_line, four_words, front_word, halves_of, in-append, in_limits, inl, inr, is_accepted, is_some}
-use Rattle.law_run.proofs.Imports.{is_tuple, is_word, length, line_at, lines_after, move_of, nat_le, nat_tests, net_line, nets, no_word, not, numbers_of}
-use Rattle.law_run.proofs.Imports.{one_word, operator_request, pieces, read_of, refl, script_of, servers_line, skipped, snap_of, spread_of, stop_at, stop_of}
-use Rattle.law_run.proofs.Imports.{subst, sym, text_lines, three_words, true, two_words, waits, words_of, write_of, ℕ}
+use Rattle.law_run.proofs.Imports.{[], ◌&&◌, ◌++◌, ◌+◌, ◌<◌, ◌==◌, ◌>>=◌, ◌||◌, ◌∙◌, ◌∷◌, ◌≡◌, ◌≤◌, ◌⊎◌, Asks, BadNumber, BadTuple, Bool, Cause, Does, Err}
+use Rattle.law_run.proofs.Imports.{In, IsSound, Line, List, None, Ok, Pattern, Request, Result, Script, Some, TextLine, Word, a_block, a_byte, a_call}
+use Rattle.law_run.proofs.Imports.{a_device, a_kind, a_name, a_server, a_tuple, ap, arith, asks, boot_of, both_true, by_test, client_request, codes, cond}
+use Rattle.law_run.proofs.Imports.{false, fault_of, filled_of, first_line, four_words, front_word, halves_of, in-append, in_limits, inl, inr, is_accepted}
+use Rattle.law_run.proofs.Imports.{is_some, is_tuple, is_word, length, line_at, lines_after, move_of, nat_le, nat_tests, net_line, nets, no_word, not}
+use Rattle.law_run.proofs.Imports.{numbers_of, one_word, operator_request, pieces, read_of, refl, script_of, servers_line, skipped, snap_of, spread_of}
+use Rattle.law_run.proofs.Imports.{stop_at, stop_of, subst, sym, text_lines, three_words, true, two_words, waits, words_of, write_of, ℕ}
 use Rattle.petal_base.specs.Tuple.{tuple_of}
 use Rattle.petal_script.specs.Words.{or_else}
 use Rattle.petal_script.specs.Number.{number_of}
 use Rattle.petal_script.specs.Fields.{version_of}
 use Rattle.petal_script.specs.Client.{disk_of, write_by}
-use Rattle.law_script.specs.Laws.{Asks, Follows}
+use Rattle.law_script.specs.Laws.{Follows}
 use Rattle.script_lines.specs.declared.request.Pattern.TheVariants as pattern
 use Rattle.script_lines.specs.declared.request.Request.TheVariants as request
 
@@ -204,9 +204,9 @@ unfolding lines_after
 lines_rise number reach [] = tt
 lines_rise number reach (piece ∷ more) = (lines_above (number + 1) (reach + length piece) more, lines_rise (number + 1) (reach + length piece) more)
 
-after_rises : (front : List TextLine) (told : TextLine) (following : List TextLine) → AreRising (front ++ told ∷ following) → AreRising following
+after_rises : (prefix : List TextLine) (told : TextLine) (following : List TextLine) → AreRising (prefix ++ told ∷ following) → AreRising following
 after_rises [] told following h = h.1
-after_rises (other ∷ front) told following h = after_rises front told following h.1
+after_rises (other ∷ prefix) told following h = after_rises prefix told following h.1
 
 -- ### The script so far
 
@@ -282,12 +282,12 @@ follows_so_far [] s t above follows high rises h =
 follows_so_far (told ∷ more) s t above follows high rises h =
     follows_so_far more follows.0 t told.number follows.2 rises.0 rises.1 (does_so_far s told follows.0 above follows.1 (high told (inl refl)) h)
 
-above_zero : (lines : List TextLine) → AreAbove 0 lines → (front : List TextLine) (told : TextLine) (following : List TextLine)
-    → lines ≡ front ++ told ∷ following → AreAbove 0 following
+above_zero : (lines : List TextLine) → AreAbove 0 lines → (prefix : List TextLine) (told : TextLine) (following : List TextLine)
+    → lines ≡ prefix ++ told ∷ following → AreAbove 0 following
 unfolding In
-above_zero lines h front told following e other i = h other (subst (In other) (sym e) (later front))
+above_zero lines h prefix told following e other i = h other (subst (In other) (sym e) (later prefix))
   where
-    later : (front : List TextLine) → In other (front ++ told ∷ following)
+    later : (prefix : List TextLine) → In other (prefix ++ told ∷ following)
     later [] = inr i
     later (x ∷ xs) = inr (later xs)
 
@@ -299,8 +299,8 @@ read_sound text script e =
     let begun = ok_is IsBegun (first_line (words_of a.servers.text)) a.begun (begun_empty (words_of a.servers.text)) a.begins in
     let empty = begun.empty in
     follows_so_far a.following a.begun script 0 a.follows
-    (above_zero (text_lines text) (lines_above 0 0 (pieces text)) a.front a.servers a.following a.lies)
-    (after_rises a.front a.servers a.following (subst AreRising a.lies (lines_rise 0 0 (pieces text))))
+    (above_zero (text_lines text) (lines_above 0 0 (pieces text)) a.prefix a.servers a.following a.lies)
+    (after_rises a.prefix a.servers a.following (subst AreRising a.lies (lines_rise 0 0 (pieces text))))
     (record {
       numbered = λ one other i j e. absurd (subst (In one) empty i);
       below = λ line i. absurd (subst (In line) empty i);

@@ -1,10 +1,10 @@
 -- A server that may read a cell which is not leaving has the copy that counts, and so the contents of the cell's block.
 use Rattle.law_run.proofs.Imports.{◌==◌, ◌∙◌, ◌≡◌, ◌≤◌, AliveIn, AreDisks, Bool, Both, ByBoth, ByNone, ByOne, Cell, DiskRow, Firm, HasStage, In, IsLinked}
-use Rattle.law_run.proofs.Imports.{IsServing, LinkRow, List, None, Option, PairOk, PairState, Some, Store, Stored, alone_authority, ap, arith, at}
-use Rattle.law_run.proofs.Imports.{authority, both_authority, both_leads, by_bool, bytes_of, cases_lt, cell_cmp, chain_in, chosen_steady, coming, counted}
-use Rattle.law_run.proofs.Imports.{either_true, entry_at, entry_before, entry_by, entry_of, false, front_itself, half, has_map, held, inl, inr, is_all_held}
-use Rattle.law_run.proofs.Imports.{is_in, is_lead, is_some, is_the_so, leads_link, leaving, linked_between, live, log_roles, named_cell, old_cell, one_row}
-use Rattle.law_run.proofs.Imports.{own_below, own_plain, pair_of, place_by, places_up, readable, refl, retired_not, retired_reader, runs_now, same_numbers}
+use Rattle.law_run.proofs.Imports.{IsServing, LinkRow, List, None, Option, PairOk, PairState, Some, Store, Stored, alone_authority, ap, arith, at, authority}
+use Rattle.law_run.proofs.Imports.{both_authority, both_leads, by_bool, bytes_of, cases_lt, cell_cmp, chain_in, chosen_steady, coming, counted, either_true}
+use Rattle.law_run.proofs.Imports.{entry_at, entry_before, entry_by, entry_of, false, half, has_map, held, inl, inr, is_all_held, is_in, is_lead, is_some}
+use Rattle.law_run.proofs.Imports.{is_the_so, leads_link, leaving, linked_between, live, log_roles, named_cell, old_cell, one_row, own_below, own_plain}
+use Rattle.law_run.proofs.Imports.{pair_of, place_by, places_up, prefix_itself, readable, refl, retired_not, retired_reader, runs_now, same_numbers}
 use Rattle.law_run.proofs.Imports.{same_some, serves, stage_at, stage_facts, subst, sym, true, true_false, ℕ}
 use Rattle.law_run.proofs.ContentsByCells.{entry_over, has_over, is_between}
 use Rattle.law_run.proofs.ContentsAsked.{reader_serves}
@@ -82,14 +82,14 @@ module _ (this : ServerStep) where
     first_none b b_is both mine visit is =
         let applied = (this.w.servers this.n).log.applied in
         let been = this.ground.good.been this.n (place_by this.setting top b) cell visit is in
-        let mid = linked_between this.setting top firm.plain been.front applied top cell been.row b been.within (firm.servers this.n) (front_itself top)
+        let mid = linked_between this.setting top firm.plain been.prefix applied top cell been.row b been.within (firm.servers this.n) (prefix_itself top)
         been.linked b_is in
-        let one = places_up this.setting top firm.plain been.front applied cell been.row mid.0 been.within (firm.servers this.n) been.linked mid.1 in
-        let two = places_up this.setting top firm.plain applied top cell mid.0 b (firm.servers this.n) (front_itself top) mid.1 b_is in
+        let one = places_up this.setting top firm.plain been.prefix applied cell been.row mid.0 been.within (firm.servers this.n) been.linked mid.1 in
+        let two = places_up this.setting top firm.plain applied top cell mid.0 b (firm.servers this.n) (prefix_itself top) mid.1 b_is in
         let there = been.at in
         let same : place_by this.setting applied mid.0 ≡ place_by this.setting top b = omega arith in
         let row_is : b ≡ mid.0 =
-        one_row this.setting top firm.plain applied top cell mid.0 b (firm.servers this.n) (front_itself top) mid.1 b_is same in
+        one_row this.setting top firm.plain applied top cell mid.0 b (firm.servers this.n) (prefix_itself top) mid.1 b_is same in
         let link : leads_link own_state this.n cell ≡ true =
         is_the_so _ this.n (both_leads own_state cell mid.0 mid.1 (ap (λ (x : LinkRow). x.state) (sym row_is) ∙ both)
         ∙ ap Some (ap (λ (x : LinkRow). x.primary) (sym row_is) ∙ mine)) in

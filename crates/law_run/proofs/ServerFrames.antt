@@ -1,8 +1,8 @@
 -- What a server's step has to show so that servers and clients stay tied to the plain machine.
 use Rattle.law_run.proofs.Imports.{◌∙◌, ◌≡◌, ◌≢◌, ◌⊎◌, AliveIn, Both, Cell, Chain, Finished, In, IsLinked, IsOpen, IsOwn, IsPrefix, Letter, LinkRow}
 use Rattle.law_run.proofs.Imports.{PairState, Pairs, Pending, Plain, Server, Some, Store, ap, arith, at, at-empty, authority, both_row, cell_cmp, chain_in}
-use Rattle.law_run.proofs.Imports.{chosen_log, chosen_state, front_itself, in-append, in_both, inl, inr, is_clients, kept, linked_between, nat_cmp, no_pairs}
-use Rattle.law_run.proofs.Imports.{none_some, one_row, open_write, own_steady, owns_of, place_by, places_up, put_apart, put_same, refl, rows_later}
+use Rattle.law_run.proofs.Imports.{chosen_log, chosen_state, in-append, in_both, inl, inr, is_clients, kept, linked_between, nat_cmp, no_pairs, none_some}
+use Rattle.law_run.proofs.Imports.{one_row, open_write, own_steady, owns_of, place_by, places_up, prefix_itself, put_apart, put_same, refl, rows_later}
 use Rattle.law_run.proofs.Imports.{same_or_apart, same_some, secondary_is_one, server_state, serves, so_both, state_in, subst, sym, true, ℕ}
 use Rattle.law_run.specs.WritesGoOn.{is_held, Onward}
 use Rattle.law_run.specs.MachineTies.{HasCounted, Is_told, Is_followed, Is_counted, Follow, Stores}
@@ -90,7 +90,7 @@ module _ (this : ServerStep) (k : Plain) where
     same_before : (cell : Cell) (row : LinkRow) → this.acted.server.log.applied ≡ (this.w.servers this.n).log.applied
         → IsLinked this.setting this.acted.server.log.applied cell row → row.state ≡ Both → WasShared cell row
     same_before cell row applied linked both =
-        record { old = row; linked = subst (λ front. IsLinked this.setting front cell row) applied linked; both = both; second = refl }
+        record { old = row; linked = subst (λ prefix. IsLinked this.setting prefix cell row) applied linked; both = both; second = refl }
 
     was_shared : (cell : Cell) (op : Pending) (row : LinkRow) → Leaves this.setting this.n (this.w.servers this.n) this.acted.server
         → at cell_cmp (new this).pairs.pending cell ≡ Some op → IsLinked this.setting this.acted.server.log.applied cell row
@@ -158,15 +158,15 @@ module _ (this : ServerStep) (k : Plain) where
         let firm = this.next.firm in
         let b = both_row (chosen_state this.setting v) cell shared in
         let applied = (v.servers i).log.applied in
-        let s = shared_before (grounded_after this) i cell op on is end b.row (firm.servers i) (front_itself end) b.is b.both in
-        let mid = linked_between this.setting end firm.plain applied top end cell s.first.row b.row (logs_within this i) this.grows (front_itself end)
+        let s = shared_before (grounded_after this) i cell op on is end b.row (firm.servers i) (prefix_itself end) b.is b.both in
+        let mid = linked_between this.setting end firm.plain applied top end cell s.first.row b.row (logs_within this i) this.grows (prefix_itself end)
         s.first.shares.linked b.is in
         let one = places_up this.setting end firm.plain applied top cell s.first.row mid.0 (logs_within this i) this.grows
         s.first.shares.linked mid.1 in
-        let two = places_up this.setting end firm.plain top end cell mid.0 b.row this.grows (front_itself end) mid.1 b.is in
+        let two = places_up this.setting end firm.plain top end cell mid.0 b.row this.grows (prefix_itself end) mid.1 b.is in
         let at = s.at in
         let same : place_by this.setting top mid.0 ≡ place_by this.setting end b.row = omega arith in
-        let row_is = one_row this.setting end firm.plain top end cell mid.0 b.row this.grows (front_itself end) mid.1 b.is same in
+        let row_is = one_row this.setting end firm.plain top end cell mid.0 b.row this.grows (prefix_itself end) mid.1 b.is same in
         so_both (chosen_state this.setting this.w) cell mid.0 mid.1 (ap (λ (r : LinkRow). r.state) (sym row_is) ∙ b.both)
 
     second_same : (i : ℕ) (cell : Cell) (row : LinkRow) → IsLinked this.setting (v.servers i).log.applied cell row
@@ -178,9 +178,9 @@ module _ (this : ServerStep) (k : Plain) where
         let firm = this.next.firm in
         let b = both_row (chosen_state this.setting v) cell shared in
         let applied = (v.servers i).log.applied in
-        let mid = linked_between this.setting end firm.plain applied top end cell row b.row (logs_within this i) this.grows (front_itself end) linked b.is in
+        let mid = linked_between this.setting end firm.plain applied top end cell row b.row (logs_within this i) this.grows (prefix_itself end) linked b.is in
         let one = rows_later this.setting end firm.plain applied top cell row mid.0 (logs_within this i) this.grows linked mid.1 in
-        let two = rows_later this.setting end firm.plain top end cell mid.0 b.row this.grows (front_itself end) mid.1 b.is in
+        let two = rows_later this.setting end firm.plain top end cell mid.0 b.row this.grows (prefix_itself end) mid.1 b.is in
         serving_same this cell mid.0 b.row row.secondary mid.1 b.is alive (secondary_is_one mid.0 row.secondary one.secondary)
         (ap (serves row.secondary b.row) b.both ∙ secondary_is_one b.row row.secondary (two.secondary ∙ one.secondary))
 

@@ -183,7 +183,7 @@ module _ (at : ServesAt) where
       pending = ap (λ (p : Pairs). p.pending) (proposed_pairs here.state own started);
       unended = λ post i. logged_unended post.body (says post i);
     })
-    kept_by _ _ (By_entry log entry more front) =
+    kept_by _ _ (By_entry log entry more prefix) =
         let settled = settling here entry (crossed here.state entry own) in
         inr (record {
           chains = settled.chains;

@@ -1,8 +1,8 @@
 -- Who serves a cell's link after a step has not come back with nothing in it: its store counts as it did, if what is chosen tells of no
 -- other blank of it.
 use Rattle.law_run.proofs.Imports.{[], ◌++◌, ◌∷◌, ◌≡◌, ◌≤◌, AliveIn, Bool, Cell, Command, HasJoinedSince, HasProperTuples, IsCaughtStill, IsLinked, IsPrefix}
-use Rattle.law_run.proofs.Imports.{Join, LinkRow, List, Only, PairState, Some, Visits, alive_on, arith, chosen_state, front_itself, front_more, front_on}
-use Rattle.law_run.proofs.Imports.{has_server, id_of, inl, inr, is_flagged, other_of, place_by, place_of_later, place_touched, places_up, serves, subst, true}
+use Rattle.law_run.proofs.Imports.{Join, LinkRow, List, Only, PairState, Some, Visits, alive_on, arith, chosen_state, has_server, id_of, inl, inr, is_flagged}
+use Rattle.law_run.proofs.Imports.{other_of, place_by, place_of_later, place_touched, places_up, prefix_itself, prefix_more, prefix_on, serves, subst, true}
 use Rattle.law_run.proofs.Imports.{true_false, ℕ}
 use Rattle.law_run.proofs.BlankedServeNothing.{IsUncaught, more_joins, serves_none}
 use Rattle.law_run.proofs.EventsOfServerSteps.{ServerStep, ends_of, joined_now, joined_then, logs_within}
@@ -22,28 +22,28 @@ module _ (this : ServerStep) where
       → place ≤ place_by this.setting top row
   been_within n place cell own row e is =
       let b = this.onward.good.been n place cell own e in
-      let within = front_on b.front (v.servers n).log.applied top b.within (logs_within this n) in
-      let up = places_up this.setting top this.along.firm.plain b.front top cell b.row row within (front_itself top) b.linked is in
+      let within = prefix_on b.prefix (v.servers n).log.applied top b.within (logs_within this n) in
+      let up = places_up this.setting top this.along.firm.plain b.prefix top cell b.row row within (prefix_itself top) b.linked is in
       let at = b.at in
       omega arith
 
   -- ### A Caught on the way
 
   -- a holder was where its Caught acts
-  pub caught_visit : (front : List Command) (cell : Cell) (row : LinkRow) (holder : ℕ) (copied : Bool)
-      → (c : IsCaughtStill this.setting.servers front end cell row holder copied) → AliveIn (chosen_state this.setting v) cell
+  pub caught_visit : (prefix : List Command) (cell : Cell) (row : LinkRow) (holder : ℕ) (copied : Bool)
+      → (c : IsCaughtStill this.setting.servers prefix end cell row holder copied) → AliveIn (chosen_state this.setting v) cell
       → (own : PairState) × (visits c.found.acts.holder
       (place_by this.setting c.found.until (record row { state = Only holder c.later })) cell ≡ Some own)
       × (is_flagged own (id_of (record row { state = Only holder c.later })) ≡ true)
-  caught_visit front cell row holder copied c alive =
+  caught_visit prefix cell row holder copied c alive =
       let f = c.found in
       let acts = f.acts in
       let then : LinkRow = record row { state = Only holder c.later } in
       let told = this.onward.started f.until row.map row.link acts.holder acts.inc (other_of acts.holder then) acts.other_inc
       (subst (λ (x : Command). IsPrefix (f.until ++ x ∷ []) end) acts.is f.stands) in
-      let until_end = front_on f.until (f.until ++ f.entry ∷ []) end (front_more f.until f.entry) f.stands in
+      let until_end = prefix_on f.until (f.until ++ f.entry ∷ []) end (prefix_more f.until f.entry) f.stands in
       this.onward.good.started acts.holder acts.inc acts.whole f.until cell then until_end f.was
-      (alive_on this.setting end plain_end f.until end cell until_end (front_itself end) alive) acts.alone acts.holds told
+      (alive_on this.setting end plain_end f.until end cell until_end (prefix_itself end) alive) acts.alone acts.holds told
 
   -- none stands after a Join of the link's server
   uncaught : (cell : Cell) (link : LinkRow) → IsLinked this.setting top cell link → AliveIn (chosen_state this.setting v) cell → (n inc : ℕ)
@@ -54,12 +54,12 @@ module _ (this : ServerStep) where
       let f = c.found in
       let then : LinkRow = record mid { state = Only holder c.later } in
       let visit = caught_visit following cell mid holder copied c alive in
-      let until_end = front_on j.until following end (front_more j.until entry) j.stands in
-      let caught_end = front_on f.until (f.until ++ f.entry ∷ []) end (front_more f.until f.entry) f.stands in
+      let until_end = prefix_on j.until following end (prefix_more j.until entry) j.stands in
+      let caught_end = prefix_on f.until (f.until ++ f.entry ∷ []) end (prefix_more f.until f.entry) f.stands in
       let le = been_within f.acts.holder (place_by this.setting f.until then) cell visit.0 link visit.1 is in
       let one = places_up this.setting end plain_end top j.until cell link row j.following until_end is there in
       let two = place_touched this.setting j.until entry row touched in
-      let three = place_of_later this.setting end plain_end j.until following following cell row mid (front_more j.until entry) j.stands there now in
+      let three = place_of_later this.setting end plain_end j.until following following cell row mid (prefix_more j.until entry) j.stands there now in
       let four = places_up this.setting end plain_end following f.until cell mid then f.following caught_end now f.was in
       absurd (omega arith)
 

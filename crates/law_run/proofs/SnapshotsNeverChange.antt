@@ -1,7 +1,7 @@
 -- Snapshots never change: what a later world has of them is what the machine kept.
 use Rattle.law_run.proofs.Imports.{◌<◌, ◌∙◌, ◌≡◌, DiskRow, Event, Firm, HasRowLater, Holds, In, IsPrefix, IsRowAt, IsStill, List, Plain, PlainDisk}
-use Rattle.law_run.proofs.Imports.{PlainSnapshot, Setting, Snapshot, Some, World, ap, arith, chosen_log, chosen_state, content, content_at, disk_of}
-use Rattle.law_run.proofs.Imports.{get_front, get_in, get_within, has_content_at, log_grown, replay, same_some, slice_get, sym, true, ℕ}
+use Rattle.law_run.proofs.Imports.{PlainSnapshot, Setting, Snapshot, Some, World, ap, arith, chosen_log, chosen_state, content, content_at, disk_of, get_in}
+use Rattle.law_run.proofs.Imports.{get_prefix, get_within, has_content_at, log_grown, replay, same_some, slice_get, sym, true, ℕ}
 use Rattle.law_run.specs.MachineTies.{Stores}
 use Rattle.law_run.proofs.ChosenDisks.{later_row, plain_now, rows_in}
 use Rattle.law_run.proofs.SnapshotsTaken.{HasMore, snaps_stay}
@@ -41,7 +41,7 @@ module _ (it : Replayed) where
     snap_epoch = is_row.snaps epoch snap.0 snap.1
 
     snap_later : slice_get later.now.snaps epoch ≡ Some snap.0
-    snap_later = ap (λ s. slice_get s epoch) later.so.snaps ∙ get_front row.snaps later.so.more epoch snap.0 snap.1
+    snap_later = ap (λ s. slice_get s epoch) later.so.snaps ∙ get_prefix row.snaps later.so.more epoch snap.0 snap.1
 
     then : Holds m.disks row (has_content_at setting w row.id) (content_at setting w row.id)
     then = was.known row h
@@ -65,7 +65,7 @@ module _ (it : Replayed) where
     same_taken =
         let more : HasMore (disk_of (replay m es).disks row.name) then.disk = snaps_stay m es row.name then.disk then.is in
         let disk : more.now ≡ last.disk = same_some (sym more.is ∙ ap (disk_of (replay m es).disks) (sym later.so.name) ∙ last.is) in
-        same_some (sym (get_front then.disk.snaps more.more epoch taken.0 taken.1) ∙ ap (λ s. slice_get s epoch) (sym more.snaps)
+        same_some (sym (get_prefix then.disk.snaps more.more epoch taken.0 taken.1) ∙ ap (λ s. slice_get s epoch) (sym more.snaps)
         ∙ ap (λ (d : PlainDisk). slice_get d.snaps epoch) disk ∙ kept.1)
 
     same_content : (block : ℕ) → has_content_at setting w row.id epoch block ≡ true → has_content_at setting v row.id epoch block ≡ true

@@ -1,7 +1,7 @@
 -- Snapshots that a step takes: of each disk those that it has after the step and had not before. And no event changes a snapshot.
 use Rattle.law_run.proofs.Imports.{[], ◌++◌, ◌∙◌, ◌∷◌, ◌≡◌, ◌≢◌, ◌≤◌, Begin, Bool, DiskRow, End, Event, Freeze, Holds, In, IsRowAt, List, Look, Make, MapRow}
 use Rattle.law_run.proofs.Imports.{Obeys, Option, Plain, PlainDisk, PlainSnapshot, Snapshot, Some, Take, after, ap, append-nil, append_assoc, arith, by_bool}
-use Rattle.law_run.proofs.Imports.{disk_at, disk_of, drop, drop-append_seam, find_front, flat_map, freeze_of, frozen, get_front, get_in, inl, inr, is_named}
+use Rattle.law_run.proofs.Imports.{disk_at, disk_of, drop, drop-append_seam, find_prefix, flat_map, freeze_of, frozen, get_in, get_prefix, inl, inr, is_named}
 use Rattle.law_run.proofs.Imports.{length, map, nat_lists_same, refl, replay, same_bytes, slice_get, slice_get_within, snapshots_of, subst, suc, sym}
 use Rattle.law_run.proofs.Imports.{text_itself, true_false, with_disk, written, ℕ}
 use Rattle.law_run.specs.WritesGoOn.{IsMindful, Onward}
@@ -36,9 +36,9 @@ next_by maps row place is done (snap ∷ more) e =
       is.snaps (length done) snap here,
       λ other there same.
           let at = get_in done other there in
-          let front = ap (λ s. slice_get s at.0) e ∙ get_front done (snap ∷ more) at.0 other at.1 in
+          let prefix = ap (λ s. slice_get s at.0) e ∙ get_prefix done (snap ∷ more) at.0 other at.1 in
           let lt = slice_get_within done at.0 other at.1 in
-          let one = is.names at.0 (length done) other snap front here same in
+          let one = is.names at.0 (length done) other snap prefix here same in
           absurd (omega arith),
       next_by maps row place is (done ++ snap ∷ []) more (e ∙ sym (append_assoc done (snap ∷ []) more)),
     )
@@ -157,7 +157,7 @@ changed_more ds name f other disk keeps more snaps is = by_bool (same_bytes othe
 
 snaps_after : (m : Plain) (e : Event) (name : List ℕ) (disk : PlainDisk) → disk_of m.disks name ≡ Some disk → HasMore (disk_of (after m e).disks name) disk
 snaps_after m (Make other) name disk is =
-    has_same _ disk (ap (λ ds. disk_of ds name) (disks_after m (Make other)) ∙ find_front (is_named name) m.disks _ disk is)
+    has_same _ disk (ap (λ ds. disk_of ds name) (disks_after m (Make other)) ∙ find_prefix (is_named name) m.disks _ disk is)
 snaps_after m (Freeze other snap) name disk is =
     subst (λ ds. HasMore (disk_of ds name) disk) (sym (disks_after m (Freeze other snap)))
     (changed_more m.disks other (frozen snap) name disk (λ d. refl) _ refl is)

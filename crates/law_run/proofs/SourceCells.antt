@@ -35,10 +35,10 @@ source_here servers s p disks cell row h has one =
     ∙ ap (option_map (λ (move : Move). record { map = move.old_map; block = cell.block })) m.1
     ∙ (λ i. Some (record { map = sym (ap (old_map row.map) m.1) i; block = cell.block }))
 
--- so it is by each front by which it had a source
-pub source_stays : (servers : ℕ) (front whole : List Command) → HasProperTuples servers whole → IsPrefix front whole → (cell old : Cell)
-    → source (state_after servers front) cell ≡ Some old → (row : DiskRow) → In row (state_after servers whole).disks.rows
+-- so it is by each prefix by which it had a source
+pub source_stays : (servers : ℕ) (prefix whole : List Command) → HasProperTuples servers whole → IsPrefix prefix whole → (cell old : Cell)
+    → source (state_after servers prefix) cell ≡ Some old → (row : DiskRow) → In row (state_after servers whole).disks.rows
     → has_map cell.map row ≡ true → stage_at (state_after servers whole) cell ≡ 1 → old ≡ old_cell row cell.block
-source_stays servers front whole plain prefix cell old e row h has one =
-    sym (source_same servers front whole plain prefix cell old (old_cell row cell.block) e
+source_stays servers prefix whole plain is_prefix cell old e row h has one =
+    sym (source_same servers prefix whole plain is_prefix cell old (old_cell row cell.block) e
     (source_here servers (state_after servers whole) (log_plain servers whole plain) (log_disks servers whole plain) cell row h has one))

@@ -21,14 +21,14 @@ module _ (setting : Setting) (state : State) (w : World) where
       let applied : new.log.applied ≡ (w.servers n).log.applied = ap (λ (l : Log). l.applied) logs ∙ same in
       In_place applied
       (subst (λ i. is_in (state_in setting.servers new.log) n i ≡ true) (sym inc)
-      (subst (λ front. is_in (state_after setting.servers front) n (w.servers n).life.inc ≡ true) (sym applied) seat))
+      (subst (λ prefix. is_in (state_after setting.servers prefix) n (w.servers n).life.inc ≡ true) (sym applied) seat))
   worked_leaves n _ _ runs (By_job log done same did (inr apart)) new logs owns inc =
       As_it_was (ap (λ (o : PairState). o.pairs.pending) (owns ∙ apart.same)) (ap (λ (l : Log). l.applied) logs ∙ same)
   worked_leaves n _ _ runs (By_ballot log started posts same starts says) new logs owns inc =
       As_it_was (ap (λ (o : PairState). o.pairs.pending) owns ∙ ap (λ (p : Pairs). p.pending)
       (proposed_pairs (server_state setting w n) (w.servers n).own started))
       (ap (λ (l : Log). l.applied) logs ∙ same)
-  worked_leaves n _ _ runs (By_entry log entry more front) new logs owns inc = Goes_further runs inc
+  worked_leaves n _ _ runs (By_entry log entry more prefix) new logs owns inc = Goes_further runs inc
       (ap (λ (o : PairState). o.pairs.pending) owns
       ∙ ap (λ (p : Pairs). p.pending)
       (settling (own_place setting w n) entry (crossed (server_state setting w n) entry (w.servers n).own)).pairs)

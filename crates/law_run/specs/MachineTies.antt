@@ -66,31 +66,31 @@ pub data IsRemembered (setting : Setting) (w : World) (lives : Lives) (n place :
 
 -- so are the writes of all visits of a place at which the cell's link is in Both, and after which no server that serves the link has been
 abbrev pub AreRemembered : (setting : Setting) (w : World) (lives : Lives) (visits : Visits) (reached : Cell → ℕ) → Type 0
-AreRemembered setting w lives visits reached = (front : List Command) (cell : Cell) (row : LinkRow) (n : ℕ) (own : PairState) (op : Pending)
-    → IsPrefix front (chosen_log setting w) → IsLinked setting front cell row → row.state ≡ Both → IsLast reached setting front cell row
-    → visits n (place_by setting front row) cell ≡ Some own → at cell_cmp own.pairs.pending cell ≡ Some op → is_clients op.kind ≡ true
-    → IsRemembered setting w lives n (place_by setting front row) cell op
+AreRemembered setting w lives visits reached = (prefix : List Command) (cell : Cell) (row : LinkRow) (n : ℕ) (own : PairState) (op : Pending)
+    → IsPrefix prefix (chosen_log setting w) → IsLinked setting prefix cell row → row.state ≡ Both → IsLast reached setting prefix cell row
+    → visits n (place_by setting prefix row) cell ≡ Some own → at cell_cmp own.pairs.pending cell ≡ Some op → is_clients op.kind ≡ true
+    → IsRemembered setting w lives n (place_by setting prefix row) cell op
 
--- what is known of epochs, after these records: a client's write that is pending is in time by each front from the one on at which it was
--- opened, by which its server is In as itself; so is one of a place, by each front at that place; and one that a second server can put, by what
+-- what is known of epochs, after these records: a client's write that is pending is in time by each prefix from the one on at which it was
+-- opened, by which its server is In as itself; so is one of a place, by each prefix at that place; and one that a second server can put, by what
 -- is chosen; and no server has an entry of an epoch that it doesn't know of, or of a cell that it doesn't know to have been live
 pub record KnowEpochs (setting : Setting) (records : List Record) (w : World) : Type 0 where
-  pub pending : (n inc : ℕ) (cell : Cell) (op : Pending) (opened front : List Command)
-      → at cell_cmp (owns_of w n).pairs.pending cell ≡ Some op → is_clients op.kind ≡ true → IsPrefix opened front
-      → IsPrefix front (chosen_log setting w)
+  pub pending : (n inc : ℕ) (cell : Cell) (op : Pending) (opened prefix : List Command)
+      → at cell_cmp (owns_of w n).pairs.pending cell ≡ Some op → is_clients op.kind ≡ true → IsPrefix opened prefix
+      → IsPrefix prefix (chosen_log setting w)
       → length opened ≡ op.rev → is_in (state_after setting.servers opened) n inc ≡ true
-      → is_in (state_after setting.servers front) n inc ≡ true → IsTimely setting.servers front cell op
-  pub place : (n place : ℕ) (cell : Cell) (pairs : Pairs) (op : Pending) (front : List Command) (row : LinkRow)
+      → is_in (state_after setting.servers prefix) n inc ≡ true → IsTimely setting.servers prefix cell op
+  pub place : (n place : ℕ) (cell : Cell) (pairs : Pairs) (op : Pending) (prefix : List Command) (row : LinkRow)
       → WasThere setting records n place cell pairs → at cell_cmp pairs.pending cell ≡ Some op → is_clients op.kind ≡ true
-      → IsPrefix front (chosen_log setting w)
-      → IsLinked setting front cell row → place_by setting front row ≡ place → op.rev ≤ length front
-      → IsTimely setting.servers front cell op
+      → IsPrefix prefix (chosen_log setting w)
+      → IsLinked setting prefix cell row → place_by setting prefix row ≡ place → op.rev ≤ length prefix
+      → IsTimely setting.servers prefix cell op
   pub second : (n m : ℕ) (cell : Cell) (pairs : Pairs) (op : Pending) (row : LinkRow) → (w.servers m).life.running ≡ true
       → is_in (server_state setting w m) m (w.servers m).life.inc ≡ true → IsLinked setting (w.servers m).log.applied cell row
       → row.state ≡ Both → row.primary ≡ n → row.secondary ≡ m
       → WasThere setting records n (place_by setting (w.servers m).log.applied row) cell pairs → at cell_cmp pairs.pending cell ≡ Some op
-      → is_clients op.kind ≡ true → (front : List Command) (now : LinkRow) → IsPrefix front (chosen_log setting w) → IsLinked setting front cell now
-      → place_by setting front now ≡ place_by setting (w.servers m).log.applied row → op.rev ≤ length front
+      → is_clients op.kind ≡ true → (prefix : List Command) (now : LinkRow) → IsPrefix prefix (chosen_log setting w) → IsLinked setting prefix cell now
+      → place_by setting prefix now ≡ place_by setting (w.servers m).log.applied row → op.rev ≤ length prefix
       → IsTimely setting.servers (chosen_log setting w) cell op
   pub early : HaveEarlyEntries setting.servers w
 
@@ -130,20 +130,20 @@ pub record KnowMoves (setting : Setting) (records : List Record) (w : World) : T
 
 -- the ground on which the run stands, at a state from what is chosen on: the laws below it, after these records, of two copies by the
 -- stores that count, which of a server that runs and is In as itself is its own, and no Join of it with an empty store stands after the
--- front by which it is so; the writes that servers had at places that count are known of; and what is known of epochs and of moves
+-- prefix by which it is so; the writes that servers had at places that count are known of; and what is known of epochs and of moves
 pub record Ground (setting : Setting) (state : State) (w : World) : Type 0 where
   pub ready : Ready setting state w
   pub wake : AllMayWake setting w
   pub records : List Record
   pub come : world_after setting (start setting) records ≡ w
   pub good : Good setting records (chosen_log setting w) (counted setting w)
-  pub started : (front : List Command) (of link holder inc other other_inc : ℕ)
-      → IsPrefix (front ++ Caught of link holder inc other other_inc ∷ []) (chosen_log setting w)
-      → WasStarted setting records holder inc front (record { map = of; link = link })
+  pub started : (prefix : List Command) (of link holder inc other other_inc : ℕ)
+      → IsPrefix (prefix ++ Caught of link holder inc other other_inc ∷ []) (chosen_log setting w)
+      → WasStarted setting records holder inc prefix (record { map = of; link = link })
   pub own : (n : ℕ) → (w.servers n).life.running ≡ true → is_in (server_state setting w n) n (w.servers n).life.inc ≡ true → IsOwn setting w n
-  pub joined : (n : ℕ) (front : List Command) → IsPrefix front (chosen_log setting w)
-      → is_in (state_after setting.servers front) n (w.servers n).life.inc ≡ true
-      → blank_joins_in setting front n ≡ blank_joins_in setting (chosen_log setting w) n
+  pub joined : (n : ℕ) (prefix : List Command) → IsPrefix prefix (chosen_log setting w)
+      → is_in (state_after setting.servers prefix) n (w.servers n).life.inc ≡ true
+      → blank_joins_in setting prefix n ≡ blank_joins_in setting (chosen_log setting w) n
   pub lives : Lives
   pub asking : AskingBy setting w lives
   pub reports : KnowsReports setting w lives

@@ -7,7 +7,7 @@ use Rattle.law_state.proofs.Imports.{owner, places_from, refl, row_left, same_nu
 use Rattle.law_state.proofs.Imports.{true_false, ℕ}
 use Rattle.spec_rules.specs.State.{is_in}
 use Rattle.law_state.specs.LaterStates.{IsBelow}
-use Rattle.law_state.specs.Homes.{HasDied}
+use Rattle.law_state.specs.Homes.{IsRetired}
 use Rattle.law_state.specs.LinkChanges.{IsCaughtBy, IsCaughtIn, IsCaughtSince, IsCaughtStill, IsHeldStill, IsLostIn, By_caught, By_join, By_leave, StaysSo}
 use Rattle.law_state.specs.LinkChanges.{IsTouchedBy, row_joined}
 use Rattle.law_state.specs.Plain.{HasProperTuple, HasProperTuples}
@@ -20,10 +20,10 @@ use Rattle.law_state.proofs.GrownStates.{alone_not_both, one_before}
 use Rattle.law_state.proofs.Joins.{alone_joined, both_before, row_still, was_out}
 use Rattle.law_state.proofs.Leaves.{both_up, left_by, none_now}
 use Rattle.law_state.proofs.FencesPass.{inc_settled}
-use Rattle.law_state.proofs.Steady.{front_plain, log_below}
+use Rattle.law_state.proofs.Steady.{prefix_plain, log_below}
 use Rattle.law_state.proofs.EntriesTouchLinks.{gone_owner, map_of, stays_on, log_entry_stays, log_touched, places_left, places_touched}
 use Rattle.law_state.proofs.EntryByEntry.{NextEntry, by_entries, retired_next, in_between, next_is, settled_there}
-use Rattle.law_state.proofs.Fronts.{front_itself, front_more, front_on}
+use Rattle.law_state.proofs.Prefixes.{prefix_itself, prefix_more, prefix_on}
 
 -- ### Places are of a link, whoever serves it
 
@@ -64,7 +64,7 @@ stays_row row server holder has alone =
 module _ (servers : ℕ) where
   -- a link that is gone is touched by who leaves or joins alone
   gone_untouched : (s : State) → IsSettledState servers s → (entry : Command) → HasProperTuple servers entry → (cell : Cell) (row : LinkRow) (one other : ℕ)
-      → row.map ≡ cell.map → HasDied s cell → is_up s row.primary ≡ true → is_up s row.secondary ≡ true
+      → row.map ≡ cell.map → IsRetired s cell → is_up s row.primary ≡ true → is_up s row.secondary ≡ true
       → is_up_as (after s entry) row.primary one ≡ true → is_up_as (after s entry) row.secondary other ≡ true → touches s entry row ≡ false
   gone_untouched s p (Join server inc blank) plain cell row one other same gone first second first_on second_on =
       by_bool (touches s (Join server inc blank) row)
@@ -91,14 +91,14 @@ module _ (servers : ℕ) where
       (λ off. off)
   gone_untouched s p _ plain cell row one other same gone first second first_on second_on = refl
 
--- ### Fronts of a log
+-- ### Prefixes of a log
 
-module _ (servers : ℕ) (front whole : List Command) (all : HasProperTuples servers whole) (prefix : IsPrefix front whole) where
+module _ (servers : ℕ) (prefix whole : List Command) (all : HasProperTuples servers whole) (is_prefix : IsPrefix prefix whole) where
   abbrev s : State
-  s = state_after servers front
+  s = state_after servers prefix
 
   abbrev Next : Type 0
-  Next = NextEntry servers front whole
+  Next = NextEntry servers prefix whole
 
   abbrev at : Next → State
   at it = state_after servers it.until
@@ -108,7 +108,7 @@ module _ (servers : ℕ) (front whole : List Command) (all : HasProperTuples ser
 
   -- what an entry comes to for a cell's link
   untouched_next : (it : Next) (cell : Cell) (row : LinkRow) → cell_link (at it) cell ≡ Some row → touches (at it) it.entry row ≡ false
-      → StaysSo cell row (at it) (next it) ⊎ HasDied (next it) cell
+      → StaysSo cell row (at it) (next it) ⊎ IsRetired (next it) cell
   untouched_next it cell row is off = log_entry_stays servers it.until it.entry cell row it.plain it.proper is off
 
   touched_next : (it : Next) (cell : Cell) (row : LinkRow) → cell_link (at it) cell ≡ Some row → touches (at it) it.entry row ≡ true
@@ -117,7 +117,7 @@ module _ (servers : ℕ) (front whole : List Command) (all : HasProperTuples ser
 
   abbrev caught_at : (until : List Command) (it : Next) (cell : Cell) (row : LinkRow) → IsPrefix (it.until ++ it.entry ∷ []) until
       → cell_link (at it) cell ≡ Some row
-      → IsCaughtBy (at it) it.entry row → IsCaughtIn servers front until cell row
+      → IsCaughtBy (at it) it.entry row → IsCaughtIn servers prefix until cell row
   caught_at until it cell row stands is acts =
       record { until = it.until; entry = it.entry; following = it.following; stands = stands; was = is; acts = acts }
 
@@ -127,12 +127,12 @@ module _ (servers : ℕ) (front whole : List Command) (all : HasProperTuples ser
     -- no entry has touched it, or such a Caught put it in Both, and none has touched it since
     abbrev BothBy : List Command → State → Type 0
     BothBy log t = (now : LinkRow) → cell_link t cell ≡ Some now → now.state ≡ Both
-        → (places_from (start servers) log row ≡ places_from (start servers) front row)
-        ⊎ ((c : IsCaughtSince servers front log cell now) × IsLater c.row now)
+        → (places_from (start servers) log row ≡ places_from (start servers) prefix row)
+        ⊎ ((c : IsCaughtSince servers prefix log cell now) × IsLater c.row now)
 
     both_touched : (it : Next) (was : LinkRow) → cell_link (at it) cell ≡ Some was → touches (at it) it.entry was ≡ true → (now : LinkRow)
         → cell_link (next it) cell ≡ Some now → now.state ≡ Both
-        → (c : IsCaughtSince servers front (it.until ++ it.entry ∷ []) cell now) × IsLater c.row now
+        → (c : IsCaughtSince servers prefix (it.until ++ it.entry ∷ []) cell now) × IsLater c.row now
     both_touched it was there on now end both = elim (touched_next it cell was there on) [
       | By_leave left at seats ↦ left_not_both (other_of left.server was) was.state
           (sym (left_row was left.server left.one_of) ∙ ap (λ (r : LinkRow). r.state) (same_some (sym at ∙ end)) ∙ both)
@@ -142,8 +142,8 @@ module _ (servers : ℕ) (front whole : List Command) (all : HasProperTuples ser
           let is_now : record was { state = Both } ≡ now = same_some (sym one.same ∙ end) in (
             record {
               row = was;
-              found = caught_at (it.until ++ it.entry ∷ []) it cell was (front_itself (it.until ++ it.entry ∷ [])) there acts;
-              since = subst (StaysSo cell now (at it)) (sym (next_is servers front whole all prefix it))
+              found = caught_at (it.until ++ it.entry ∷ []) it cell was (prefix_itself (it.until ++ it.entry ∷ [])) there acts;
+              since = subst (StaysSo cell now (at it)) (sym (next_is servers prefix whole all is_prefix it))
                   (subst (λ r. StaysSo cell r (at it) (next it)) is_now one);
               place = places_touched servers it.until it.entry was on;
             },
@@ -152,8 +152,8 @@ module _ (servers : ℕ) (front whole : List Command) (all : HasProperTuples ser
     ]
 
     both_left : (it : Next) (now : LinkRow) → StaysSo cell now (at it) (next it) → touches (at it) it.entry now ≡ false
-        → (c : IsCaughtSince servers front it.until cell now) × IsLater c.row now
-        → (c : IsCaughtSince servers front (it.until ++ it.entry ∷ []) cell now) × IsLater c.row now
+        → (c : IsCaughtSince servers prefix it.until cell now) × IsLater c.row now
+        → (c : IsCaughtSince servers prefix (it.until ++ it.entry ∷ []) cell now) × IsLater c.row now
     both_left it now stays off (c, later) =
         let f = c.found in (
           record {
@@ -162,20 +162,20 @@ module _ (servers : ℕ) (front whole : List Command) (all : HasProperTuples ser
               until = f.until;
               entry = f.entry;
               following = f.following;
-              stands = front_on (f.until ++ f.entry ∷ []) it.until (it.until ++ it.entry ∷ []) f.stands (front_more it.until it.entry);
+              stands = prefix_on (f.until ++ f.entry ∷ []) it.until (it.until ++ it.entry ∷ []) f.stands (prefix_more it.until it.entry);
               was = f.was;
               acts = f.acts;
             };
             since = stays_on cell now (state_after servers f.until) (at it) (state_after servers (it.until ++ it.entry ∷ [])) c.since
-                (subst (StaysSo cell now (at it)) (sym (next_is servers front whole all prefix it)) stays);
+                (subst (StaysSo cell now (at it)) (sym (next_is servers prefix whole all is_prefix it)) stays);
             place = places_left servers it.until it.entry c.row (sym (touches_later c.row now later (at it) it.entry) ∙ off) ∙ c.place;
           },
           later,
         )
 
     both_next : (it : Next) → BothBy it.until (at it) → BothBy (it.until ++ it.entry ∷ []) (next it)
-    both_next it so now end both = elim ((log_below servers front it.until it.plain it.following).rows cell row is) [
-      | inr gone ↦ none_some (retired_next servers front whole all prefix it cell gone).0 end
+    both_next it so now end both = elim ((log_below servers prefix it.until it.plain it.following).rows cell row is) [
+      | inr gone ↦ none_some (retired_next servers prefix whole all is_prefix it cell gone).0 end
       | inl was ↦ by_bool (touches (at it) it.entry was.now) (λ on. inr (both_touched it was.now was.is on now end both))
           (λ off. elim (untouched_next it cell was.now was.is off) [
             | inr gone ↦ none_some gone.0 end
@@ -183,16 +183,16 @@ module _ (servers : ℕ) (front whole : List Command) (all : HasProperTuples ser
                 let same : was.now ≡ now = same_some (sym stays.same ∙ end) in
                 elim (so was.now was.is (ap (λ (r : LinkRow). r.state) same ∙ both)) [
                   | inl quiet ↦ inl (places_left servers it.until it.entry row (sym (touches_later row was.now was.so (at it) it.entry) ∙ off) ∙ quiet)
-                  | inr c ↦ inr (subst (λ r. (c : IsCaughtSince servers front (it.until ++ it.entry ∷ []) cell r) × IsLater c.row r) same
+                  | inr c ↦ inr (subst (λ r. (c : IsCaughtSince servers prefix (it.until ++ it.entry ∷ []) cell r) × IsLater c.row r) same
                       (both_left it was.now stays off c))
                 ]
           ])
     ]
 
   pub log_both : (cell : Cell) (row now : LinkRow) → cell_link s cell ≡ Some row → cell_link (state_after servers whole) cell ≡ Some now → now.state ≡ Both
-      → (places_from (start servers) whole row ≡ places_from (start servers) front row) ⊎ IsCaughtSince servers front whole cell now
+      → (places_from (start servers) whole row ≡ places_from (start servers) prefix row) ⊎ IsCaughtSince servers prefix whole cell now
   log_both cell row now is end both =
-      elim (by_entries servers front whole all prefix (BothBy cell row is) (both_next cell row is) (λ now end both. inl refl) now end both) [
+      elim (by_entries servers prefix whole all is_prefix (BothBy cell row is) (both_next cell row is) (λ now end both. inl refl) now end both) [
         | inl quiet ↦ inl quiet
         | inr c ↦ inr c.0
       ]
@@ -209,15 +209,15 @@ module _ (servers : ℕ) (front whole : List Command) (all : HasProperTuples ser
 
   pub log_lost : (cell : Cell) (row now : LinkRow) → cell_link s cell ≡ Some row → row.state ≡ Lost → cell_link (state_after servers whole) cell ≡ Some now
       → now.state ≡ Lost
-  log_lost cell row now is lost end = lost_on s (log_below servers front whole all prefix) cell row now is lost end
+  log_lost cell row now is lost end = lost_on s (log_below servers prefix whole all is_prefix) cell row now is lost end
 
   -- it leaves that state by a Caught first, or by the holder's Join with an empty store
   pub log_alone : (cell : Cell) (row now : LinkRow) (holder : ℕ) (fills : Bool) → cell_link s cell ≡ Some row → row.state ≡ Only holder fills
       → cell_link (state_after servers whole) cell ≡ Some now
-      → IsHeldStill holder fills now.state ⊎ (now.state ≡ Lost) × IsLostIn servers front whole holder
-      ⊎ IsCaughtStill servers front whole cell row holder fills
+      → IsHeldStill holder fills now.state ⊎ (now.state ≡ Lost) × IsLostIn servers prefix whole holder
+      ⊎ IsCaughtStill servers prefix whole cell row holder fills
   log_alone cell row now holder fills is alone end =
-      elim (by_entries servers front whole all prefix (λ log t. Held t ⊎ HasDied t cell ⊎ Left) step
+      elim (by_entries servers prefix whole all is_prefix (λ log t. Held t ⊎ IsRetired t cell ⊎ Left) step
       (inl (fills, is ∙ (λ i. Some (record row { state = alone i })), λ e. e))) [
         | inl held ↦ inl (held.0, ap (λ (r : LinkRow). r.state) (same_some (sym end ∙ held.1)), held.2)
         | inr (inl gone) ↦ none_some gone.0 end
@@ -228,15 +228,15 @@ module _ (servers : ℕ) (front whole : List Command) (all : HasProperTuples ser
       Held t = (more : Bool) × (cell_link t cell ≡ Some (held_row row holder more)) × (fills ≡ true → more ≡ true)
 
       Left : Type 0
-      Left = (now.state ≡ Lost) × IsLostIn servers front whole holder ⊎ IsCaughtStill servers front whole cell row holder fills
+      Left = (now.state ≡ Lost) × IsLostIn servers prefix whole holder ⊎ IsCaughtStill servers prefix whole cell row holder fills
 
       lost_since : (it : Next) (lost : LinkRow) → cell_link (next it) cell ≡ Some lost → lost.state ≡ Lost → now.state ≡ Lost
       lost_since it lost there is_lost =
           lost_on (state_after servers (it.until ++ it.entry ∷ [])) (log_below servers (it.until ++ it.entry ∷ []) whole all it.stands) cell lost now
-          (ap (λ (t : State). cell_link t cell) (next_is servers front whole all prefix it) ∙ there) is_lost end
+          (ap (λ (t : State). cell_link t cell) (next_is servers prefix whole all is_prefix it) ∙ there) is_lost end
 
-      step : (it : Next) → Held (at it) ⊎ HasDied (at it) cell ⊎ Left → Held (next it) ⊎ HasDied (next it) cell ⊎ Left
-      step it (inr (inl gone)) = inr (inl (retired_next servers front whole all prefix it cell gone))
+      step : (it : Next) → Held (at it) ⊎ IsRetired (at it) cell ⊎ Left → Held (next it) ⊎ IsRetired (next it) cell ⊎ Left
+      step it (inr (inl gone)) = inr (inl (retired_next servers prefix whole all is_prefix it cell gone))
       step it (inr (inr left)) = inr (inr left)
       step it (inl h) =
           let held = held_row row holder h.0 in
@@ -270,8 +270,8 @@ module _ (servers : ℕ) (front whole : List Command) (all : HasProperTuples ser
 
     ups : (it : Next) → Ups (at it) × Ups (next it)
     ups it =
-        let a = in_between servers front whole all prefix it row.primary one first first_on in
-        let b = in_between servers front whole all prefix it row.secondary other second second_on in
+        let a = in_between servers prefix whole all is_prefix it row.primary one first first_on in
+        let b = in_between servers prefix whole all is_prefix it row.secondary other second second_on in
         ((a.0, b.0), (a.1, b.1))
 
     up_on : (t : State) → Ups t → (server : ℕ) → has_server server row ≡ true → is_up t server ≡ true
@@ -282,7 +282,7 @@ module _ (servers : ℕ) (front whole : List Command) (all : HasProperTuples ser
         → touches (at it) it.entry (record row { state = state }) ≡ true
         → (state ≢ Both) × (cell_link (next it) cell ≡ Some (record row { state = Both }))
     caught_next it state is on =
-        let p = settled_there servers front whole all prefix it in
+        let p = settled_there servers prefix whole all is_prefix it in
         elim (touched_next it cell (record row { state = state }) is on) [
           | By_leave left now seats ↦ true_false (up_on (next it) (ups it).1 left.server left.one_of)
               (out_by (next it) left.server seats.here)
@@ -292,55 +292,55 @@ module _ (servers : ℕ) (front whole : List Command) (all : HasProperTuples ser
         ]
 
     -- one that is gone is touched by who leaves or joins alone
-    quiet_next : (it : Next) → row.map ≡ cell.map → row.state ≡ Both → (cell_link (at it) cell ≡ Some row) ⊎ HasDied (at it) cell
+    quiet_next : (it : Next) → row.map ≡ cell.map → row.state ≡ Both → (cell_link (at it) cell ≡ Some row) ⊎ IsRetired (at it) cell
         → touches (at it) it.entry row ≡ false
     quiet_next it same both (inl is) =
         by_bool (touches (at it) it.entry row) (λ on. absurd ((caught_next it row.state is on).0 both)) (λ off. off)
     quiet_next it same both (inr gone) =
         let h = ups it in
-        gone_untouched servers (at it) (settled_there servers front whole all prefix it) it.entry it.proper cell row one other same gone
+        gone_untouched servers (at it) (settled_there servers prefix whole all is_prefix it) it.entry it.proper cell row one other same gone
         (in_up (at it) row.primary one h.0.0) (in_up (at it) row.secondary other h.0.1) h.1.0 h.1.1
 
-    both_stays : (it : Next) → row.map ≡ cell.map → row.state ≡ Both → (cell_link (at it) cell ≡ Some row) ⊎ HasDied (at it) cell
-        → (cell_link (next it) cell ≡ Some row) ⊎ HasDied (next it) cell
+    both_stays : (it : Next) → row.map ≡ cell.map → row.state ≡ Both → (cell_link (at it) cell ≡ Some row) ⊎ IsRetired (at it) cell
+        → (cell_link (next it) cell ≡ Some row) ⊎ IsRetired (next it) cell
     both_stays it same both (inl is) = elim (untouched_next it cell row is (quiet_next it same both (inl is))) [
       | inl stays ↦ inl stays.same
       | inr gone ↦ inr gone
     ]
-    both_stays it same both (inr gone) = inr (retired_next servers front whole all prefix it cell gone)
+    both_stays it same both (inr gone) = inr (retired_next servers prefix whole all is_prefix it cell gone)
 
   pub log_both_place : (cell : Cell) (row : LinkRow) (one other : ℕ) → cell_link s cell ≡ Some row → row.state ≡ Both
       → is_in s row.primary one ≡ true → is_in s row.secondary other ≡ true
       → is_in (state_after servers whole) row.primary one ≡ true → is_in (state_after servers whole) row.secondary other ≡ true
-      → places_from (start servers) whole row ≡ places_from (start servers) front row
+      → places_from (start servers) whole row ≡ places_from (start servers) prefix row
   log_both_place cell row one other is both first second first_on second_on =
-      (by_entries servers front whole all prefix
-      (λ log t. (places_from (start servers) log row ≡ places_from (start servers) front row) × ((cell_link t cell ≡ Some row) ⊎ HasDied t cell))
+      (by_entries servers prefix whole all is_prefix
+      (λ log t. (places_from (start servers) log row ≡ places_from (start servers) prefix row) × ((cell_link t cell ≡ Some row) ⊎ IsRetired t cell))
       (λ it h. (
         places_left servers it.until it.entry row (quiet_next cell row one other first second first_on second_on it of_map both h.1) ∙ h.0,
         both_stays cell row one other first second first_on second_on it of_map both h.1,
       )) (refl, inl is)).0
     where
       of_map : row.map ≡ cell.map
-      of_map = map_of servers s (log_plain servers front (front_plain servers front whole all prefix)) cell row is
+      of_map = map_of servers s (log_plain servers prefix (prefix_plain servers prefix whole all is_prefix)) cell row is
 
   -- a Caught alone touches a link that one server holds alone
   pub log_held_or_both : (cell : Cell) (row : LinkRow) (one other : ℕ) → cell_link s cell ≡ Some row
       → is_in s row.primary one ≡ true → is_in s row.secondary other ≡ true
       → is_in (state_after servers whole) row.primary one ≡ true → is_in (state_after servers whole) row.secondary other ≡ true
-      → (places_from (start servers) whole row ≡ places_from (start servers) front row)
-      ⊎ (cell_link (state_after servers whole) cell ≡ Some (record row { state = Both })) ⊎ HasDied (state_after servers whole) cell
+      → (places_from (start servers) whole row ≡ places_from (start servers) prefix row)
+      ⊎ (cell_link (state_after servers whole) cell ≡ Some (record row { state = Both })) ⊎ IsRetired (state_after servers whole) cell
   log_held_or_both cell row one other is first second first_on second_on =
-      elim (by_entries servers front whole all prefix HeldOrBoth step (inl (refl, is))) [ inl quiet ↦ inl quiet.0 | inr later ↦ inr later ]
+      elim (by_entries servers prefix whole all is_prefix HeldOrBoth step (inl (refl, is))) [ inl quiet ↦ inl quiet.0 | inr later ↦ inr later ]
     where
       BothOrRetired : State → Type 0
-      BothOrRetired t = (cell_link t cell ≡ Some (record row { state = Both })) ⊎ HasDied t cell
+      BothOrRetired t = (cell_link t cell ≡ Some (record row { state = Both })) ⊎ IsRetired t cell
 
       HeldOrBoth : List Command → State → Type 0
-      HeldOrBoth log t = (places_from (start servers) log row ≡ places_from (start servers) front row) × (cell_link t cell ≡ Some row) ⊎ BothOrRetired t
+      HeldOrBoth log t = (places_from (start servers) log row ≡ places_from (start servers) prefix row) × (cell_link t cell ≡ Some row) ⊎ BothOrRetired t
 
       of_map : row.map ≡ cell.map
-      of_map = map_of servers s (log_plain servers front (front_plain servers front whole all prefix)) cell row is
+      of_map = map_of servers s (log_plain servers prefix (prefix_plain servers prefix whole all is_prefix)) cell row is
 
       step : (it : Next) → HeldOrBoth it.until (at it) → HeldOrBoth (it.until ++ it.entry ∷ []) (next it)
       step it (inr h) = inr (both_stays cell (record row { state = Both }) one other first second first_on second_on it of_map refl h)

@@ -118,9 +118,9 @@ first_at_start servers n lt =
     ap (λ o. option_map_or (λ present. present == 1) (option_and_then inc_in o) false) (get_replicate servers n (member.In 1) lt) ∙ number_itself 1
 
 -- the entry that made it Out is its Leave
-pub who_is_out : (servers : ℕ) (front whole : List Command) (n inc : ℕ) → HasProperTuples servers whole → IsPrefix front whole
-    → is_up_as (state_after servers front) n inc ≡ true → is_up_as (state_after servers whole) n inc ≡ false → In (Leave n inc) whole
-who_is_out servers front whole n inc all prefix is out = elim (by_entries servers front whole all prefix (λ log. In_or_left) step (inl is)) [
+pub who_is_out : (servers : ℕ) (prefix whole : List Command) (n inc : ℕ) → HasProperTuples servers whole → IsPrefix prefix whole
+    → is_up_as (state_after servers prefix) n inc ≡ true → is_up_as (state_after servers whole) n inc ≡ false → In (Leave n inc) whole
+who_is_out servers prefix whole n inc all is_prefix is out = elim (by_entries servers prefix whole all is_prefix (λ log. In_or_left) step (inl is)) [
   | inl up ↦ true_false up out
   | inr left ↦ left
 ]
@@ -128,11 +128,11 @@ who_is_out servers front whole n inc all prefix is out = elim (by_entries server
     In_or_left : State → Type 0
     In_or_left t = (is_up_as t n inc ≡ true) ⊎ In (Leave n inc) whole
 
-    step : (it : NextEntry servers front whole) → In_or_left (state_after servers it.until) → In_or_left (after (state_after servers it.until) it.entry)
+    step : (it : NextEntry servers prefix whole) → In_or_left (state_after servers it.until) → In_or_left (after (state_after servers it.until) it.entry)
     step it (inr left) = inr left
     step it (inl up) = by_bool (is_up_as (after (state_after servers it.until) it.entry) n inc) inl
         (λ gone. inr (subst (λ e. In e whole)
-        (sym (made_out servers (state_after servers it.until) (settled_there servers front whole all prefix it) it.entry _
+        (sym (made_out servers (state_after servers it.until) (settled_there servers prefix whole all is_prefix it) it.entry _
         (outcome servers (state_after servers it.until) _ it.entry it.proper) n inc up
         (sym (in_settled (act it.entry (state_after servers it.until)) n inc) ∙ gone)))
-        (in_whole servers front whole all prefix it)))
+        (in_whole servers prefix whole all is_prefix it)))

@@ -8,7 +8,7 @@ use Rattle.law_state.proofs.Imports.{same_numbers, same_or_apart, slice_get, som
 use Rattle.law_state.proofs.Imports.{tuple_of, ups, with_disk, with_move, ℕ}
 use Rattle.law_state.specs.LinkChanges.{IsReseated, IsTouchedBy, By_caught, By_join, By_leave, StaysSo, row_joined}
 use Rattle.law_state.specs.Plain.{HasProperTuple, HasProperTuples}
-use Rattle.law_state.specs.Homes.{HasDied}
+use Rattle.law_state.specs.Homes.{IsRetired}
 use Rattle.law_state.specs.Tables.{IsSettledState}
 use Rattle.law_state.proofs.EntriesOnlyAdd.{entering, log_plain}
 use Rattle.law_state.specs.LinkRows.{IsServed, ByBoth, ByNone, ByOne}
@@ -19,10 +19,10 @@ use Rattle.law_state.proofs.GrownStates.{alone_not_both, lost_not_both}
 use Rattle.law_state.proofs.Joins.{joined_by, link_joined, row_beside, some_now, was_out, inc_beside as joined_beside}
 use Rattle.law_state.proofs.Leaves.{both_up, inc_beside, left_by, link_left, none_now, row_stays}
 use Rattle.law_state.proofs.NewMapLinks.{either_false}
-use Rattle.law_state.proofs.MapsAreAdded.{map_front}
+use Rattle.law_state.proofs.MapsAreAdded.{map_prefix}
 use Rattle.law_state.proofs.MovesOfDisks.{gone_link, kept_link, moved_state}
 use Rattle.law_state.proofs.FencesPass.{cell_settled, inc_settled}
-use Rattle.law_state.proofs.ListLookups.{find_front, found_at}
+use Rattle.law_state.proofs.ListLookups.{find_prefix, found_at}
 use Rattle.law_state.proofs.Steady.{died, grown_below, linked_owner, log_steady, owned_or_none, plain_steady}
 use Rattle.law_state.proofs.EntryByEntry.{NextEntry, by_entries, retired_next}
 use Rattle.law_state.proofs.EntryOutcomes.{Begins, Catches_up, Ends, Joins, Leaves, Makes, Outcome, outcome}
@@ -57,8 +57,8 @@ module _ (servers : ℕ) (s : State) (p : IsSettledState servers s) (cell : Cell
   one_map_more : (t : State) (tuple : List ℕ) (disk : ℕ) → t.maps ≡ (with_move s tuple disk).maps → t.links ≡ (with_move s tuple disk).links
       → cell_link t cell ≡ Some row
   one_map_more t tuple disk maps links = moved_link t row
-      (λ ids e. ap (λ m. tuple_of m cell.map) maps ∙ map_front s.maps ids tuple disk cell.map e)
-      (λ link e. ap (λ l. link_at l cell.map link) links ∙ find_front (is_link cell.map link) s.links (new_rows (length s.maps) tuple (ups s)) row e)
+      (λ ids e. ap (λ m. tuple_of m cell.map) maps ∙ map_prefix s.maps ids tuple disk cell.map e)
+      (λ link e. ap (λ l. link_at l cell.map link) links ∙ find_prefix (is_link cell.map link) s.links (new_rows (length s.maps) tuple (ups s)) row e)
 
   act_stays : (entry : Command) (t : State) → Outcome servers s p entry t → touches s entry row ≡ false → Stays t
   act_stays _ _ (Joins server inc blank may) off =
@@ -108,7 +108,7 @@ module _ (servers : ℕ) (s : State) (p : IsSettledState servers s) (cell : Cell
   act_stays _ _ _ off = same_still _ is refl
 
   pub entry_stays : (entry : Command) → HasProperTuple servers entry → touches s entry row ≡ false
-      → StaysSo cell row s (after s entry) ⊎ HasDied (after s entry) cell
+      → StaysSo cell row s (after s entry) ⊎ IsRetired (after s entry) cell
   entry_stays entry plain off =
       let t = act entry s in
       elim (act_stays entry t (outcome servers s p entry plain) off) [
@@ -201,7 +201,7 @@ module _ (servers : ℕ) (s : State) (p : IsSettledState servers s) (cell : Cell
 pub log_entry_stays : (servers : ℕ) (log : List Command) (entry : Command) (cell : Cell) (row : LinkRow) → HasProperTuples servers log
     → HasProperTuple servers entry
     → cell_link (state_after servers log) cell ≡ Some row → touches (state_after servers log) entry row ≡ false
-    → StaysSo cell row (state_after servers log) (after (state_after servers log) entry) ⊎ HasDied (after (state_after servers log) entry) cell
+    → StaysSo cell row (state_after servers log) (after (state_after servers log) entry) ⊎ IsRetired (after (state_after servers log) entry) cell
 log_entry_stays servers log entry cell row all plain is off =
     entry_stays servers (state_after servers log) (log_plain servers log all) cell row is entry plain off
 
@@ -218,24 +218,25 @@ pub counted : (b : Bool) (a x y : ℕ) → a ≡ x + y → (if b then a + 1 else
 counted true a x y e = omega arith
 counted false a x y e = e
 
-pub places_on : (row : LinkRow) (s : State) (front more : List Command)
-    → places_from s (front ++ more) row ≡ places_from s front row + places_from (fold after s front) more row
+pub places_on : (row : LinkRow) (s : State) (prefix more : List Command)
+    → places_from s (prefix ++ more) row ≡ places_from s prefix row + places_from (fold after s prefix) more row
 places_on row s [] more = omega arith
-places_on row s (entry ∷ front) more = counted (touches s entry row) _ _ _ (places_on row (after s entry) front more)
+places_on row s (entry ∷ prefix) more = counted (touches s entry row) _ _ _ (places_on row (after s entry) prefix more)
 
-pub places_of_both : (servers : ℕ) (front whole : List Command) (row : LinkRow) → (prefix : IsPrefix front whole)
-    → places_from (start servers) whole row ≡ places_from (start servers) front row + places_from (state_after servers front) prefix.later row
-places_of_both servers front whole row prefix = ap (λ log. places_from (start servers) log row) prefix.is ∙ places_on row (start servers) front prefix.later
+pub places_of_both : (servers : ℕ) (prefix whole : List Command) (row : LinkRow) → (is_prefix : IsPrefix prefix whole)
+    → places_from (start servers) whole row ≡ places_from (start servers) prefix row + places_from (state_after servers prefix) is_prefix.later row
+places_of_both servers prefix whole row is_prefix = ap (λ log. places_from (start servers) log row) is_prefix.is
+    ∙ places_on row (start servers) prefix is_prefix.later
 
-pub places_grow : (servers : ℕ) (front whole : List Command) (row : LinkRow) → IsPrefix front whole
-    → places_from (start servers) front row ≤ places_from (start servers) whole row
-places_grow servers front whole row prefix = let e = places_of_both servers front whole row prefix in omega arith
+pub places_grow : (servers : ℕ) (prefix whole : List Command) (row : LinkRow) → IsPrefix prefix whole
+    → places_from (start servers) prefix row ≤ places_from (start servers) whole row
+places_grow servers prefix whole row is_prefix = let e = places_of_both servers prefix whole row is_prefix in omega arith
 
 pub stays_on : (cell : Cell) (row : LinkRow) (s t u : State) → StaysSo cell row s t → StaysSo cell row t u → StaysSo cell row s u
 stays_on cell row s t u a b = record { same = b.same; primary = b.primary ∙ a.primary; secondary = b.secondary ∙ a.secondary }
 
 -- a cell that has died stays so: all cells of its map have
-pub gone_owner : (servers : ℕ) (s : State) → IsSettledState servers s → (cell : Cell) → HasDied s cell → owner s cell.map ≡ None
+pub gone_owner : (servers : ℕ) (s : State) → IsSettledState servers s → (cell : Cell) → IsRetired s cell → owner s cell.map ≡ None
 gone_owner servers s p cell died = elim (owned_or_none servers s p cell) [
   | inl h ↦ none_some died.0 (linked_owner servers s p cell h.0 h.1).1
   | inr none ↦ none
@@ -262,27 +263,27 @@ places_left servers log entry row off =
     omega arith
 
 -- two logs at one place of a link say the same of it
-pub same_place : (servers : ℕ) (front whole : List Command) (cell : Cell) (row : LinkRow) → HasProperTuples servers whole → IsPrefix front whole
-    → cell_link (state_after servers front) cell ≡ Some row
-    → places_from (start servers) whole row ≡ places_from (start servers) front row
-    → StaysSo cell row (state_after servers front) (state_after servers whole) ⊎ HasDied (state_after servers whole) cell
-same_place servers front whole cell row all prefix is same =
-    by_entries servers front whole all prefix (λ log. Stays) step (inl (record { same = is; primary = refl; secondary = refl }))
+pub same_place : (servers : ℕ) (prefix whole : List Command) (cell : Cell) (row : LinkRow) → HasProperTuples servers whole → IsPrefix prefix whole
+    → cell_link (state_after servers prefix) cell ≡ Some row
+    → places_from (start servers) whole row ≡ places_from (start servers) prefix row
+    → StaysSo cell row (state_after servers prefix) (state_after servers whole) ⊎ IsRetired (state_after servers whole) cell
+same_place servers prefix whole cell row all is_prefix is same =
+    by_entries servers prefix whole all is_prefix (λ log. Stays) step (inl (record { same = is; primary = refl; secondary = refl }))
   where
     Stays : State → Type 0
-    Stays t = StaysSo cell row (state_after servers front) t ⊎ HasDied t cell
+    Stays t = StaysSo cell row (state_after servers prefix) t ⊎ IsRetired t cell
 
-    step : (it : NextEntry servers front whole) → Stays (state_after servers it.until) → Stays (after (state_after servers it.until) it.entry)
-    step it (inr gone) = inr (retired_next servers front whole all prefix it cell gone)
+    step : (it : NextEntry servers prefix whole) → Stays (state_after servers it.until) → Stays (after (state_after servers it.until) it.entry)
+    step it (inr gone) = inr (retired_next servers prefix whole all is_prefix it cell gone)
     step it (inl one) =
         let off : touches (state_after servers it.until) it.entry row ≡ false = by_bool (touches (state_after servers it.until) it.entry row)
         (λ on.
         let more = places_touched servers it.until it.entry row on in
-        let before = places_grow servers front it.until row it.following in
+        let before = places_grow servers prefix it.until row it.following in
         let later = places_grow servers (it.until ++ it.entry ∷ []) whole row it.stands in
         absurd (omega arith))
         (λ off. off) in
         elim (log_entry_stays servers it.until it.entry cell row it.plain it.proper one.same off) [
-          | inl two ↦ inl (stays_on cell row (state_after servers front) (state_after servers it.until) _ one two)
+          | inl two ↦ inl (stays_on cell row (state_after servers prefix) (state_after servers it.until) _ one two)
           | inr gone ↦ inr gone
         ]

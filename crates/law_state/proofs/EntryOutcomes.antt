@@ -1,8 +1,8 @@
 -- What a command comes to in a settled state: it is one of a few changes, and a fact that does not speak of one has one clause for all others.
-use Rattle.law_state.proofs.Imports.{◌+◌, ◌==◌, ◌∙◌, ◌≡◌, Bool, Caught, Command, DiskRow, Drained, Join, Leave, List, MakeDisk, Moved, None, Region, Snap}
-use Rattle.law_state.proofs.Imports.{Some, StartMove, State, Verdict, Whole, Witness, act, all_noted, by_test, false, is_head, is_new, is_some, is_taken}
-use Rattle.law_state.proofs.Imports.{is_tuple, is_up_as, latest, links_of, may_join, named, none_some, not, not_true, refl, same_some, slice_get, subst, sym}
-use Rattle.law_state.proofs.Imports.{◌&&◌, Err, Ok, Option, Result, both_true, snap_target, snapped, told, true, with_disk, with_fence, with_link, with_move, ℕ}
+use Rattle.law_state.proofs.Imports.{◌&&◌, ◌+◌, ◌==◌, ◌∙◌, ◌≡◌, Bool, Caught, Command, DiskRow, Drained, Err, Join, Leave, List, MakeDisk, Moved, None, Ok}
+use Rattle.law_state.proofs.Imports.{Option, Region, Result, Snap, Some, StartMove, State, Verdict, Whole, Witness, act, all_noted, both_true, by_test, false}
+use Rattle.law_state.proofs.Imports.{is_head, is_new, is_some, is_taken, is_tuple, is_up_as, latest, links_of, may_join, named, none_some, not, not_true}
+use Rattle.law_state.proofs.Imports.{refl, same_some, slice_get, snap_target, snapped, subst, sym, told, true, with_disk, with_fence, with_link, with_move, ℕ}
 use Rattle.law_state.specs.Plain.{HasProperTuple, asker}
 use Rattle.law_state.specs.Tables.{IsSettledState}
 use Rattle.law_state.proofs.Caughts.{IsCatch, act_caught, caught_by}

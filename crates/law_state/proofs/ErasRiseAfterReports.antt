@@ -22,9 +22,9 @@ use Rattle.law_state.proofs.MapsAreAdded.{making}
 use Rattle.law_state.proofs.MovesOfDisks.{IsNoting, at_row, begins, known, low_map, moved_state, noted_state, noting, onward, over, row_now}
 use Rattle.law_state.proofs.LinksAreNoted.{keeps_old}
 use Rattle.law_state.proofs.FencesPass.{in_settled, one_passed, passed_beside, passed_here, passing, region_beside, region_here, region_row}
-use Rattle.law_state.proofs.ListLookups.{get_front, get_replicate}
+use Rattle.law_state.proofs.ListLookups.{get_prefix, get_replicate}
 use Rattle.law_state.proofs.DiskRowChanges.{beside, here, here_now}
-use Rattle.law_state.proofs.Steady.{front_plain, log_below}
+use Rattle.law_state.proofs.Steady.{prefix_plain, log_below}
 use Rattle.law_state.proofs.EntryByEntry.{NextEntry, by_entries, in_between, settled_there}
 use Rattle.law_state.proofs.EntryOutcomes.{Begins, Ends, Leaves, Makes, Moves_on, Notes, Outcome, Queues, Reports, outcome}
 use Rattle.law_state.proofs.Stages.{low_region}
@@ -210,7 +210,7 @@ module _ (which : Hold → Bool) (every : which All ≡ true) (nothing : which N
         let q = making servers s p name tuple fresh proper in
         let rows = rows_of servers s t u q cell low high in
         goes_on t q
-        (kept_by_place servers s t u q cell low high (get_front s.disks.rows _ rows.place rows.row rows.stands ∙ sym rows.stands))
+        (kept_by_place servers s t u q cell low high (get_prefix s.disks.rows _ rows.place rows.row rows.stands ∙ sym rows.stands))
         (λ fence e. inl e)
 
     -- a queue with one fence more
@@ -375,18 +375,18 @@ module _ (which : Hold → Bool) (every : which All ≡ true) (nothing : which N
 
   -- ### A log
 
-  module _ (servers : ℕ) (front whole : List Command) (n inc : ℕ) (cell : Cell) (all : HasProperTuples servers whole) (prefix : IsPrefix front whole)
-      (is : is_up_as (state_after servers front) n inc ≡ true) (end : is_up_as (state_after servers whole) n inc ≡ true) where
+  module _ (servers : ℕ) (prefix whole : List Command) (n inc : ℕ) (cell : Cell) (all : HasProperTuples servers whole) (is_prefix : IsPrefix prefix whole)
+      (is : is_up_as (state_after servers prefix) n inc ≡ true) (end : is_up_as (state_after servers whole) n inc ≡ true) where
     -- the cell is as it was after these entries, or one of them is such a report
     abbrev StillOrReported : State → Type 0
-    StillOrReported t = IsStill (state_after servers front) n cell t ⊎ HasReportedBy which servers front whole n inc cell
+    StillOrReported t = IsStill (state_after servers prefix) n cell t ⊎ HasReportedBy which servers prefix whole n inc cell
 
-    still_or_reported : (it : NextEntry servers front whole) → StillOrReported (state_after servers it.until)
+    still_or_reported : (it : NextEntry servers prefix whole) → StillOrReported (state_after servers it.until)
         → StillOrReported (after (state_after servers it.until) it.entry)
     still_or_reported it (inr reported) = inr reported
     still_or_reported it (inl h) =
-        let ups = in_between servers front whole all prefix it n inc is end in
-        elim (enters servers (state_after servers it.until) (settled_there servers front whole all prefix it) n inc cell ups.0 h.awaited h.low h.high
+        let ups = in_between servers prefix whole all is_prefix it n inc is end in
+        elim (enters servers (state_after servers it.until) (settled_there servers prefix whole all is_prefix it) n inc cell ups.0 h.awaited h.low h.high
         it.entry it.proper ups.1) [
           | inl k ↦ inl (record { awaited = k.awaited; epoch = λ on. k.epoch on ∙ h.epoch on; low = k.low; high = k.high })
           | inr report ↦ inr (record {
@@ -399,11 +399,11 @@ module _ (which : Hold → Bool) (every : which All ≡ true) (nothing : which N
           })
         ]
 
-    still_by : IsAwaited (state_after servers front) n cell → 1 ≤ stage_at (state_after servers front) cell
-        → stage_at (state_after servers front) cell ≤ 2 → StillOrReported (state_after servers whole)
+    still_by : IsAwaited (state_after servers prefix) n cell → 1 ≤ stage_at (state_after servers prefix) cell
+        → stage_at (state_after servers prefix) cell ≤ 2 → StillOrReported (state_after servers whole)
     still_by awaited low high =
-        by_entries servers front whole all prefix (λ log. StillOrReported) still_or_reported
-        (inl (still_itself (state_after servers front) n cell awaited low high))
+        by_entries servers prefix whole all is_prefix (λ log. StillOrReported) still_or_reported
+        (inl (still_itself (state_after servers prefix) n cell awaited low high))
 
   -- what is so after a Leave that acts
   left_still : (servers : ℕ) (s : State) → IsSettledState servers s → (other other_inc n inc : ℕ) (cell : Cell) → is_up_as s other other_inc ≡ true
@@ -417,62 +417,62 @@ module _ (which : Hold → Bool) (every : which All ≡ true) (nothing : which N
       let k = settles_still servers t (acting servers s (Leave other other_inc) p tt).plain n cell h.awaited (in_up t n inc on) h.low h.high in
       record { awaited = k.awaited; epoch = λ on. k.epoch on ∙ h.epoch on; low = k.low; high = k.high }
 
-pub log_epochs : (servers : ℕ) (front whole : List Command) (cell : Cell) → HasProperTuples servers whole → IsPrefix front whole
-    → era_at (state_after servers front) cell ≤ era_at (state_after servers whole) cell
-log_epochs servers front whole cell all prefix = (log_below servers front whole all prefix).eras cell
+pub log_epochs : (servers : ℕ) (prefix whole : List Command) (cell : Cell) → HasProperTuples servers whole → IsPrefix prefix whole
+    → era_at (state_after servers prefix) cell ≤ era_at (state_after servers whole) cell
+log_epochs servers prefix whole cell all is_prefix = (log_below servers prefix whole all is_prefix).eras cell
 
 -- where the era rises, the cell is not as it was
-risen : (servers : ℕ) (front whole : List Command) (n inc : ℕ) (cell : Cell) → 1 ≤ stage_at (state_after servers front) cell
-    → stage_at (state_after servers front) cell ≤ 2 → era_at (state_after servers front) cell < era_at (state_after servers whole) cell
-    → IsStill is_writes_held refl refl (state_after servers front) n cell (state_after servers whole)
-    ⊎ HasReported servers front whole n inc cell
-    → HasReported servers front whole n inc cell
-risen servers front whole n inc cell low high rises (inr h) = h
-risen servers front whole n inc cell low high rises (inl k) =
-    let was = era_low (epoch_at (state_after servers front) cell) (stage_at (state_after servers front) cell) high in
+risen : (servers : ℕ) (prefix whole : List Command) (n inc : ℕ) (cell : Cell) → 1 ≤ stage_at (state_after servers prefix) cell
+    → stage_at (state_after servers prefix) cell ≤ 2 → era_at (state_after servers prefix) cell < era_at (state_after servers whole) cell
+    → IsStill is_writes_held refl refl (state_after servers prefix) n cell (state_after servers whole)
+    ⊎ HasReported servers prefix whole n inc cell
+    → HasReported servers prefix whole n inc cell
+risen servers prefix whole n inc cell low high rises (inr h) = h
+risen servers prefix whole n inc cell low high rises (inl k) =
+    let was = era_low (epoch_at (state_after servers prefix) cell) (stage_at (state_after servers prefix) cell) high in
     let now = era_low (epoch_at (state_after servers whole) cell) (stage_at (state_after servers whole) cell) k.high in
     let same = k.epoch refl in
     absurd (omega arith)
 
-pub log_unheld : (servers : ℕ) (front whole : List Command) (n inc : ℕ) (cell : Cell) → HasProperTuples servers whole → IsPrefix front whole
-    → is_in (state_after servers front) n inc ≡ true → is_in (state_after servers whole) n inc ≡ true
-    → is_writes_held (held (state_after servers front) cell) ≡ false → 1 ≤ stage_at (state_after servers front) cell
-    → stage_at (state_after servers front) cell ≤ 2
-    → era_at (state_after servers front) cell < era_at (state_after servers whole) cell → HasReported servers front whole n inc cell
-log_unheld servers front whole n inc cell all prefix is end free low high rises =
-    risen servers front whole n inc cell low high rises
-    (still_by is_writes_held refl refl servers front whole n inc cell all prefix is end
-    (unheld_awaited is_writes_held refl refl (state_after servers front) n cell free) low high)
+pub log_unheld : (servers : ℕ) (prefix whole : List Command) (n inc : ℕ) (cell : Cell) → HasProperTuples servers whole → IsPrefix prefix whole
+    → is_in (state_after servers prefix) n inc ≡ true → is_in (state_after servers whole) n inc ≡ true
+    → is_writes_held (held (state_after servers prefix) cell) ≡ false → 1 ≤ stage_at (state_after servers prefix) cell
+    → stage_at (state_after servers prefix) cell ≤ 2
+    → era_at (state_after servers prefix) cell < era_at (state_after servers whole) cell → HasReported servers prefix whole n inc cell
+log_unheld servers prefix whole n inc cell all is_prefix is end free low high rises =
+    risen servers prefix whole n inc cell low high rises
+    (still_by is_writes_held refl refl servers prefix whole n inc cell all is_prefix is end
+    (unheld_awaited is_writes_held refl refl (state_after servers prefix) n cell free) low high)
 
 -- while the server stays In, the cell begins to leave only after the server's report to a fence that holds reads of the cell
-pub log_unread : (servers : ℕ) (front whole : List Command) (n inc : ℕ) (cell : Cell) → HasProperTuples servers whole → IsPrefix front whole
-    → is_in (state_after servers front) n inc ≡ true → is_in (state_after servers whole) n inc ≡ true
-    → is_all_held (held (state_after servers front) cell) ≡ false → 1 ≤ stage_at (state_after servers front) cell
-    → stage_at (state_after servers front) cell ≤ 2
-    → (stage_at (state_after servers whole) cell ≤ 2) ⊎ HasReportedBy is_all_held servers front whole n inc cell
-log_unread servers front whole n inc cell all prefix is end free low high =
-    elim (still_by is_all_held refl refl servers front whole n inc cell all prefix is end
-    (unheld_awaited is_all_held refl refl (state_after servers front) n cell free) low high) [
+pub log_unread : (servers : ℕ) (prefix whole : List Command) (n inc : ℕ) (cell : Cell) → HasProperTuples servers whole → IsPrefix prefix whole
+    → is_in (state_after servers prefix) n inc ≡ true → is_in (state_after servers whole) n inc ≡ true
+    → is_all_held (held (state_after servers prefix) cell) ≡ false → 1 ≤ stage_at (state_after servers prefix) cell
+    → stage_at (state_after servers prefix) cell ≤ 2
+    → (stage_at (state_after servers whole) cell ≤ 2) ⊎ HasReportedBy is_all_held servers prefix whole n inc cell
+log_unread servers prefix whole n inc cell all is_prefix is end free low high =
+    elim (still_by is_all_held refl refl servers prefix whole n inc cell all is_prefix is end
+    (unheld_awaited is_all_held refl refl (state_after servers prefix) n cell free) low high) [
       | inl still ↦ inl still.high
       | inr report ↦ inr report
     ]
 
-pub log_left : (servers : ℕ) (front whole : List Command) (n inc other other_inc : ℕ) (cell : Cell) → HasProperTuples servers whole
-    → IsPrefix (front ++ Leave other other_inc ∷ []) whole → is_in (state_after servers front) other other_inc ≡ true
-    → is_in (state_after servers (front ++ Leave other other_inc ∷ [])) n inc ≡ true → is_in (state_after servers whole) n inc ≡ true
-    → 1 ≤ stage_at (state_after servers front) cell → stage_at (state_after servers front) cell ≤ 2
-    → era_at (state_after servers front) cell < era_at (state_after servers whole) cell
-    → HasReported servers (front ++ Leave other other_inc ∷ []) whole n inc cell
-log_left servers front whole n inc other other_inc cell all prefix acts is end low high rises =
-    let next = front ++ Leave other other_inc ∷ [] in
-    let s = state_after servers front in
-    let plain = front_plain servers front next (front_plain servers next whole all prefix) (record { later = Leave other other_inc ∷ []; is = refl }) in
-    let e : state_after servers next ≡ after s (Leave other other_inc) = fold-append after (start servers) front (Leave other other_inc ∷ []) in
-    let h = left_still is_writes_held refl refl servers s (log_plain servers front plain) other other_inc n inc cell acts
+pub log_left : (servers : ℕ) (prefix whole : List Command) (n inc other other_inc : ℕ) (cell : Cell) → HasProperTuples servers whole
+    → IsPrefix (prefix ++ Leave other other_inc ∷ []) whole → is_in (state_after servers prefix) other other_inc ≡ true
+    → is_in (state_after servers (prefix ++ Leave other other_inc ∷ [])) n inc ≡ true → is_in (state_after servers whole) n inc ≡ true
+    → 1 ≤ stage_at (state_after servers prefix) cell → stage_at (state_after servers prefix) cell ≤ 2
+    → era_at (state_after servers prefix) cell < era_at (state_after servers whole) cell
+    → HasReported servers (prefix ++ Leave other other_inc ∷ []) whole n inc cell
+log_left servers prefix whole n inc other other_inc cell all is_prefix acts is end low high rises =
+    let next = prefix ++ Leave other other_inc ∷ [] in
+    let s = state_after servers prefix in
+    let plain = prefix_plain servers prefix next (prefix_plain servers next whole all is_prefix) (record { later = Leave other other_inc ∷ []; is = refl }) in
+    let e : state_after servers next ≡ after s (Leave other other_inc) = fold-append after (start servers) prefix (Leave other other_inc ∷ []) in
+    let h = left_still is_writes_held refl refl servers s (log_plain servers prefix plain) other other_inc n inc cell acts
     (sym (ap (λ (t : State). is_up_as t n inc) e) ∙ is) low high in
     let k = subst (IsStill is_writes_held refl refl s n cell) (sym e) h in
     let was = era_low (epoch_at s cell) (stage_at s cell) high in
     let now = era_low (epoch_at (state_after servers next) cell) (stage_at (state_after servers next) cell) k.high in
     let same = k.epoch refl in
     risen servers next whole n inc cell k.low k.high (omega arith)
-    (still_by is_writes_held refl refl servers next whole n inc cell all prefix is end k.awaited k.low k.high)
+    (still_by is_writes_held refl refl servers next whole n inc cell all is_prefix is end k.awaited k.low k.high)

@@ -1,10 +1,10 @@
 -- The names that this crate takes from others, in one place.
 pub use Rattle.law_state.specs.Imports.{Both, Caught, Cell, Command, DiskRow, DiskView, Drained, Fence, Fenced, Hold, IsPrefix, Join, Leave, LinkRow}
 pub use Rattle.law_state.specs.Imports.{LinkState, Lost, MakeDisk, MapRow, Member, Move, Moved, New, Old, Only, Record, Region, RegionState, Snap, Snapshot}
-pub use Rattle.law_state.specs.Imports.{StartMove, State, Whole, Witness, after, awaits, blank_joins_from, cell_asked, cell_link, coming, disk_at, disk_of}
-pub use Rattle.law_state.specs.Imports.{has_map, has_server, head, held, inc_of, is_lead, is_tuple, is_up, is_up_as, is_writes_held, last_inc, leads_link}
-pub use Rattle.law_state.specs.Imports.{leaves, leaving, link_at, live, may_join, move_region, named, other_of, owner, places_from, region_of, row_left}
-pub use Rattle.law_state.specs.Imports.{serves, snapshot, snapshot_named, source, start, state_after, target, tuple_of}
+pub use Rattle.law_state.specs.Imports.{StartMove, State, Whole, after, awaits, blank_joins_from, cell_asked, cell_link, coming, disk_at, disk_of, has_map}
+pub use Rattle.law_state.specs.Imports.{has_server, head, held, inc_of, is_lead, is_tuple, is_up, is_up_as, is_writes_held, last_inc, leads_link, leaves}
+pub use Rattle.law_state.specs.Imports.{leaving, link_at, live, may_join, move_region, named, other_of, owner, places_from, region_of, row_left, serves}
+pub use Rattle.law_state.specs.Imports.{snapshot, snapshot_named, source, start, state_after, target, tuple_of}
 unfoldable pub use Rattle.law_state.specs.Imports.{In}
 pub use Rattle.std.proofs.Common.{[], ◌&&◌, ◌*◌, ◌++◌, ◌+◌, ◌<◌, ◌==◌, ◌∙◌, ◌∷◌, ◌≡◌, ◌≢◌, ◌≤◌, ◌⊎◌, Bool, Err, List, None, Ok, Option, Result, Some, ap}
 pub use Rattle.std.proofs.Common.{append_assoc, arith, cond, false, inl, inr, is_some, length, length-append, not, refl, subst, suc, sym, true, zero, ℕ}
@@ -31,6 +31,7 @@ pub use Rattle.global_tables.specs.declared.disk.Latest.{Latest}
 pub use Rattle.global_tables.specs.declared.disk.Verdict.{Verdict}
 pub use Rattle.global_tables.specs.declared.fence.FenceKind.{FenceKind}
 pub use Rattle.petal_base.specs.Tuple.{distinct}
+pub use Rattle.petal_command.specs.declared.command.Command.TheVariants.{Witness}
 pub use Rattle.spec_rules.proofs.ListLemmas.{in-append, in_former, in_later}
 pub use Rattle.spec_rules.proofs.Tests.{both_true, by_bool, by_test, is_the_one, is_the_so, nat_lists_same, none_some, not_true, number_itself, same_numbers}
 pub use Rattle.spec_rules.proofs.Tests.{same_or_apart, same_some, some_or_none, true_false}

@@ -13,7 +13,7 @@ use Rattle.law_state.proofs.EntriesOnlyAdd.{in_at_start, log_plain}
 use Rattle.law_state.proofs.Joins.{joined_by, in_now, in_beside as joined_beside}
 use Rattle.law_state.proofs.Leaves.{in_before}
 use Rattle.law_state.proofs.FencesPass.{in_settled}
-use Rattle.law_state.proofs.Steady.{front_plain, log_below}
+use Rattle.law_state.proofs.Steady.{prefix_plain, log_below}
 use Rattle.law_state.proofs.EntryByEntry.{NextEntry, by_entries, settled_there}
 use Rattle.law_state.proofs.EntryOutcomes.{Joins, Leaves, Outcome, outcome}
 use Rattle.global_tables.specs.declared.fence.Member.TheVariants as member
@@ -35,19 +35,19 @@ made_in servers s p _ _ (Joins server later blank may) n inc out is = elim (same
 made_in servers s p _ _ (Leaves server last now) n inc out is = true_false (in_before servers s p server last now n inc is) out
 made_in servers s p _ _ _ n inc out is = true_false is out
 
--- ### Fronts of a log
+-- ### Prefixes of a log
 
-module _ (servers : ℕ) (front whole : List Command) (n inc : ℕ) (all : HasProperTuples servers whole) (prefix : IsPrefix front whole) where
+module _ (servers : ℕ) (prefix whole : List Command) (n inc : ℕ) (all : HasProperTuples servers whole) (is_prefix : IsPrefix prefix whole) where
   abbrev Since : Type 0
-  Since = (blank : Bool) × HasJoinedSince servers front whole n inc blank
+  Since = (blank : Bool) × HasJoinedSince servers prefix whole n inc blank
 
-  out_or_since : (it : NextEntry servers front whole) → (is_up_as (state_after servers it.until) n inc ≡ false) ⊎ Since
+  out_or_since : (it : NextEntry servers prefix whole) → (is_up_as (state_after servers it.until) n inc ≡ false) ⊎ Since
       → (is_up_as (after (state_after servers it.until) it.entry) n inc ≡ false) ⊎ Since
   out_or_since it (inr since) = inr since
   out_or_since it (inl out) = by_bool (is_up_as (after (state_after servers it.until) it.entry) n inc)
       (λ now.
       let s = state_after servers it.until in
-      let p = settled_there servers front whole all prefix it in
+      let p = settled_there servers prefix whole all is_prefix it in
       let made = made_in servers s p it.entry (act it.entry s) (outcome servers s p it.entry it.proper) n inc out
       (sym (in_settled (act it.entry s) n inc) ∙ now) in
       inr (
@@ -62,34 +62,34 @@ module _ (servers : ℕ) (front whole : List Command) (n inc : ℕ) (all : HasPr
       inl
 
   pub joined_since : is_up_as (state_after servers whole) n inc ≡ true
-      → (is_up_as (state_after servers front) n inc ≡ true) ⊎ ((blank : Bool) × HasJoinedSince servers front whole n inc blank)
-  joined_since is = by_bool (is_up_as (state_after servers front) n inc) inl
-      (λ out. elim (by_entries servers front whole all prefix (λ log t. (is_up_as t n inc ≡ false) ⊎ Since) out_or_since (inl out)) [
+      → (is_up_as (state_after servers prefix) n inc ≡ true) ⊎ ((blank : Bool) × HasJoinedSince servers prefix whole n inc blank)
+  joined_since is = by_bool (is_up_as (state_after servers prefix) n inc) inl
+      (λ out. elim (by_entries servers prefix whole all is_prefix (λ log t. (is_up_as t n inc ≡ false) ⊎ Since) out_or_since (inl out)) [
         | inl still ↦ true_false is still
         | inr since ↦ inr since
       ])
 
   -- no Join of an incarnation that was In, or of an earlier one, acts
-  pub joined_once : (other : ℕ) → is_up_as (state_after servers front) n inc ≡ true → other ≤ inc
+  pub joined_once : (other : ℕ) → is_up_as (state_after servers prefix) n inc ≡ true → other ≤ inc
       → may_join (slice_get (state_after servers whole).view.members n) other ≡ false
   joined_once other is low = by_bool (may_join (slice_get (state_after servers whole).view.members n) other)
       (λ may.
       let was = may_by (slice_get (state_after servers whole).view.members n) other may in
-      let old = in_age (state_after servers front) n inc is in
-      let grown = (log_below servers front whole all prefix).ages n in
+      let old = in_age (state_after servers prefix) n inc is in
+      let grown = (log_below servers prefix whole all is_prefix).ages n in
       let now : age_of (state_after servers whole) n ≡ was.0 + was.0 + 2 = ap age was.1 in
       let lt = was.2 in
       absurd (omega arith))
       (λ no. no)
 
-pub joined_in : (servers : ℕ) (front whole : List Command) (n inc : ℕ) (blank : Bool) → HasProperTuples servers whole
-    → (joined : HasJoinedSince servers front whole n inc blank)
+pub joined_in : (servers : ℕ) (prefix whole : List Command) (n inc : ℕ) (blank : Bool) → HasProperTuples servers whole
+    → (joined : HasJoinedSince servers prefix whole n inc blank)
     → is_up_as (state_after servers (joined.until ++ Join n inc blank ∷ [])) n inc ≡ true
 unfolding In
-joined_in servers front whole n inc blank all joined =
-    let plain = front_plain servers (joined.until ++ Join n inc blank ∷ []) whole all joined.stands in
+joined_in servers prefix whole n inc blank all joined =
+    let plain = prefix_plain servers (joined.until ++ Join n inc blank ∷ []) whole all joined.stands in
     let s = state_after servers joined.until in
-    let p = log_plain servers joined.until (front_plain servers joined.until _ plain (record { later = Join n inc blank ∷ []; is = refl })) in
+    let p = log_plain servers joined.until (prefix_plain servers joined.until _ plain (record { later = Join n inc blank ∷ []; is = refl })) in
     ap (λ (t : State). is_up_as t n inc) (fold-append after (start servers) joined.until (Join n inc blank ∷ []))
     ∙ in_settled (act (Join n inc blank) s) n inc
     ∙ ap (λ b. is_up_as (if b then joined_by s n inc blank else s) n inc) joined.may

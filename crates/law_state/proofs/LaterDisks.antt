@@ -79,12 +79,12 @@ module _ (servers : ℕ) (s t : State) (p : IsSettledState servers s) (q : IsSet
 fresh_by : (servers : ℕ) (t : State) → IsSettledState servers t → (rows more : List DiskRow)
     → ((i : ℕ) (row : DiskRow) → slice_get rows i ≡ Some row → (now : DiskRow) × (slice_get t.disks.rows i ≡ Some now) × (now.name ≡ row.name))
     → ((i : ℕ) (row : DiskRow) → slice_get more i ≡ Some row → slice_get t.disks.rows (length rows + i) ≡ Some row) → AreFresh rows more
-fresh_by servers t q rows [] front following = tt
-fresh_by servers t q rows (row ∷ more) front following = (
+fresh_by servers t q rows [] prefix following = tt
+fresh_by servers t q rows (row ∷ more) prefix following = (
   elim (some_or_none (named rows row.name)) [
     | inl h ↦
         let at = found_at (λ other. same_name other.name row.name) rows h.0 h.1 in
-        let now = front at.0 h.0 at.1 in
+        let now = prefix at.0 h.0 at.1 in
         let lt = slice_get_within rows at.0 h.0 at.1 in
         let same = q.names at.0 (length rows + 0) now.0 row now.1 (following 0 row refl) (now.2 ∙ nat_lists_same h.0.name row.name at.2) in
         absurd (omega arith)
@@ -92,7 +92,7 @@ fresh_by servers t q rows (row ∷ more) front following = (
   ],
   fresh_by servers t q (rows ++ row ∷ []) more
       (λ i other e. elim (get_last rows row i other e) [
-        | inl old ↦ front i other old
+        | inl old ↦ prefix i other old
         | inr new ↦ (
           row,
           ap (slice_get t.disks.rows) (let f = new.0 in let g : i ≡ length rows + 0 = omega arith in g) ∙ following 0 row refl,

@@ -1,7 +1,7 @@
 pub mod Imports
 pub mod ListLookups
 pub mod TestFacts
-pub mod Fronts
+pub mod Prefixes
 pub mod Ages
 pub mod NewMapLinks
 pub mod Stages

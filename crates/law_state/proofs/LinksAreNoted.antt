@@ -22,7 +22,7 @@ use Rattle.law_state.proofs.FencesPass.{framed_itself, framed_passed, here_row, 
 use Rattle.law_state.proofs.FencesPass.{region_row, settled_keeps}
 use Rattle.law_state.proofs.ListLookups.{get_last, get_replicate, get_set_beside, get_set_here}
 use Rattle.law_state.proofs.DiskRowChanges.{beside, here, here_now}
-use Rattle.law_state.proofs.Steady.{front_plain, log_grown}
+use Rattle.law_state.proofs.Steady.{prefix_plain, log_grown}
 use Rattle.law_state.proofs.Stages.{Over, Same, Under, fenced_next, new_most, of_most, side_of, high_new, low_region, left_move, fenced_old}
 use Rattle.law_state.proofs.EntryByEntry.{NextEntry, by_entries, settled_there}
 use Rattle.law_state.proofs.EntryOutcomes.{Begins, Ends, Makes, Moves_on, Notes, Outcome, outcome}
@@ -475,15 +475,15 @@ module _ (servers : ℕ) (s : State) (p : IsSettledState servers s) (cell : Cell
 
 log_filled : (servers : ℕ) (whole : List Command) → HasProperTuples servers whole → (cell : Cell) (link : ℕ) → IsFilledAt (state_after servers whole) cell link
     → HasMovedIn servers whole cell link
-log_filled servers whole all cell link f = by_entries servers [] whole all prefix (λ log t. IsFilledAt t cell link → HasMovedIn servers whole cell link) step
+log_filled servers whole all cell link f = by_entries servers [] whole all is_prefix (λ log t. IsFilledAt t cell link → HasMovedIn servers whole cell link) step
     (λ h. none_some refl h.is) f
   where
-    prefix : IsPrefix [] whole
-    prefix = record { later = whole; is = refl }
+    is_prefix : IsPrefix [] whole
+    is_prefix = record { later = whole; is = refl }
 
     step : (it : NextEntry servers [] whole) → (IsFilledAt (state_after servers it.until) cell link → HasMovedIn servers whole cell link)
         → IsFilledAt (after (state_after servers it.until) it.entry) cell link → HasMovedIn servers whole cell link
-    step it so g = elim (enters servers (state_after servers it.until) (settled_there servers [] whole all prefix it) cell link it.entry it.proper g) [
+    step it so g = elim (enters servers (state_after servers it.until) (settled_there servers [] whole all is_prefix it) cell link it.entry it.proper g) [
       | inl h ↦ so h
       | inr m ↦ record { until = it.until; stands = subst (λ e. IsPrefix (it.until ++ e ∷ []) whole) m.is it.stands; leaves = m.leaves }
     ]
@@ -528,15 +528,15 @@ log_retired servers whole cell link all four lt =
 -- ### The two cells of a move
 
 -- once the cell that comes is there, the one that it came from is retired
-pub log_twins : (servers : ℕ) (front whole : List Command) (cell old : Cell) → HasProperTuples servers whole → IsPrefix front whole
-    → source (state_after servers front) cell ≡ Some old → stage_at (state_after servers front) cell ≡ 1 → 2 ≤ stage_at (state_after servers whole) cell
+pub log_twins : (servers : ℕ) (prefix whole : List Command) (cell old : Cell) → HasProperTuples servers whole → IsPrefix prefix whole
+    → source (state_after servers prefix) cell ≡ Some old → stage_at (state_after servers prefix) cell ≡ 1 → 2 ≤ stage_at (state_after servers whole) cell
     → stage_at (state_after servers whole) old ≡ 4
-log_twins servers front whole cell old all prefix from one two =
-    let s = state_after servers front in
+log_twins servers prefix whole cell old all is_prefix from one two =
+    let s = state_after servers prefix in
     let t = state_after servers whole in
-    let p = log_plain servers front (front_plain servers front whole all prefix) in
+    let p = log_plain servers prefix (prefix_plain servers prefix whole all is_prefix) in
     let q = log_plain servers whole all in
-    let g = log_grown servers front whole all prefix in
+    let g = log_grown servers prefix whole all is_prefix in
     let o = source_of s p.rows p.homes cell one in
     let same : o.0 ≡ old = same_some (sym o.1 ∙ from) in
     let l = leaving_row s p.rows p.homes o.0 o.3.stage_is in

@@ -3,10 +3,10 @@ use Rattle.law_state.proofs.Imports.{[], ◌&&◌, ◌++◌, ◌+◌, ◌<◌, �
 use Rattle.law_state.proofs.Imports.{filter, find, inl, inr, length, map, nat_eq, none_some, number_itself, option_map, pointwise, refl, replicate, same_some}
 use Rattle.law_state.proofs.Imports.{slice_get, slice_set, subst, suc, sym, true, zero, ℕ}
 
-pub get_front : {A : Type 0} (xs ys : List A) (i : ℕ) (x : A) → slice_get xs i ≡ Some x → slice_get (xs ++ ys) i ≡ Some x
-get_front [] ys i x e = none_some refl e
-get_front (y ∷ xs) ys zero x e = e
-get_front (y ∷ xs) ys (suc i) x e = get_front xs ys i x e
+pub get_prefix : {A : Type 0} (xs ys : List A) (i : ℕ) (x : A) → slice_get xs i ≡ Some x → slice_get (xs ++ ys) i ≡ Some x
+get_prefix [] ys i x e = none_some refl e
+get_prefix (y ∷ xs) ys zero x e = e
+get_prefix (y ∷ xs) ys (suc i) x e = get_prefix xs ys i x e
 
 pub get_last : {A : Type 0} (xs : List A) (y : A) (i : ℕ) (x : A) → slice_get (xs ++ y ∷ []) i ≡ Some x
     → (slice_get xs i ≡ Some x) ⊎ ((i ≡ length xs) × (x ≡ y))
@@ -62,11 +62,11 @@ found_at {A} p (y ∷ ys) x e = by_bool (p y)
     (λ is. let same : y ≡ x = same_some (sym (ap (λ b. cond b (Some y) (find p ys)) is) ∙ e) in (zero, ap Some same, subst (λ z. p z ≡ true) same is))
     (λ no. let l = found_at p ys x (sym (ap (λ b. cond b (Some y) (find p ys)) no) ∙ e) in (suc l.0, l.1, l.2))
 
-pub find_front : {A : Type 0} (p : A → Bool) (xs ys : List A) (x : A) → find p xs ≡ Some x → find p (xs ++ ys) ≡ Some x
-find_front p [] ys x e = none_some refl e
-find_front p (y ∷ xs) ys x e = by_bool (p y)
+pub find_prefix : {A : Type 0} (p : A → Bool) (xs ys : List A) (x : A) → find p xs ≡ Some x → find p (xs ++ ys) ≡ Some x
+find_prefix p [] ys x e = none_some refl e
+find_prefix p (y ∷ xs) ys x e = by_bool (p y)
     (λ is. ap (λ b. cond b (Some y) (find p (xs ++ ys))) is ∙ sym (ap (λ b. cond b (Some y) (find p xs)) is) ∙ e)
-    (λ no. ap (λ b. cond b (Some y) (find p (xs ++ ys))) no ∙ find_front p xs ys x (sym (ap (λ b. cond b (Some y) (find p xs)) no) ∙ e))
+    (λ no. ap (λ b. cond b (Some y) (find p (xs ++ ys))) no ∙ find_prefix p xs ys x (sym (ap (λ b. cond b (Some y) (find p xs)) no) ∙ e))
 
 pub find_after : {A : Type 0} (p : A → Bool) (xs ys : List A) → find p xs ≡ None → find p (xs ++ ys) ≡ find p ys
 find_after p [] ys e = refl

@@ -10,15 +10,15 @@ use Rattle.law_state.proofs.Ages.{no_less}
 use Rattle.law_state.proofs.Fences.{Acted, AreQueued, asked_on, snapshot_on, region_on}
 use Rattle.law_state.proofs.GrownStates.{later_disk_itself, same_row}
 use Rattle.law_state.proofs.Owners.{home, home_later, kept_by, no_owner, owner_is, row_at_on, stages_later}
-use Rattle.law_state.proofs.ListLookups.{get_front, get_in, get_last, none_find, find_front, find_after, text_itself}
+use Rattle.law_state.proofs.ListLookups.{get_prefix, get_in, get_last, none_find, find_prefix, find_after, text_itself}
 use Rattle.law_state.proofs.NewMapLinks.{link_new, link_other, new_served, row_in}
 
-pub map_front : (maps : List MapRow) (tuple other : List ℕ) (disk of : ℕ) → tuple_of maps of ≡ Some tuple → tuple_of (added maps other disk) of ≡ Some tuple
-map_front maps tuple other disk of e = by (slice_get maps of) refl e
+pub map_prefix : (maps : List MapRow) (tuple other : List ℕ) (disk of : ℕ) → tuple_of maps of ≡ Some tuple → tuple_of (added maps other disk) of ≡ Some tuple
+map_prefix maps tuple other disk of e = by (slice_get maps of) refl e
   where
     by : (o : Option MapRow) → slice_get maps of ≡ o → option_map (λ row. row.tuple) o ≡ Some tuple → tuple_of (added maps other disk) of ≡ Some tuple
     by None is f = none_some refl f
-    by (Some row) is f = ap (option_map (λ row. row.tuple)) (get_front maps _ of row is) ∙ f
+    by (Some row) is f = ap (option_map (λ row. row.tuple)) (get_prefix maps _ of row is) ∙ f
 
 -- a map of the list with one more is one of those before, or the new one
 map_last : (maps : List MapRow) (tuple other : List ℕ) (disk of : ℕ) → tuple_of (added maps other disk) of ≡ Some tuple
@@ -59,7 +59,7 @@ module _ (servers : ℕ) (s : State) (p : IsSettledState servers s) (tuple : Lis
   late = new_rows (length s.maps) tuple (ups s)
 
   pub map_on : (of : ℕ) (m : MapRow) → slice_get s.maps of ≡ Some m → slice_get (added s.maps tuple disk) of ≡ Some m
-  map_on of m e = get_front s.maps _ of m e
+  map_on of m e = get_prefix s.maps _ of m e
 
   -- a map that is not made yet has no owner
   past_owner : (of : ℕ) → length s.maps ≤ of → owner s of ≡ None
@@ -102,7 +102,7 @@ module _ (servers : ℕ) (s : State) (p : IsSettledState servers s) (tuple : Lis
           | inr none ↦ none_some (ap (option_map (λ (row : MapRow). row.tuple)) none) h
           | inl m ↦ (let old = p.links of link ids h lt (λ none. has (kept of m.0 m.1 none)) in record {
             row = old.row;
-            is = find_front (is_link of link) s.links late old.row old.is;
+            is = find_prefix (is_link of link) s.links late old.row old.is;
             asked = asked_on s mapped of ids link old.row old.asked old.asked.served;
           })
         ]
@@ -125,7 +125,7 @@ module _ (servers : ℕ) (s : State) (p : IsSettledState servers s) (tuple : Lis
 
       found_now : (row : LinkRow) → In row mapped.links → link_at mapped.links row.map row.link ≡ Some row
       found_now row h = elim (in-append row s.links late h) [
-        | inl old ↦ find_front (is_link row.map row.link) s.links late row (p.found row old)
+        | inl old ↦ find_prefix (is_link row.map row.link) s.links late row (p.found row old)
         | inr new ↦ (
             let at = get_in late row new in
             let is = row_in (ups s) (length s.maps) tuple at.0 row at.1 in
@@ -158,7 +158,7 @@ module _ (servers : ℕ) (s : State) (p : IsSettledState servers s) (tuple : Lis
             many = many;
             rows = rows_later;
             maps = map_on;
-            links = λ of link row e. inl (same_row s mapped of link row (find_front (is_link of link) s.links late row e));
+            links = λ of link row e. inl (same_row s mapped of link row (find_prefix (is_link of link) s.links late row e));
             stages = stages_later s mapped p.rows p.homes rows_later map_on rows_now homes_now;
             ages = λ n. no_less (age_of s n);
           };
@@ -203,7 +203,7 @@ module _ (servers : ℕ) (s : State) (p : IsSettledState servers s) (name tuple 
 
   home_now : (of d : ℕ) → disk_of t.maps of ≡ Some d → HasHome t of d
   home_now of d e = elim (disk_then servers s p tuple s.disks.made proper of d e) [
-    | inl old ↦ (let h = p.homes of d old in record { row = h.row; is = get_front s.disks.rows (made_row ∷ []) d h.row h.is; newest = h.newest })
+    | inl old ↦ (let h = p.homes of d old in record { row = h.row; is = get_prefix s.disks.rows (made_row ∷ []) d h.row h.is; newest = h.newest })
     | inr new ↦ record { row = made_row; is = ap (slice_get t.disks.rows) new.1 ∙ row_last; newest = (let a = new.0 in omega arith) }
   ]
 
@@ -228,9 +228,9 @@ module _ (servers : ℕ) (s : State) (p : IsSettledState servers s) (name tuple 
   -- what waits is for disks that were known
   fence_now : (fence : Fence) → IsFence s fence → IsFence t fence
   fence_now fence (Of_disk h) =
-      snapshot_on s t fence fence h refl h.row (find_front (is_disk h.disk) s.disks.rows (made_row ∷ []) h.row h.known) h.fresh
+      snapshot_on s t fence fence h refl h.row (find_prefix (is_disk h.disk) s.disks.rows (made_row ∷ []) h.row h.known) h.fresh
   fence_now fence (Of_region h) =
-      region_on s t fence fence h refl h.row h.move (find_front (is_disk h.disk) s.disks.rows (made_row ∷ []) h.row h.known) h.moves h.shape
+      region_on s t fence fence h refl h.row h.move (find_prefix (is_disk h.disk) s.disks.rows (made_row ∷ []) h.row h.known) h.moves h.shape
 
   fences_now : AreQueued t
   fences_now = record {
@@ -241,13 +241,13 @@ module _ (servers : ℕ) (s : State) (p : IsSettledState servers s) (name tuple 
   }
 
   rows_later : (i : ℕ) (row : DiskRow) → slice_get s.disks.rows i ≡ Some row → HasLaterDisk t i row
-  rows_later i row e = record { now = row; is = get_front s.disks.rows (made_row ∷ []) i row e; so = later_disk_itself row }
+  rows_later i row e = record { now = row; is = get_prefix s.disks.rows (made_row ∷ []) i row e; so = later_disk_itself row }
 
   -- the disk of a map that was known
   pub same_home : (of : ℕ) (m : MapRow) → slice_get s.maps of ≡ Some m → home t of ≡ home s of
   same_home of m e =
       let h = home_later s t p.rows p.homes rows_later on of m e in
-      h.2.1 ∙ ap Some (same_some (sym h.2.0.is ∙ get_front s.disks.rows (made_row ∷ []) m.disk h.0.row h.0.is)) ∙ sym h.1
+      h.2.1 ∙ ap Some (same_some (sym h.2.0.is ∙ get_prefix s.disks.rows (made_row ∷ []) m.disk h.0.row h.0.is)) ∙ sym h.1
 
   same_owner : (of : ℕ) (m : MapRow) → slice_get s.maps of ≡ Some m → owner t of ≡ owner s of
   same_owner of m e = owner_is t row_now of ∙ ap (option_and_then (kept_by of)) (same_home of m e) ∙ sym (owner_is s p.rows of)

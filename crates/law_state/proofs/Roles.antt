@@ -8,13 +8,13 @@ use Rattle.law_state.specs.Plain.{HasProperTuples}
 use Rattle.law_state.specs.LinkRows.{IsLater, ByBoth, ByNone, ByOne}
 use Rattle.law_state.specs.Steady.{IsSteady}
 use Rattle.law_state.specs.LaterStates.{IsBelow, HasComeSecond, KeepsRoles}
-use Rattle.law_state.specs.Homes.{HasDied}
+use Rattle.law_state.specs.Homes.{IsRetired}
 use Rattle.law_state.proofs.CellsByLinkRows.{IsInBoth, IsHeldBy, alone_leads, alone_leads_none, both_leads, link_led_by, lost_leads}
 use Rattle.law_state.proofs.GrownStates.{alone_not_both, lost_not_alone, one_before}
 use Rattle.law_state.proofs.Ages.{in_up, out_same}
 use Rattle.law_state.proofs.Leaves.{either_true}
 use Rattle.law_state.proofs.NewMapLinks.{or_true}
-use Rattle.law_state.proofs.Steady.{front_plain, log_below, log_steady}
+use Rattle.law_state.proofs.Steady.{prefix_plain, log_below, log_steady}
 use Rattle.law_state.proofs.TestFacts.{same_only}
 
 pub primary_is_one : (row : LinkRow) (n : ℕ) → row.primary ≡ n → has_server n row ≡ true
@@ -44,7 +44,7 @@ module _ (earlier later : State) (was : IsSteady earlier) (now : IsSteady later)
   -- the later row of a link that a server serves, which is still In: in Both, or the server holds it alone; or its map is retired
   served_later : (cell : Cell) (row : LinkRow) (n inc : ℕ) → cell_link earlier cell ≡ Some row → has_server n row ≡ true → serves n row row.state ≡ true
       → is_in earlier n inc ≡ true → is_in later n inc ≡ true
-      → ((c : IsInBoth later cell) × IsLater row c.row) ⊎ ((h : IsHeldBy later cell n) × IsLater row h.row) ⊎ HasDied later cell
+      → ((c : IsInBoth later cell) × IsLater row c.row) ⊎ ((h : IsHeldBy later cell n) × IsLater row h.row) ⊎ IsRetired later cell
   served_later cell row n inc is has serving before still = elim (below.rows cell row is) [
     | inr gone ↦ inr (inr gone)
     | inl h ↦
@@ -76,7 +76,7 @@ module _ (earlier later : State) (was : IsSteady earlier) (now : IsSteady later)
 
   -- who held a link alone leads it later, or is its secondary
   held_later : (cell : Cell) (n inc : ℕ) → IsHeldBy earlier cell n → is_in earlier n inc ≡ true → is_in later n inc ≡ true
-      → (leads_link later n cell ≡ true) ⊎ HasComeSecond earlier later n cell ⊎ HasDied later cell
+      → (leads_link later n cell ≡ true) ⊎ HasComeSecond earlier later n cell ⊎ IsRetired later cell
   held_later cell n inc b before still =
       let has = holder_is_one earlier cell n b in
       elim (served_later cell b.row n inc b.is has (held_serves cell n b) before still) [
@@ -165,8 +165,8 @@ module _ (earlier later : State) (was : IsSteady earlier) (now : IsSteady later)
         ]
       ]
 
-pub log_roles : (servers : ℕ) (front whole : List Command) → HasProperTuples servers whole → IsPrefix front whole
-    → KeepsRoles (state_after servers front) (state_after servers whole)
-log_roles servers front whole all prefix =
-    roles_kept (state_after servers front) (state_after servers whole) (log_steady servers front (front_plain servers front whole all prefix))
-    (log_steady servers whole all) (log_below servers front whole all prefix)
+pub log_roles : (servers : ℕ) (prefix whole : List Command) → HasProperTuples servers whole → IsPrefix prefix whole
+    → KeepsRoles (state_after servers prefix) (state_after servers whole)
+log_roles servers prefix whole all is_prefix =
+    roles_kept (state_after servers prefix) (state_after servers whole) (log_steady servers prefix (prefix_plain servers prefix whole all is_prefix))
+    (log_steady servers whole all) (log_below servers prefix whole all is_prefix)

@@ -1,9 +1,8 @@
 -- A Snap queues a fence for a snapshot that nobody has, and that no other fence is for. A report takes its server from those for whom the
 -- active fence waits.
-use Rattle.law_state.proofs.Imports.{[], ◌&&◌, ◌+◌, ◌==◌, ◌∙◌, ◌∷◌, ◌≡◌, Bool, DiskRow, Fence, List, None, Option, Region}
-use Rattle.law_state.proofs.Imports.{Some, State, Whole, ap, disk_at, false, first_waiting, inl, inr, is_disk}
-use Rattle.law_state.proofs.Imports.{is_some, is_taken, list_any, named, none_some, number_itself, refl, same_name, same_numbers}
-use Rattle.law_state.proofs.Imports.{same_some, slice_get, snapshot_named, suc, sym, takes, true_false, with_fence, zero, ℕ}
+use Rattle.law_state.proofs.Imports.{[], ◌&&◌, ◌+◌, ◌==◌, ◌∙◌, ◌∷◌, ◌≡◌, Bool, DiskRow, Fence, List, None, Option, Region, Some, State, Whole, ap, disk_at}
+use Rattle.law_state.proofs.Imports.{false, first_waiting, inl, inr, is_disk, is_some, is_taken, list_any, named, none_some, number_itself, refl, same_name}
+use Rattle.law_state.proofs.Imports.{same_numbers, same_some, slice_get, snapshot_named, suc, sym, takes, true_false, with_fence, zero, ℕ}
 use Rattle.law_state.specs.Tables.{IsSettledState, Of_disk}
 use Rattle.law_state.proofs.Fences.{Acted, AreQueued, fence_kept, head_queued, head_reported, queued_on, requeued, requeued_reported, waits_before}
 use Rattle.law_state.proofs.Fences.{waits_present}

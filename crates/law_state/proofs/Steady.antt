@@ -10,12 +10,12 @@ use Rattle.spec_rules.specs.State.{live, is_in}
 use Rattle.law_state.specs.Plain.{HasProperTuples}
 use Rattle.law_state.specs.Steady.{HasLink, IsLinked, IsSteady}
 use Rattle.law_state.specs.LaterStates.{HasLaterView, IsBelow}
-use Rattle.law_state.specs.Homes.{HasDied, epoch_at, new_stage, old_stage, stage_at, stage_by}
+use Rattle.law_state.specs.Homes.{IsRetired, epoch_at, new_stage, old_stage, stage_at, stage_by}
 use Rattle.law_state.specs.Tables.{IsGone, IsGrown, IsLaterDisk, IsSettledState}
 use Rattle.law_state.proofs.Homes.{era_grows}
 use Rattle.law_state.proofs.Owners.{disk_at_is, either_of, epochs_later, no_owner, owned}
 use Rattle.law_state.proofs.Stages.{new_most}
-use Rattle.law_state.proofs.ListLookups.{find_here, found_at, find_front, text_itself}
+use Rattle.law_state.proofs.ListLookups.{find_here, found_at, find_prefix, text_itself}
 use Rattle.law_state.proofs.SnapsQueueFences.{disk_is, disk_stands}
 use Rattle.law_state.proofs.NewMapLinks.{proper}
 use Rattle.law_state.proofs.GrownStates.{gone_on}
@@ -229,13 +229,13 @@ module _ (servers : ℕ) (s : State) (p : IsSettledState servers s) where
           let four = gone b.0 in
           absurd (omega arith)
 
-  pub died : (cell : Cell) → IsGone s cell.map → HasDied s cell
+  pub died : (cell : Cell) → IsGone s cell.map → IsRetired s cell
   died cell gone = (unlinked cell (unowned cell.map gone), gone cell.block)
 
 -- ### Later states
 
 -- a cell that is retired by its links is of a retired map
-pub all_died : (servers : ℕ) (s : State) → IsSettledState servers s → (cell : Cell) → HasDied s cell → IsGone s cell.map
+pub all_died : (servers : ℕ) (s : State) → IsSettledState servers s → (cell : Cell) → IsRetired s cell → IsGone s cell.map
 all_died servers s p cell died = elim (owned_or_none servers s p cell) [
   | inl h ↦ none_some died.0 (linked_owner servers s p cell h.0 h.1).1
   | inr none ↦ λ block.
@@ -279,7 +279,7 @@ module _ (servers : ℕ) (s t : State) (p : IsSettledState servers s) (q : IsSet
       let there = some_epoch (snapshot_named row.snaps name) e in
       ap (option_and_then (λ row. option_map (λ snap. snap.epoch) (snapshot_named row.snaps name))) now
       ∙ ap (λ snaps. option_map (λ snap. snap.epoch) (snapshot_named snaps name)) later.so.snaps
-      ∙ ap (option_map (λ snap. snap.epoch)) (find_front (λ (snap : Snapshot). same_name snap.name name) row.snaps later.so.more there.0 there.1)
+      ∙ ap (option_map (λ snap. snap.epoch)) (find_prefix (λ (snap : Snapshot). same_name snap.name name) row.snaps later.so.more there.0 there.1)
       ∙ ap Some there.2
     where
       some_epoch : (o : Option Snapshot) → option_map (λ snap. snap.epoch) o ≡ Some epoch → (snap : Snapshot) × (o ≡ Some snap) × (snap.epoch ≡ epoch)
@@ -319,26 +319,26 @@ module _ (servers : ℕ) (s t : State) (p : IsSettledState servers s) (q : IsSet
 
 -- ### Logs
 
--- a front of a plain log is plain
-pub front_plain : (servers : ℕ) (front whole : List Command) → HasProperTuples servers whole → IsPrefix front whole → HasProperTuples servers front
-front_plain servers front whole all prefix = λ command h.
-    all command (subst (In command) (sym prefix.is) (in_former command front prefix.later h))
+-- a prefix of a plain log is plain
+pub prefix_plain : (servers : ℕ) (prefix whole : List Command) → HasProperTuples servers whole → IsPrefix prefix whole → HasProperTuples servers prefix
+prefix_plain servers prefix whole all is_prefix = λ command h.
+    all command (subst (In command) (sym is_prefix.is) (in_former command prefix is_prefix.later h))
 
-pub log_grown : (servers : ℕ) (front whole : List Command) → HasProperTuples servers whole → IsPrefix front whole
-    → IsGrown (state_after servers front) (state_after servers whole)
-log_grown servers front whole all prefix =
-    subst (IsGrown (state_after servers front)) (sym (ap (state_after servers) prefix.is ∙ fold-append after (start servers) front prefix.later))
-    (folding servers prefix.later (state_after servers front) (log_plain servers front (front_plain servers front whole all prefix))
-    (λ command h. all command (subst (In command) (sym prefix.is) (in_later command front prefix.later h)))).grown
+pub log_grown : (servers : ℕ) (prefix whole : List Command) → HasProperTuples servers whole → IsPrefix prefix whole
+    → IsGrown (state_after servers prefix) (state_after servers whole)
+log_grown servers prefix whole all is_prefix =
+    subst (IsGrown (state_after servers prefix)) (sym (ap (state_after servers) is_prefix.is ∙ fold-append after (start servers) prefix is_prefix.later))
+    (folding servers is_prefix.later (state_after servers prefix) (log_plain servers prefix (prefix_plain servers prefix whole all is_prefix))
+    (λ command h. all command (subst (In command) (sym is_prefix.is) (in_later command prefix is_prefix.later h)))).grown
 
 pub log_steady : (servers : ℕ) (log : List Command) → HasProperTuples servers log → IsSteady (state_after servers log)
 log_steady servers log all = plain_steady servers (state_after servers log) (log_plain servers log all)
 
-pub log_below : (servers : ℕ) (front whole : List Command) → HasProperTuples servers whole → IsPrefix front whole
-    → IsBelow (state_after servers front) (state_after servers whole)
-log_below servers front whole all prefix =
-    grown_below servers (state_after servers front) (state_after servers whole) (log_plain servers front (front_plain servers front whole all prefix))
-    (log_plain servers whole all) (log_grown servers front whole all prefix)
+pub log_below : (servers : ℕ) (prefix whole : List Command) → HasProperTuples servers whole → IsPrefix prefix whole
+    → IsBelow (state_after servers prefix) (state_after servers whole)
+log_below servers prefix whole all is_prefix =
+    grown_below servers (state_after servers prefix) (state_after servers whole) (log_plain servers prefix (prefix_plain servers prefix whole all is_prefix))
+    (log_plain servers whole all) (log_grown servers prefix whole all is_prefix)
 
 -- each entry adds one to the revision
 pub log_rev : (servers : ℕ) (log : List Command) → (state_after servers log).rev ≡ length log

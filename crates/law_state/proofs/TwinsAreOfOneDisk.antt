@@ -10,7 +10,7 @@ use Rattle.law_state.proofs.EntriesOnlyAdd.{log_plain}
 use Rattle.law_state.proofs.Homes.{row_or_none}
 use Rattle.law_state.proofs.Owners.{disk_on, epoch_in, epoch_is, kept_by, left_by, mover_is, no_home, owner_is, stage_in, stage_is}
 use Rattle.law_state.proofs.LinksAreNoted.{gone_value, old_value, own_value}
-use Rattle.law_state.proofs.Steady.{front_plain, log_grown}
+use Rattle.law_state.proofs.Steady.{prefix_plain, log_grown}
 use Rattle.law_state.proofs.Stages.{high_new, left_move}
 
 -- the disk's move is from the old cell's map to the new cell's
@@ -117,9 +117,9 @@ twins_epoch servers log plain old new goes =
     let there = λ (of : ℕ) (e : disk_of s.maps of ≡ Some m.place). ap epoch_in (ap (option_and_then (slice_get s.disks.rows)) e ∙ m.stands) in
     epoch_is s p.rows new ∙ there new.map m.made ∙ sym (epoch_is s p.rows old ∙ there old.map m.of)
 
-module _ (servers : ℕ) (front whole : List Command) (plain : HasProperTuples servers whole) (prefix : IsPrefix front whole) where
+module _ (servers : ℕ) (prefix whole : List Command) (plain : HasProperTuples servers whole) (is_prefix : IsPrefix prefix whole) where
   abbrev earlier : State
-  earlier = state_after servers front
+  earlier = state_after servers prefix
 
   abbrev later : State
   later = state_after servers whole
@@ -128,13 +128,13 @@ module _ (servers : ℕ) (front whole : List Command) (plain : HasProperTuples s
   plain_now = log_plain servers whole plain
 
   known_on : (of place : ℕ) → disk_of earlier.maps of ≡ Some place → disk_of later.maps of ≡ Some place
-  known_on of place e = disk_on earlier.maps later.maps of place (log_grown servers front whole plain prefix).maps e
+  known_on of place e = disk_on earlier.maps later.maps of place (log_grown servers prefix whole plain is_prefix).maps e
 
   -- of one disk the later row goes on from the earlier one
   going_on : (old new other goal : Cell) (one : IsMoved earlier old new) (two : IsMoved later other goal) → two.place ≡ one.place
       → (l : HasLaterDisk later one.place one.row) × (l.now ≡ two.row)
   going_on old new other goal one two place =
-      let l = (log_grown servers front whole plain prefix).rows one.place one.row one.stands in
+      let l = (log_grown servers prefix whole plain is_prefix).rows one.place one.row one.stands in
       (l, same_some (sym l.is ∙ ap (slice_get later.disks.rows) (sym place) ∙ two.stands))
 
   pub goal_same : (old new goal : Cell) → IsMoved earlier old new → IsMoved later old goal → goal ≡ new
@@ -162,7 +162,7 @@ module _ (servers : ℕ) (front whole : List Command) (plain : HasProperTuples s
   -- once the new cell is there, the old one is retired
   pub gone_twin : (old new : Cell) → IsMoved earlier old new → 2 ≤ stage_at later new → stage_at later old ≡ 4
   gone_twin old new one two =
-      let l = (log_grown servers front whole plain prefix).rows one.place one.row one.stands in
+      let l = (log_grown servers prefix whole plain is_prefix).rows one.place one.row one.stands in
       let now = l.now in
       let home_of = λ (of : ℕ) (e : disk_of earlier.maps of ≡ Some one.place).
       ap (option_and_then (slice_get later.disks.rows)) (known_on of one.place e) ∙ l.is in
@@ -180,8 +180,8 @@ module _ (servers : ℕ) (front whole : List Command) (plain : HasProperTuples s
       old_value old now other left ∙ ap (λ k. old_stage (move_region (region_of k) now.moving)) (sym one.block) ∙ ap old_stage region)
       (λ out. gone_value old now other out)
 
-pub source_same : (servers : ℕ) (front whole : List Command) → HasProperTuples servers whole → IsPrefix front whole → (new old other : Cell)
-    → source (state_after servers front) new ≡ Some old → source (state_after servers whole) new ≡ Some other → other ≡ old
-source_same servers front whole plain prefix new old other was now =
-    start_same servers front whole plain prefix new old other (log_comes servers front (front_plain servers front whole plain prefix) old new was)
+pub source_same : (servers : ℕ) (prefix whole : List Command) → HasProperTuples servers whole → IsPrefix prefix whole → (new old other : Cell)
+    → source (state_after servers prefix) new ≡ Some old → source (state_after servers whole) new ≡ Some other → other ≡ old
+source_same servers prefix whole plain is_prefix new old other was now =
+    start_same servers prefix whole plain is_prefix new old other (log_comes servers prefix (prefix_plain servers prefix whole plain is_prefix) old new was)
     (log_comes servers whole plain other new now)

@@ -37,8 +37,8 @@ abbrev pub epoch_at : State → Cell → ℕ
 epoch_at state cell = option_map_or (λ (row : DiskRow). row.epoch) (option_and_then (disk_at state.disks.rows) (disk_of state.maps cell.map)) 0
 
 -- the cell's map is retired, and its links are gone
-abbrev pub HasDied : State → Cell → Type 0
-HasDied state cell = (cell_link state cell ≡ None) × (stage_at state cell ≡ 4)
+abbrev pub IsRetired : State → Cell → Type 0
+IsRetired state cell = (cell_link state cell ≡ None) × (stage_at state cell ≡ 4)
 
 -- how often a fence that held the cell's writes has taken effect since it is live: the epoch of its disk, and one more once it is leaving
 abbrev pub era_by : (epoch stage : ℕ) → ℕ

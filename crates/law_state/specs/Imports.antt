@@ -19,7 +19,7 @@ pub use Rattle.global_tables.specs.declared.map.MapRow.{MapRow}
 pub use Rattle.petal_base.specs.Tuple.{is_tuple}
 pub use Rattle.petal_base.specs.declared.cell.Cell.{Cell}
 pub use Rattle.petal_command.specs.declared.command.Command.{Command}
-pub use Rattle.petal_command.specs.declared.command.Command.TheVariants.{Caught, Drained, Join, Leave, MakeDisk, Moved, Snap, StartMove, Witness}
+pub use Rattle.petal_command.specs.declared.command.Command.TheVariants.{Caught, Drained, Join, Leave, MakeDisk, Moved, Snap, StartMove}
 pub use Rattle.petal_msg.specs.declared.copying.LinkId.{LinkId}
 pub use Rattle.petal_msg.specs.declared.copying.Progress.{Progress}
 unfoldable pub use Rattle.petal_table.specs.Table.{at}

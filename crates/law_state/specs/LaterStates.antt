@@ -3,7 +3,7 @@
 use Rattle.law_state.specs.Imports.{Both, Cell, DiskView, LinkRow, Only, State, cell_link, find, has_server, is_in, is_up, leads_link, serves, snapshot}
 use Rattle.std.specs.Prelude.{◌<◌, ◌≡◌, ◌≤◌, ◌⊎◌, Bool, List, Some, false, true, ℕ}
 use Rattle.law_state.specs.Ages.{age_of}
-use Rattle.law_state.specs.Homes.{HasDied, epoch_at, era_at, stage_at}
+use Rattle.law_state.specs.Homes.{IsRetired, epoch_at, era_at, stage_at}
 use Rattle.law_state.specs.LinkRows.{GoesOn}
 
 -- the later row of a cell's link
@@ -25,14 +25,14 @@ pub record HasLaterView (later : State) (name : List ℕ) (disk : DiskView) : Ty
 -- stays so; an incarnation that was Out stays Out; a disk is found as before, or at a later epoch; a snapshot stays at its epoch; no epoch and no
 -- era falls; and each cell only goes forward
 pub record IsBelow (earlier later : State) : Type 0 where
-  pub rows : (cell : Cell) (row : LinkRow) → cell_link earlier cell ≡ Some row → HasLater earlier later cell row ⊎ HasDied later cell
+  pub rows : (cell : Cell) (row : LinkRow) → cell_link earlier cell ≡ Some row → HasLater earlier later cell row ⊎ IsRetired later cell
   pub ages : (n : ℕ) → age_of earlier n ≤ age_of later n
   pub finds : (name : List ℕ) (disk : DiskView) → find earlier name ≡ Some disk → HasLaterView later name disk
   pub snaps : (disk : ℕ) (name : List ℕ) (epoch : ℕ) → snapshot earlier disk name ≡ Some epoch → snapshot later disk name ≡ Some epoch
   pub epochs : (cell : Cell) → epoch_at earlier cell ≤ epoch_at later cell
   pub eras : (cell : Cell) → era_at earlier cell ≤ era_at later cell
   pub stages : (cell : Cell) → stage_at earlier cell ≤ stage_at later cell
-  pub died : (cell : Cell) → HasDied earlier cell → HasDied later cell
+  pub died : (cell : Cell) → IsRetired earlier cell → IsRetired later cell
 
 -- the server holds the cell's link alone
 pub record HoldsAlone (state : State) (n : ℕ) (cell : Cell) : Type 0 where
@@ -72,10 +72,10 @@ pub record HasJoinedAlone (earlier later : State) (cell : Cell) : Type 0 where
 -- where it was known, or its holder has joined since
 pub record KeepsRoles (earlier later : State) : Type 0 where
   pub leads : (n inc : ℕ) (cell : Cell) → is_in earlier n inc ≡ true → is_in later n inc ≡ true → leads_link earlier n cell ≡ true
-      → (leads_link later n cell ≡ true) ⊎ HasComeSecond earlier later n cell ⊎ HasDied later cell
+      → (leads_link later n cell ≡ true) ⊎ HasComeSecond earlier later n cell ⊎ IsRetired later cell
   pub seconds : (n inc : ℕ) (cell : Cell) → is_in earlier n inc ≡ true → is_in later n inc ≡ true → IsSecondary earlier n cell
-      → IsSecondary later n cell ⊎ HoldsAlone later n cell ⊎ HasDied later cell
+      → IsSecondary later n cell ⊎ HoldsAlone later n cell ⊎ IsRetired later cell
   pub reads : (n inc : ℕ) (cell : Cell) → is_in earlier n inc ≡ true → is_in later n inc ≡ true → IsServing earlier n cell
-      → IsServing later n cell ⊎ HasDied later cell
+      → IsServing later n cell ⊎ IsRetired later cell
   pub led : (cell : Cell) (row : LinkRow) (n : ℕ) → cell_link earlier cell ≡ Some row → leads_link later n cell ≡ true
       → ((m : ℕ) × (leads_link earlier m cell ≡ true)) ⊎ HasJoinedAlone earlier later cell

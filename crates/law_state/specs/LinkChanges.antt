@@ -56,19 +56,19 @@ pub data IsTouchedBy (cell : Cell) (row : LinkRow) (state : State) (entry : Comm
       → row.state ≢ Both → IsReseated state (after state entry) joined.server (Some joined.inc) → IsTouchedBy cell row state entry
   By_caught : IsCaughtBy state entry row → StaysSo cell (record row { state = Both }) state (after state entry) → IsTouchedBy cell row state entry
 
--- after this front of the log stands a Caught that acts on the cell's link, and finds it as this row
-pub record IsCaughtIn (servers : ℕ) (front whole : List Command) (cell : Cell) (row : LinkRow) : Type 0 where
+-- after this prefix of the log stands a Caught that acts on the cell's link, and finds it as this row
+pub record IsCaughtIn (servers : ℕ) (prefix whole : List Command) (cell : Cell) (row : LinkRow) : Type 0 where
   pub until : List Command
   pub entry : Command
-  pub following : IsPrefix front until
+  pub following : IsPrefix prefix until
   pub stands : IsPrefix (until ++ entry ∷ []) whole
   pub was : cell_link (state_after servers until) cell ≡ Some row
   pub acts : IsCaughtBy (state_after servers until) entry row
 
 -- such a Caught put the cell's link in Both, as it is by the whole log: the link is one place on
-pub record IsCaughtSince (servers : ℕ) (front whole : List Command) (cell : Cell) (now : LinkRow) : Type 0 where
+pub record IsCaughtSince (servers : ℕ) (prefix whole : List Command) (cell : Cell) (now : LinkRow) : Type 0 where
   pub row : LinkRow
-  pub found : IsCaughtIn servers front whole cell row
+  pub found : IsCaughtIn servers prefix whole cell row
   pub since : StaysSo cell now (state_after servers found.until) (state_after servers whole)
   pub place : places_from (start servers) whole row ≡ places_from (start servers) found.until row + 1
 
@@ -78,17 +78,17 @@ pub record IsCaughtSince (servers : ℕ) (front whole : List Command) (cell : Ce
 abbrev pub IsHeldStill : (holder : ℕ) (whole : Bool) → LinkState → Type 0
 IsHeldStill holder whole now = (later : Bool) × (now ≡ Only holder later) × (whole ≡ true → later ≡ true)
 
--- after this front of the log a server joins with an empty store, which was Out
-pub record IsLostIn (servers : ℕ) (front whole : List Command) (holder : ℕ) : Type 0 where
+-- after this prefix of the log a server joins with an empty store, which was Out
+pub record IsLostIn (servers : ℕ) (prefix whole : List Command) (holder : ℕ) : Type 0 where
   pub until : List Command
   pub inc : ℕ
-  pub following : IsPrefix front until
+  pub following : IsPrefix prefix until
   pub stands : IsPrefix (until ++ Join holder inc true ∷ []) whole
   pub may : may_join (slice_get (state_after servers until).view.members holder) inc ≡ true
 
--- after this front stands a Caught that acts on the cell's link, which the server has held alone until then, and has had to copy all of
+-- after this prefix stands a Caught that acts on the cell's link, which the server has held alone until then, and has had to copy all of
 -- it then too where it had to before
-pub record IsCaughtStill (servers : ℕ) (front whole : List Command) (cell : Cell) (row : LinkRow) (holder : ℕ) (fills : Bool) : Type 0 where
+pub record IsCaughtStill (servers : ℕ) (prefix whole : List Command) (cell : Cell) (row : LinkRow) (holder : ℕ) (fills : Bool) : Type 0 where
   pub later : Bool
-  pub found : IsCaughtIn servers front whole cell (record row { state = Only holder later })
+  pub found : IsCaughtIn servers prefix whole cell (record row { state = Only holder later })
   pub kept : fills ≡ true → later ≡ true

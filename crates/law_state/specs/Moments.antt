@@ -3,7 +3,7 @@ use Rattle.law_state.specs.Imports.{Record}
 use Rattle.std.specs.Prelude.{◌++◌, ◌∷◌, ◌≡◌, List}
 
 pub record IsMoment (records : List Record) : Type 0 where
-  pub front : List Record
+  pub prefix : List Record
   pub own : Record
   pub following : List Record
-  pub is : records ≡ front ++ own ∷ following
+  pub is : records ≡ prefix ++ own ∷ following

@@ -1,9 +1,9 @@
 -- A ballot that a server starts for a Caught is of a link of which nothing is left to copy.
 use Rattle.law_steps.proofs.Imports.{◌++◌, ◌≡◌, Caught, Command, In, JobContext, LinkRow, List, Log, NextCopy, None, Nothing, Option, PairState, Some, Voter}
-use Rattle.law_steps.proofs.Imports.{all_leaves, ap, by_test, caught_among, caught_links, draining, false, filter, first_among, first_wanted, fold}
-use Rattle.law_steps.proofs.Imports.{front_plain, id_of, in-append, inc_of, inl, inr, is_caught, is_due, is_in, is_nothing, join_only, kept_among, log_plain}
-use Rattle.law_steps.proofs.Imports.{move_among, moving, next_copy, other_of, own_join, own_leave, own_leaves, own_wants, refl, report_among, returning}
-use Rattle.law_steps.proofs.Imports.{rev_of, state_in, subst, sym, true, true_false, voter_of, wanted, wanted_by, with_leave, ℕ}
+use Rattle.law_steps.proofs.Imports.{all_leaves, ap, by_test, caught_among, caught_links, draining, false, filter, first_among, first_wanted, fold, id_of}
+use Rattle.law_steps.proofs.Imports.{in-append, inc_of, inl, inr, is_caught, is_due, is_in, is_nothing, join_only, kept_among, log_plain, move_among, moving}
+use Rattle.law_steps.proofs.Imports.{next_copy, other_of, own_join, own_leave, own_leaves, own_wants, prefix_plain, refl, report_among, returning, rev_of}
+use Rattle.law_steps.proofs.Imports.{state_in, subst, sym, true, true_false, voter_of, wanted, wanted_by, with_leave, ℕ}
 use Rattle.law_steps.specs.DidStep.{IsBallotFor, Starts}
 use Rattle.law_steps.proofs.KnownServer.{KnownServer, parts_of}
 
@@ -49,7 +49,7 @@ module _ (it : KnownServer) where
       (λ seat i.
       let mine = caught_among here own (Caught of link holder inc other other_inc) i in
       let same : record { map = of; link = link } ≡ id_of mine.row = same_id mine.row here.me here.inc (other_of here.me mine.row) mine.inc mine.is in
-      let found = (log_plain setting.servers log.applied (front_plain setting.servers log.applied _ firm.plain (firm.servers n))).found mine.row mine.there in
+      let found = (log_plain setting.servers log.applied (prefix_plain setting.servers log.applied _ firm.plain (firm.servers n))).found mine.row mine.there in
       subst (IsBallotFor here own) (sym same) (record {
         row = mine.row;
         other = other_of here.me mine.row;

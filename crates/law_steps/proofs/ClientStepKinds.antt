@@ -3,11 +3,11 @@ use Rattle.law_steps.proofs.Imports.{[], if◌then◌else◌, ◌&&◌, ◌++◌
 use Rattle.law_steps.proofs.Imports.{Deliver, DiskView, In, IsPrefix, Learning, Letter, Line, List, MayClient, None, Option, Pattern, Post, Reaction, Request}
 use Rattle.law_steps.proofs.Imports.{Setting, Sight, Some, State, Step, Tick, World, about, after, answered_where, answers, ap, append_assoc, asking}
 use Rattle.law_steps.proofs.Imports.{asks_and_sends, both_true, by_bool, by_test, called, calls, cell_asked, client_state, client_step, command_of, epoch_for}
-use Rattle.law_steps.proofs.Imports.{false, find, fold-append, front_itself, front_more, front_on, front_same, goes_out, goes_out_where, goes_the_old_way}
-use Rattle.law_steps.proofs.Imports.{heard, hears, hears_any, hears_of, in-append, inl, inr, is_read, is_settled, is_some, is_witness, is_write, judged}
-use Rattle.law_steps.proofs.Imports.{judged_by, latest, length, line_in, log_rev, map, nat_le, newly_asked, next_entries, next_line, not, only, pattern_block}
-use Rattle.law_steps.proofs.Imports.{post_in_turn, post_to, posts_for, read_posts, read_posts_at, refl, refusal, replies, rests, rounds, same_numbers, sees}
-use Rattle.law_steps.proofs.Imports.{sees_for, sees_from, sends_or_proposes, servers_of, settles, state_after, stays_open, subst, sym, takes_all}
+use Rattle.law_steps.proofs.Imports.{false, find, fold-append, goes_out, goes_out_where, goes_the_old_way, heard, hears, hears_any, hears_of, in-append, inl}
+use Rattle.law_steps.proofs.Imports.{inr, is_read, is_settled, is_some, is_witness, is_write, judged, judged_by, latest, length, line_in, log_rev, map}
+use Rattle.law_steps.proofs.Imports.{nat_le, newly_asked, next_entries, next_line, not, only, pattern_block, post_in_turn, post_to, posts_for, prefix_itself}
+use Rattle.law_steps.proofs.Imports.{prefix_more, prefix_on, prefix_same, read_posts, read_posts_at, refl, refusal, replies, rests, rounds, same_numbers}
+use Rattle.law_steps.proofs.Imports.{sees, sees_for, sees_from, sends_or_proposes, servers_of, settles, state_after, stays_open, subst, sym, takes_all}
 use Rattle.law_steps.proofs.Imports.{takes_entries, takes_entry, then_goes_out, ticked, to_propose, true, verdict_for, was_true, way_now, with_sight}
 use Rattle.law_steps.proofs.Imports.{witnessed, write_posts, ℕ}
 use Rattle.law_steps.specs.DidStep.{Heard}
@@ -217,7 +217,7 @@ module _ (servers : ℕ) (lines : List Line) (w : World) (c : ℕ) where
   goes_on : (reacted : Reaction) → IsQuiet state c client client.asked reacted → T reacted
   goes_on reacted q = record {
     turned = Goes_on reacted q.seq (stays_at client client.asked reacted q) (only_says client client.asked reacted q);
-    grows = front_same client.applied reacted.client.applied q.applied;
+    grows = prefix_same client.applied reacted.client.applied q.applied;
   }
 
   rests_turns : T (rests client)
@@ -243,7 +243,7 @@ module _ (servers : ℕ) (lines : List Line) (w : World) (c : ℕ) where
               new_way = still_new state.rev new still.0 refl still.2.sent;
             })
             (only_says before (Some new) reacted q);
-        grows = front_same client.applied reacted.client.applied q.applied;
+        grows = prefix_same client.applied reacted.client.applied q.applied;
       }
 
   call_turns : (line : Line) → next_line lines c client ≡ Some line → client.asked ≡ None → Turning true (calls state c client (next_line lines c client))
@@ -260,7 +260,7 @@ module _ (servers : ℕ) (lines : List Line) (w : World) (c : ℕ) where
 
   ends_turn : {reacted : Reaction} → reacted.client.applied ≡ client.applied
       → Turned (Heard w (actor.Client c)) servers lines c client false reacted → T reacted
-  ends_turn {reacted} e t = record { turned = t; grows = front_same client.applied reacted.client.applied e }
+  ends_turn {reacted} e t = record { turned = t; grows = prefix_same client.applied reacted.client.applied e }
 
   -- ### A glance
 
@@ -336,7 +336,7 @@ module _ (servers : ℕ) (lines : List Line) (w : World) (c : ℕ) where
       let q = goes_quiet state c client now in
       record {
         turned = Is_told reacted asked h is read q.seq (stays_at client (Some now) reacted q) (only_says client (Some now) reacted q);
-        grows = front_same client.applied reacted.client.applied q.applied;
+        grows = prefix_same client.applied reacted.client.applied q.applied;
       }
 
   hears_turns : (asked : Asked) (rev : ℕ) → client.asked ≡ Some asked → (said : Body) → Heard w (actor.Client c) rev said
@@ -395,10 +395,10 @@ module _ (servers : ℕ) (lines : List Line) (w : World) (c : ℕ) where
   judged_more : (before now : List Command) (asked : Asked) (given : Answer) (entry : Command) → IsJudged servers c before now asked given
       → IsJudged servers c before (now ++ entry ∷ []) asked given
   judged_more before now asked given entry j = record {
-    front = j.front;
+    prefix = j.prefix;
     entry = j.entry;
     rest = j.rest ++ entry ∷ [];
-    lies = ap (λ xs. xs ++ entry ∷ []) j.lies ∙ append_assoc j.front (j.entry ∷ j.rest) (entry ∷ []);
+    lies = ap (λ xs. xs ++ entry ∷ []) j.lies ∙ append_assoc j.prefix (j.entry ∷ j.rest) (entry ∷ []);
     new = j.new;
     reason = j.reason;
   }
@@ -422,7 +422,7 @@ module _ (servers : ℕ) (lines : List Line) (w : World) (c : ℕ) where
     leaves_open now entry l none later at seq applied same stays = record {
       state_is = at ∙ state_then now entry l.state_is ∙ ap (state_after servers) (sym applied);
       seq = seq ∙ l.seq;
-      grows = front_on client.applied now.client.applied later.client.applied l.grows (record { later = entry ∷ []; is = applied });
+      grows = prefix_on client.applied now.client.applied later.client.applied l.grows (record { later = entry ∷ []; is = applied });
       far = Open_still (same ∙ none) stays;
     }
 
@@ -433,9 +433,9 @@ module _ (servers : ℕ) (lines : List Line) (w : World) (c : ℕ) where
     gives now entry l old asked is same given reason later at seq applied gone answered = record {
       state_is = at ∙ state_then now entry l.state_is ∙ ap (state_after servers) (sym applied);
       seq = seq ∙ l.seq;
-      grows = front_on client.applied now.client.applied later.client.applied l.grows (record { later = entry ∷ []; is = applied });
+      grows = prefix_on client.applied now.client.applied later.client.applied l.grows (record { later = entry ∷ []; is = applied });
       far = Is_answered old given is gone (answered ∙ λ i. Some (same.line i, given)) (record {
-        front = now.client.applied;
+        prefix = now.client.applied;
         entry = entry;
         rest = [];
         lies = applied;
@@ -463,7 +463,8 @@ module _ (servers : ℕ) (lines : List Line) (w : World) (c : ℕ) where
         ] so in
         let by_state : command_of c asked.seq asked.request ≡ None → is_witness c asked.seq entry ≡ true → (o : Option Answer)
         → refusal (after now.state entry) asked.saw_missing asked.request ≡ o → Learnt rev (witnessed (with_one now entry) asked o) =
-        λ own is o so. elim o as (λ o. refusal (after now.state entry) asked.saw_missing asked.request ≡ o → Learnt rev (witnessed (with_one now entry) asked o)) [
+        λ own is o so. elim o
+        as (λ o. refusal (after now.state entry) asked.saw_missing asked.request ≡ o → Learnt rev (witnessed (with_one now entry) asked o)) [
           | None ↦ λ so. leaves_open now entry l none _ refl refl refl refl
               (subst (λ x. StaysOpen rev x (Some (record asked { witnesses = asked.witnesses + 1 }))) (sym was.1)
               (record {
@@ -490,7 +491,7 @@ module _ (servers : ℕ) (lines : List Line) (w : World) (c : ℕ) where
             subst (λ o. Learnt rev (judged c entry (with_one now entry) o)) (sym gone) (record {
               state_is = state_then now entry l.state_is;
               seq = l.seq;
-              grows = front_on client.applied now.client.applied (log_then now entry) l.grows (front_more now.client.applied entry);
+              grows = prefix_on client.applied now.client.applied (log_then now entry) l.grows (prefix_more now.client.applied entry);
               far = Is_answered asked given is gone answered (judged_more client.applied now.client.applied asked given entry j);
             })
 
@@ -516,7 +517,7 @@ module _ (servers : ℕ) (lines : List Line) (w : World) (c : ℕ) where
             turned = Goes_on reacted (quiet.seq ∙ l.seq)
                 (stays_on rev client.asked now.client.asked out.client.asked before (stays_at now.client now.client.asked out quiet))
                 (record { says = (only_says now.client now.client.asked out quiet).says; unanswered = none });
-            grows = front_on client.applied now.client.applied out.client.applied l.grows (front_same now.client.applied out.client.applied quiet.applied);
+            grows = prefix_on client.applied now.client.applied out.client.applied l.grows (prefix_same now.client.applied out.client.applied quiet.applied);
           }
       by (Is_answered asked given is gone answered j) =
           let e : then_goes_out c now ≡ record { client = now.client; posts = []; answer = Some (asked.line, given) } =
@@ -532,7 +533,7 @@ module _ (servers : ℕ) (lines : List Line) (w : World) (c : ℕ) where
       out_turns now (takes_each rev begun (entry ∷ entries) (record {
         state_is = refl;
         seq = refl;
-        grows = front_itself client.applied;
+        grows = prefix_itself client.applied;
         far = Open_still refl (stays_itself rev client.asked);
       }))
 

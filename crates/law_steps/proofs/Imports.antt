@@ -21,8 +21,8 @@ pub use Rattle.law_log.proofs.Imports.{Request, Retired, Script, Send, Sight, St
 pub use Rattle.law_log.proofs.Imports.{Wanted, Work, WorkEnd, about, above, all_put, answered_where, answers, answers_page, applies_known, applies_then}
 pub use Rattle.law_log.proofs.Imports.{ask_posts, asking, asks_and_sends, at_other_rev, awaited, awake, ballot_posts, before_known, begins_copy, blanked}
 pub use Rattle.law_log.proofs.Imports.{boots, called, calls, catches_up, caught_links, cell_at, cell_holder, cell_of, chain_in, clears_old_marks}
-pub use Rattle.law_log.proofs.Imports.{client_sender, client_state, client_step, comes_out, command_of, copies_again, copies_with, copy_acts, copy_awaited, copy_posts}
-pub use Rattle.law_log.proofs.Imports.{copy_stage, copying_on, crossing, down_posts, draining, ended, ends, entered, epoch_for, eq_by_cmp, fill_of}
+pub use Rattle.law_log.proofs.Imports.{client_sender, client_state, client_step, comes_out, command_of, copies_again, copies_with, copy_acts, copy_awaited}
+pub use Rattle.law_log.proofs.Imports.{copy_posts, copy_stage, copying_on, crossing, down_posts, draining, ends, entered, epoch_for, eq_by_cmp, fill_of}
 pub use Rattle.law_log.proofs.Imports.{fill_operation, fill_posts, fills_row, first_wanted, flat_map, follows_once, free_of, get_within, gives_back}
 pub use Rattle.law_log.proofs.Imports.{glance_sender, glances, goes_for, goes_on_with, goes_out, goes_out_where, goes_the_old_way, has_command, has_epoch}
 pub use Rattle.law_log.proofs.Imports.{has_majority, has_proposed, hear, hears, hears_any, hears_entry, hears_fill, hears_fill_full, hears_filled}
@@ -32,11 +32,11 @@ pub use Rattle.law_log.proofs.Imports.{idle_mark, is_caught, is_due, is_eq, is_f
 pub use Rattle.law_log.proofs.Imports.{is_open, is_overfull, is_pending_for, is_read, is_replicating, is_reserving, is_second, is_settled, is_some}
 pub use Rattle.law_log.proofs.Imports.{is_syncing, is_under_way, is_witness, is_write, job_done, judged, judged_by, keeps, key_at, known, known_at}
 pub use Rattle.law_log.proofs.Imports.{known_front, known_inc, known_run, last_copy, last_on, learns_first, less_by, link_before, link_jobs, link_named}
-pub use Rattle.law_log.proofs.Imports.{log_plain, mends_found, moved_as, moving, nat_cmp, next_entries, next_line, next_place, no_progress, only, opened}
-pub use Rattle.law_log.proofs.Imports.{opens, opens_fill, other_in, own_join, own_leave, own_wants, page_asked, page_for, page_posts, page_wanted, pending_on}
-pub use Rattle.law_log.proofs.Imports.{post_in_turn, post_of, post_to, posts_for, progress_on, proposed, proposes, put_apart, put_same, puts_entry, raised, reacts}
-pub use Rattle.law_log.proofs.Imports.{read_posts, read_posts_at, region_to_move, repairs_row, replies, reserves, rests, returning, rev_of, rounds, said}
-pub use Rattle.law_log.proofs.Imports.{same_block, says, sees, sees_for, sees_from, sender, sends_entry, sends_key, sends_moving, sends_or_proposes}
+pub use Rattle.law_log.proofs.Imports.{log_plain, mends_found, moving, nat_cmp, next_entries, next_line, next_place, no_progress, only, opened, opens}
+pub use Rattle.law_log.proofs.Imports.{opens_fill, other_in, own_join, own_leave, own_wants, page_asked, page_for, page_posts, page_wanted, pending_on}
+pub use Rattle.law_log.proofs.Imports.{post_in_turn, post_of, post_to, posts_for, progress_on, proposed, proposes, put_apart, put_same, puts_entry, raised}
+pub use Rattle.law_log.proofs.Imports.{reacts, read_posts, read_posts_at, region_to_move, repairs_row, replies, reserves, rests, returning, rev_of, rounds}
+pub use Rattle.law_log.proofs.Imports.{said, same_block, says, sees, sees_for, sees_from, sender, sends_entry, sends_key, sends_moving, sends_or_proposes}
 pub use Rattle.law_log.proofs.Imports.{sent_again, server_state, server_step, setting_of, settles, silent, stage_jobs, stamped, start, starts_for, state_in}
 pub use Rattle.law_log.proofs.Imports.{stays, stays_open, stepped, steps_begin, stops, subject_of, sweeps_with, takes, takes_all, takes_entries, takes_entry}
 pub use Rattle.law_log.proofs.Imports.{takes_mark, takes_newer, tells, then_goes_out, tick_jobs, tick_posts, tied_itself, to_propose, trims_again}
@@ -49,8 +49,8 @@ unfoldable pub use Rattle.law_log.proofs.Imports.{on_propose, on_read, on_replic
 unfoldable pub use Rattle.law_log.proofs.Imports.{on_trim, on_trimmed, on_write, put_at, refusal, repairs, starts, step, sweeps, ticked, trims_on}
 pub use Rattle.law_steps.specs.Imports.{Busy, Copied, Finished, Glanced, IsBelow, MarkKind, Nothing, Paired, Pattern, Sender, Stage, Stale, StaysSo, Subject}
 pub use Rattle.law_steps.specs.Imports.{acts, bytes_of, cell_cmp, coming, crossed, entry_at, epochs_beyond, epochs_of, holder_of, least, letters_of, live}
-pub use Rattle.law_steps.specs.Imports.{mark_left, marked_blocks, marks, next_stage, old_lead, operation, pattern_block, puts, settled_by, stage_at, unmarks}
-pub use Rattle.law_steps.specs.Imports.{with_copying, with_paired, with_pending, with_reserved}
+pub use Rattle.law_steps.specs.Imports.{mark_left, marked_blocks, next_stage, operation, pattern_block, settled_by, stage_at, with_copying, with_paired}
+pub use Rattle.law_steps.specs.Imports.{with_pending, with_reserved}
 unfoldable pub use Rattle.law_steps.specs.Imports.{next_fill}
 pub use Rattle.std.proofs.Common.{fold}
 pub use Rattle.std.specs.BTreeMap.{insert_entry, is_at}
@@ -80,26 +80,26 @@ pub use Rattle.law_state.proofs.Ages.{between, in_once, in_up, up_some}
 pub use Rattle.law_state.proofs.CaughtsMadeBoth.{log_alone, log_both}
 pub use Rattle.law_state.proofs.CellsByLinkRows.{IsHeldBy}
 pub use Rattle.law_state.proofs.EntriesTouchLinks.{entry_stays, same_place}
-pub use Rattle.law_state.proofs.Fronts.{below_itself, below_on, front_itself, front_long, front_more, front_on, front_same, one_front}
 pub use Rattle.law_state.proofs.Homes.{has_stage}
 pub use Rattle.law_state.proofs.ListLookups.{found_at, in_filter}
 pub use Rattle.law_state.proofs.LoneHolders.{alone_not_both, alone_row, so_alone, so_both}
 pub use Rattle.law_state.proofs.MembershipChanges.{found_itself, linked_at}
 pub use Rattle.law_state.proofs.NewMapLinks.{either_false, or_true}
 pub use Rattle.law_state.proofs.Owners.{either_of}
+pub use Rattle.law_state.proofs.Prefixes.{below_on, one_prefix, prefix_itself, prefix_long, prefix_more, prefix_on, prefix_same}
 pub use Rattle.law_state.proofs.Roles.{holder_is_one, log_roles}
 pub use Rattle.law_state.proofs.SnapsQueueFences.{none_of}
 pub use Rattle.law_state.proofs.Stages.{stage_most}
-pub use Rattle.law_state.proofs.Steady.{front_plain, log_below, log_rev, log_steady}
+pub use Rattle.law_state.proofs.Steady.{log_below, log_rev, log_steady, prefix_plain}
 pub use Rattle.law_state.proofs.TestFacts.{or_first, same_only, was_true}
-pub use Rattle.law_state.specs.Homes.{HasDied, HasStage, new_stage, old_stage, stage_by}
+pub use Rattle.law_state.specs.Homes.{HasStage, IsRetired, new_stage, old_stage, stage_by}
 pub use Rattle.law_state.specs.LaterStates.{HasLater}
 pub use Rattle.law_state.specs.LinkChanges.{IsCaughtIn, IsCaughtStill}
 pub use Rattle.law_state.specs.LinkRows.{ByBoth, ByNone, ByOne}
 pub use Rattle.law_state.specs.StartedBallots.{HasStarted}
 pub use Rattle.law_state.specs.Steady.{IsSteady}
 pub use Rattle.petal_command.specs.declared.pax.Pax.TheVariants.{Accept, Chosen, Prepare}
-pub use Rattle.petal_msg.specs.Kinds.{Filling, Logged, is_asked}
+pub use Rattle.petal_msg.specs.Kinds.{Filling, Logged, Read_asked, Write_asked, is_asked}
 pub use Rattle.petal_msg.specs.declared.copying.Copying.{Copying as Copy}
 pub use Rattle.petal_msg.specs.declared.operation.Ending.TheVariants.{Full, Written}
 pub use Rattle.petal_table.proofs.Rows.{at-empty, at-where}
@@ -121,7 +121,7 @@ pub use Rattle.spec_rules.specs.State.{is_on, needs_full_copy}
 pub use Rattle.spec_rules.specs.Store.{Chain, Store, version_of, with_entry, with_mark_on, with_ticket}
 pub use Rattle.spec_rules.specs.Sweeping.{retired_in, retired_key, retired_mark}
 pub use Rattle.spec_rules.specs.World.{clock_of, line_in, received}
-pub use Rattle.spec_rules.specs.Writes.{alone_action, both_action, has_slot, is_clients, standing, with_mark_at}
+pub use Rattle.spec_rules.specs.Writes.{alone_action, both_action, has_slot, standing, with_mark_at}
 pub use Rattle.spec_state.specs.CellState.{noted, region_leaving, region_on_way}
 pub use Rattle.spec_state.specs.Place.{touches_cell}
 pub use Rattle.spec_state.specs.Role.{is_the, row_in_both}

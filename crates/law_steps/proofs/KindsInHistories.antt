@@ -3,7 +3,7 @@ use Rattle.law_steps.proofs.Imports.{[], ◌++◌, ◌<◌, ◌∙◌, ◌∷◌
 use Rattle.law_steps.proofs.Imports.{HasProperTuples, In, IsBelow, IsPrefix, JobResult, List, Log, MayActor, MayServer, PairState, Pairs, Pending, Record}
 use Rattle.law_steps.proofs.Imports.{Script, Server, Setting, Some, State, Step, World, all_put, ap, append_assoc, arith, at, at-empty, awake, below_on}
 use Rattle.law_steps.proofs.Imports.{blanked, by_settled, cell_cmp, chosen_log, chosen_state, client_state, client_step, clock_of, crossed, false}
-use Rattle.law_steps.proofs.Imports.{front_plain, has_proposed, in_later, inl, inr, is_in, latter, log_below, next_line, none_some, proposed, put_same}
+use Rattle.law_steps.proofs.Imports.{has_proposed, in_later, inl, inr, is_in, latter, log_below, next_line, none_some, prefix_plain, proposed, put_same}
 use Rattle.law_steps.proofs.Imports.{raised, reacts, received, refl, server_state, server_step, setting_of, settled_by, settling, start, state_after}
 use Rattle.law_steps.proofs.Imports.{state_in, stays, step, stepped, steps_begin, subst, sym, true, true_false, wakes, world_after, world_joins, ℕ}
 use Rattle.spec_rules.specs.World.{acts}
@@ -43,14 +43,14 @@ module _ (setting : Setting) (w : World) (rests : Rests setting w) (firm : Firm 
       (sym (proposed_pairs (server_state setting w n) (w.servers n).own started))
       (ready_held (server_state setting w n) n _ _ (w.servers n).own.pairs.pending
       (λ cell op is alive unheld. ballot_unheld (own_place setting w n) (w.servers n).own started starts cell op is unheld) (rests.pending n)))
-  worked_ready n runs _ _ (By_entry log entry more front) =
+  worked_ready n runs _ _ (By_entry log entry more prefix) =
       let on : IsPrefix (w.servers n).log.applied log.applied = record { later = entry ∷ []; is = more } in
       let now = state_after setting.servers log.applied in
       by_settled (λ (own : PairState). IsReady now n (has_proposed now own) own.pairs.pending) (own_place setting w n) entry
       (crossed (server_state setting w n) entry (w.servers n).own) (λ store.
       ready_held (state_after setting.servers log.applied) n _ _ (w.servers n).own.pairs.pending
       (λ cell op is alive unheld.
-      let below = log_below setting.servers (w.servers n).log.applied log.applied (front_plain setting.servers _ _ firm.plain front) on in
+      let below = log_below setting.servers (w.servers n).log.applied log.applied (prefix_plain setting.servers _ _ firm.plain prefix) on in
       let s = (rests.pending n).staged cell op is in
       let grows = below.stages cell in
       let most = (live_stage now cell alive).1 in
@@ -59,7 +59,7 @@ module _ (setting : Setting) (w : World) (rests : Rests setting w) (firm : Firm 
         | inl h ↦ crossed_unheld (server_state setting w n) (state_after setting.servers log.applied) entry (w.servers n).own cell row.0 row.1 h unheld
         | inr died ↦ not_retired now cell alive died
       ])
-      (ready_at setting w firm rests n runs log.applied on front))
+      (ready_at setting w firm rests n runs log.applied on prefix))
 
   -- it has operations only while it is In as itself
   worked_seated : (n : ℕ) → (w.servers n).life.running ≡ true → (log : Log) (done : JobResult) → Worked setting w n log done → (cell : Cell) (op : Pending)
@@ -74,16 +74,16 @@ module _ (setting : Setting) (w : World) (rests : Rests setting w) (firm : Firm 
       subst (λ applied. is_in (state_after setting.servers applied) n (w.servers n).life.inc ≡ true) (sym same)
       (rests.seated n cell op runs
       (sym (ap (λ (p : Pairs). at cell_cmp p.pending cell) (proposed_pairs (server_state setting w n) (w.servers n).own started)) ∙ is))
-  worked_seated n runs _ _ (By_entry log entry more front) cell op is =
+  worked_seated n runs _ _ (By_entry log entry more prefix) cell op is =
       let e = (settling (own_place setting w n) entry (crossed (server_state setting w n) entry (w.servers n).own)).pairs in
-      runs_at setting w firm (w.servers n).log.applied log.applied (record { later = entry ∷ []; is = more }) front n runs
+      runs_at setting w firm (w.servers n).log.applied log.applied (record { later = entry ∷ []; is = more }) prefix n runs
       (rests.seated n cell op runs (sym (ap (λ (p : Pairs). at cell_cmp p.pending cell) e) ∙ is))
 
   worked_copying : (n : ℕ) (log : Log) (done : JobResult) → Worked setting w n log done → IsRising cell_cmp done.own.copies.pending
   worked_copying n _ _ (By_job log done same did seat) = (of_did (Handled w n) (own_place setting w n) (w.servers n).own done did).rises (rests.copying n)
   worked_copying n _ _ (By_ballot log started posts same starts says) =
       subst (IsRising cell_cmp) (sym (proposed_copies (server_state setting w n) (w.servers n).own started)) (rests.copying n)
-  worked_copying n _ _ (By_entry log entry more front) =
+  worked_copying n _ _ (By_entry log entry more prefix) =
       by_settled (λ (own : PairState). IsRising cell_cmp own.copies.pending) (own_place setting w n) entry
       (crossed (server_state setting w n) entry (w.servers n).own)
       (λ store. rising_filter cell_cmp _ (w.servers n).own.copies.pending (rests.copying n))
@@ -95,9 +95,9 @@ module _ (setting : Setting) (w : World) (rests : Rests setting w) (firm : Firm 
   worked_resting n _ _ (By_ballot log started posts same starts says) =
       subst (λ applied. AreResting (state_after setting.servers applied) n (proposed (server_state setting w n) (w.servers n).own started)) (sym same)
       (ballot_rests (own_place setting w n) (w.servers n).own started (rests.resting n))
-  worked_resting n _ _ (By_entry log entry more front) =
+  worked_resting n _ _ (By_entry log entry more prefix) =
       let plain : HasProperTuples setting.servers ((w.servers n).log.applied ++ entry ∷ []) =
-      subst (HasProperTuples setting.servers) more (front_plain setting.servers _ _ firm.plain front) in
+      subst (HasProperTuples setting.servers) more (prefix_plain setting.servers _ _ firm.plain prefix) in
       let own = crossed (server_state setting w n) entry (w.servers n).own in
       subst (λ applied. AreResting (state_after setting.servers applied) n (settled_by (own_place setting w n) entry own)) (sym more)
       (resting_equal (state_after setting.servers ((w.servers n).log.applied ++ entry ∷ [])) n own (settled_by (own_place setting w n) entry own)
@@ -181,12 +181,12 @@ module _ (setting : Setting) (w : World) (rests : Rests setting w) (firm : Firm 
       let v = (reacts w c stamp reacted).world in
       let t = client_turns setting w c what may.1 in
       let is : v.clients c ≡ reacted.client = put_same w.clients c reacted.client in
-      let front : IsPrefix reacted.client.applied (chosen_log setting v) =
+      let prefix : IsPrefix reacted.client.applied (chosen_log setting v) =
       subst (λ (x : Client). IsPrefix x.applied (chosen_log setting v)) is (later.clients c) in
       Turns c stamp (is_call what) reacted lt may.0 t.turned (record {
         grows = t.grows;
-        plain = front_plain setting.servers _ _ later.plain front;
-        below = below_on _ _ _ (log_below setting.servers _ _ later.plain front) below;
+        plain = prefix_plain setting.servers _ _ later.plain prefix;
+        below = below_on _ _ _ (log_below setting.servers _ _ later.plain prefix) below;
       })
 
 module _ (setting : Setting) (w : World) (own : Record) (rests : Rests setting w) (firm : Firm setting w) (follows : Follows setting w own)
@@ -219,15 +219,15 @@ module _ (setting : Setting) where
   firm_after w (own ∷ later) firm = firm_after (stepped setting w own).world later firm.2
 
   -- the parts of a history
-  pub front_legal : (w : World) (front following : List Record) → AreStepsFrom setting w (front ++ following)
-      → AreStepsFrom setting w front × AreStepsFrom setting (world_after setting w front) following
-  front_legal w front following legal = (steps_begin setting w front following legal, latter setting w front following legal)
+  pub prefix_legal : (w : World) (prefix following : List Record) → AreStepsFrom setting w (prefix ++ following)
+      → AreStepsFrom setting w prefix × AreStepsFrom setting (world_after setting w prefix) following
+  prefix_legal w prefix following legal = (steps_begin setting w prefix following legal, latter setting w prefix following legal)
 
-  pub front_firm : (w : World) (front following : List Record) → AreFirm setting w (front ++ following)
-      → AreFirm setting w front × AreFirm setting (world_after setting w front) following
-  front_firm w [] following firm = (firm_now setting w following firm, firm)
-  front_firm w (own ∷ front) following firm =
-      let rest = front_firm (stepped setting w own).world front following firm.2 in ((firm.0, firm.1, rest.0), rest.1)
+  pub prefix_firm : (w : World) (prefix following : List Record) → AreFirm setting w (prefix ++ following)
+      → AreFirm setting w prefix × AreFirm setting (world_after setting w prefix) following
+  prefix_firm w [] following firm = (firm_now setting w following firm, firm)
+  prefix_firm w (own ∷ prefix) following firm =
+      let rest = prefix_firm (stepped setting w own).world prefix following firm.2 in ((firm.0, firm.1, rest.0), rest.1)
 
   pub world_more : (w : World) (done : List Record) (own : Record)
       → world_after setting w (done ++ own ∷ []) ≡ (stepped setting (world_after setting w done) own).world
@@ -252,18 +252,18 @@ pub firm_way : (script : Script)
     → (records : List Record) → AreSteps script records → AreFirm (setting_of script) (start (setting_of script)) records
 firm_way script firm grows records legal = by [] records legal
   where
-    by : (front later : List Record) → AreSteps script (front ++ later)
-        → AreFirm (setting_of script) (world_after (setting_of script) (start (setting_of script)) front) later
-    by front [] legal = firm front (front_legal (setting_of script) (start (setting_of script)) front [] legal).0
-    by front (own ∷ later) legal =
+    by : (prefix later : List Record) → AreSteps script (prefix ++ later)
+        → AreFirm (setting_of script) (world_after (setting_of script) (start (setting_of script)) prefix) later
+    by prefix [] legal = firm prefix (prefix_legal (setting_of script) (start (setting_of script)) prefix [] legal).0
+    by prefix (own ∷ later) legal =
         let setting = setting_of script in
-        let w = world_after setting (start setting) front in
-        let e = world_more setting (start setting) front own in
-        let whole : AreSteps script ((front ++ own ∷ []) ++ later) = subst (AreSteps script) (sym (append_assoc front (own ∷ []) later)) legal in
-        let part = (front_legal setting (start setting) (front ++ own ∷ []) later whole).0 in (
-          firm front (front_legal setting (start setting) front (own ∷ later) legal).0,
-          subst (λ v. IsPrefix (chosen_log setting w) (chosen_log setting v)) e (grows (front ++ own ∷ []) part front (own ∷ []) refl),
-          subst (λ v. AreFirm setting v later) e (by (front ++ own ∷ []) later whole),
+        let w = world_after setting (start setting) prefix in
+        let e = world_more setting (start setting) prefix own in
+        let whole : AreSteps script ((prefix ++ own ∷ []) ++ later) = subst (AreSteps script) (sym (append_assoc prefix (own ∷ []) later)) legal in
+        let part = (prefix_legal setting (start setting) (prefix ++ own ∷ []) later whole).0 in (
+          firm prefix (prefix_legal setting (start setting) prefix (own ∷ later) legal).0,
+          subst (λ v. IsPrefix (chosen_log setting w) (chosen_log setting v)) e (grows (prefix ++ own ∷ []) part prefix (own ∷ []) refl),
+          subst (λ v. AreFirm setting v later) e (by (prefix ++ own ∷ []) later whole),
         )
 
 pub ready_after : (script : Script) (records : List Record) → AreFirm (setting_of script) (start (setting_of script)) records → AreSteps script records
@@ -278,16 +278,16 @@ ready_after script records firm legal state below =
     }
 
 -- the last step of a history is of a kind, at each state from the chosen one on
-pub last_happens : (script : Script) (front : List Record) (own : Record) → AreFirm (setting_of script) (start (setting_of script)) (front ++ own ∷ [])
-    → AreSteps script (front ++ own ∷ []) → (state : State)
-    → IsBelow (chosen_state (setting_of script) (world_after (setting_of script) (start (setting_of script)) (front ++ own ∷ []))) state
-    → Happens (setting_of script) state (world_after (setting_of script) (start (setting_of script)) front)
-    (world_after (setting_of script) (start (setting_of script)) (front ++ own ∷ []))
-last_happens script front own firm legal state =
+pub last_happens : (script : Script) (prefix : List Record) (own : Record) → AreFirm (setting_of script) (start (setting_of script)) (prefix ++ own ∷ [])
+    → AreSteps script (prefix ++ own ∷ []) → (state : State)
+    → IsBelow (chosen_state (setting_of script) (world_after (setting_of script) (start (setting_of script)) (prefix ++ own ∷ []))) state
+    → Happens (setting_of script) state (world_after (setting_of script) (start (setting_of script)) prefix)
+    (world_after (setting_of script) (start (setting_of script)) (prefix ++ own ∷ []))
+last_happens script prefix own firm legal state =
     let setting = setting_of script in
-    let w = world_after setting (start setting) front in
-    let firms = front_firm setting (start setting) front (own ∷ []) firm in
-    let parts = front_legal setting (start setting) front (own ∷ []) legal in
-    let rests = rests_after setting (start setting) front firms.0 (start_rests script) parts.0 in
-    subst (λ v. IsBelow (chosen_state setting v) state → Happens setting state w v) (sym (world_more setting (start setting) front own))
+    let w = world_after setting (start setting) prefix in
+    let firms = prefix_firm setting (start setting) prefix (own ∷ []) firm in
+    let parts = prefix_legal setting (start setting) prefix (own ∷ []) legal in
+    let rests = rests_after setting (start setting) prefix firms.0 (start_rests script) parts.0 in
+    subst (λ v. IsBelow (chosen_state setting v) state → Happens setting state w v) (sym (world_more setting (start setting) prefix own))
     (happens setting w own rests firms.1.0 parts.1.0 firms.1.2 state)

@@ -1,14 +1,13 @@
 -- Each letter of a step is of a job that a server did; else it is of the agreed log, of a glance, or a client's request.
-use Rattle.law_steps.proofs.Imports.{◌==◌, ◌||◌, ◌∙◌, ◌≡◌, ◌≢◌, ◌⊎◌, Acted, Bool, Glanced, In, Job, JobResult, Letter, List, Log, Logged, Post}
-use Rattle.law_steps.proofs.Imports.{Sender, Setting, State, Step, Subject, Work, World, ap, client_sender, down_posts, false, filter}
-use Rattle.law_steps.proofs.Imports.{in-append, inl, inr, is_asked, is_logged, letters_of, not, put_apart, put_same, range_with_len, refl, said_to_all, sender}
-use Rattle.law_steps.proofs.Imports.{stamped, subject_of, true, true_false, ℕ}
+use Rattle.law_steps.proofs.Imports.{◌==◌, ◌||◌, ◌∙◌, ◌≡◌, ◌≢◌, ◌⊎◌, Acted, Bool, Glanced, In, Job, JobResult, Letter, List, Log, Logged, Post, Read_asked}
+use Rattle.law_steps.proofs.Imports.{Sender, Setting, State, Step, Subject, Work, World, Write_asked, ap, client_sender, down_posts, false, filter, in-append}
+use Rattle.law_steps.proofs.Imports.{inl, inr, is_asked, is_logged, letters_of, not, put_apart, put_same, range_with_len, refl, said_to_all, sender, stamped}
+use Rattle.law_steps.proofs.Imports.{subject_of, true, true_false, ℕ}
 use Rattle.law_steps.specs.Did.{Did}
 use Rattle.law_steps.specs.DidStep.{By_ballot, By_entry, By_job, Ends, Fails, Goes, Handled, Happens, IsIdle, IsSeatedOrMute, Blanks, Serves, Serving, Stays}
 use Rattle.law_steps.specs.DidStep.{Turns, Wakes, own_place, served_so}
 use Rattle.law_steps.proofs.ClientLetters.{is_ask, turned_asks}
 use Rattle.law_steps.proofs.Letters.{Said, said}
-use Rattle.petal_msg.specs.Kinds.{Read_asked, Write_asked}
 use Rattle.petal_msg.specs.declared.body.Body.TheVariants as body
 use Rattle.spec_rules.specs.declared.step.WorkEnd.TheVariants as work_end
 
@@ -86,7 +85,7 @@ module _ (setting : Setting) (w : World) (n stamp : ℕ) (what : Step) where
       })
   serves_sent acted (Goes _ _ queue runs (By_ballot log started posts same starts logged) queued works) letter h =
       notice acted _ posts (λ post i. logged_notice (subject_of post.body) (logged post i)) letter h
-  serves_sent _ (Goes _ _ queue runs (By_entry log entry more front) queued works) letter h = absurd h
+  serves_sent _ (Goes _ _ queue runs (By_entry log entry more prefix) queued works) letter h = absurd h
   serves_sent acted (Ends log done runs worked) letter h = notice acted _ _ (downs _) letter h
   serves_sent acted (Stays who posts from shown) letter h = notice acted who posts (λ post i. ap is_notice (shown post i)) letter h
   serves_sent acted (Wakes booted asleep) letter h = notice acted _ _ (downs _) letter h

@@ -1,10 +1,10 @@
 -- What is known of the servers' states in one world whose log is firm, and what rests at a state rests at the later ones.
-use Rattle.law_steps.proofs.Imports.{[], ◌++◌, ◌+◌, ◌<◌, ◌∙◌, ◌∷◌, ◌≡◌, ◌≤◌, Bool, Caught, Cell, Command, Firm, HasDied, HasLater, HasProperTuples}
-use Rattle.law_steps.proofs.Imports.{HasStarted, In, IsBelow, IsCaughtStill, IsHeldBy, IsPrefix, IsSteady, Job, Letter, LinkRow, List, None, Only, Option}
+use Rattle.law_steps.proofs.Imports.{[], ◌++◌, ◌+◌, ◌<◌, ◌∙◌, ◌∷◌, ◌≡◌, ◌≤◌, Bool, Caught, Cell, Command, Firm, HasLater, HasProperTuples, HasStarted, In}
+use Rattle.law_steps.proofs.Imports.{IsBelow, IsCaughtStill, IsHeldBy, IsPrefix, IsRetired, IsSteady, Job, Letter, LinkRow, List, None, Only, Option}
 use Rattle.law_steps.proofs.Imports.{PairState, Pending, Setting, Some, State, Table, World, alone_not_both, alone_row, ap, arith, at, between, by_bool}
-use Rattle.law_steps.proofs.Imports.{cell_cmp, cell_link, chosen_log, chosen_state, false, front_itself, front_long, front_more, front_on, front_plain}
-use Rattle.law_steps.proofs.Imports.{has_proposed, holder_is_one, holds_link, id_of, in_both, in_once, in_up, inl, inr, is_alone_on, is_in, leads_link}
-use Rattle.law_steps.proofs.Imports.{length, link_named, live, log_alone, log_below, log_roles, log_steady, max, number_itself, other_of, proposed, refl}
+use Rattle.law_steps.proofs.Imports.{cell_cmp, cell_link, chosen_log, chosen_state, false, has_proposed, holder_is_one, holds_link, id_of, in_both, in_once}
+use Rattle.law_steps.proofs.Imports.{in_up, inl, inr, is_alone_on, is_in, leads_link, length, link_named, live, log_alone, log_below, log_roles, log_steady}
+use Rattle.law_steps.proofs.Imports.{max, number_itself, other_of, prefix_itself, prefix_long, prefix_more, prefix_on, prefix_plain, proposed, refl}
 use Rattle.law_steps.proofs.Imports.{same_only, server_state, serves, so_alone, so_both, stage_at, state_after, subst, sym, true, true_false, ℕ}
 use Rattle.law_steps.specs.DidStep.{AreQueued}
 use Rattle.law_steps.specs.Ready.{IsReady, Rests}
@@ -38,7 +38,7 @@ ready_held state me held later pending less ready = record {
 }
 
 -- a live cell is not retired
-pub not_retired : {B : Type 0} (state : State) (cell : Cell) → live state cell ≡ true → HasDied state cell → B
+pub not_retired : {B : Type 0} (state : State) (cell : Cell) → live state cell ≡ true → IsRetired state cell → B
 not_retired state cell alive died =
     let most = (live_stage state cell alive).1 in
     let retired = died.1 in
@@ -48,35 +48,35 @@ not_retired state cell alive died =
 -- stands between them on the link of an operation
 pub record LaterPending : Type 0 where
   pub servers : ℕ
-  pub front : List Command
+  pub prefix : List Command
   pub whole : List Command
   pub plain : HasProperTuples servers whole
-  pub prefix : IsPrefix front whole
+  pub is_prefix : IsPrefix prefix whole
   pub n : ℕ
   pub inc : ℕ
   pub held : Cell → Bool
   pub pending : Table Cell Pending
-  pub before : (cell : Cell) (op : Pending) → at cell_cmp pending cell ≡ Some op → is_in (state_after servers front) n inc ≡ true
+  pub before : (cell : Cell) (op : Pending) → at cell_cmp pending cell ≡ Some op → is_in (state_after servers prefix) n inc ≡ true
   pub still : (cell : Cell) (op : Pending) → at cell_cmp pending cell ≡ Some op → is_in (state_after servers whole) n inc ≡ true
   pub caught : (cell : Cell) (op : Pending) → at cell_cmp pending cell ≡ Some op → (row : LinkRow) (copied : Bool)
-      → cell_link (state_after servers front) cell ≡ Some row → IsCaughtStill servers front whole cell row n copied → held cell ≡ true
-  pub ready : IsReady (state_after servers front) n held pending
+      → cell_link (state_after servers prefix) cell ≡ Some row → IsCaughtStill servers prefix whole cell row n copied → held cell ≡ true
+  pub ready : IsReady (state_after servers prefix) n held pending
 
 -- what rests at the earlier state rests at the later one
 module _ (it : LaterPending) where
-  open it use {servers, front, whole, plain, prefix, n, inc, held, pending, before, still, caught, ready}
+  open it use {servers, prefix, whole, plain, is_prefix, n, inc, held, pending, before, still, caught, ready}
 
   abbrev earlier : State
-  earlier = state_after servers front
+  earlier = state_after servers prefix
 
   abbrev later : State
   later = state_after servers whole
 
   was_steady : IsSteady earlier
-  was_steady = log_steady servers front (front_plain servers front whole plain prefix)
+  was_steady = log_steady servers prefix (prefix_plain servers prefix whole plain is_prefix)
 
   goes_forward : (cell : Cell) → stage_at earlier cell ≤ stage_at later cell
-  goes_forward cell = (log_below servers front whole plain prefix).stages cell
+  goes_forward cell = (log_below servers prefix whole plain is_prefix).stages cell
 
   -- a cell that is live later was live when its operation was opened, and is so since
   was_live : (cell : Cell) (op : Pending) → at cell_cmp pending cell ≡ Some op → live later cell ≡ true → live earlier cell ≡ true
@@ -87,7 +87,7 @@ module _ (it : LaterPending) where
       stage_live earlier cell born (omega arith)
 
   later_row : (cell : Cell) (row : LinkRow) → cell_link earlier cell ≡ Some row → live later cell ≡ true → HasLater earlier later cell row
-  later_row cell row there alive = elim ((log_below servers front whole plain prefix).rows cell row there) [
+  later_row cell row there alive = elim ((log_below servers prefix whole plain is_prefix).rows cell row there) [
     | inl h ↦ h
     | inr died ↦ not_retired later cell alive died
   ]
@@ -100,7 +100,7 @@ module _ (it : LaterPending) where
       let held : IsHeldBy earlier cell n =
       record { row = row; is = there; linked = was_steady.linked cell row there; whole = copied; so = alone; up = in_up earlier n inc (before cell op is) } in
       let on = h.on n inc (holder_is_one earlier cell n held) (ap (serves n row) alone ∙ number_itself n) (before cell op is) (still cell op is) in
-      elim (log_alone servers front whole plain prefix cell row h.now n copied there alone h.is) [
+      elim (log_alone servers prefix whole plain is_prefix cell row h.now n copied there alone h.is) [
         | inl same ↦ so_alone later n cell h.now same.0 h.is same.1
         | inr (inl gone) ↦ true_false on (ap (serves n h.now) gone.0)
         | inr (inr found) ↦ true_false (caught cell op is row copied there found) ((ready.staged cell op is).unheld (was_live cell op is alive))
@@ -108,7 +108,7 @@ module _ (it : LaterPending) where
 
   lead_still : (cell : Cell) (op : Pending) → at cell_cmp pending cell ≡ Some op → live later cell ≡ true → leads_link later n cell ≡ true
   lead_still cell op is alive =
-      elim ((log_roles servers front whole plain prefix).leads n inc cell (before cell op is) (still cell op is)
+      elim ((log_roles servers prefix whole plain is_prefix).leads n inc cell (before cell op is) (still cell op is)
       ((ready.staged cell op is).leads (was_live cell op is alive))) [
         | inl leads ↦ leads
         | inr (inl come) ↦ (
@@ -147,7 +147,7 @@ module _ (it : LaterPending) where
 
 module _ (setting : Setting) (w : World) (firm : Firm setting w) where
   pub own_plain : (n : ℕ) → HasProperTuples setting.servers (w.servers n).log.applied
-  own_plain n = front_plain setting.servers _ _ firm.plain (firm.servers n)
+  own_plain n = prefix_plain setting.servers _ _ firm.plain (firm.servers n)
 
   pub own_steady : (n : ℕ) → IsSteady (server_state setting w n)
   own_steady n = log_steady setting.servers _ (own_plain n)
@@ -158,13 +158,13 @@ module _ (setting : Setting) (w : World) (firm : Firm setting w) where
   pub own_below : (n : ℕ) → IsBelow (server_state setting w n) (chosen_state setting w)
   own_below n = log_below setting.servers _ _ firm.plain (firm.servers n)
 
-  -- a running server that is In as itself by some entries is so by each front of what is chosen that goes on from them
-  pub runs_at : (front more : List Command) → IsPrefix front more → IsPrefix more (chosen_log setting w) → (n : ℕ) → (w.servers n).life.running ≡ true
-      → is_in (state_after setting.servers front) n (w.servers n).life.inc ≡ true → is_in (state_after setting.servers more) n (w.servers n).life.inc ≡ true
-  runs_at front more one two n runs is =
-      between (state_after setting.servers front) (state_after setting.servers more) (chosen_state setting w) n (w.servers n).life.inc
-      ((log_below setting.servers front more (front_plain setting.servers _ _ firm.plain two) one).ages n)
-      ((log_below setting.servers more _ firm.plain two).ages n) is (firm.runs n front runs (front_on front more _ one two) is)
+  -- a running server that is In as itself by some entries is so by each prefix of what is chosen that goes on from them
+  pub runs_at : (prefix more : List Command) → IsPrefix prefix more → IsPrefix more (chosen_log setting w) → (n : ℕ) → (w.servers n).life.running ≡ true
+      → is_in (state_after setting.servers prefix) n (w.servers n).life.inc ≡ true → is_in (state_after setting.servers more) n (w.servers n).life.inc ≡ true
+  runs_at prefix more one two n runs is =
+      between (state_after setting.servers prefix) (state_after setting.servers more) (chosen_state setting w) n (w.servers n).life.inc
+      ((log_below setting.servers prefix more (prefix_plain setting.servers _ _ firm.plain two) one).ages n)
+      ((log_below setting.servers more _ firm.plain two).ages n) is (firm.runs n prefix runs (prefix_on prefix more _ one two) is)
 
   -- by what is chosen, where it is by its own state
   pub runs_now : (n : ℕ) → (w.servers n).life.running ≡ true → is_in (server_state setting w n) n (w.servers n).life.inc ≡ true
@@ -179,9 +179,9 @@ module _ (setting : Setting) (w : World) (firm : Firm setting w) where
   caught_held n more on chosen runs seat cell row copied is still =
       let found = still.found in
       let acts = found.acts in
-      let stands = front_on (found.until ++ found.entry ∷ []) more (chosen_log setting w) found.stands chosen in
+      let stands = prefix_on (found.until ++ found.entry ∷ []) more (chosen_log setting w) found.stands chosen in
       let mine : acts.holder ≡ n = same_only (sym acts.alone) in
-      let until_chosen = front_on found.until _ _ (front_more found.until found.entry) stands in
+      let until_chosen = prefix_on found.until _ _ (prefix_more found.until found.entry) stands in
       let seated_then = runs_at (w.servers n).log.applied found.until found.following until_chosen n runs seat in
       let inc_is : acts.inc ≡ (w.servers n).life.inc =
       in_once (state_after setting.servers found.until) n acts.inc (w.servers n).life.inc
@@ -193,21 +193,21 @@ module _ (setting : Setting) (w : World) (firm : Firm setting w) where
         | inl past ↦ absurd (omega (arith, inc_is))
         | inr flag ↦ (
             let reached = flag.1.reached in
-            let long = front_long (w.servers n).log.applied found.until found.following in
+            let long = prefix_long (w.servers n).log.applied found.until found.following in
             held_as_flag (server_state setting w n) (w.servers n).own cell row is ∙ flag.1.flagged (omega arith))
       ]
 
-  -- what rests where a server runs, rests at each front of what is chosen from its own entries on
+  -- what rests where a server runs, rests at each prefix of what is chosen from its own entries on
   pub ready_at : Rests setting w → (n : ℕ) → (w.servers n).life.running ≡ true → (more : List Command) → IsPrefix (w.servers n).log.applied more
       → IsPrefix more (chosen_log setting w)
       → IsReady (state_after setting.servers more) n (has_proposed (server_state setting w n) (w.servers n).own) (w.servers n).own.pairs.pending
   ready_at rests n runs more on chosen =
       ready_on (record {
         servers = setting.servers;
-        front = (w.servers n).log.applied;
+        prefix = (w.servers n).log.applied;
         whole = more;
-        plain = front_plain setting.servers more _ firm.plain chosen;
-        prefix = on;
+        plain = prefix_plain setting.servers more _ firm.plain chosen;
+        is_prefix = on;
         n = n;
         inc = (w.servers n).life.inc;
         held = has_proposed (server_state setting w n) (w.servers n).own;
@@ -220,7 +220,7 @@ module _ (setting : Setting) (w : World) (firm : Firm setting w) where
 
   pub ready_chosen : Rests setting w → (n : ℕ) → (w.servers n).life.running ≡ true
       → IsReady (chosen_state setting w) n (has_proposed (server_state setting w n) (w.servers n).own) (w.servers n).own.pairs.pending
-  ready_chosen rests n runs = ready_at rests n runs (chosen_log setting w) (firm.servers n) (front_itself (chosen_log setting w))
+  ready_chosen rests n runs = ready_at rests n runs (chosen_log setting w) (firm.servers n) (prefix_itself (chosen_log setting w))
 
 pub chosen_below : (setting : Setting) (w v : World) → Firm setting v → IsPrefix (chosen_log setting w) (chosen_log setting v)
     → IsBelow (chosen_state setting w) (chosen_state setting v)

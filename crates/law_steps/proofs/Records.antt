@@ -33,12 +33,12 @@ split_one (x ∷ xs) y (b ∷ before) z later e = elim (split_one xs y before z 
   | inr more ↦ inr (more.0, λ i. heads e i ∷ more.1 i)
 ]
 
--- of two fronts of a list one goes on from the other, and then so does what stands after the other
-pub split_fronts : {A : Type 0} (one rest two later : List A) → one ++ rest ≡ two ++ later
+-- of two prefixes of a list one goes on from the other, and then so does what stands after the other
+pub split_prefixes : {A : Type 0} (one rest two later : List A) → one ++ rest ≡ two ++ later
     → ((more : List A) × (two ≡ one ++ more) × (rest ≡ more ++ later)) ⊎ ((more : List A) × (one ≡ two ++ more) × (later ≡ more ++ rest))
-split_fronts [] rest two later e = inl (two, refl, e)
-split_fronts (x ∷ one) rest [] later e = inr (x ∷ one, refl, sym e)
-split_fronts (x ∷ one) rest (y ∷ two) later e = elim (split_fronts one rest two later (tails e)) [
+split_prefixes [] rest two later e = inl (two, refl, e)
+split_prefixes (x ∷ one) rest [] later e = inr (x ∷ one, refl, sym e)
+split_prefixes (x ∷ one) rest (y ∷ two) later e = elim (split_prefixes one rest two later (tails e)) [
   | inl past ↦ inl (past.0, (λ i. sym (heads e) i ∷ past.1 i), past.2)
   | inr before ↦ inr (before.0, (λ i. heads e i ∷ before.1 i), before.2)
 ]

@@ -2,10 +2,10 @@
 use Rattle.law_steps.proofs.Imports.{[], if◌then◌else◌, ◌&&◌, ◌++◌, ◌==◌, ◌||◌, ◌∙◌, ◌∷◌, ◌≡◌, ◌≤◌, Bool, Cell, Command, Copies, HasProperTuple}
 use Rattle.law_steps.proofs.Imports.{HasProperTuples, In, IsSettledState, LinkRow, List, None, Option, PairState, Some, State, StaysSo, Table, after, ap}
 use Rattle.law_steps.proofs.Imports.{arith, at, at-empty, at-where, both_true, by_bool, by_test, cell_cmp, cell_cmp_same, cell_link, cond, crossed, dies}
-use Rattle.law_steps.proofs.Imports.{either_false, ends_cell, ends_link, entry_stays, false, filter, fold-append, front_more, id_of, in_former, in_later}
-use Rattle.law_steps.proofs.Imports.{in_up, inc_of, inl, inr, is_alone, is_eq, is_none, is_up, link_cmp, live, log_below, log_plain, no_copies, no_progress}
-use Rattle.law_steps.proofs.Imports.{none_some, not, option_map_or, other_in, other_of, refl, same_id, same_some, stage_at, stage_most, state_after, subst}
-use Rattle.law_steps.proofs.Imports.{sym, touches, touches_cell, true, true_false, unwrap_or, up_some, ℕ}
+use Rattle.law_steps.proofs.Imports.{either_false, ends_cell, ends_link, entry_stays, false, filter, fold-append, id_of, in_former, in_later, in_up, inc_of}
+use Rattle.law_steps.proofs.Imports.{inl, inr, is_alone, is_eq, is_none, is_up, link_cmp, live, log_below, log_plain, no_copies, no_progress, none_some, not}
+use Rattle.law_steps.proofs.Imports.{option_map_or, other_in, other_of, prefix_more, refl, same_id, same_some, stage_at, stage_most, state_after, subst, sym}
+use Rattle.law_steps.proofs.Imports.{touches, touches_cell, true, true_false, unwrap_or, up_some, ℕ}
 use Rattle.spec_state.specs.State.{start}
 use Rattle.law_steps.specs.RestingCopies.{AreResting}
 use Rattle.law_steps.proofs.WhoLeads.{live_stage}
@@ -106,7 +106,7 @@ pub log_rests : (servers : ℕ) (log : List Command) (entry : Command) → HasPr
     → AreResting (state_after servers log) me own → AreResting (state_after servers (log ++ entry ∷ [])) me (crossed (state_after servers log) entry own)
 unfolding In
 log_rests servers log entry plain me own r =
-    let below = log_below servers log (log ++ entry ∷ []) plain (front_more log entry) in
+    let below = log_below servers log (log ++ entry ∷ []) plain (prefix_more log entry) in
     let following : state_after servers (log ++ entry ∷ []) ≡ after (state_after servers log) entry = fold-append after (start servers) log (entry ∷ []) in
     subst (λ (t : State). AreResting t me (crossed (state_after servers log) entry own)) (sym following)
     (crossed_rests servers (state_after servers log) (log_plain servers log (λ command i. plain command (in_former command log (entry ∷ []) i))) entry

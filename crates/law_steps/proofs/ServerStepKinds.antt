@@ -157,9 +157,9 @@ module _ (it : KnownServer) where
   F what acted = Firm setting (acts setting w n what stamp acted).world
 
   -- an entry that the server applied stood in what was chosen before
-  front_known : (what : Step) (acted : Acted) → F what acted → acted.server.log.records ≡ log.records
+  prefix_known : (what : Step) (acted : Acted) → F what acted → acted.server.log.records ≡ log.records
       → IsPrefix acted.server.log.applied (chosen_log setting w)
-  front_known what acted later same =
+  prefix_known what acted later same =
       subst (IsPrefix acted.server.log.applied) (chosen_same setting w n stamp what acted same)
       (subst (λ (x : Server). IsPrefix x.log.applied (chosen_log setting (acts setting w n what stamp acted).world)) (put_same w.servers n acted.server)
       (later.servers n))
@@ -175,7 +175,7 @@ module _ (it : KnownServer) where
   goes_on _ runs (An_entry after entry queue more same queued) later =
       let done = silent (settled_by here entry (crossed here.state entry own)) in
       Goes after done queue runs
-      (By_entry after entry more (front_known (Work work_end.Done) (served_so setting w n after done queue) later same))
+      (By_entry after entry more (prefix_known (Work work_end.Done) (served_so setting w n after done queue) later same))
       queued (inl refl)
 
   -- its commit is made, and the server stops
@@ -184,7 +184,7 @@ module _ (it : KnownServer) where
   ends_so what _ runs (A_ballot after started posts queue same starts says queued) later = Ends after _ runs (By_ballot after started posts same starts says)
   ends_so what _ runs (An_entry after entry queue more same queued) later =
       let done = silent (settled_by here entry (crossed here.state entry own)) in
-      Ends after done runs (By_entry after entry more (front_known what (stopped_so setting w n after done) later same))
+      Ends after done runs (By_entry after entry more (prefix_known what (stopped_so setting w n after done) later same))
 
   works_serve : (queue : List Job) → server.queue ≡ queue → (queue ≡ [] → ⊥) → server.life.running ≡ true → F (Work work_end.Done) (works here server queue)
       → S (Work work_end.Done) (works here server queue)

@@ -1,8 +1,8 @@
 -- What ties a server that runs to what is chosen: a Caught of its own stands at most after its last entry.
 use Rattle.law_steps.proofs.Imports.{[], ◌++◌, ◌<◌, ◌∙◌, ◌∷◌, ◌≡◌, Bool, Both, ByBoth, ByNone, ByOne, Cell, Command, Firm, HasLater, HasStarted, IsCaughtIn}
-use Rattle.law_steps.proofs.Imports.{IsPrefix, LinkRow, List, Only, Setting, Some, State, StaysSo, World, ap, arith, cell_link, chosen_log, front_long}
-use Rattle.law_steps.proofs.Imports.{front_more, front_on, front_plain, has_proposed, has_server, id_of, in_once, inl, inr, is_alone_on, is_in, length}
-use Rattle.law_steps.proofs.Imports.{log_below, log_both, log_steady, none_some, one_front, other_of, places_from, same_numbers, same_place, same_some}
+use Rattle.law_steps.proofs.Imports.{IsPrefix, LinkRow, List, Only, Setting, Some, State, StaysSo, World, ap, arith, cell_link, chosen_log, has_proposed}
+use Rattle.law_steps.proofs.Imports.{has_server, id_of, in_once, inl, inr, is_alone_on, is_in, length, log_below, log_both, log_steady, none_some, one_prefix}
+use Rattle.law_steps.proofs.Imports.{other_of, places_from, prefix_long, prefix_more, prefix_on, prefix_plain, same_numbers, same_place, same_some}
 use Rattle.law_steps.proofs.Imports.{server_state, serves, so_alone, stage_at, state_after, subst, sym, true, true_false, ℕ}
 use Rattle.spec_state.specs.State.{start}
 use Rattle.law_state.proofs.GrownStates.{alone_not_both}
@@ -10,65 +10,65 @@ use Rattle.law_steps.specs.Ties.{StaysAloneOrCaught, StaysInBoth}
 use Rattle.law_steps.proofs.KindsInHistories.{runs_at}
 use Rattle.law_steps.proofs.HeldBackForCaughts.{held_as_flag}
 
--- a server that runs, and two fronts of what is chosen that go on from its own entries; by the first one it is In as itself
-pub record RunningFronts : Type 0 where
+-- a server that runs, and two prefixes of what is chosen that go on from its own entries; by the first one it is In as itself
+pub record RunningPrefixes : Type 0 where
   pub setting : Setting
   pub w : World
   pub firm : Firm setting w
   pub n : ℕ
   pub runs : (w.servers n).life.running ≡ true
-  pub front : List Command
+  pub prefix : List Command
   pub more : List Command
-  pub own : IsPrefix (w.servers n).log.applied front
-  pub prefix : IsPrefix front more
+  pub own : IsPrefix (w.servers n).log.applied prefix
+  pub is_prefix : IsPrefix prefix more
   pub chosen : IsPrefix more (chosen_log setting w)
-  pub seat : is_in (state_after setting.servers front) n (w.servers n).life.inc ≡ true
+  pub seat : is_in (state_after setting.servers prefix) n (w.servers n).life.inc ≡ true
 
-abbrev pub running_fronts : {setting : Setting} {w : World} → Firm setting w → (n : ℕ) → (w.servers n).life.running ≡ true → {front more : List Command}
-    → IsPrefix (w.servers n).log.applied front → IsPrefix front more → IsPrefix more (chosen_log setting w)
-    → is_in (state_after setting.servers front) n (w.servers n).life.inc ≡ true → RunningFronts
-running_fronts {setting} {w} firm n runs {front} {more} own prefix chosen seat = record {
+abbrev pub running_prefixes : {setting : Setting} {w : World} → Firm setting w → (n : ℕ) → (w.servers n).life.running ≡ true → {prefix more : List Command}
+    → IsPrefix (w.servers n).log.applied prefix → IsPrefix prefix more → IsPrefix more (chosen_log setting w)
+    → is_in (state_after setting.servers prefix) n (w.servers n).life.inc ≡ true → RunningPrefixes
+running_prefixes {setting} {w} firm n runs {prefix} {more} own is_prefix chosen seat = record {
   setting = setting;
   w = w;
   firm = firm;
   n = n;
   runs = runs;
-  front = front;
+  prefix = prefix;
   more = more;
   own = own;
-  prefix = prefix;
+  is_prefix = is_prefix;
   chosen = chosen;
   seat = seat;
 }
 
-module _ (it : RunningFronts) (cell : Cell) (row : LinkRow) (is : cell_link (state_after it.setting.servers it.front) cell ≡ Some row)
+module _ (it : RunningPrefixes) (cell : Cell) (row : LinkRow) (is : cell_link (state_after it.setting.servers it.prefix) cell ≡ Some row)
     (has : has_server it.n row ≡ true) (serving : serves it.n row row.state ≡ true)
     (under : stage_at (state_after it.setting.servers it.more) cell < 4) where
-  open it use {setting, w, firm, n, runs, front, more, own, prefix, chosen, seat}
+  open it use {setting, w, firm, n, runs, prefix, more, own, is_prefix, chosen, seat}
 
   abbrev earlier : State
-  earlier = state_after setting.servers front
+  earlier = state_after setting.servers prefix
 
   abbrev later : State
   later = state_after setting.servers more
 
   -- a Caught after these entries, of a link that the server serves, is its own, and stands after its last entry
-  record IsOwn (found : LinkRow) (c : IsCaughtIn setting.servers front more cell found) : Type 0 where
+  record IsOwn (found : LinkRow) (c : IsCaughtIn setting.servers prefix more cell found) : Type 0 where
     whole : Bool
     mine : found.state ≡ Only n whole
-    at : c.until ≡ front
-    own_at : front ≡ (w.servers n).log.applied
+    at : c.until ≡ prefix
+    own_at : prefix ≡ (w.servers n).log.applied
     started : has_proposed (server_state setting w n) (w.servers n).own cell ≡ true
 
-  own_caught : (found : LinkRow) (c : IsCaughtIn setting.servers front more cell found) → IsOwn found c
+  own_caught : (found : LinkRow) (c : IsCaughtIn setting.servers prefix more cell found) → IsOwn found c
   own_caught found c =
       let acts = c.acts in
-      let stands = front_on (c.until ++ c.entry ∷ []) more (chosen_log setting w) c.stands chosen in
-      let until_chosen = front_on c.until _ _ (front_more c.until c.entry) stands in
-      let front_chosen = front_on front more _ prefix chosen in
-      let seated_then = runs_at setting w firm front c.until c.following until_chosen n runs seat in
+      let stands = prefix_on (c.until ++ c.entry ∷ []) more (chosen_log setting w) c.stands chosen in
+      let until_chosen = prefix_on c.until _ _ (prefix_more c.until c.entry) stands in
+      let prefix_chosen = prefix_on prefix more _ is_prefix chosen in
+      let seated_then = runs_at setting w firm prefix c.until c.following until_chosen n runs seat in
       let h : HasLater earlier (state_after setting.servers c.until) cell row =
-      elim ((log_below setting.servers front c.until (front_plain setting.servers c.until _ firm.plain until_chosen) c.following).rows cell row is) [
+      elim ((log_below setting.servers prefix c.until (prefix_plain setting.servers c.until _ firm.plain until_chosen) c.following).rows cell row is) [
         | inl on ↦ on
         | inr died ↦ none_some died.0 c.was
       ] in
@@ -85,11 +85,11 @@ module _ (it : RunningFronts) (cell : Cell) (row : LinkRow) (is : cell_link (sta
         | inl past ↦ absurd (omega (arith, inc_is))
         | inr flag ↦ (
             let reached = flag.1.reached in
-            let one = front_long (w.servers n).log.applied front own in
-            let two = front_long front c.until c.following in
-            let at : c.until ≡ front = one_front c.until front (chosen_log setting w) until_chosen front_chosen (omega arith) in
-            let own_at : front ≡ (w.servers n).log.applied =
-            one_front front (w.servers n).log.applied (chosen_log setting w) front_chosen (firm.servers n) (omega arith) in
+            let one = prefix_long (w.servers n).log.applied prefix own in
+            let two = prefix_long prefix c.until c.following in
+            let at : c.until ≡ prefix = one_prefix c.until prefix (chosen_log setting w) until_chosen prefix_chosen (omega arith) in
+            let own_at : prefix ≡ (w.servers n).log.applied =
+            one_prefix prefix (w.servers n).log.applied (chosen_log setting w) prefix_chosen (firm.servers n) (omega arith) in
             let there : cell_link (server_state setting w n) cell ≡ Some found =
             ap (λ log. cell_link (state_after setting.servers log) cell) (sym own_at)
             ∙ ap (λ log. cell_link (state_after setting.servers log) cell) (sym at) ∙ c.was in
@@ -105,12 +105,12 @@ module _ (it : RunningFronts) (cell : Cell) (row : LinkRow) (is : cell_link (sta
   -- the later row: in Both, or the server holds it alone
   by_later : {B : Type 0} → ((now : LinkRow) → cell_link later cell ≡ Some now → now.state ≡ Both → B) → (is_alone_on later n cell ≡ true → B) → B
   by_later both alone =
-      let plain = front_plain setting.servers more _ firm.plain chosen in
-      let h : HasLater earlier later cell row = elim ((log_below setting.servers front more plain prefix).rows cell row is) [
+      let plain = prefix_plain setting.servers more _ firm.plain chosen in
+      let h : HasLater earlier later cell row = elim ((log_below setting.servers prefix more plain is_prefix).rows cell row is) [
         | inl on ↦ on
         | inr died ↦ (let retired = died.1 in absurd (omega (arith, under)))
       ] in
-      let on = h.on n (w.servers n).life.inc has serving seat (runs_at setting w firm front more prefix chosen n runs seat) in
+      let on = h.on n (w.servers n).life.inc has serving seat (runs_at setting w firm prefix more is_prefix chosen n runs seat) in
       elim ((log_steady setting.servers more plain).linked cell h.now h.is).served [
         | ByBoth so one other ↦ both h.now h.is so
         | ByOne holder other whole so pair out ↦
@@ -119,17 +119,17 @@ module _ (it : RunningFronts) (cell : Cell) (row : LinkRow) (is : cell_link (sta
       ]
 
   -- the same place of a link that is still there
-  at_place : places_from (start setting.servers) more row ≡ places_from (start setting.servers) front row → (now : LinkRow) → cell_link later cell ≡ Some now
+  at_place : places_from (start setting.servers) more row ≡ places_from (start setting.servers) prefix row → (now : LinkRow) → cell_link later cell ≡ Some now
       → StaysSo cell row earlier later
-  at_place same now there = elim (same_place setting.servers front more cell row (front_plain setting.servers more _ firm.plain chosen) prefix is same) [
+  at_place same now there = elim (same_place setting.servers prefix more cell row (prefix_plain setting.servers more _ firm.plain chosen) is_prefix is same) [
     | inl so ↦ so
     | inr died ↦ none_some died.0 there
   ]
 
-  pub stays_both : row.state ≡ Both → StaysInBoth setting n front more cell row
+  pub stays_both : row.state ≡ Both → StaysInBoth setting n prefix more cell row
   stays_both both = by_later
       (λ now there so.
-      elim (log_both setting.servers front more (front_plain setting.servers more _ firm.plain chosen) prefix cell row now is there so) [
+      elim (log_both setting.servers prefix more (prefix_plain setting.servers more _ firm.plain chosen) is_prefix cell row now is there so) [
         | inl same ↦ inl (at_place same now there)
         | inr c ↦ (
             let own_one = own_caught c.row c.found in
@@ -138,10 +138,10 @@ module _ (it : RunningFronts) (cell : Cell) (row : LinkRow) (is : cell_link (sta
       ])
       (λ alone. inr alone)
 
-  pub stays_alone : (whole : Bool) → row.state ≡ Only n whole → StaysAloneOrCaught setting w n front more cell
+  pub stays_alone : (whole : Bool) → row.state ≡ Only n whole → StaysAloneOrCaught setting w n prefix more cell
   stays_alone whole only = by_later
       (λ now there so.
-      elim (log_both setting.servers front more (front_plain setting.servers more _ firm.plain chosen) prefix cell row now is there so) [
+      elim (log_both setting.servers prefix more (prefix_plain setting.servers more _ firm.plain chosen) is_prefix cell row now is there so) [
         | inl same ↦ (
             let stays = at_place same now there in
             alone_not_both row n only (ap (λ (r : LinkRow). r.state) (same_some (sym stays.same ∙ there)) ∙ so))

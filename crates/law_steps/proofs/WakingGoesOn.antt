@@ -82,26 +82,26 @@ as_many (suc k) records h =
     let rest = as_many k less.rest (λ i lt. less.others (i + 1) (apart_from i k lt) (h i (omega arith))) in
     omega arith
 
--- ### Fronts
+-- ### Prefixes
 
 -- what is known for each place of a list stands at the front of what is read from the device
-run_front : (log : Log) (xs : List Command) (place most : ℕ) → ((i : ℕ) (c : Command) → slice_get xs i ≡ Some c → known log (place + i) ≡ Some c)
+run_prefix : (log : Log) (xs : List Command) (place most : ℕ) → ((i : ℕ) (c : Command) → slice_get xs i ≡ Some c → known log (place + i) ≡ Some c)
     → length xs ≤ most → IsPrefix xs (known_run log place most)
-run_front log [] place most h le = record { later = known_run log place most; is = refl }
-run_front log (x ∷ xs) place zero h le = absurd (omega arith)
-run_front log (x ∷ xs) place (suc most) h le =
+run_prefix log [] place most h le = record { later = known_run log place most; is = refl }
+run_prefix log (x ∷ xs) place zero h le = absurd (omega arith)
+run_prefix log (x ∷ xs) place (suc most) h le =
     let at : place + 0 ≡ place = omega arith in
     let here : known log place ≡ Some x = sym (ap (known log) at) ∙ h 0 x refl in
-    let rest = run_front log xs (place + 1) most
+    let rest = run_prefix log xs (place + 1) most
     (λ i c e. let next : place + 1 + i ≡ place + suc i = omega arith in ap (known log) next ∙ h (suc i) c e) (omega arith) in
     record { later = rest.later; is = ap (λ o. before_known o (known_run log (place + 1) most)) here ∙ ap (λ ys. x ∷ ys) rest.is }
 
 -- a list whose members stand in another one, each at its place, is at its front
-front_by : (xs ys : List Command) → ((i : ℕ) (c : Command) → slice_get xs i ≡ Some c → slice_get ys i ≡ Some c) → IsPrefix xs ys
-front_by [] ys h = record { later = ys; is = refl }
-front_by (x ∷ xs) [] h = none_some refl (h 0 x refl)
-front_by (x ∷ xs) (y ∷ ys) h =
-    let rest = front_by xs ys (λ i c e. h (suc i) c e) in
+prefix_by : (xs ys : List Command) → ((i : ℕ) (c : Command) → slice_get xs i ≡ Some c → slice_get ys i ≡ Some c) → IsPrefix xs ys
+prefix_by [] ys h = record { later = ys; is = refl }
+prefix_by (x ∷ xs) [] h = none_some refl (h 0 x refl)
+prefix_by (x ∷ xs) (y ∷ ys) h =
+    let rest = prefix_by xs ys (λ i c e. h (suc i) c e) in
     let same : y ≡ x = same_some (h 0 x refl) in
     record { later = rest.later; is = ap (λ z. z ∷ ys) same ∙ ap (λ zs. x ∷ zs) rest.is }
 
@@ -120,26 +120,26 @@ may_wake script records sound legal n =
     let w = world_after setting (start setting) records in
     let server = w.servers n in
     let log = (raised server).log in
-    let front = known_front log in
+    let prefix = known_front log in
     let still : (place : ℕ) → known log place ≡ known_at server.log.records place = λ place. known_inc server.log.records (server.life.inc + 1) place in
     let applied : (i : ℕ) (c : Command) → slice_get server.log.applied i ≡ Some c → known log (i + 1) ≡ Some c =
     λ i c e. still (i + 1) ∙ ((logged script records sound legal).is.servers n).applied i c e in
     let many : length server.log.applied ≤ length log.records =
     as_many (length server.log.applied) log.records (λ i lt.
     let c = inside server.log.applied i lt in known_told (i + 1) log.records c.0 (applied i c.0 c.1)) in
-    let chosen : IsPrefix front (chosen_log setting w) =
-    front_by front (chosen_log setting w) (λ i c e.
+    let chosen : IsPrefix prefix (chosen_log setting w) =
+    prefix_by prefix (chosen_log setting w) (λ i c e.
     let at : 1 + i ≡ i + 1 = omega arith in
     (history_agrees script records sound legal).known n i c
     (sym (ap (known_at server.log.records) at) ∙ sym (still (1 + i)) ∙ run_known log (length log.records) 1 i c e)) in
     record {
-      onward = run_front log server.log.applied 1 (length log.records)
+      onward = run_prefix log server.log.applied 1 (length log.records)
           (λ i c e. let at : 1 + i ≡ i + 1 = omega arith in ap (known log) at ∙ applied i c e) many;
       chosen = chosen;
-      out = by_bool (is_in (state_after script.servers front) n (server.life.inc + 1))
+      out = by_bool (is_in (state_after script.servers prefix) n (server.life.inc + 1))
           (λ up. by_bool (is_in (chosen_state setting w) n (server.life.inc + 1))
           (λ now. let begun = who_is_in_has_begun script records sound legal n (server.life.inc + 1) now in absurd (omega arith))
-          (λ gone. elim (out_has_stopped script records sound legal n (server.life.inc + 1) front chosen up gone) [
+          (λ gone. elim (out_has_stopped script records sound legal n (server.life.inc + 1) prefix chosen up gone) [
             | inl rests ↦ (let le = rests.1 in absurd (omega arith))
             | inr later ↦ absurd (omega arith)
           ]))

@@ -6,4 +6,4 @@ use Rattle.law_steps.proofs.KindsInHistories.{firm_way}
 pub always_firm : (script : Script) (records : List Record) → IsSound script → AreSteps script records
     → AreFirm (setting_of script) (start (setting_of script)) records
 always_firm script records sound legal =
-    firm_way script (λ front l. history_is_firm script front sound l) (λ front l. history_grows script front sound l) records legal
+    firm_way script (λ prefix l. history_is_firm script prefix sound l) (λ prefix l. history_grows script prefix sound l) records legal

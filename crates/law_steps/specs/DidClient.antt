@@ -83,12 +83,12 @@ pub data IsReason (c : ℕ) (asked : Asked) (given : Answer) (state : State) (en
 
 -- an entry that the client applied in this step answers its request
 pub record IsJudged (servers c : ℕ) (before after : List Command) (asked : Asked) (given : Answer) : Type 0 where
-  pub front : List Command
+  pub prefix : List Command
   pub entry : Command
   pub rest : List Command
-  pub lies : after ≡ front ++ entry ∷ rest
-  pub new : IsPrefix before front
-  pub reason : IsReason c asked given (state_after servers (front ++ entry ∷ [])) entry
+  pub lies : after ≡ prefix ++ entry ∷ rest
+  pub new : IsPrefix before prefix
+  pub reason : IsReason c asked given (state_after servers (prefix ++ entry ∷ [])) entry
 
 -- ### Answers by a glance
 

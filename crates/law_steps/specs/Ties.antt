@@ -3,19 +3,19 @@ use Rattle.law_steps.specs.Imports.{Both, Cell, Command, LinkRow, Setting, Stays
 use Rattle.std.specs.Prelude.{◌≡◌, ◌⊎◌, List, true, ℕ}
 
 -- of one that was in Both: nothing has touched it, or the server holds it alone
-abbrev pub StaysInBoth : Setting → (n : ℕ) → (front more : List Command) → Cell → LinkRow → Type 0
-StaysInBoth setting n front more cell row =
-    StaysSo cell row (state_after setting.servers front) (state_after setting.servers more) ⊎ (is_alone_on (state_after setting.servers more) n cell ≡ true)
+abbrev pub StaysInBoth : Setting → (n : ℕ) → (prefix more : List Command) → Cell → LinkRow → Type 0
+StaysInBoth setting n prefix more cell row =
+    StaysSo cell row (state_after setting.servers prefix) (state_after setting.servers more) ⊎ (is_alone_on (state_after setting.servers more) n cell ≡ true)
 
 -- the link is in Both by a Caught for which the server has started the ballot, and of which it doesn't know yet: it stands after the
 -- server's last entry, and nothing has touched the link since
-pub record HasOwnCaught (setting : Setting) (w : World) (n : ℕ) (front more : List Command) (cell : Cell) : Type 0 where
-  pub at : front ≡ (w.servers n).log.applied
+pub record HasOwnCaught (setting : Setting) (w : World) (n : ℕ) (prefix more : List Command) (cell : Cell) : Type 0 where
+  pub at : prefix ≡ (w.servers n).log.applied
   pub proposed : has_proposed (server_state setting w n) (w.servers n).own cell ≡ true
   pub now : LinkRow
   pub both : now.state ≡ Both
-  pub since : StaysSo cell now (state_after setting.servers front) (state_after setting.servers more)
+  pub since : StaysSo cell now (state_after setting.servers prefix) (state_after setting.servers more)
 
 -- of one that it held alone: it does so still, or there is such a Caught
-abbrev pub StaysAloneOrCaught : Setting → World → (n : ℕ) → (front more : List Command) → Cell → Type 0
-StaysAloneOrCaught setting w n front more cell = (is_alone_on (state_after setting.servers more) n cell ≡ true) ⊎ HasOwnCaught setting w n front more cell
+abbrev pub StaysAloneOrCaught : Setting → World → (n : ℕ) → (prefix more : List Command) → Cell → Type 0
+StaysAloneOrCaught setting w n prefix more cell = (is_alone_on (state_after setting.servers more) n cell ≡ true) ⊎ HasOwnCaught setting w n prefix more cell

@@ -50,29 +50,29 @@ pub fn operations_rest_in_four_stages()
 /// The step that each record of a legal history tells of is of one of the kinds that the relation names, at every state from
 /// what is then chosen on.
 pub fn each_step_is_of_a_kind()
-    ensures { (script : Script) (front : List Record) (own : Record) → IsSound script → AreSteps script (front ++ own ∷ []) → (state : State)
-        → IsBelow (chosen_state (setting_of script) (world_after (setting_of script) (start (setting_of script)) (front ++ own ∷ []))) state
-        → Happens (setting_of script) state (world_after (setting_of script) (start (setting_of script)) front)
-        (world_after (setting_of script) (start (setting_of script)) (front ++ own ∷ [])) }
+    ensures { (script : Script) (prefix : List Record) (own : Record) → IsSound script → AreSteps script (prefix ++ own ∷ []) → (state : State)
+        → IsBelow (chosen_state (setting_of script) (world_after (setting_of script) (start (setting_of script)) (prefix ++ own ∷ []))) state
+        → Happens (setting_of script) state (world_after (setting_of script) (start (setting_of script)) prefix)
+        (world_after (setting_of script) (start (setting_of script)) (prefix ++ own ∷ [])) }
 {}
 
 /// While a server runs, and is In as itself, it is tied to what is chosen from its own entries on: a link that was in Both is so at the
 /// same place, or the server holds it alone; and one that it held alone it holds so still, or it is in Both by a Caught for which the
 /// server has started the ballot, right after its own entries. This is said while the cell is not retired.
 pub fn a_running_server_is_tied_to_what_is_chosen()
-    ensures both { (script : Script) (records : List Record) → IsSound script → AreSteps script records → (n : ℕ) (front more : List Command)
+    ensures both { (script : Script) (records : List Record) → IsSound script → AreSteps script records → (n : ℕ) (prefix more : List Command)
         → ((world_after (setting_of script) (start (setting_of script)) records).servers n).life.running ≡ true
-        → IsPrefix ((world_after (setting_of script) (start (setting_of script)) records).servers n).log.applied front
-        → IsPrefix front more → IsPrefix more (chosen_log (setting_of script) (world_after (setting_of script) (start (setting_of script)) records))
-        → is_in (state_after script.servers front) n ((world_after (setting_of script) (start (setting_of script)) records).servers n).life.inc ≡ true
-        → (cell : Cell) (row : LinkRow) → cell_link (state_after script.servers front) cell ≡ Some row → has_server n row ≡ true
-        → stage_at (state_after script.servers more) cell < 4 → row.state ≡ Both → StaysInBoth (setting_of script) n front more cell row }
+        → IsPrefix ((world_after (setting_of script) (start (setting_of script)) records).servers n).log.applied prefix
+        → IsPrefix prefix more → IsPrefix more (chosen_log (setting_of script) (world_after (setting_of script) (start (setting_of script)) records))
+        → is_in (state_after script.servers prefix) n ((world_after (setting_of script) (start (setting_of script)) records).servers n).life.inc ≡ true
+        → (cell : Cell) (row : LinkRow) → cell_link (state_after script.servers prefix) cell ≡ Some row → has_server n row ≡ true
+        → stage_at (state_after script.servers more) cell < 4 → row.state ≡ Both → StaysInBoth (setting_of script) n prefix more cell row }
     ensures alone { (script : Script) (records : List Record) → IsSound script → AreSteps script records
-        → (n : ℕ) (front more : List Command) → ((world_after (setting_of script) (start (setting_of script)) records).servers n).life.running ≡ true
-        → IsPrefix ((world_after (setting_of script) (start (setting_of script)) records).servers n).log.applied front
-        → IsPrefix front more → IsPrefix more (chosen_log (setting_of script) (world_after (setting_of script) (start (setting_of script)) records))
-        → is_in (state_after script.servers front) n ((world_after (setting_of script) (start (setting_of script)) records).servers n).life.inc ≡ true
-        → (cell : Cell) (row : LinkRow) → cell_link (state_after script.servers front) cell ≡ Some row
+        → (n : ℕ) (prefix more : List Command) → ((world_after (setting_of script) (start (setting_of script)) records).servers n).life.running ≡ true
+        → IsPrefix ((world_after (setting_of script) (start (setting_of script)) records).servers n).log.applied prefix
+        → IsPrefix prefix more → IsPrefix more (chosen_log (setting_of script) (world_after (setting_of script) (start (setting_of script)) records))
+        → is_in (state_after script.servers prefix) n ((world_after (setting_of script) (start (setting_of script)) records).servers n).life.inc ≡ true
+        → (cell : Cell) (row : LinkRow) → cell_link (state_after script.servers prefix) cell ≡ Some row
         → has_server n row ≡ true → stage_at (state_after script.servers more) cell < 4 → (whole : Bool) → row.state ≡ Only n whole
-        → StaysAloneOrCaught (setting_of script) (world_after (setting_of script) (start (setting_of script)) records) n front more cell }
+        → StaysAloneOrCaught (setting_of script) (world_after (setting_of script) (start (setting_of script)) records) n prefix more cell }
 {}

@@ -1,5 +1,5 @@
 pub mod Ends
-pub mod Fronts
+pub mod Prefixes
 pub mod Ordered
 pub mod Short
 pub mod Telling

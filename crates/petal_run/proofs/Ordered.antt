@@ -144,17 +144,17 @@ record Numbered (lines : List TextLine) : Type 0 where
   are : lines ≡ lines_after number reach text
 
 -- what follows a line of a text are lines of it too
-after_numbered : (front : List TextLine) (line : TextLine) (following : List TextLine) (number reach : ℕ) (text : List (List ℕ))
-    → lines_after number reach text ≡ front ++ line ∷ following → Numbered following
+after_numbered : (prefix : List TextLine) (line : TextLine) (following : List TextLine) (number reach : ℕ) (text : List (List ℕ))
+    → lines_after number reach text ≡ prefix ++ line ∷ following → Numbered following
 unfolding lines_after
 after_numbered [] line following number reach [] is = absurd (cc)
 after_numbered [] line following number reach (piece ∷ more) is =
     let e : lines_after (number + 1) (reach + length piece) more ≡ following = cc in
     record { number = number + 1; reach = reach + length piece; text = more; are = sym e }
-after_numbered (first ∷ front) line following number reach [] is = absurd (cc)
-after_numbered (first ∷ front) line following number reach (piece ∷ more) is =
-    let e : lines_after (number + 1) (reach + length piece) more ≡ front ++ line ∷ following = cc in
-    after_numbered front line following (number + 1) (reach + length piece) more e
+after_numbered (first ∷ prefix) line following number reach [] is = absurd (cc)
+after_numbered (first ∷ prefix) line following number reach (piece ∷ more) is =
+    let e : lines_after (number + 1) (reach + length piece) more ≡ prefix ++ line ∷ following = cc in
+    after_numbered prefix line following (number + 1) (reach + length piece) more e
 
 record ReadUpTo (s : Script) : Type 0 where
   number : ℕ
@@ -201,7 +201,7 @@ first_no_lines (first ∷ words) s is =
 
 script-read : (text : List ℕ) (s : Script) → IsAccepted (text_lines text) s → ReadUpTo s
 script-read text s a =
-    let n = after_numbered a.front a.servers a.following 0 0 (pieces text) a.lies in
+    let n = after_numbered a.prefix a.servers a.following 0 0 (pieces text) a.lies in
     let f = first_no_lines (words_of a.servers.text) a.begun a.begins in
     let empty : Read a.begun.phases a.begun.lines n.number = rw (f.lines, f.phases) (none_read n.number) in
     let on : Follows a.begun (lines_after n.number n.reach n.text) s = subst (λ lines. Follows a.begun lines s) n.are a.follows in

@@ -30,8 +30,8 @@ append_nil [] = refl
 append_nil (x ∷ xs) = ap (λ more. x ∷ more) (append_nil xs)
 
 abbrev pub JoinsText : Script → Type 0
-JoinsText script = (front back : List Record) → AreRising script.lines → AreSteps script (front ++ back) → AnsweredComeFirst script.lines front
-    → text_of (front ++ back) ≡ text_of front ++ text_of back
+JoinsText script = (prefix suffix : List Record) → AreRising script.lines → AreSteps script (prefix ++ suffix) → AnsweredComeFirst script.lines prefix
+    → text_of (prefix ++ suffix) ≡ text_of prefix ++ text_of suffix
 
 -- where the lines that are answered are those of the first phases, they come first
 pub come_first : (phases : ℕ) (lines : List Line) (records : List Record) → AreOrdered lines → AnswersPhases phases lines records
@@ -42,11 +42,11 @@ come_first phases lines records ordered exactly one other h k given none =
     let up : other.number ≤ one.number → other.phase ≤ one.phase = ordered other one k h in
     grind (arith, nat_tests, low, high, up)
 
-pub added_on : (base front more whole old new : List ℕ) → whole ≡ front ++ more → old ≡ base ++ front → Adds old more new → Adds base whole new
-added_on base front more whole old new is stood a = record {
-  count = length front + a.count;
-  new_is = a.new_is ∙ ap (λ t. t ++ take a.count more) stood ∙ append_assoc base front (take a.count more)
-      ∙ ap (λ t. base ++ t) (sym (take-append-add front more a.count) ∙ ap (take (length front + a.count)) (sym is));
+pub added_on : (base prefix more whole old new : List ℕ) → whole ≡ prefix ++ more → old ≡ base ++ prefix → Adds old more new → Adds base whole new
+added_on base prefix more whole old new is stood a = record {
+  count = length prefix + a.count;
+  new_is = a.new_is ∙ ap (λ t. t ++ take a.count more) stood ∙ append_assoc base prefix (take a.count more)
+      ∙ ap (λ t. base ++ t) (sym (take-append-add prefix more a.count) ∙ ap (take (length prefix + a.count)) (sym is));
 }
 
 -- what stood written before a phase that has ended
@@ -55,14 +55,14 @@ pub wrote_before : (old new : Progress) (answers : Table ℕ Answer) → new.scr
 wrote_before old new answers same before e base taken w = record {
   ended = old.ended;
   phases = old.phases;
-  front = record { following = e.phase ++ new.since; is = ap (λ r. r ++ new.since) e.ended ∙ append_assoc old.ended e.phase new.since };
+  prefix = record { following = e.phase ++ new.since; is = ap (λ r. r ++ new.since) e.ended ∙ append_assoc old.ended e.phase new.since };
   exactly = subst (λ (s : Script). AnswersPhases old.phases s.lines old.ended) (sym same) before.exactly;
   text = w;
 }
 
 pub wrote_so_far : (new : Progress) → GoesByPhases new → (base taken : List ℕ) → Wrote base new.ended taken → WrotePhases new.script (records_of new) base taken
 wrote_so_far new after base taken w =
-    record { phases = new.phases; ended = new.ended; front = record { following = new.since; is = refl }; exactly = after.exactly; text = w }
+    record { phases = new.phases; ended = new.ended; prefix = record { following = new.since; is = refl }; exactly = after.exactly; text = w }
 
 -- what stands written where the text of the phase that ended is written in part
 pub wrote_last : (old new : Progress) (answers : Table ℕ Answer) → new.script ≡ old.script → GoesByPhases old → GoesByPhases new → Ends old new answers
@@ -88,12 +88,12 @@ pub adds_phases : (script : Script) (history : List Record) (old new : List ℕ)
     → IsLegal script history → WrotePhases script history old new → Adds old (text_of history) new
 adds_phases script history old new joins rising ordered legal w =
     let first = come_first w.phases script.lines w.ended ordered w.exactly in
-    let is : text_of history ≡ text_of w.ended ++ text_of w.front.following = ap text_of w.front.is
-    ∙ joins w.ended w.front.following rising (subst (IsLegal script) w.front.is legal).steps first in
+    let is : text_of history ≡ text_of w.ended ++ text_of w.prefix.following = ap text_of w.prefix.is
+    ∙ joins w.ended w.prefix.following rising (subst (IsLegal script) w.prefix.is legal).steps first in
     record {
       count = length (text_of w.ended);
       new_is = w.text
-          ∙ ap (λ t. old ++ t) (sym (take-append_seam (text_of w.ended) (text_of w.front.following)) ∙ ap (take (length (text_of w.ended))) (sym is));
+          ∙ ap (λ t. old ++ t) (sym (take-append_seam (text_of w.ended) (text_of w.prefix.following)) ∙ ap (take (length (text_of w.ended))) (sym is));
     }
 
 pub adds_last : (script : Script) (history : List Record) (old new : List ℕ) → JoinsText script → AreRising script.lines → AreOrdered script.lines
@@ -113,7 +113,7 @@ pub none_wrote : (script : Script) (old : List ℕ) → WrotePhases script [] ol
 none_wrote script old = record {
   phases = 0;
   ended = [];
-  front = record { following = []; is = refl };
+  prefix = record { following = []; is = refl };
   exactly = λ line h. ap is_some (at-empty nat_cmp line.number) ∙ sym (none_below line.phase);
   text = sym (append_nil old);
 }

@@ -6,7 +6,7 @@ use Rattle.spec_history.specs.declared.record.Record.{Record}
 use Rattle.spec_history.specs.Claims.{Keeps}
 use Rattle.spec_history.specs.Legal.{IsLegal}
 use Rattle.spec_history.specs.Text.{answers_of, text_of}
-use Rattle.spec_history.specs.Order.{AnswersPhases, IsFront, all_answered}
+use Rattle.spec_history.specs.Order.{AnswersPhases, IsRecordPrefix, all_answered}
 use Rattle.petal_run.specs.Asked.{Asked, Refuse, Play}
 use Rattle.petal_run.specs.Statuses.{status_ended}
 
@@ -38,7 +38,7 @@ EndsWithPhase (Play script) history = (phases : ℕ) × AnswersPhases phases scr
 pub record WrotePhases (script : Script) (history : List Record) (old new : List ℕ) : Type 0 where
   pub phases : ℕ
   pub ended : List Record
-  pub front : IsFront ended history
+  pub prefix : IsRecordPrefix ended history
   pub exactly : AnswersPhases phases script.lines ended
   pub text : new ≡ old ++ text_of ended
 

@@ -71,7 +71,7 @@ pub(crate) fn say<W: Sink>(alloc: Global, sink: &mut W, bytes: &[u8], status: u8
     ensures goes_on { result.gave_up ≡ None }
     ensures history { result.history.records ≡ [] }
     ensures all { W.observable → result.status ≡ status → W.taken sink.new ≡ W.taken sink.old ++ bytes.now }
-    ensures front { W.observable → Adds (W.taken sink.old) bytes.now (W.taken sink.new) }
+    ensures prefix { W.observable → Adds (W.taken sink.old) bytes.now (W.taken sink.new) }
     ensures failed { result.status ≡ status_sink_failed → W.faults sink.old < W.faults sink.new }
     ensures later { W.faults sink.old ≤ W.faults sink.new }
 {
@@ -86,7 +86,7 @@ fn refuse<W: Sink>(alloc: Global, sink: &mut W, line: u32, cause: &str) -> Outco
     ensures known { (result.status ≡ status_refused) ⊎ (result.status ≡ status_gave_up) ⊎ (result.status ≡ status_sink_failed) }
     ensures history { result.history.records ≡ [] }
     ensures all { W.observable → result.status ≡ status_refused → W.taken sink.new ≡ W.taken sink.old ++ refusal_line line cause.now }
-    ensures front { W.observable → Adds (W.taken sink.old) (refusal_line line cause.now) (W.taken sink.new) }
+    ensures prefix { W.observable → Adds (W.taken sink.old) (refusal_line line cause.now) (W.taken sink.new) }
     ensures nothing { result.status ≡ status_gave_up → sink.new ≡ sink.old }
     ensures given_up { result.status ≡ status_gave_up → IsSome result.gave_up }
     ensures gave_up { IsSome result.gave_up → result.status ≡ status_gave_up }
@@ -102,7 +102,7 @@ fn refuse<W: Sink>(alloc: Global, sink: &mut W, line: u32, cause: &str) -> Outco
 /// Writes the answers of a phase.
 fn tell<W: Sink>(alloc: Global, sink: &mut W, answers: Answers) -> Result<(), DeviceError>
     ensures all { OnOk result (W.observable → W.taken sink.new ≡ W.taken sink.old ++ text_of_answers answers) }
-    ensures front { IsErrOf result error.Failed → W.observable → Adds (W.taken sink.old) (text_of_answers answers) (W.taken sink.new) }
+    ensures prefix { IsErrOf result error.Failed → W.observable → Adds (W.taken sink.old) (text_of_answers answers) (W.taken sink.new) }
     ensures nothing { IsErrOf result error.NoMemory → sink.new ≡ sink.old }
     ensures failed { IsErrOf result error.Failed → W.faults sink.old < W.faults sink.new }
     ensures later { W.faults sink.old ≤ W.faults sink.new }

@@ -21,12 +21,12 @@ use Rattle.spec_history.specs.Text.{answers_of}
 use Rattle.spec_history.specs.declared.record.Record.{Record}
 use Rattle.spec_rules.proofs.Tests.{by_bool, same_numbers}
 use Rattle.server_host.specs.Playable.{AreOrdered}
-use Rattle.spec_history.specs.Order.{AreRising, AnsweredComeFirst, AnswersPhases, IsFront, JoinsAnswers, all_answered, is_answered}
+use Rattle.spec_history.specs.Order.{AreRising, AnsweredComeFirst, AnswersPhases, IsRecordPrefix, JoinsAnswers, all_answered, is_answered}
 use Rattle.plain_schedule.specs.Phases.{Progress, GoesByPhases, Ends, records_of}
 use Rattle.petal_world.specs.Play.{Play}
 use Rattle.plain_schedule.specs.Going.{GoesOn, WentOn}
 use Rattle.plain_schedule.specs.Places.{numbers, phase_run, progress_of, KeepsPlaces, PlaysOn}
-use Rattle.plain_schedule.proofs.Fronts.{still, goes_front}
+use Rattle.plain_schedule.proofs.Prefixes.{still, goes_prefix}
 
 -- ### Keys and numbers
 
@@ -70,16 +70,16 @@ in_numbers (first ∷ lines) number (inr i) = let rest = in_numbers lines number
 
 -- ### Lines that rise
 
-front_below : (front back : List Line) → AreRising (front ++ back) → (one other : Line) → In one front → In other back → one.number < other.number
+prefix_below : (prefix back : List Line) → AreRising (prefix ++ back) → (one other : Line) → In one prefix → In other back → one.number < other.number
 unfolding In
-front_below [] back rising one other h k = absurd h
-front_below (first ∷ front) back rising one other (inl e) k =
-    subst (λ (l : Line). l.number < other.number) (sym e) (rising.0 other (later_in front k))
+prefix_below [] back rising one other h k = absurd h
+prefix_below (first ∷ prefix) back rising one other (inl e) k =
+    subst (λ (l : Line). l.number < other.number) (sym e) (rising.0 other (later_in prefix k))
   where
     later_in : (xs : List Line) → In other back → In other (xs ++ back)
     later_in [] i = i
     later_in (x ∷ xs) i = inr (later_in xs i)
-front_below (first ∷ front) back rising one other (inr i) k = front_below front back rising.1 one other i k
+prefix_below (first ∷ prefix) back rising one other (inr i) k = prefix_below prefix back rising.1 one other i k
 
 -- what exactly the first lines answer comes first
 first_lines : (lines : List Line) (records : List Record) (place : ℕ) → AreRising lines → keys_of (answers_of records) ≡ numbers (take place lines)
@@ -96,7 +96,7 @@ first_lines lines records place rising is one other h k given none =
           let clash : true ≡ false = sym found ∙ none in
           absurd (cc))
       | inr late ↦ (
-          let lt = front_below (take place lines) (drop place lines) (subst AreRising (sym split) rising) own.0 other own.1 late in
+          let lt = prefix_below (take place lines) (drop place lines) (subst AreRising (sym split) rising) own.0 other own.1 late in
           let same = own.2 in
           omega arith)
     ]
@@ -135,7 +135,7 @@ answers_phases lines records place phases rising is played to_play line h =
       | inr late ↦ by_bool (is_answered records line.number)
           (λ yes.
           let own = in_numbers (take place lines) line.number (subst (In line.number) is (found_key (answers_of records) line.number yes)) in
-          let lt = front_below (take place lines) (drop place lines) (subst AreRising (sym split) rising) own.0 line own.1 late in
+          let lt = prefix_below (take place lines) (drop place lines) (subst AreRising (sym split) rising) own.0 line own.1 late in
           let same = own.2 in
           absurd (omega arith))
           (λ no. no ∙ sym (lt_false line.phase phases (to_play line late)))
@@ -183,9 +183,9 @@ run_following phase (first ∷ lines) rising ordered from line h =
           ]
     ] refl h
 
-rising_following : (front back : List Line) → AreRising (front ++ back) → AreRising back
+rising_following : (prefix back : List Line) → AreRising (prefix ++ back) → AreRising back
 rising_following [] back rising = rising
-rising_following (first ∷ front) back rising = rising_following front back rising.1
+rising_following (first ∷ prefix) back rising = rising_following prefix back rising.1
 
 in_rest : (lines : List Line) (place : ℕ) (line : Line) → slice_get lines place ≡ Some line → In line (drop place lines)
 unfolding In
@@ -277,9 +277,9 @@ places_still script old new told place phases k on legal =
     }
 
 grown : (script after : Script) (old new : List Record) (told more n m : ℕ) → GoesOn old new
-    → IsFront (records_of (progress_of script old told n)) (records_of (progress_of after new more m))
+    → IsRecordPrefix (records_of (progress_of script old told n)) (records_of (progress_of after new more m))
 grown script after old new told more n m on =
-    let f = goes_front old new on in
+    let f = goes_prefix old new on in
     record { following = f.following; is = take-append-drop more new ∙ f.is ∙ ap (λ r. r ++ f.following) (sym (take-append-drop told old)) }
 
 -- the phase that ends answers the next lines
@@ -351,7 +351,7 @@ module _ (old new : Play) (told place phases : ℕ) (k : KeepsPlaces old.script 
     plays_on n at m now = record {
       script = w.0 ∙ ap (λ (p : Progress). p.script) view;
       by_phases = goes_by_phases new.script new.records n at m now;
-      grows = subst (λ (p : Progress). IsFront (records_of p) (records_of (progress_of new.script new.records n m))) view
+      grows = subst (λ (p : Progress). IsRecordPrefix (records_of p) (records_of (progress_of new.script new.records n m))) view
           (grown old.script new.script old.records new.records told n phases m w.1);
     }
 

@@ -8,7 +8,7 @@ use Rattle.spec_history.specs.Text.{answers_of}
 use Rattle.spec_history.specs.declared.record.Record.{Record}
 use Rattle.spec_rules.specs.Lists.{In}
 use Rattle.server_host.specs.Playable.{AreOrdered}
-use Rattle.spec_history.specs.Order.{AreRising, IsFront, JoinsAnswers}
+use Rattle.spec_history.specs.Order.{AreRising, IsRecordPrefix, JoinsAnswers}
 use Rattle.plain_schedule.specs.Phases.{GoesByPhases, Progress, records_of}
 
 abbrev pub numbers : List Line → List ℕ
@@ -41,4 +41,4 @@ pub record KeepsPlaces (script : Script) (records : List Record) (told place pha
 pub record PlaysOn (old new : Progress) : Type 0 where
   pub script : new.script ≡ old.script
   pub by_phases : GoesByPhases new
-  pub grows : IsFront (records_of old) (records_of new)
+  pub grows : IsRecordPrefix (records_of old) (records_of new)

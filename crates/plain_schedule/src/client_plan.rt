@@ -65,7 +65,7 @@ impl ClientPlan {
         if self.is_open() {
             return None;
         }
-        match self.due.front() {
+        match self.due.prefix() {
             Some(due) if due.phase == phase => Some(*due),
             _ => None,
         }

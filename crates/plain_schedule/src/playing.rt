@@ -4,7 +4,7 @@ ghost use Rattle.std.specs.Prelude.{◌≡◌, ◌+◌, ◌≤◌, ◌<◌, [], 
 ghost use Rattle.plain_schedule.specs.Going.{WentOn};
 ghost use Rattle.std.specs.Map.{keys_of};
 ghost use Rattle.spec_history.specs.Legal.{IsLegal};
-ghost use Rattle.spec_history.specs.Order.{AreRising, IsFront, JoinsAnswers, all_answered};
+ghost use Rattle.spec_history.specs.Order.{AreRising, IsRecordPrefix, JoinsAnswers, all_answered};
 ghost use Rattle.spec_history.specs.Sound.{IsSound};
 ghost use Rattle.spec_history.specs.Text.{answers_of};
 ghost use Rattle.server_host.specs.Playable.{AreOrdered};
@@ -223,7 +223,7 @@ impl Playing {
         // At each end.
         ensures script { self.new.script ≡ self.old.script }
         ensures by_phases { GoesByPhases self.new }
-        ensures grows { IsFront (records_of self.old) (records_of self.new) }
+        ensures grows { IsRecordPrefix (records_of self.old) (records_of self.new) }
 
         // What the end is.
         ensures ends { IfOk result (λ phase. IfSome phase (λ answers. Ends self.old self.new answers)) }

@@ -1,4 +1,4 @@
--- Fronts of histories, and histories with one record more.
+-- Prefixes of histories, and histories with one record more.
 use Rattle.std.proofs.Common.{◌≡◌, ℕ, List, [], ◌∷◌, ◌++◌, refl, subst}
 use Rattle.spec_rules.specs.Plans.{Armed}
 use Rattle.spec_rules.specs.World.{Setting, World}
@@ -7,23 +7,23 @@ use Rattle.spec_history.specs.Failures.{ComeTo, UsesAt}
 use Rattle.spec_history.specs.Steps.{AreStepsFrom, Follows, stepped, world_after}
 use Rattle.spec_history.specs.declared.record.Record.{Record}
 
--- ### Fronts
+-- ### Prefixes
 
-pub steps_begin : (setting : Setting) (w : World) (front back : List Record) → AreStepsFrom setting w (front ++ back) → AreStepsFrom setting w front
-steps_begin setting w [] back h = tt
-steps_begin setting w (own ∷ front) back h = (h.0, steps_begin setting (stepped setting w own).world front back h.1)
+pub steps_begin : (setting : Setting) (w : World) (prefix suffix : List Record) → AreStepsFrom setting w (prefix ++ suffix) → AreStepsFrom setting w prefix
+steps_begin setting w [] suffix h = tt
+steps_begin setting w (own ∷ prefix) suffix h = (h.0, steps_begin setting (stepped setting w own).world prefix suffix h.1)
 
-pub obey_begin : (setting : Setting) (w : World) (errand : Errand) (front back : List Record) → ObeyFrom setting w errand (front ++ back)
-    → ObeyFrom setting w errand front
-obey_begin setting w errand [] back h = tt
-obey_begin setting w errand (own ∷ front) back h =
-    (h.0, obey_begin setting (stepped setting w own).world (errand_after own.actor own.step setting w errand) front back h.1)
+pub obey_begin : (setting : Setting) (w : World) (errand : Errand) (prefix suffix : List Record) → ObeyFrom setting w errand (prefix ++ suffix)
+    → ObeyFrom setting w errand prefix
+obey_begin setting w errand [] suffix h = tt
+obey_begin setting w errand (own ∷ prefix) suffix h =
+    (h.0, obey_begin setting (stepped setting w own).world (errand_after own.actor own.step setting w errand) prefix suffix h.1)
 
-pub come_begin : (n : ℕ) (armed left : Armed) (front back : List Record) → ComeTo n armed (front ++ back) left
-    → (mid : Armed) × ComeTo n armed front mid
-come_begin n armed left [] back h = (armed, refl)
-come_begin n armed left (own ∷ front) back h =
-    let rest = come_begin n h.0 left front back h.2 in
+pub come_begin : (n : ℕ) (armed left : Armed) (prefix suffix : List Record) → ComeTo n armed (prefix ++ suffix) left
+    → (mid : Armed) × ComeTo n armed prefix mid
+come_begin n armed left [] suffix h = (armed, refl)
+come_begin n armed left (own ∷ prefix) suffix h =
+    let rest = come_begin n h.0 left prefix suffix h.2 in
     (rest.0, (h.0, h.1, rest.1))
 
 -- ### One record more

@@ -126,9 +126,9 @@ pub record Requests (setting : Setting) (w : World) : Type 0 where
       → (n : ℕ) → IsLateAt setting w letter client seq cell n
 
 -- these commands stand at the front of the log
-pub record IsPrefix (front whole : List Command) : Type 0 where
+pub record IsPrefix (prefix whole : List Command) : Type 0 where
   pub later : List Command
-  pub is : whole ≡ front ++ later
+  pub is : whole ≡ prefix ++ later
 
 -- what a state device knows to be chosen stands in the chosen log at its place, and what servers and clients have applied
 -- stands at its front
@@ -224,7 +224,7 @@ HasStopped w server inc = (((w.servers server).life.running ≡ false) × (inc �
 -- an incarnation that the chosen log has put Out has stopped
 abbrev pub HaveStopped : Setting → World → Type 0
 HaveStopped setting w =
-    (n inc : ℕ) (front : List Command) → IsPrefix front (chosen_log setting w) → is_in (state_after setting.servers front) n inc ≡ true
+    (n inc : ℕ) (prefix : List Command) → IsPrefix prefix (chosen_log setting w) → is_in (state_after setting.servers prefix) n inc ≡ true
     → is_in (chosen_state setting w) n inc ≡ false → HasStopped w n inc
 
 -- a server that is at work by its own state, and has started a ballot for the Caught of a live cell's link, has nothing pending on the cell:
@@ -252,9 +252,9 @@ abbrev pub place_in : (servers : ℕ) → List Command → LinkRow → ℕ
 place_in servers log row = places_from (first_state servers) log row
 
 -- by each state from these entries' to those', the writes of the cell are held
-abbrev pub AreHeldAlong : (servers : ℕ) → (front whole : List Command) → Cell → Type 0
-AreHeldAlong servers front whole cell =
-    (log : List Command) → IsPrefix front log → IsPrefix log whole → is_writes_held (held (state_after servers log) cell) ≡ true
+abbrev pub AreHeldAlong : (servers : ℕ) → (prefix whole : List Command) → Cell → Type 0
+AreHeldAlong servers prefix whole cell =
+    (log : List Command) → IsPrefix prefix log → IsPrefix log whole → is_writes_held (held (state_after servers log) cell) ≡ true
 
 -- the server runs, and wants this report of its own to the active fence chosen: only then does it start a ballot for it
 pub record WantsReport (setting : Setting) (w : World) (n fence : ℕ) : Type 0 where
@@ -282,34 +282,34 @@ pub record Stands (setting : Setting) (w : World) : Type 0 where
 -- the chosen log after a list of records is at the front of that after more of them
 abbrev pub Grows : Script → List Record → Type 0
 Grows script records =
-    (front back : List Record) → records ≡ front ++ back
-    → IsPrefix (chosen_log (setting_of script) (world_after (setting_of script) (start (setting_of script)) front))
+    (prefix suffix : List Record) → records ≡ prefix ++ suffix
+    → IsPrefix (chosen_log (setting_of script) (world_after (setting_of script) (start (setting_of script)) prefix))
     (chosen_log (setting_of script) (world_after (setting_of script) (start (setting_of script)) records))
 
 -- each put of a lead fell on a block that was marked on its device
 abbrev pub MarksFirst : Script → List Record → Type 0
 MarksFirst script records =
-    (front back : List Record) (own : Record) → records ≡ front ++ own ∷ back → (n : ℕ) (cell : Cell)
-    → ChangesMarked (setting_of script) (world_after (setting_of script) (start (setting_of script)) front)
-    (stepped (setting_of script) (world_after (setting_of script) (start (setting_of script)) front) own).world n cell
+    (prefix suffix : List Record) (own : Record) → records ≡ prefix ++ own ∷ suffix → (n : ℕ) (cell : Cell)
+    → ChangesMarked (setting_of script) (world_after (setting_of script) (start (setting_of script)) prefix)
+    (stepped (setting_of script) (world_after (setting_of script) (start (setting_of script)) prefix) own).world n cell
 
 -- a snapshot never changes: the content of a block at an epoch below the disk's own is the same after more records, but for links that are
 -- Lost
 abbrev pub SnapshotsStay : Script → List Record → Type 0
 SnapshotsStay script records =
-    (front back : List Record) → records ≡ front ++ back
-    → IsStill (setting_of script) (world_after (setting_of script) (start (setting_of script)) front)
+    (prefix suffix : List Record) → records ≡ prefix ++ suffix
+    → IsStill (setting_of script) (world_after (setting_of script) (start (setting_of script)) prefix)
     (world_after (setting_of script) (start (setting_of script)) records)
 
 -- from where a server had started a ballot for a link's Caught, the two copies of each live cell of the link are equal while no entry that is chosen
 -- has touched the link since: also where the server has stopped
 abbrev pub CopiesStayEqual : Script → List Record → Type 0
 CopiesStayEqual script records =
-    (front back : List Record) (n : ℕ) (cell : Cell) (row : LinkRow) → records ≡ front ++ back
-    → IsCatching (setting_of script) (world_after (setting_of script) (start (setting_of script)) front) n cell row
+    (prefix suffix : List Record) (n : ℕ) (cell : Cell) (row : LinkRow) → records ≡ prefix ++ suffix
+    → IsCatching (setting_of script) (world_after (setting_of script) (start (setting_of script)) prefix) n cell row
     → live (chosen_state (setting_of script) (world_after (setting_of script) (start (setting_of script)) records)) cell ≡ true
     → place_in script.servers (chosen_log (setting_of script) (world_after (setting_of script) (start (setting_of script)) records)) row
-    ≡ place_in script.servers ((world_after (setting_of script) (start (setting_of script)) front).servers n).log.applied row
+    ≡ place_in script.servers ((world_after (setting_of script) (start (setting_of script)) prefix).servers n).log.applied row
     → HasEqualCopies (setting_of script) (world_after (setting_of script) (start (setting_of script)) records) n row cell
 
 -- by what is chosen the two servers of the link are In as they were then by the server's own state
@@ -320,34 +320,34 @@ pub record AreInAsThen (setting : Setting) (then w : World) (n : ℕ) (row : Lin
   pub is : is_in (chosen_state setting w) (other_of n row) other_inc ≡ true
 
 -- since these records the server, while it was this incarnation, has applied no entry that touches the link
-abbrev pub HasAppliedNone : Script → (front back : List Record) → (n : ℕ) → LinkRow → Type 0
-HasAppliedNone script front back n row =
-    (until rest : List Record) → back ≡ until ++ rest
-    → ((world_after (setting_of script) (start (setting_of script)) (front ++ until)).servers n).life.inc
-    ≡ ((world_after (setting_of script) (start (setting_of script)) front).servers n).life.inc
-    → place_in script.servers ((world_after (setting_of script) (start (setting_of script)) (front ++ until)).servers n).log.applied row
-    ≡ place_in script.servers ((world_after (setting_of script) (start (setting_of script)) front).servers n).log.applied row
+abbrev pub HasAppliedNone : Script → (prefix suffix : List Record) → (n : ℕ) → LinkRow → Type 0
+HasAppliedNone script prefix suffix n row =
+    (until rest : List Record) → suffix ≡ until ++ rest
+    → ((world_after (setting_of script) (start (setting_of script)) (prefix ++ until)).servers n).life.inc
+    ≡ ((world_after (setting_of script) (start (setting_of script)) prefix).servers n).life.inc
+    → place_in script.servers ((world_after (setting_of script) (start (setting_of script)) (prefix ++ until)).servers n).log.applied row
+    ≡ place_in script.servers ((world_after (setting_of script) (start (setting_of script)) prefix).servers n).log.applied row
 
 -- and while both servers are In as they were, they are equal until that incarnation has applied such an entry: also where the Caught is chosen
 -- already, and the link in Both again
 abbrev pub CopiesWaitEqual : Script → List Record → Type 0
 CopiesWaitEqual script records =
-    (front back : List Record) (n : ℕ) (cell : Cell) (row : LinkRow) → records ≡ front ++ back
-    → IsCatching (setting_of script) (world_after (setting_of script) (start (setting_of script)) front) n cell row
+    (prefix suffix : List Record) (n : ℕ) (cell : Cell) (row : LinkRow) → records ≡ prefix ++ suffix
+    → IsCatching (setting_of script) (world_after (setting_of script) (start (setting_of script)) prefix) n cell row
     → live (chosen_state (setting_of script) (world_after (setting_of script) (start (setting_of script)) records)) cell ≡ true
-    → AreInAsThen (setting_of script) (world_after (setting_of script) (start (setting_of script)) front)
+    → AreInAsThen (setting_of script) (world_after (setting_of script) (start (setting_of script)) prefix)
     (world_after (setting_of script) (start (setting_of script)) records) n row
-    → HasAppliedNone script front back n row
+    → HasAppliedNone script prefix suffix n row
     → HasEqualCopies (setting_of script) (world_after (setting_of script) (start (setting_of script)) records) n row cell
 
 -- from where a server wanted its report chosen it takes no client's write that the fence holds, until it has applied the entry at which the fence
 -- takes effect
 abbrev pub ReportsHold : Script → List Record → Type 0
 ReportsHold script records =
-    (front back : List Record) (n fence : ℕ) → records ≡ front ++ back
-    → WantsReport (setting_of script) (world_after (setting_of script) (start (setting_of script)) front) n fence
+    (prefix suffix : List Record) (n fence : ℕ) → records ≡ prefix ++ suffix
+    → WantsReport (setting_of script) (world_after (setting_of script) (start (setting_of script)) prefix) n fence
     → WritesNothingSince (setting_of script) (world_after (setting_of script) (start (setting_of script)) records) n
-    ((world_after (setting_of script) (start (setting_of script)) front).servers n).log.applied
+    ((world_after (setting_of script) (start (setting_of script)) prefix).servers n).log.applied
 
 -- what every legal history of a script keeps: the rules of its world at its end, that the chosen log has only grown, that
 -- leads put only on marked blocks, that its events are a run of the plain machine, that the contents are the machine's, that snapshots

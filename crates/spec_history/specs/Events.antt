@@ -314,17 +314,17 @@ looks setting w next own later = flat_map (λ letter. look_of setting w next own
 -- ### All steps
 
 -- what is begun, taken and told, and ended: no run, where what is taken, or what is ended, is none
-abbrev pub told_with : List Event → Option (List Event) → List Event → Option (List Event) → Option (List Event)
-told_with before None following last = None
-told_with before (Some taken_now) following None = None
-told_with before (Some taken_now) following (Some last) = Some (before ++ taken_now ++ (following ++ last))
+abbrev pub events_with : List Event → Option (List Event) → List Event → Option (List Event) → Option (List Event)
+events_with before None following last = None
+events_with before (Some taken_now) following None = None
+events_with before (Some taken_now) following (Some last) = Some (before ++ taken_now ++ (following ++ last))
 
 -- the events of one step, in the order begin, take, make, freeze, look, end
-abbrev pub told : Setting → World → Record → List Record → Option (List Event)
-told setting w own later =
+abbrev pub events_at : Setting → World → Record → List Record → Option (List Event)
+events_at setting w own later =
     let next = (stepped setting w own).world in
     let change = change_by setting w next in
-    told_with (begins own.step own.actor next) (takes change) (makes change ++ freezes change ++ looks setting w next own later)
+    events_with (begins own.step own.actor next) (takes change) (makes change ++ freezes change ++ looks setting w next own later)
     (ends own.actor w own.answer)
 
 abbrev pub joined : Option (List Event) → Option (List Event) → Option (List Event)
@@ -332,13 +332,13 @@ joined None events = None
 joined (Some now) None = None
 joined (Some now) (Some later) = Some (now ++ later)
 
-abbrev pub told_from : Setting → World → List Record → Option (List Event)
-told_from setting w [] = Some []
-told_from setting w (own ∷ later) = joined (told setting w own later) (told_from setting (stepped setting w own).world later)
+abbrev pub events_from : Setting → World → List Record → Option (List Event)
+events_from setting w [] = Some []
+events_from setting w (own ∷ later) = joined (events_at setting w own later) (events_from setting (stepped setting w own).world later)
 
 -- the events of a history
 abbrev pub events_of : Script → List Record → Option (List Event)
-events_of script records = told_from (setting_of script) (start (setting_of script)) records
+events_of script records = events_from (setting_of script) (start (setting_of script)) records
 
 -- the events are a run of the plain machine
 abbrev pub IsRunOf : Option (List Event) → Type 0

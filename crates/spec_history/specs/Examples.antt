@@ -18,7 +18,7 @@ use Rattle.spec_rules.specs.State.{State}
 use Rattle.spec_rules.specs.Store.{Stored, chain_in}
 use Rattle.spec_rules.specs.World.{Setting, World, start, setting_of}
 use Rattle.spec_machine.specs.declared.event.Event.{Event}
-use Rattle.spec_history.specs.Events.{told_from}
+use Rattle.spec_history.specs.Events.{events_from}
 use Rattle.spec_history.specs.Play.{Move, Calls, Hands, Works, Ticks, plays, records_of}
 
 -- the names vol and nope
@@ -49,8 +49,8 @@ abbrev pub run_of : (servers slots : ℕ) → List Line → Setting
 run_of servers slots lines = setting_of (record { servers = servers; slots = slots; lose = None; twice = None; phases = 1; lines = lines })
 
 -- what the machine is told of these moves
-abbrev pub told_of : Setting → List Move → Option (List Event)
-told_of setting moves = told_from setting (start setting) (records_of setting (start setting) moves)
+abbrev pub events_of_moves : Setting → List Move → Option (List Event)
+events_of_moves setting moves = events_from setting (start setting) (records_of setting (start setting) moves)
 
 -- the world after these moves
 abbrev pub world_of : Setting → List Move → World

@@ -34,11 +34,11 @@ AnsweredComeFirst lines records =
 abbrev pub AnswersPhases : ℕ → List Line → List Record → Type 0
 AnswersPhases phases lines records = (line : Line) → In line lines → is_answered records line.number ≡ nat_lt line.phase phases
 
--- where a front of a legal history answers the first lines, the answers of the rest come after its answers
+-- where a prefix of a legal history answers the first lines, the answers of the rest come after its answers
 abbrev pub JoinsAnswers : Script → Type 0
 JoinsAnswers script =
-    (front back : List Record) → AreRising script.lines → AreSteps script (front ++ back) → AnsweredComeFirst script.lines front
-    → answers_of (front ++ back) ≡ answers_of front ++ answers_of back
+    (prefix suffix : List Record) → AreRising script.lines → AreSteps script (prefix ++ suffix) → AnsweredComeFirst script.lines prefix
+    → answers_of (prefix ++ suffix) ≡ answers_of prefix ++ answers_of suffix
 
 -- this is the number of a line, which the history does not answer
 pub record IsOpenLine (lines : List Line) (records : List Record) (number : ℕ) : Type 0 where
@@ -48,6 +48,6 @@ pub record IsOpenLine (lines : List Line) (records : List Record) (number : ℕ)
   pub open_yet : is_answered records number ≡ false
 
 -- these records stand at the front
-pub record IsFront (front whole : List Record) : Type 0 where
+pub record IsRecordPrefix (prefix whole : List Record) : Type 0 where
   pub following : List Record
-  pub is : whole ≡ front ++ following
+  pub is : whole ≡ prefix ++ following

@@ -22,8 +22,8 @@ pub fn a_history_without_steps()
 
 /// The beginning of a list of allowed steps is one, and that of a legal history is legal.
 pub fn a_beginning_is_legal()
-    ensures steps { (script : Script) (front back : List Record) → AreSteps script (front ++ back) → AreSteps script front }
-    ensures legal { (script : Script) (front back : List Record) → IsLegal script (front ++ back) → IsLegal script front }
+    ensures steps { (script : Script) (prefix suffix : List Record) → AreSteps script (prefix ++ suffix) → AreSteps script prefix }
+    ensures legal { (script : Script) (prefix suffix : List Record) → IsLegal script (prefix ++ suffix) → IsLegal script prefix }
 {}
 
 /// What every legal history is to keep holds of the one without steps.

@@ -11,7 +11,7 @@ ghost use Rattle.spec_history.specs.Contents.{content_at};
 ghost use Rattle.spec_history.specs.Examples.{after_clash_moves, again_moves, cell_at, chain_at, clash_moves, crowd_after, crowd_disk, crowded};
 ghost use Rattle.spec_history.specs.Examples.{declined_moves, early, early_moves, fill_moves, forgetful, freed_moves, late_moves, make_moves, marks_at};
 ghost use Rattle.spec_history.specs.Examples.{mindful, one_entry, pair_disk, put_moves, read_moves, refused_moves, rival_disk, rivals, sevens, stray_moves};
-ghost use Rattle.spec_history.specs.Examples.{strays, told_of, twin_moves, twins, vol, world_of, write_moves};
+ghost use Rattle.spec_history.specs.Examples.{strays, events_of_moves, twin_moves, twins, vol, world_of, write_moves};
 
 /// A client's disk is chosen by two servers and applied by both, and its client hears of it.
 pub fn a_disk_is_made()
@@ -68,7 +68,7 @@ pub fn a_disk_is_read_early()
 
 /// The machine is told of the disk at the step that chooses it.
 pub fn a_choice_makes_the_disk()
-    ensures told { told_of sevens make_moves ≡ Some (Make vol ∷ []) }
+    ensures told { events_of_moves sevens make_moves ≡ Some (Make vol ∷ []) }
 {}
 
 /// All letters of the write are handed over a second time, in the reverse order: both copies stay as they are, nothing is

@@ -18,7 +18,7 @@ use Rattle.spec_rules.specs.Log.{Log}
 use Rattle.spec_rules.specs.Server.{PairState, Server}
 use Rattle.spec_rules.specs.Store.{Store, empty_store}
 use Rattle.spec_rules.specs.World.{World}
-use Rattle.spec_history.specs.Events.{told_from}
+use Rattle.spec_history.specs.Events.{events_from}
 use Rattle.spec_history.specs.Examples.{cell_at, crowd_disk, passes, vol}
 use Rattle.spec_history.specs.Play.{Move, Calls, plays, records_of}
 use Rattle.test_history.specs.Returned.{early_log, mending, server_with, three, world_with}
@@ -129,7 +129,7 @@ voting =
 
 -- what the machine is told when server 1 accepts
 abbrev pub told_of_vote : Option (List Event)
-told_of_vote = told_from mending voting (records_of mending voting (passes 0 1))
+told_of_vote = events_from mending voting (records_of mending voting (passes 0 1))
 
 -- ### What it holds
 

@@ -1,8 +1,6 @@
 -- By induction on the history.
-use Rattle.law_jobs.proofs.Imports.{setting_of, start}
+use Rattle.law_jobs.proofs.Imports.{always_firm, setting_of, start, start_rests}
 use Rattle.law_jobs.proofs.EntriesReachComingCells.{comes_after, start_comes}
-use Rattle.law_steps.proofs.WorldsAreFirm.{always_firm}
-use Rattle.law_steps.proofs.KindsInHistories.{start_rests}
 use Rattle.law_jobs.proofs.entries_move_to_cells_on_their_way.Goals as goal
 
 pub returns : goal.returns

@@ -5,10 +5,10 @@ use Rattle.law_log.proofs.FirstIncarnationsStay.{unbooted}
 use Rattle.law_log.proofs.what_is_out_has_stopped.Goals as goal
 
 pub returns-clause-stopped : goal.returns-clause-stopped
-returns-clause-stopped c script records n inc front sound legal prefix was out = out_has_stopped script records sound legal n inc front prefix was out
+returns-clause-stopped c script records n inc prefix sound legal is_prefix was out = out_has_stopped script records sound legal n inc prefix is_prefix was out
 
 pub returns-clause-runs : goal.returns-clause-runs
-returns-clause-runs c script records n front sound legal runs prefix was = who_runs_is_in script records sound legal n front runs prefix was
+returns-clause-runs c script records n prefix sound legal runs is_prefix was = who_runs_is_in script records sound legal n prefix runs is_prefix was
 
 pub returns-clause-one : goal.returns-clause-one
 returns-clause-one c script records n sound legal runs = who_runs_is_one script records sound legal n runs

@@ -3,4 +3,4 @@ use Rattle.law_merge.proofs.RecordsGrow.{joined_more}
 use Rattle.law_merge.proofs.joined_records_grow.Goals as goal
 
 pub returns : goal.returns
-returns c script front own joined next = joined_more (setting_of script) (start (setting_of script)) no_errand front own joined next
+returns c script prefix own joined next = joined_more (setting_of script) (start (setting_of script)) no_errand prefix own joined next

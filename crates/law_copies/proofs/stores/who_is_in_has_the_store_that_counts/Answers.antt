@@ -9,4 +9,4 @@ pub returns-clause-own : goal.returns-clause-own
 returns-clause-own c script records n sound legal runs seat = in_own script records n sound legal runs seat
 
 pub returns-clause-counts : goal.returns-clause-counts
-returns-clause-counts c script records n front sound legal prefix seat = in_counts script records n front sound legal prefix seat
+returns-clause-counts c script records n prefix sound legal is_prefix seat = in_counts script records n prefix sound legal is_prefix seat

@@ -4,7 +4,7 @@ use Rattle.petal_script.specs.Script.{script_of, longest_script}
 use Rattle.petal_run.specs.Asked.{by_text}
 use Rattle.petal_run.specs.Words.{is_run}
 use Rattle.petal_run.proofs.Ends.{read-whole}
-use Rattle.petal_run.proofs.Fronts.{short-drop}
+use Rattle.petal_run.proofs.Prefixes.{short-drop}
 use Rattle.petal_run.proofs.outcome.petal.Goals as goal
 
 pub returns-then-not-is_run-clause-in_part : goal.returns-then-not-is_run-clause-in_part

@@ -1,5 +1,5 @@
 use Rattle.std.proofs.Common.{◌≡◌, ◌+◌, length, min, arith}
-use Rattle.petal_run.proofs.Fronts.{read-front, read-rest, vec-front}
+use Rattle.petal_run.proofs.Prefixes.{read-front, read-rest, vec-front}
 use Rattle.petal_run.proofs.reading.read_text.Goals as goal
 use Rattle.petal_script.specs.Script.{longest_script}
 

@@ -1,4 +1,4 @@
-use Rattle.plain_schedule.proofs.Fronts.{still}
+use Rattle.plain_schedule.proofs.Prefixes.{still}
 use Rattle.plain_schedule.proofs.playing.play_lines.Goals as goal
 
 pub phase_answers-requires-clause-told : goal.phase_answers-requires-clause-told

@@ -7,10 +7,10 @@ use Rattle.spec_history.proofs.laws.a_beginning_is_legal.Goals as goal
 
 pub returns : goal.returns
 returns c = record {
-  steps = λ script front back h. steps_begin (setting_of script) (start (setting_of script)) front back h;
-  legal = λ script front back h. record {
-    steps = steps_begin (setting_of script) (start (setting_of script)) front back h.steps;
-    obey = obey_begin (setting_of script) (start (setting_of script)) no_errand front back h.obey;
-    planned = λ n. come_begin n unarmed (h.planned n).0 front back (h.planned n).1;
+  steps = λ script prefix suffix h. steps_begin (setting_of script) (start (setting_of script)) prefix suffix h;
+  legal = λ script prefix suffix h. record {
+    steps = steps_begin (setting_of script) (start (setting_of script)) prefix suffix h.steps;
+    obey = obey_begin (setting_of script) (start (setting_of script)) no_errand prefix suffix h.obey;
+    planned = λ n. come_begin n unarmed (h.planned n).0 prefix suffix (h.planned n).1;
   };
 }

@@ -53,32 +53,32 @@ unfolding In
 not_in x xs none h = let there : In x [] = subst (In x) none h in absurd there
 
 grows : (script : Script) → Grows script []
-grows script [] back e = record { later = []; is = sym (append-nil (chosen_log (setting_of script) (start (setting_of script)))) }
-grows script (own ∷ front) back e = absurd cc
+grows script [] suffix e = record { later = []; is = sym (append-nil (chosen_log (setting_of script) (start (setting_of script)))) }
+grows script (own ∷ prefix) suffix e = absurd cc
 
 marks : (script : Script) → MarksFirst script []
-marks script [] back own e = absurd cc
-marks script (first ∷ front) back own e = absurd cc
+marks script [] suffix own e = absurd cc
+marks script (first ∷ prefix) suffix own e = absurd cc
 
 snapshots : (script : Script) → SnapshotsStay script []
-snapshots script [] back e = λ row epoch block there. not_in row _ (no_disks (setting_of script)) there
-snapshots script (own ∷ front) back e = absurd cc
+snapshots script [] suffix e = λ row epoch block there. not_in row _ (no_disks (setting_of script)) there
+snapshots script (own ∷ prefix) suffix e = absurd cc
 
 -- what stands at the front of nothing is nothing
-front_of_nothing : (front later : List Command) → [] ≡ front ++ later → front ≡ []
-front_of_nothing [] later e = refl
-front_of_nothing (entry ∷ front) later e = absurd cc
+prefix_of_nothing : (prefix later : List Command) → [] ≡ prefix ++ later → prefix ≡ []
+prefix_of_nothing [] later e = refl
+prefix_of_nothing (entry ∷ prefix) later e = absurd cc
 
 stopped : (setting : Setting) → HaveStopped setting (start setting)
-stopped setting n inc front prefix was out =
-    let none = front_of_nothing front prefix.later (sym (nothing_chosen setting) ∙ prefix.is) in
-    let same : state_after setting.servers front ≡ chosen_state setting (start setting) =
+stopped setting n inc prefix is_prefix was out =
+    let none = prefix_of_nothing prefix is_prefix.later (sym (nothing_chosen setting) ∙ is_prefix.is) in
+    let same : state_after setting.servers prefix ≡ chosen_state setting (start setting) =
     ap (state_after setting.servers) (none ∙ sym (nothing_chosen setting)) in
     true_false was (ap (λ (s : State). is_in s n inc) same ∙ out)
 
 reports : (script : Script) → ReportsHold script []
-reports script [] back n fence e wants = λ cell op along is clients. none_some (sym (at-empty cell_cmp cell) ∙ is)
-reports script (own ∷ front) back n fence e wants = absurd cc
+reports script [] suffix n fence e wants = λ cell op along is clients. none_some (sym (at-empty cell_cmp cell) ∙ is)
+reports script (own ∷ prefix) suffix n fence e wants = absurd cc
 
 pub returns : goal.returns
 unfolding In
@@ -116,7 +116,7 @@ returns c script = record {
     unknown = λ name none. refl;
   };
   snapshots = snapshots script;
-  equal = λ front back n cell row e catching lives same. refl;
-  waiting = λ front back n cell row e catching lives ins none. refl;
+  equal = λ prefix suffix n cell row e catching lives same. refl;
+  waiting = λ prefix suffix n cell row e catching lives ins none. refl;
   reports = reports script;
 }

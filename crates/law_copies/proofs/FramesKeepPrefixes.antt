@@ -1,4 +1,4 @@
--- What is kept at a front where a step leaves the cell as it is at both servers of the link: what they were at the place, and their
+-- What is kept at a prefix where a step leaves the cell as it is at both servers of the link: what they were at the place, and their
 -- stores' chain and marks.
 use Rattle.law_copies.proofs.Imports.{[], ◌+◌, ◌==◌, ◌∙◌, ◌≡◌, ◌≤◌, ◌⊎◌, Body, Bool, Busy, Cell, Command, IsMarked, IsToBeCopied, LinkRow, List, MarkKind}
 use Rattle.law_copies.proofs.Imports.{Only, Option, PairState, Pending, Some, Stale, Store, ap, arith, at, by_test, chain_in, has_server, inl, inr, is_marked}
@@ -9,7 +9,7 @@ use Rattle.law_copies.specs.CopyProgress.{links_of}
 use Rattle.law_copies.specs.GoodCopies.{AloneOk, AreBeside, AreTwins, BothOk, SaidOk, pair_at, StaysLeft}
 use Rattle.law_copies.specs.Pair.{IsRecalled, Known, PairOk, far, pair_of}
 use Rattle.law_copies.specs.Visits.{AliveIn, HasFilled, Visits, half, place_by}
-use Rattle.law_copies.proofs.PlacesByFronts.{has_filled_on}
+use Rattle.law_copies.proofs.PlacesByPrefixes.{has_filled_on}
 use Rattle.law_copies.proofs.VisitsAfterSteps.{then_of, counted_up, none_before}
 use Rattle.law_copies.proofs.AtStep.{AtStep}
 
@@ -133,93 +133,93 @@ module _ (olds news : ℕ → Store) (visits later : Visits) (place : ℕ) (cell
 pub same_stays : (old new : ℕ → Store) (visits : Visits) (place : ℕ) (cell : Cell) (n : ℕ) → new n ≡ old n → StaysAt old new visits visits place cell n
 same_stays old new visits place cell n same = record { visit = refl; store = store_same (old n) (new n) cell same }
 
--- ### At a front
+-- ### At a prefix
 
 module _ (it : AtStep) where
   open it use {setting, top, good, good.{visits}}
   open then_of it use {visits as later, reached, next, olds, news}
 
   -- the cell is as before at a server of its link: its store, too, unless the cell is retired
-  pub record LeavesAt (front : List Command) (n place : ℕ) (cell : Cell) : Type 0 where
+  pub record LeavesAt (prefix : List Command) (n place : ℕ) (cell : Cell) : Type 0 where
     pub visit : later n place cell ≡ visits n place cell
-    pub store : AliveIn (state_after setting.servers top) cell → LeavesStore (olds front n) (news front n) cell
+    pub store : AliveIn (state_after setting.servers top) cell → LeavesStore (olds prefix n) (news prefix n) cell
 
   -- at both
   abbrev pub LeavesBoth : List Command → (place : ℕ) → Cell → LinkRow → Type 0
-  LeavesBoth front place cell row = (n : ℕ) → has_server n row ≡ true → LeavesAt front n place cell
+  LeavesBoth prefix place cell row = (n : ℕ) → has_server n row ≡ true → LeavesAt prefix n place cell
 
-  stays : (front : List Command) (n place : ℕ) (cell : Cell) → AliveIn (state_after setting.servers top) cell → LeavesAt front n place cell
-      → StaysAt (olds front) (news front) visits later place cell n
-  stays front n place cell alive one = record { visit = one.visit; store = one.store alive }
+  stays : (prefix : List Command) (n place : ℕ) (cell : Cell) → AliveIn (state_after setting.servers top) cell → LeavesAt prefix n place cell
+      → StaysAt (olds prefix) (news prefix) visits later place cell n
+  stays prefix n place cell alive one = record { visit = one.visit; store = one.store alive }
 
   somes : (n place : ℕ) (cell : Cell) (own : PairState) → visits n place cell ≡ Some own → (o : PairState) × (later n place cell ≡ Some o)
   somes n place cell own visit = elim (some_or_none (later n place cell)) [ inl h ↦ h | inr none ↦ none_some (none_before it n place cell none) visit ]
 
   -- what was empty is so, or the holder has been at a place
-  pub filled_on : (front : List Command) (cell : Cell) (holder other : ℕ) → HasFilled setting top visits front cell holder other
-      → HasFilled setting top later front cell holder other
-  filled_on front cell holder other f =
+  pub filled_on : (prefix : List Command) (cell : Cell) (holder other : ℕ) → HasFilled setting top visits prefix cell holder other
+      → HasFilled setting top later prefix cell holder other
+  filled_on prefix cell holder other f =
       let now = somes holder (place_by setting f.more f.row) cell f.own f.visited in
       has_filled_on f f.within refl now.0 now.1
 
-  pub filled_framed : (front : List Command) (cell : Cell) (holder other : ℕ)
-      → chain_in (news front other).chains cell ≡ chain_in (olds front other).chains cell
-      → (chain_in (olds front other).chains cell ≡ []) ⊎ HasFilled setting top visits front cell holder other
-      → (chain_in (news front other).chains cell ≡ []) ⊎ HasFilled setting top later front cell holder other
-  filled_framed front cell holder other same (inl empty) = inl (same ∙ empty)
-  filled_framed front cell holder other same (inr f) = inr (filled_on front cell holder other f)
+  pub filled_framed : (prefix : List Command) (cell : Cell) (holder other : ℕ)
+      → chain_in (news prefix other).chains cell ≡ chain_in (olds prefix other).chains cell
+      → (chain_in (olds prefix other).chains cell ≡ []) ⊎ HasFilled setting top visits prefix cell holder other
+      → (chain_in (news prefix other).chains cell ≡ []) ⊎ HasFilled setting top later prefix cell holder other
+  filled_framed prefix cell holder other same (inl empty) = inl (same ∙ empty)
+  filled_framed prefix cell holder other same (inr f) = inr (filled_on prefix cell holder other f)
 
   -- what counts less still counts less
   pub last_before : (cell : Cell) (place : ℕ) → reached cell ≤ place → good.reached cell ≤ place
   last_before cell place le = let more = counted_up it cell in omega arith
 
-  pub both_framed : (front : List Command) (cell : Cell) (row : LinkRow) → LeavesBoth front (place_by setting front row) cell row
-      → BothOk setting top good.stores visits good.reached front cell row → BothOk setting top next later reached front cell row
-  both_framed front cell row leaves ok = record {
-    twins = λ alive last. let place = place_by setting front row in
-        twins_stay (olds front) (news front) visits later place cell row.primary row.secondary
-        (stays front row.primary place cell alive (leaves row.primary (primary_is_one row row.primary refl)))
-        (stays front row.secondary place cell alive (leaves row.secondary (secondary_is_one row row.secondary refl)))
+  pub both_framed : (prefix : List Command) (cell : Cell) (row : LinkRow) → LeavesBoth prefix (place_by setting prefix row) cell row
+      → BothOk setting top good.stores visits good.reached prefix cell row → BothOk setting top next later reached prefix cell row
+  both_framed prefix cell row leaves ok = record {
+    twins = λ alive last. let place = place_by setting prefix row in
+        twins_stay (olds prefix) (news prefix) visits later place cell row.primary row.secondary
+        (stays prefix row.primary place cell alive (leaves row.primary (primary_is_one row row.primary refl)))
+        (stays prefix row.secondary place cell alive (leaves row.secondary (secondary_is_one row row.secondary refl)))
         (ok.twins alive (last_before cell place last));
   }
 
-  pub alone_framed : (front : List Command) (cell : Cell) (row : LinkRow) (holder : ℕ) → has_server holder row ≡ true
-      → LeavesBoth front (place_by setting front row) cell row → AloneOk setting top good.stores visits good.reached front cell row holder
-      → AloneOk setting top next later reached front cell row holder
-  alone_framed front cell row holder has leaves ok =
-      let place = place_by setting front row in
+  pub alone_framed : (prefix : List Command) (cell : Cell) (row : LinkRow) (holder : ℕ) → has_server holder row ≡ true
+      → LeavesBoth prefix (place_by setting prefix row) cell row → AloneOk setting top good.stores visits good.reached prefix cell row holder
+      → AloneOk setting top next later reached prefix cell row holder
+  alone_framed prefix cell row holder has leaves ok =
+      let place = place_by setting prefix row in
       let other = other_of holder row in
       let one = leaves holder has in
       let two = leaves other (other_is_one row holder) in
       record {
-        copying = both_same (λ a b. AreCopying (links_of (state_after setting.servers front) cell.map) row cell a b) one.visit two.visit ok.copying;
-        beside = λ alive last. beside_stays (olds front) (news front) visits later place cell holder other (stays front holder place cell alive one)
-            (stays front other place cell alive two) row (ok.beside alive (last_before cell place last));
+        copying = both_same (λ a b. AreCopying (links_of (state_after setting.servers prefix) cell.map) row cell a b) one.visit two.visit ok.copying;
+        beside = λ alive last. beside_stays (olds prefix) (news prefix) visits later place cell holder other (stays prefix holder place cell alive one)
+            (stays prefix other place cell alive two) row (ok.beside alive (last_before cell place last));
         stays = λ alive own is beyond.
-            left_on row cell own (olds front holder) (news front holder) (one.store alive)
+            left_on row cell own (olds prefix holder) (news prefix holder) (one.store alive)
             (ok.stays alive own (sym one.visit ∙ is) (λ p lt. none_before it other p cell (beyond p lt)));
-        unfilled = λ alive whole. filled_framed front cell holder other (two.store alive).chain (ok.unfilled alive whole);
+        unfilled = λ alive whole. filled_framed prefix cell holder other (two.store alive).chain (ok.unfilled alive whole);
       }
 
-  pub said_framed : (front : List Command) (said : Body) (cell : Cell) (row : LinkRow)
+  pub said_framed : (prefix : List Command) (said : Body) (cell : Cell) (row : LinkRow)
       → ((holder : ℕ) (whole : Bool) → row.state ≡ Only holder whole → has_server holder row ≡ true)
-      → LeavesBoth front (place_by setting front row) cell row → SaidOk setting top good.stores visits good.reached front said cell row
-      → SaidOk setting top next later reached front said cell row
-  said_framed front said cell row has leaves ok =
-      let place = place_by setting front row in
+      → LeavesBoth prefix (place_by setting prefix row) cell row → SaidOk setting top good.stores visits good.reached prefix said cell row
+      → SaidOk setting top next later reached prefix said cell row
+  said_framed prefix said cell row has leaves ok =
+      let place = place_by setting prefix row in
       record {
         both = λ alive both last of. subst (λ p. Known p said)
-            (pair_stays (olds front) (news front) visits later place cell row.primary row.secondary
-            (stays front row.primary place cell alive (leaves row.primary (primary_is_one row row.primary refl)))
-            (stays front row.secondary place cell alive (leaves row.secondary (secondary_is_one row row.secondary refl))))
+            (pair_stays (olds prefix) (news prefix) visits later place cell row.primary row.secondary
+            (stays prefix row.primary place cell alive (leaves row.primary (primary_is_one row row.primary refl)))
+            (stays prefix row.secondary place cell alive (leaves row.secondary (secondary_is_one row row.secondary refl))))
             (ok.both alive both (last_before cell place last) of);
         alone = λ holder whole alone of.
             both_same (λ a b. IsTold row a b said) (leaves holder (has holder whole alone)).visit
             (leaves (other_of holder row) (other_is_one row holder)).visit
             (ok.alone holder whole alone of);
         page = λ alive holder whole after block alone is last.
-            page_stays (olds front) (news front) visits later place cell (other_of holder row)
-            (stays front (other_of holder row) place cell alive (leaves (other_of holder row) (other_is_one row holder))) after block
+            page_stays (olds prefix) (news prefix) visits later place cell (other_of holder row)
+            (stays prefix (other_of holder row) place cell alive (leaves (other_of holder row) (other_is_one row holder))) after block
             (ok.page alive holder whole after block alone is (last_before cell place last));
         met = λ holder whole after block alone is.
             ap is_some (leaves (other_of holder row) (other_is_one row holder)).visit ∙ ok.met holder whole after block alone is;

@@ -1,18 +1,18 @@
--- Fronts of records.
+-- Prefixes of records.
 use Rattle.std.proofs.Common.{◌≡◌, ◌≤◌, ℕ, List, [], ◌∷◌, ◌++◌, length, take, drop, refl, sym, ap, ◌∙◌, subst, arith, length-append}
 use Rattle.std.proofs.lemmas.List.{take-append-drop, length-take-le}
 use Rattle.std.proofs.Math.Seq.{take-append_seam}
 use Rattle.spec_history.specs.declared.record.Record.{Record}
-use Rattle.spec_history.specs.Order.{IsFront}
+use Rattle.spec_history.specs.Order.{IsRecordPrefix}
 use Rattle.plain_schedule.specs.Going.{GoesOn}
 
 pub append_nil : (records : List Record) → records ++ [] ≡ records
 append_nil [] = refl
 append_nil (own ∷ later) = ap (λ more. own ∷ more) (append_nil later)
 
--- all records are a front of themselves, and so of what goes on from them
-pub goes_front : (old new : List Record) → GoesOn old new → IsFront old new
-goes_front old new on = on old (record { following = []; is = sym (append_nil old) })
+-- all records are a prefix of themselves, and so of what goes on from them
+pub goes_prefix : (old new : List Record) → GoesOn old new → IsRecordPrefix old new
+goes_prefix old new on = on old (record { following = []; is = sym (append_nil old) })
 
 -- the first so many records stay
 pub record IsStill (told : ℕ) (old new : List Record) : Type 0 where

@@ -1,4 +1,4 @@
--- Fronts of the log, and what stands below what.
+-- Prefixes of the log, and what stands below what.
 use Rattle.law_state.proofs.Imports.{[], ◌++◌, ◌∙◌, ◌∷◌, ◌≡◌, ◌≤◌, Command, IsPrefix, List, State, ap, append-nil, append_assoc, arith, drop, inl, inr}
 use Rattle.law_state.proofs.Imports.{length, length-append, refl, same_some, slice_get, sym}
 use Rattle.law_state.specs.Ages.{age_of}
@@ -7,37 +7,37 @@ use Rattle.law_state.specs.LaterStates.{IsBelow}
 use Rattle.law_state.proofs.Ages.{no_less}
 use Rattle.law_state.proofs.GrownStates.{goes_on_itself, goes_on_on}
 
-pub front_itself : (log : List Command) → IsPrefix log log
-front_itself log = record { later = []; is = sym (append-nil log) }
+pub prefix_itself : (log : List Command) → IsPrefix log log
+prefix_itself log = record { later = []; is = sym (append-nil log) }
 
-pub front_same : (one other : List Command) → other ≡ one → IsPrefix one other
-front_same one other e = record { later = []; is = e ∙ sym (append-nil one) }
+pub prefix_same : (one other : List Command) → other ≡ one → IsPrefix one other
+prefix_same one other e = record { later = []; is = e ∙ sym (append-nil one) }
 
-pub front_more : (log : List Command) (entry : Command) → IsPrefix log (log ++ entry ∷ [])
-front_more log entry = record { later = entry ∷ []; is = refl }
+pub prefix_more : (log : List Command) (entry : Command) → IsPrefix log (log ++ entry ∷ [])
+prefix_more log entry = record { later = entry ∷ []; is = refl }
 
-pub front_on : (a b c : List Command) → IsPrefix a b → IsPrefix b c → IsPrefix a c
-front_on a b c one two =
+pub prefix_on : (a b c : List Command) → IsPrefix a b → IsPrefix b c → IsPrefix a c
+prefix_on a b c one two =
     record { later = one.later ++ two.later; is = two.is ∙ ap (λ xs. xs ++ two.later) one.is ∙ append_assoc a one.later two.later }
 
-pub front_long : (front whole : List Command) → IsPrefix front whole → length front ≤ length whole
-front_long front whole p = omega (arith, ap length p.is, length-append front p.later)
+pub prefix_long : (prefix whole : List Command) → IsPrefix prefix whole → length prefix ≤ length whole
+prefix_long prefix whole p = omega (arith, ap length p.is, length-append prefix p.later)
 
--- of two fronts of one log the shorter one stands at the front of the other
-both_fronts : (a b x y : List Command) → a ++ x ≡ b ++ y → length a ≤ length b → IsPrefix a b
-both_fronts [] b x y e le = record { later = b; is = refl }
-both_fronts (p ∷ a) [] x y e le = absurd (omega arith)
-both_fronts (p ∷ a) (q ∷ b) x y e le =
+-- of two prefixes of one log the shorter one stands at the front of the other
+both_prefixes : (a b x y : List Command) → a ++ x ≡ b ++ y → length a ≤ length b → IsPrefix a b
+both_prefixes [] b x y e le = record { later = b; is = refl }
+both_prefixes (p ∷ a) [] x y e le = absurd (omega arith)
+both_prefixes (p ∷ a) (q ∷ b) x y e le =
     let first : p ≡ q = same_some (ap (λ (xs : List Command). slice_get xs 0) e) in
-    let rest = both_fronts a b x y (ap (λ (xs : List Command). drop 1 xs) e) (omega arith) in
+    let rest = both_prefixes a b x y (ap (λ (xs : List Command). drop 1 xs) e) (omega arith) in
     record { later = rest.later; is = λ i. sym first i ∷ rest.is i }
 
-pub front_within : (a b whole : List Command) → IsPrefix a whole → IsPrefix b whole → length a ≤ length b → IsPrefix a b
-front_within a b whole one two le = both_fronts a b one.later two.later (sym one.is ∙ two.is) le
+pub prefix_within : (a b whole : List Command) → IsPrefix a whole → IsPrefix b whole → length a ≤ length b → IsPrefix a b
+prefix_within a b whole one two le = both_prefixes a b one.later two.later (sym one.is ∙ two.is) le
 
 -- two that are as long are one
-pub one_front : (a b whole : List Command) → IsPrefix a whole → IsPrefix b whole → length a ≡ length b → a ≡ b
-one_front a b whole one two e = let p = front_within a b whole one two (omega arith) in by p.later p.is
+pub one_prefix : (a b whole : List Command) → IsPrefix a whole → IsPrefix b whole → length a ≡ length b → a ≡ b
+one_prefix a b whole one two e = let p = prefix_within a b whole one two (omega arith) in by p.later p.is
   where
     by : (later : List Command) → b ≡ a ++ later → a ≡ b
     by [] is = sym (is ∙ append-nil a)

@@ -1,12 +1,12 @@
 -- The chosen log grows by an entry that no server has applied: what was kept at the fronts so far is kept at the new one. Where the
 -- entry touches a link, no server has been at the link's new place. Where it is a Join of a server with an empty store, that store is the
--- server's from the new front on.
+-- server's from the new prefix on.
 use Rattle.law_copies.proofs.Imports.{[], ◌==◌, ◌∙◌, ◌∷◌, ◌≡◌, ◌≢◌, ◌≤◌, ◌⊎◌, Body, Bool, Both, ByBoth, ByNone, ByOne, By_caught, By_join, By_leave, Cell}
 use Rattle.law_copies.proofs.Imports.{Command, IsCaughtBy, IsPrefix, IsRising, Join, Leave, LinkId, LinkRow, List, None, Only, PairState, Some, Store}
 use Rattle.law_copies.proofs.Imports.{WasStarted, after, alone_not_both, ap, arith, at-empty, blank_joins_in, by_bool, cell_cmp, cell_link, chain_in, false}
-use Rattle.law_copies.proofs.Imports.{front_itself, front_long, front_more, front_on, has_mark, has_server, id_of, inl, inr, is_between, is_flagged, is_in}
-use Rattle.law_copies.proofs.Imports.{is_marked, joins_blank, left_not_both, left_row, left_state, length, length-append, log_steady, log_touched, mark_on}
-use Rattle.law_copies.proofs.Imports.{may_join, nat_cmp, needs_full_copy, none_some, one_before, other_of, primary_is_one, refl, row_blanked, row_joined}
+use Rattle.law_copies.proofs.Imports.{has_mark, has_server, id_of, inl, inr, is_between, is_flagged, is_in, is_marked, joins_blank, left_not_both, left_row}
+use Rattle.law_copies.proofs.Imports.{left_state, length, length-append, log_steady, log_touched, mark_on, may_join, nat_cmp, needs_full_copy, none_some}
+use Rattle.law_copies.proofs.Imports.{one_before, other_of, prefix_itself, prefix_long, prefix_more, prefix_on, primary_is_one, refl, row_blanked, row_joined}
 use Rattle.law_copies.proofs.Imports.{row_left, same_some, secondary_is_one, server_state, serves, slice_get, stage_at, state_after, stays_row, subject_of}
 use Rattle.law_copies.proofs.Imports.{subst, sym, touches, true, true_false, with_store, ℕ}
 use Rattle.law_copies.specs.CopyProgress.{AreCopying, IsCovered, IsPage, Is_equal, links_of}
@@ -14,15 +14,15 @@ use Rattle.law_copies.specs.GoodCopies.{AloneOk, AreBeside, AreTwins, BothOk, Go
 use Rattle.law_copies.specs.Pair.{HaveMarks, Known}
 use Rattle.law_copies.specs.LoneSteps.{AreFilled, IsBare}
 use Rattle.law_copies.specs.Visits.{AliveIn, AreReached, HasFilled, IsHere, IsLinked, Visits, place_by, store_by}
-use Rattle.law_copies.proofs.PlacesByFronts.{has_filled_on, reached_on, below_at, front_or_all, links_up, other_later}
+use Rattle.law_copies.proofs.PlacesByPrefixes.{has_filled_on, reached_on, below_at, prefix_or_all, links_up, other_later}
 use Rattle.law_copies.proofs.BlankJoinsMakePlaces.{joins_at, store_at}
-use Rattle.law_copies.proofs.FramesKeepFronts.{StaysAt, beside_stays, other_is_one, same_stays, twins_stay}
-use Rattle.law_copies.proofs.ServedAtLaterFronts.{alone_not_lost, holder_is_one, other_than}
+use Rattle.law_copies.proofs.FramesKeepPrefixes.{StaysAt, beside_stays, other_is_one, same_stays, twins_stay}
+use Rattle.law_copies.proofs.ServedAtLaterPrefixes.{alone_not_lost, holder_is_one, other_than}
 use Rattle.law_copies.proofs.MuteLettersTellNothing.{said_mute}
 use Rattle.law_copies.proofs.NewPlaces.{both_cover, cover_again, in_common, new_alone, new_twins}
 use Rattle.law_copies.proofs.BlankJoinsRenewLinks.{blanked_alone, counts_same, filled_cover, joined_not_both, joins_so, no_blank_join, no_chains}
 use Rattle.law_copies.proofs.AtNext.{AtNext, next_of, IsGrownTo}
-use Rattle.law_copies.proofs.NextEntry.{alive_before, born_then, by_next, front_stores, later_then, next_store, next_stores, no_blank, no_caught, no_leave}
+use Rattle.law_copies.proofs.NextEntry.{alive_before, born_then, by_next, prefix_stores, later_then, next_store, next_stores, no_blank, no_caught, no_leave}
 use Rattle.law_copies.proofs.NextEntry.{old_stores, plain_entry, plain_top, reached_below, row_then, steady_top, still_empty, stores_so}
 
 module _ (it : AtNext) where
@@ -34,20 +34,20 @@ module _ (it : AtNext) where
   twins_top : (cell : Cell) (row : LinkRow) → IsLinked setting top cell row → AliveIn here cell → row.state ≡ Both
       → AreTwins old good.visits (place_by setting top row) cell row.primary row.secondary
   twins_top cell row is alive both = subst (λ s. AreTwins s good.visits (place_by setting top row) cell row.primary row.secondary) (old_stores it)
-      ((good.both top cell row (front_itself top) is both).twins alive (reached_below it cell row is))
+      ((good.both top cell row (prefix_itself top) is both).twins alive (reached_below it cell row is))
 
   beside_top : (cell : Cell) (row : LinkRow) (holder : ℕ) (whole : Bool) → IsLinked setting top cell row → AliveIn here cell
       → row.state ≡ Only holder whole → AreBeside old good.visits (place_by setting top row) row cell holder (other_of holder row)
   beside_top cell row holder whole is alive alone =
       subst (λ s. AreBeside s good.visits (place_by setting top row) row cell holder (other_of holder row)) (old_stores it)
-      ((good.alone top cell row holder whole (front_itself top) is alone).beside alive (reached_below it cell row is))
+      ((good.alone top cell row holder whole (prefix_itself top) is alone).beside alive (reached_below it cell row is))
 
   -- the holder has the link in mind
   minded : (cell : Cell) (row : LinkRow) → IsLinked setting top cell row → AliveIn here cell → (acts : IsCaughtBy here entry row)
       → (own : PairState) × (good.visits acts.holder (place_by setting top row) cell ≡ Some own) × (is_flagged own (id_of row) ≡ true)
   minded cell row is alive acts =
       let told = started row.map row.link acts.holder acts.inc (other_of acts.holder row) acts.other_inc acts.is in
-      good.started acts.holder acts.inc acts.whole top cell row (front_itself top) is alive acts.alone acts.holds told
+      good.started acts.holder acts.inc acts.whole top cell row (prefix_itself top) is alive acts.alone acts.holds told
 
   -- by its Caught, for which the holder was done: then the copies were equal
   caught_equal : (cell : Cell) (row : LinkRow) → IsLinked setting top cell row → AliveIn here cell → (acts : IsCaughtBy here entry row)
@@ -76,16 +76,16 @@ module _ (it : AtNext) where
 
   both_on : (f : List Command) (cell : Cell) (row : LinkRow) → IsPrefix f top → BothOk setting top good.stores good.visits good.reached f cell row
       → BothOk setting next stores good.visits good.reached f cell row
-  both_on f cell row prefix b = record {
-    twins = λ alive last. subst (λ s. AreTwins s good.visits (place_by setting f row) cell row.primary row.secondary) (front_stores it f prefix)
+  both_on f cell row is_prefix b = record {
+    twins = λ alive last. subst (λ s. AreTwins s good.visits (place_by setting f row) cell row.primary row.secondary) (prefix_stores it f is_prefix)
         (b.twins (alive_before it cell alive) last);
   }
 
   -- at a place that stays each server of the link has the store that it had
   same_store : (cell : Cell) (now : LinkRow) (n : ℕ) → IsLinked setting top cell now → IsLinked setting next cell now
       → place_by setting next now ≡ place_by setting top now → has_server n now ≡ true → store_by setting stores next n ≡ store_by setting stores top n
-  same_store cell now n is end same has = store_at setting next all stores next top cell now now n (front_itself next)
-      (front_more top entry) end is has has same
+  same_store cell now n is end same has = store_at setting next all stores next top cell now now n (prefix_itself next)
+      (prefix_more top entry) end is has has same
 
   same_here : (cell : Cell) (now : LinkRow) (n : ℕ) → IsLinked setting top cell now → IsLinked setting next cell now
       → place_by setting next now ≡ place_by setting top now → has_server n now ≡ true
@@ -112,7 +112,7 @@ module _ (it : AtNext) where
             now.primary now.secondary
             (same_here cell now now.primary is end same (primary_is_one now now.primary refl))
             (same_here cell now now.secondary is end same (secondary_is_one now now.secondary refl))
-            ((both_on top cell now (front_itself top) (good.both top cell now (front_itself top) is both)).twins alive
+            ((both_on top cell now (prefix_itself top) (good.both top cell now (prefix_itself top) is both)).twins alive
             (subst (λ place. good.reached cell ≤ place) same last)));
       })
       (λ row is on unseen. made_twins cell now unseen (λ alive. both_moved cell row now is end on alive both))
@@ -123,12 +123,12 @@ module _ (it : AtNext) where
   -- what the other server has, where all is to be copied to it
   filled_on : (f : List Command) (cell : Cell) (holder other : ℕ) → HasFilled setting top good.visits f cell holder other
       → HasFilled setting next good.visits f cell holder other
-  filled_on f cell holder other h = has_filled_on h (front_on h.more top next h.within (front_more top entry)) refl h.own h.visited
+  filled_on f cell holder other h = has_filled_on h (prefix_on h.more top next h.within (prefix_more top entry)) refl h.own h.visited
 
   -- after as many of its Joins with an empty store
   filled_next : (cell : Cell) (holder other : ℕ) → blank_joins_in setting next other ≡ blank_joins_in setting top other
       → HasFilled setting top good.visits top cell holder other → HasFilled setting next good.visits next cell holder other
-  filled_next cell holder other same h = has_filled_on h (front_on h.more top next h.within (front_more top entry)) (sym same) h.own h.visited
+  filled_next cell holder other same h = has_filled_on h (prefix_on h.more top next h.within (prefix_more top entry)) (sym same) h.own h.visited
 
   abbrev IsUnfilled : Cell → LinkRow → ℕ → Type 0
   IsUnfilled cell now holder =
@@ -157,7 +157,7 @@ module _ (it : AtNext) where
             (cover_again row now cell (old holder) (old other) (good.visits holder (place_by setting top row) cell)
             (λ all. ap needs_full_copy (still ∙ sym alone) ∙ all) beside.alike.covered));
         unfilled = λ all_of. subst (λ m. (chain_in (new m).chains cell ≡ []) ⊎ HasFilled setting next good.visits next cell holder m) later
-            (elim ((good.alone top cell row holder whole (front_itself top) is alone).unfilled alive (ap needs_full_copy alone ∙ all_of)) [
+            (elim ((good.alone top cell row holder whole (prefix_itself top) is alone).unfilled alive (ap needs_full_copy alone ∙ all_of)) [
               | inl empty ↦ inl (ap (λ (s : Store). chain_in s.chains cell) (recounts.same other off ∙ sym (good.now other)) ∙ empty)
               | inr h ↦ inr (filled_next cell holder other (counts_same setting top entry other off) h)
             ]);
@@ -234,16 +234,16 @@ module _ (it : AtNext) where
   alone_on : (f : List Command) (cell : Cell) (row : LinkRow) (holder : ℕ) → IsPrefix f top
       → AloneOk setting top good.stores good.visits good.reached f cell row holder
       → AloneOk setting next stores good.visits good.reached f cell row holder
-  alone_on f cell row holder prefix a =
+  alone_on f cell row holder is_prefix a =
       let other = other_of holder row in
       record {
         copying = a.copying;
-        beside = λ alive last. subst (λ s. AreBeside s good.visits (place_by setting f row) row cell holder other) (front_stores it f prefix)
+        beside = λ alive last. subst (λ s. AreBeside s good.visits (place_by setting f row) row cell holder other) (prefix_stores it f is_prefix)
             (a.beside (alive_before it cell alive) last);
-        stays = λ alive own visit beyond. subst (λ (s : ℕ → Store). StaysLeft row cell own (s holder)) (front_stores it f prefix)
+        stays = λ alive own visit beyond. subst (λ (s : ℕ → Store). StaysLeft row cell own (s holder)) (prefix_stores it f is_prefix)
             (a.stays (alive_before it cell alive) own visit beyond);
         unfilled = λ alive all_of. elim (a.unfilled (alive_before it cell alive) all_of) [
-          | inl empty ↦ inl (subst (λ (s : ℕ → Store). chain_in (s other).chains cell ≡ []) (front_stores it f prefix) empty)
+          | inl empty ↦ inl (subst (λ (s : ℕ → Store). chain_in (s other).chains cell ≡ []) (prefix_stores it f is_prefix) empty)
           | inr h ↦ inr (filled_on f cell holder other h)
         ];
       }
@@ -260,7 +260,7 @@ module _ (it : AtNext) where
       record {
         copying = subst (λ many. AreCopying many now cell (good.visits holder (place_by setting next now) cell)
             (good.visits other (place_by setting next now) cell))
-            (sym (links_up setting next all top next cell now (front_more top entry) (front_itself next) is))
+            (sym (links_up setting next all top next cell now (prefix_more top entry) (prefix_itself next) is))
             (subst (λ place. AreCopying (links_of here cell.map) now cell (good.visits holder place cell) (good.visits other place cell)) (sym same) a.copying);
         beside = λ alive last. subst (λ place. AreBeside (store_by setting stores next) good.visits place now cell holder other) (sym same)
             (beside_stays (store_by setting stores top) (store_by setting stores next) good.visits good.visits (place_by setting top now) cell holder other
@@ -271,7 +271,7 @@ module _ (it : AtNext) where
         unfilled = λ alive all_of. elim (a.unfilled alive all_of) [
           | inl empty ↦ inl (ap (λ (s : Store). chain_in s.chains cell) two ∙ empty)
           | inr h ↦ inr (has_filled_on h h.within
-              (sym (joins_at setting next all next top cell now now other (front_itself next) (front_more top entry) end is (other_is_one now holder)
+              (sym (joins_at setting next all next top cell now now other (prefix_itself next) (prefix_more top entry) end is (other_is_one now holder)
               (other_is_one now holder) same)) h.own h.visited)
         ];
       }
@@ -292,7 +292,7 @@ module _ (it : AtNext) where
       → AloneOk setting next stores good.visits good.reached next cell now holder
   alone_next cell now holder whole end alone = by_next it cell now end
       (λ is same. same_alone cell now holder whole is end alone same
-      (alone_on top cell now holder (front_itself top) (good.alone top cell now holder whole (front_itself top) is alone)))
+      (alone_on top cell now holder (prefix_itself top) (good.alone top cell now holder whole (prefix_itself top) is alone)))
       (λ row is on unseen. made_alone cell now holder unseen (λ alive. (alone_moved cell row now holder whole is end on alive alone).covered)
       (λ alive all_of. (alone_moved cell row now holder whole is end on alive alone).unfilled (sym (ap needs_full_copy alone) ∙ all_of)))
       (λ none unseen. made_alone cell now holder unseen (λ alive. Is_equal (still_empty it cell none holder (other_of holder now)))
@@ -300,17 +300,18 @@ module _ (it : AtNext) where
 
   -- ### All of it
 
-  -- what is so of each front so far, and of the new one
-  at_fronts : (P : List Command → Type 0) → ((front : List Command) → IsPrefix front top → P front) → P next → (front : List Command) → IsPrefix front next
-      → P front
-  at_fronts P before last front prefix = elim (front_or_all front top entry prefix) [
-    | inl p ↦ before front p
+  -- what is so of each prefix so far, and of the new one
+  at_prefixes : (P : List Command → Type 0) → ((prefix : List Command) → IsPrefix prefix top → P prefix) → P next
+      → (prefix : List Command) → IsPrefix prefix next
+      → P prefix
+  at_prefixes P before last prefix is_prefix = elim (prefix_or_all prefix top entry is_prefix) [
+    | inl p ↦ before prefix p
     | inr same ↦ subst P (sym same) last
   ]
 
-  -- a front as long as some revision so far is one so far
-  by_length : {B : Type 0} (front : List Command) → IsPrefix front next → length front ≤ length top → (IsPrefix front top → B) → B
-  by_length front prefix le so = elim (front_or_all front top entry prefix) [
+  -- a prefix as long as some revision so far is one so far
+  by_length : {B : Type 0} (prefix : List Command) → IsPrefix prefix next → length prefix ≤ length top → (IsPrefix prefix top → B) → B
+  by_length prefix is_prefix le so = elim (prefix_or_all prefix top entry is_prefix) [
     | inl p ↦ so p
     | inr same ↦ absurd (omega (arith, ap length same, length-append top (entry ∷ [])))
   ]
@@ -319,38 +320,38 @@ module _ (it : AtNext) where
       → good.visits n (place_by setting next now) cell ≡ Some own → place_by setting next now ≤ good.reached cell
   below_next cell now n own end serving visited = by_next it cell now end
       (λ is same. subst (λ place. place ≤ good.reached cell) (sym same)
-      (good.reaching.below top cell now n own (front_itself top) is serving (subst (λ place. good.visits n place cell ≡ Some own) same visited)))
+      (good.reaching.below top cell now n own (prefix_itself top) is serving (subst (λ place. good.visits n place cell ≡ Some own) same visited)))
       (λ row is on unseen. none_some (unseen n) visited)
       (λ none unseen. none_some (unseen n) visited)
 
   reaching_next : AreReached setting next good.visits good.reached
   reaching_next = record {
-    below = λ front cell row n own prefix.
-        at_fronts (λ f. IsLinked setting f cell row → serves n row row.state ≡ true → good.visits n (place_by setting f row) cell ≡ Some own
+    below = λ prefix cell row n own is_prefix.
+        at_prefixes (λ f. IsLinked setting f cell row → serves n row row.state ≡ true → good.visits n (place_by setting f row) cell ≡ Some own
         → place_by setting f row ≤ good.reached cell)
-        (λ f p. good.reaching.below f cell row n own p) (below_next cell row n own) front prefix;
+        (λ f p. good.reaching.below f cell row n own p) (below_next cell row n own) prefix is_prefix;
     by = λ cell. elim (good.reaching.by cell) [
       | inl none ↦ inl none
-      | inr r ↦ inr (reached_on r (front_on r.front top next r.prefix (front_more top entry)) r.own r.visited)
+      | inr r ↦ inr (reached_on r (prefix_on r.prefix top next r.is_prefix (prefix_more top entry)) r.own r.visited)
     ];
   }
 
   -- a cell that is not live yet then was not before
   unborn_before : (cell : Cell) → stage_at then_state cell ≡ 0 → stage_at here cell ≡ 0
-  unborn_before cell none = let le = (below_at setting next all top next (front_more top entry) (front_itself next)).stages cell in omega arith
+  unborn_before cell none = let le = (below_at setting next all top next (prefix_more top entry) (prefix_itself next)).stages cell in omega arith
 
   said_on : (f : List Command) (said : Body) (cell : Cell) (row : LinkRow) → IsPrefix f top
       → SaidOk setting top good.stores good.visits good.reached f said cell row
       → SaidOk setting next stores good.visits good.reached f said cell row
-  said_on f said cell row prefix s =
+  said_on f said cell row is_prefix s =
       let place = place_by setting f row in
       record {
-        both = λ alive both last of. subst (λ t. Known (pair_at t good.visits place cell row.primary row.secondary) said) (front_stores it f prefix)
+        both = λ alive both last of. subst (λ t. Known (pair_at t good.visits place cell row.primary row.secondary) said) (prefix_stores it f is_prefix)
             (s.both (alive_before it cell alive) both last of);
         alone = s.alone;
         page = λ alive holder whole after block alone told last.
             subst (λ (t : ℕ → Store). IsPage cell (t (other_of holder row)) (good.visits (other_of holder row) place cell) after block)
-            (front_stores it f prefix)
+            (prefix_stores it f is_prefix)
             (s.page (alive_before it cell alive) holder whole after block alone told last);
         met = s.met;
       }
@@ -358,7 +359,7 @@ module _ (it : AtNext) where
   -- no server was past the entry at a world on the way
   not_started : {B : Type 0} (holder inc : ℕ) (id : LinkId) → WasStarted setting records holder inc next id → B
   not_started holder inc id was =
-      let le = front_long _ top (following.ever was.before was.later was.is holder) in
+      let le = prefix_long _ top (following.ever was.before was.later was.is holder) in
       absurd (omega (arith, ap length was.at, length-append top (entry ∷ [])))
 
   here_next : (n : ℕ) (cell : Cell) (row : LinkRow) → IsLinked setting (u.servers n).log.applied cell row
@@ -396,7 +397,7 @@ module _ (it : AtNext) where
     stores = stores;
     now = next_store it;
     here = here_next;
-    been = λ n place cell own visit. let b = good.been n place cell own visit in record { front = b.front; within = b.within; placed = b.placed };
+    been = λ n place cell own visit. let b = good.been n place cell own visit in record { prefix = b.prefix; within = b.within; placed = b.placed };
     came = good.came;
     born = λ cell none. born_then it cell (unborn_before cell none);
     unheard = unheard_next;
@@ -411,30 +412,30 @@ module _ (it : AtNext) where
     marks = λ n when. by_bool (joins_blank here entry n)
         (λ on. (recounts.renewed n on).rested when)
         (λ off. subst (HaveMarks (server_state setting u n) (u.servers n).own.pairs.pending) (sym (recounts.same n off)) (good.marks n when));
-    both = λ front cell row prefix. at_fronts (λ f. IsLinked setting f cell row → row.state ≡ Both
+    both = λ prefix cell row is_prefix. at_prefixes (λ f. IsLinked setting f cell row → row.state ≡ Both
         → BothOk setting next stores good.visits good.reached f cell row)
-        (λ f p is both. both_on f cell row p (good.both f cell row p is both)) (both_next cell row) front prefix;
-    alone = λ front cell row holder whole prefix.
-        at_fronts (λ f. IsLinked setting f cell row → row.state ≡ Only holder whole → AloneOk setting next stores good.visits good.reached f cell row holder)
-        (λ f p is alone. alone_on f cell row holder p (good.alone f cell row holder whole p is alone)) (alone_next cell row holder whole) front prefix;
+        (λ f p is both. both_on f cell row p (good.both f cell row p is both)) (both_next cell row) prefix is_prefix;
+    alone = λ prefix cell row holder whole is_prefix.
+        at_prefixes (λ f. IsLinked setting f cell row → row.state ≡ Only holder whole → AloneOk setting next stores good.visits good.reached f cell row holder)
+        (λ f p is alone. alone_on f cell row holder p (good.alone f cell row holder whole p is alone)) (alone_next cell row holder whole) prefix is_prefix;
     revs = λ letter sent between. let le = good.revs letter sent between in omega (arith, length-append top (entry ∷ []));
-    letters = λ letter sent front cell row prefix long is alive. by_bool (is_between (subject_of letter.body))
+    letters = λ letter sent prefix cell row is_prefix long is alive. by_bool (is_between (subject_of letter.body))
         (λ between. let le = good.revs letter sent between in
-        by_length front prefix (omega arith) (λ p. said_on front letter.body cell row p (good.letters letter sent front cell row p long is alive)))
-        (λ mute. said_mute setting next stores good.visits good.reached front letter.body cell row mute);
-    lives = λ letter sent between front prefix long cell of.
+        by_length prefix is_prefix (omega arith) (λ p. said_on prefix letter.body cell row p (good.letters letter sent prefix cell row p long is alive)))
+        (λ mute. said_mute setting next stores good.visits good.reached prefix letter.body cell row mute);
+    lives = λ letter sent between prefix is_prefix long cell of.
         let le = good.revs letter sent between in
-        by_length front prefix (omega arith) (λ p. good.lives letter sent between front p long cell of);
+        by_length prefix is_prefix (omega arith) (λ p. good.lives letter sent between prefix p long cell of);
     copied = good.copied;
-    pages = λ letter sent front prefix long of link block after said.
+    pages = λ letter sent prefix is_prefix long of link block after said.
         let le = good.revs letter sent (ap (λ (b : Body). is_between (subject_of b)) said) in
-        by_length front prefix (omega arith) (λ p. good.pages letter sent front p long of link block after said);
-    started = λ holder inc whole front cell row prefix.
-        at_fronts (λ f. IsLinked setting f cell row → AliveIn (state_after setting.servers f) cell → row.state ≡ Only holder whole → is_in
+        by_length prefix is_prefix (omega arith) (λ p. good.pages letter sent prefix p long of link block after said);
+    started = λ holder inc whole prefix cell row is_prefix.
+        at_prefixes (λ f. IsLinked setting f cell row → AliveIn (state_after setting.servers f) cell → row.state ≡ Only holder whole → is_in
         (state_after setting.servers f) holder inc ≡ true
         → WasStarted setting records holder inc f (id_of row)
         → (own : PairState) × (good.visits holder (place_by setting f row) cell ≡ Some own) × (is_flagged own (id_of row) ≡ true))
-        (λ f p. good.started holder inc whole f cell row p) (λ is alive alone seat was. not_started holder inc (id_of row) was) front prefix;
+        (λ f p. good.started holder inc whole f cell row p) (λ is alive alone seat was. not_started holder inc (id_of row) was) prefix is_prefix;
   }
 
   pub grown_one : (visits : Visits) (reached : Cell → ℕ) → ((n place : ℕ) (cell : Cell) → good.visits n place cell ≡ visits n place cell)

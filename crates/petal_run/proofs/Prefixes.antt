@@ -7,22 +7,22 @@ use Rattle.byte_streams.specs.Streams.{Takes}
 drop_min : (n : ℕ) (xs : List ℕ) → drop (min n (length xs)) xs ≡ drop n xs
 drop_min n xs = grind (arith, drop_all n xs, drop_all (length xs) xs)
 
-take_front : (n : ℕ) (xs ys : List ℕ) → n ≤ length xs → take n (take n xs ++ ys) ≡ take n xs
-take_front n xs ys le =
+take_prefix : (n : ℕ) (xs ys : List ℕ) → n ≤ length xs → take n (take n xs ++ ys) ≡ take n xs
+take_prefix n xs ys le =
     let e = length-take-le n xs le in
     let same : take (length (take n xs)) (take n xs ++ ys) ≡ take n xs = take-append_seam (take n xs) ys in
     subst (λ (m : ℕ). take m (take n xs ++ ys) ≡ take n xs) e same
 
--- the front of the buffer is the front of what was left, up to the limit
+-- the front of the buffer is the prefix of what was left, up to the limit
 pub read-front : (limit n : ℕ) (left rest old new : List ℕ) → n ≡ min limit (length left) → Takes left rest old new n → take n new ≡ take limit left
 read-front limit n left rest old new is takes =
-    rw takes.buffer (take_front n left (drop n old) takes.enough ∙ (rw is (take_min limit left)))
+    rw takes.buffer (take_prefix n left (drop n old) takes.enough ∙ (rw is (take_min limit left)))
 
 -- and the rest is still to come
 pub read-rest : (limit n : ℕ) (left rest old new : List ℕ) → n ≡ min limit (length left) → Takes left rest old new n → rest ≡ drop limit left
 read-rest limit n left rest old new is takes = rw (takes.rest_is, is) (drop_min limit left)
 
--- the front of a vector into which a slice of its length was written back
+-- the prefix of a vector into which a slice of its length was written back
 pub vec-front : (m n : ℕ) (xs ys : List ℕ) → n ≤ length xs → length xs ≡ m → take n (take m (xs ++ drop (length xs) ys)) ≡ take n xs
 vec-front m n xs ys le is =
     let whole : take m (xs ++ drop (length xs) ys) ≡ xs =

@@ -1,7 +1,7 @@
--- A write of a front is the same at a later one by which its cell takes writes still; and a read of a cell that is coming asks the new map.
+-- A write of a prefix is the same at a later one by which its cell takes writes still; and a read of a cell that is coming asks the new map.
 use Rattle.law_requests.proofs.Imports.{◌∙◌, ◌≡◌, ◌≤◌, Bool, Cell, Command, DiskView, HasProperTuples, IsPrefix, Line, List, Some, State, ap, arith}
-use Rattle.law_requests.proofs.Imports.{asked_only, cell_asked, disk_on, false, find, front_plain, has_stage, log_below, log_grown, log_plain, made_for, refl}
-use Rattle.law_requests.proofs.Imports.{stage_at, state_after, subst, sym, told_settled_at, true, ℕ}
+use Rattle.law_requests.proofs.Imports.{asked_only, cell_asked, disk_on, false, find, has_stage, log_below, log_grown, log_plain, made_for, prefix_plain}
+use Rattle.law_requests.proofs.Imports.{refl, stage_at, state_after, subst, sym, told_settled_at, true, ℕ}
 use Rattle.spec_state.specs.CellState.{coming}
 use Rattle.law_requests.specs.AskedRequests.{IsRead, IsWrite}
 
@@ -21,9 +21,9 @@ coming_untold servers log plain lines client seq true cell epoch read comes =
 
 -- ### By a longer log
 
-module _ (servers : ℕ) (front whole : List Command) (plain : HasProperTuples servers whole) (prefix : IsPrefix front whole) where
+module _ (servers : ℕ) (prefix whole : List Command) (plain : HasProperTuples servers whole) (is_prefix : IsPrefix prefix whole) where
   abbrev earlier : State
-  earlier = state_after servers front
+  earlier = state_after servers prefix
 
   abbrev later : State
   later = state_after servers whole
@@ -33,11 +33,11 @@ module _ (servers : ℕ) (front whole : List Command) (plain : HasProperTuples s
       → 1 ≤ stage_at later (cell_asked earlier disk block false) → stage_at later (cell_asked earlier disk block false) ≤ 2
       → cell_asked earlier disk block false ≡ cell_asked later now block false
   asked_stays name disk now block was is same low most =
-      let p = log_plain servers front (front_plain servers front whole plain prefix) in
+      let p = log_plain servers prefix (prefix_plain servers prefix whole plain is_prefix) in
       let q = log_plain servers whole plain in
       let cell = cell_asked earlier disk block false in
       asked_only servers later q name now is block cell refl
-      (disk_on earlier.maps later.maps cell.map disk.disk (log_grown servers front whole plain prefix).maps
+      (disk_on earlier.maps later.maps cell.map disk.disk (log_grown servers prefix whole plain is_prefix).maps
       (made_for servers earlier p name disk was block) ∙ ap Some (sym same))
       low most
 
@@ -45,7 +45,7 @@ module _ (servers : ℕ) (front whole : List Command) (plain : HasProperTuples s
   pub write_stays : (lines : List Line) (client seq : ℕ) (cell : Cell) (bytes : List ℕ) → IsWrite earlier lines client seq cell bytes
       → 1 ≤ stage_at later cell → stage_at later cell ≤ 2 → IsWrite later lines client seq cell bytes
   write_stays lines client seq cell bytes one low most =
-      let h = (log_below servers front whole plain prefix).finds one.name one.disk one.found in
+      let h = (log_below servers prefix whole plain is_prefix).finds one.name one.disk one.found in
       record {
         by_line = one.by_line;
         disk = h.now;

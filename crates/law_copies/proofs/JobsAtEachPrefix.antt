@@ -1,26 +1,26 @@
--- A job of a server, seen from each front of the log: at another place than the server's own it changes nothing that counts, and at its own
+-- A job of a server, seen from each prefix of the log: at another place than the server's own it changes nothing that counts, and at its own
 -- place a cell is kept as by its own entries.
 use Rattle.law_copies.proofs.Imports.{[], ◌<◌, ◌∙◌, ◌≡◌, ◌≢◌, ◌≤◌, ◌⊎◌, Body, Bool, Both, ByBoth, ByNone, ByOne, Cell, Command, IsLater, IsMarked, IsPrefix}
 use Rattle.law_copies.proofs.Imports.{IsToBeCopied, LinkRow, List, Lost, None, Only, Option, PairState, Some, Store, about, alone_not_both, ap, arith}
-use Rattle.law_copies.proofs.Imports.{blank_joins_in, by_bool, cell_link, chain_in, chosen_log, false, front_on, has_server, inl, inr, is_some, joins_grow}
-use Rattle.law_copies.proofs.Imports.{lost_not_both, needs_full_copy, none_some, one_before, other_of, primary_is_one, refl, said, same_or_apart, same_some}
-use Rattle.law_copies.proofs.Imports.{secondary_is_one, server_state, some_or_none, stage_at, state_after, subst, sym, true, true_false, ℕ}
+use Rattle.law_copies.proofs.Imports.{blank_joins_in, by_bool, cell_link, chain_in, chosen_log, false, has_server, inl, inr, is_some, joins_grow}
+use Rattle.law_copies.proofs.Imports.{lost_not_both, needs_full_copy, none_some, one_before, other_of, prefix_on, primary_is_one, refl, said, same_or_apart}
+use Rattle.law_copies.proofs.Imports.{same_some, secondary_is_one, server_state, some_or_none, stage_at, state_after, subst, sym, true, true_false, ℕ}
 use Rattle.law_copies.specs.CopyProgress.{AreCopying, IsCovered, IsPage, IsTold, Is_marked_here, Is_to_be_copied, NotCopied, links_of}
 use Rattle.law_copies.specs.GoodCopies.{AloneOk, AreBeside, AreTwins, BothOk, StaysLeft}
 use Rattle.law_copies.specs.Visits.{AliveIn, HasBeen, HasFilled, IsLinked, place_by}
 use Rattle.law_copies.proofs.VisitsAfterSteps.{counted_up, none_before, then_of, IsAt, stored_frozen, visited_beside}
 use Rattle.law_copies.proofs.AtJob.{AtJob, step_at}
 use Rattle.law_copies.proofs.BlankJoinsMakePlaces.{joins_at}
-use Rattle.law_copies.proofs.FramesKeepFronts.{LeavesAt, LeavesBoth, LeavesStore, StaysAt, alone_framed, beside_stays, both_framed, both_same, filled_framed}
-use Rattle.law_copies.proofs.FramesKeepFronts.{filled_on, left_on, marks_back, other_is_one, same_stays, store_same, twins_stay}
-use Rattle.law_copies.proofs.ServedAtLaterFronts.{IsCaughtUp, alone_not_lost, alone_or_flagged, alone_since, both_since, holder_is_one, holds_since}
-use Rattle.law_copies.proofs.ServedAtLaterFronts.{same_only}
+use Rattle.law_copies.proofs.FramesKeepPrefixes.{LeavesAt, LeavesBoth, LeavesStore, StaysAt, alone_framed, beside_stays, both_framed, both_same}
+use Rattle.law_copies.proofs.FramesKeepPrefixes.{filled_framed, filled_on, left_on, marks_back, other_is_one, same_stays, store_same, twins_stay}
+use Rattle.law_copies.proofs.ServedAtLaterPrefixes.{IsCaughtUp, alone_not_lost, alone_or_flagged, alone_since, both_since, holder_is_one, holds_since}
+use Rattle.law_copies.proofs.ServedAtLaterPrefixes.{same_only}
 use Rattle.law_copies.proofs.OtherIsNotHolder.{other_apart}
-use Rattle.law_copies.proofs.PlacesByFronts.{at_most_or_above, fronts_meet, linked_alive, links_same, one_row, other_later, places_up, rows_later}
+use Rattle.law_copies.proofs.PlacesByPrefixes.{at_most_or_above, prefixes_meet, linked_alive, links_same, one_row, other_later, places_up, rows_later}
 use Rattle.law_copies.proofs.PlacesBeforeJobs.{other_back}
-use Rattle.law_copies.proofs.JobsLeaveOtherFronts.{below, Same_store, Covers, Gone, Left_by}
+use Rattle.law_copies.proofs.JobsLeaveOtherPrefixes.{below, Same_store, Covers, Gone, Left_by}
 use Rattle.law_copies.proofs.JobsKeepOwnPlaces as worked
-use Rattle.law_copies.proofs.JobsLeaveOtherFronts as leaving
+use Rattle.law_copies.proofs.JobsLeaveOtherPrefixes as leaving
 
 module _ (it : AtJob) where
   open it use {setting, records, w, stores, k, server, good, firm, done, job, started}
@@ -29,10 +29,10 @@ module _ (it : AtJob) where
   abbrev top : List Command
   top = chosen_log setting w
 
-  abbrev front : List Command
-  front = (w.servers k).log.applied
+  abbrev prefix : List Command
+  prefix = (w.servers k).log.applied
 
-  -- the server has joined with an empty store no more often than by this front
+  -- the server has joined with an empty store no more often than by this prefix
   abbrev IsNow : List Command → Type 0
   IsNow f = blank_joins_in setting f k ≡ blank_joins_in setting top k
 
@@ -53,7 +53,7 @@ module _ (it : AtJob) where
   -- ### Another place than the server's own
 
   abbrev IsElsewhere : (place : ℕ) → Cell → Type 0
-  IsElsewhere place cell = (row : LinkRow) → IsLinked setting front cell row → AliveIn (server_state setting w k) cell → place ≢ place_by setting front row
+  IsElsewhere place cell = (row : LinkRow) → IsLinked setting prefix cell row → AliveIn (server_state setting w k) cell → place ≢ place_by setting prefix row
 
   visit_else : (place : ℕ) (cell : Cell) → IsElsewhere place cell → visits k place cell ≡ good.visits k place cell
   visit_else place cell away =
@@ -68,15 +68,15 @@ module _ (it : AtJob) where
   ]
 
   alive_own : (cell : Cell) → AliveIn (state_after setting.servers top) cell → AliveIn (server_state setting w k) cell
-  alive_own cell lives = leaving.alive_at it front cell (firm.servers k) lives
+  alive_own cell lives = leaving.alive_at it prefix cell (firm.servers k) lives
 
   -- of a cell that has no link by its own entries the step leaves all, and by entries that tell of fewer Joins of the server, too
   pub left_else : (f : List Command) (cell : Cell) (row : LinkRow) → IsPrefix f top → IsLinked setting f cell row → has_server k row ≡ true
       → AliveIn (state_after setting.servers top) cell → IsElsewhere (place_by setting f row) cell → good.reached cell ≤ place_by setting f row
       → leaving.IsLeftAt it f (place_by setting f row) cell row
-  left_else f cell row prefix end has lives away last = elim (same_or_apart (blank_joins_in setting f k) (blank_joins_in setting top k)) [
+  left_else f cell row is_prefix end has lives away last = elim (same_or_apart (blank_joins_in setting f k) (blank_joins_in setting top k)) [
     | inl now ↦ elim (some_or_none (cell_link (server_state setting w k) cell)) [
-      | inl h ↦ leaving.linked_left it cell lives h.0 h.1 (has_mine h.0 h.1) f row prefix end
+      | inl h ↦ leaving.linked_left it cell lives h.0 h.1 (has_mine h.0 h.1) f row is_prefix end
           (away h.0 h.1 (alive_own cell lives)) last now
       | inr none ↦ (let keeps = job.keeping.unlinked cell none (alive_own cell lives) in Same_store
           (leaving.left_so it f cell now (record { chain = keeps.rest.chain; marks = keeps.marks })))
@@ -85,26 +85,26 @@ module _ (it : AtJob) where
         (stored_frozen (step_at it) k (blank_joins_in setting f k) ne))
   ]
     where
-      has_mine : (mine : LinkRow) → IsLinked setting front cell mine → has_server k mine ≡ true
-      has_mine mine is = elim (fronts_meet f front top prefix (firm.servers k)) [
-        | inl p ↦ one_before row mine k (rows_later setting top firm.plain f front cell row mine p (firm.servers k) end is) ∙ has
-        | inr p ↦ sym (one_before mine row k (rows_later setting top firm.plain front f cell mine row p prefix is end)) ∙ has
+      has_mine : (mine : LinkRow) → IsLinked setting prefix cell mine → has_server k mine ≡ true
+      has_mine mine is = elim (prefixes_meet f prefix top is_prefix (firm.servers k)) [
+        | inl p ↦ one_before row mine k (rows_later setting top firm.plain f prefix cell row mine p (firm.servers k) end is) ∙ has
+        | inr p ↦ sym (one_before mine row k (rows_later setting top firm.plain prefix f cell mine row p is_prefix is end)) ∙ has
       ]
 
-  -- ### At each front
+  -- ### At each prefix
 
   -- at the server's own place of the cell's link, or elsewhere
   pub at_or_else : {B : Type 0} (f : List Command) (cell : Cell) (row : LinkRow) → IsPrefix f top → IsLinked setting f cell row
-      → (IsLinked setting front cell row → AliveIn (server_state setting w k) cell → place_by setting front row ≡ place_by setting f row → B)
+      → (IsLinked setting prefix cell row → AliveIn (server_state setting w k) cell → place_by setting prefix row ≡ place_by setting f row → B)
       → (IsElsewhere (place_by setting f row) cell → B) → B
-  at_or_else f cell row prefix is so away = elim (at_most_or_above 4 (stage_at (server_state setting w k) cell)) [
+  at_or_else f cell row is_prefix is so away = elim (at_most_or_above 4 (stage_at (server_state setting w k) cell)) [
     | inl retired ↦ away (λ row' is' alive e. absurd (omega arith))
     | inr alive ↦ elim (some_or_none (cell_link (server_state setting w k) cell)) [
-      | inl h ↦ elim (same_or_apart (place_by setting f row) (place_by setting front h.0)) [
+      | inl h ↦ elim (same_or_apart (place_by setting f row) (place_by setting prefix h.0)) [
         | inl e ↦ (
-            let one : h.0 ≡ row = one_row setting top firm.plain f front cell row h.0 prefix (firm.servers k) is h.1 e in
-            so (subst (IsLinked setting front cell) one h.1) alive (ap (place_by setting front) (sym one) ∙ sym e))
-        | inr ne ↦ away (λ row' is' alive' e. ne (e ∙ ap (place_by setting front) (same_some (sym is' ∙ h.1))))
+            let one : h.0 ≡ row = one_row setting top firm.plain f prefix cell row h.0 is_prefix (firm.servers k) is h.1 e in
+            so (subst (IsLinked setting prefix cell) one h.1) alive (ap (place_by setting prefix) (sym one) ∙ sym e))
+        | inr ne ↦ away (λ row' is' alive' e. ne (e ∙ ap (place_by setting prefix) (same_some (sym is' ∙ h.1))))
       ]
       | inr none ↦ away (λ row' is' alive' e. none_some none is')
     ]
@@ -119,17 +119,17 @@ module _ (it : AtJob) where
     | inr ne ↦ leaves_apart f n place cell ne
   ]
 
-  -- two fronts at one place of the link are after as many Joins of each of its servers
-  joins_here : (f : List Command) (cell : Cell) (row : LinkRow) (n : ℕ) → IsPrefix f top → IsLinked setting f cell row → IsLinked setting front cell row
-      → place_by setting front row ≡ place_by setting f row → has_server n row ≡ true → blank_joins_in setting front n ≡ blank_joins_in setting f n
-  joins_here f cell row n prefix is mine e has = joins_at setting top firm.plain front f cell row row n (firm.servers k) prefix mine is has has e
+  -- two prefixes at one place of the link are after as many Joins of each of its servers
+  joins_here : (f : List Command) (cell : Cell) (row : LinkRow) (n : ℕ) → IsPrefix f top → IsLinked setting f cell row → IsLinked setting prefix cell row
+      → place_by setting prefix row ≡ place_by setting f row → has_server n row ≡ true → blank_joins_in setting prefix n ≡ blank_joins_in setting f n
+  joins_here f cell row n is_prefix is mine e has = joins_at setting top firm.plain prefix f cell row row n (firm.servers k) is_prefix mine is has has e
 
   pub last_old : (cell : Cell) (place : ℕ) → reached cell ≤ place → good.reached cell ≤ place
   last_old cell place le = let more = counted_up (step_at it) cell in omega arith
 
   pub holds : (f : List Command) (cell : Cell) (row : LinkRow) (holder : ℕ) (whole : Bool) → IsPrefix f top → IsLinked setting f cell row
       → row.state ≡ Only holder whole → has_server holder row ≡ true
-  holds f cell row holder whole prefix is alone = holder_is_one (state_after setting.servers f) (leaving.steady_at it f prefix) holder cell row is alone
+  holds f cell row holder whole is_prefix is alone = holder_is_one (state_after setting.servers f) (leaving.steady_at it f is_prefix) holder cell row is alone
 
   -- ### In Both
 
@@ -143,45 +143,45 @@ module _ (it : AtJob) where
   twins_else f cell row both ok lives away (Gone lost) last = lost_not_both row lost both
   twins_else f cell row both ok lives away (Left_by h whole alone ne none left marks) last = alone_not_both row h alone both
 
-  -- at another front of the server's own place
-  pub news_here : (f : List Command) (cell : Cell) (row : LinkRow) (n : ℕ) → IsPrefix f top → IsLinked setting f cell row → IsLinked setting front cell row
-      → place_by setting front row ≡ place_by setting f row → has_server n row ≡ true → news front n ≡ news f n
-  news_here f cell row n prefix is mine e has = ap (next n) (joins_here f cell row n prefix is mine e has)
+  -- at another prefix of the server's own place
+  pub news_here : (f : List Command) (cell : Cell) (row : LinkRow) (n : ℕ) → IsPrefix f top → IsLinked setting f cell row → IsLinked setting prefix cell row
+      → place_by setting prefix row ≡ place_by setting f row → has_server n row ≡ true → news prefix n ≡ news f n
+  news_here f cell row n is_prefix is mine e has = ap (next n) (joins_here f cell row n is_prefix is mine e has)
 
-  pub olds_here : (f : List Command) (cell : Cell) (row : LinkRow) (n : ℕ) → IsPrefix f top → IsLinked setting f cell row → IsLinked setting front cell row
-      → place_by setting front row ≡ place_by setting f row → has_server n row ≡ true → olds front n ≡ olds f n
-  olds_here f cell row n prefix is mine e has = ap (good.stores n) (joins_here f cell row n prefix is mine e has)
+  pub olds_here : (f : List Command) (cell : Cell) (row : LinkRow) (n : ℕ) → IsPrefix f top → IsLinked setting f cell row → IsLinked setting prefix cell row
+      → place_by setting prefix row ≡ place_by setting f row → has_server n row ≡ true → olds prefix n ≡ olds f n
+  olds_here f cell row n is_prefix is mine e has = ap (good.stores n) (joins_here f cell row n is_prefix is mine e has)
 
-  twins_moved : (f : List Command) (cell : Cell) (row : LinkRow) → IsPrefix f top → IsLinked setting f cell row → IsLinked setting front cell row
-      → place_by setting front row ≡ place_by setting f row → AreTwins (news front) visits (place_by setting front row) cell row.primary row.secondary
+  twins_moved : (f : List Command) (cell : Cell) (row : LinkRow) → IsPrefix f top → IsLinked setting f cell row → IsLinked setting prefix cell row
+      → place_by setting prefix row ≡ place_by setting f row → AreTwins (news prefix) visits (place_by setting prefix row) cell row.primary row.secondary
       → AreTwins (news f) visits (place_by setting f row) cell row.primary row.secondary
-  twins_moved f cell row prefix is mine e twins = subst (λ place. AreTwins (news f) visits place cell row.primary row.secondary) e
-      (twins_stay (news front) (news f) visits visits (place_by setting front row) cell row.primary row.secondary
+  twins_moved f cell row is_prefix is mine e twins = subst (λ place. AreTwins (news f) visits place cell row.primary row.secondary) e
+      (twins_stay (news prefix) (news f) visits visits (place_by setting prefix row) cell row.primary row.secondary
       (here row.primary (primary_is_one row row.primary refl)) (here row.secondary (secondary_is_one row row.secondary refl)) twins)
     where
-      here : (n : ℕ) → has_server n row ≡ true → StaysAt (news front) (news f) visits visits (place_by setting front row) cell n
-      here n has = same_stays (news front) (news f) visits (place_by setting front row) cell n (sym (news_here f cell row n prefix is mine e has))
+      here : (n : ℕ) → has_server n row ≡ true → StaysAt (news prefix) (news f) visits visits (place_by setting prefix row) cell n
+      here n has = same_stays (news prefix) (news f) visits (place_by setting prefix row) cell n (sym (news_here f cell row n is_prefix is mine e has))
 
   pub both_kept : (f : List Command) (cell : Cell) (row : LinkRow) → IsPrefix f top → IsLinked setting f cell row → row.state ≡ Both
       → BothOk setting top next visits reached f cell row
-  both_kept f cell row prefix is both =
-      let ok = good.both f cell row prefix is both in
+  both_kept f cell row is_prefix is both =
+      let ok = good.both f cell row is_prefix is both in
       by_bool (has_server k row)
-      (λ has. at_or_else f cell row prefix is
+      (λ has. at_or_else f cell row is_prefix is
       (λ mine alive e. record {
-        twins = λ lives last. twins_moved f cell row prefix is mine e
+        twins = λ lives last. twins_moved f cell row is_prefix is mine e
             (worked.both_now it cell row mine alive lives both has).twins;
       })
       (λ away. record {
         twins = λ lives last. twins_else f cell row both ok lives away
-            (left_else f cell row prefix is has lives away (last_old cell (place_by setting f row) last)) last;
+            (left_else f cell row is_prefix is has lives away (last_old cell (place_by setting f row) last)) last;
       }))
       (λ off. both_framed (step_at it) f cell row
       (stranger_leaves f (place_by setting f row) cell row off) ok)
 
   -- ### Alone
 
-  module _ (f : List Command) (cell : Cell) (row : LinkRow) (holder : ℕ) (whole : Bool) (prefix : IsPrefix f top) (is : IsLinked setting f cell row)
+  module _ (f : List Command) (cell : Cell) (row : LinkRow) (holder : ℕ) (whole : Bool) (is_prefix : IsPrefix f top) (is : IsLinked setting f cell row)
       (alone : row.state ≡ Only holder whole) where
     abbrev there : ℕ
     there = place_by setting f row
@@ -193,13 +193,13 @@ module _ (it : AtJob) where
     links = links_of (state_after setting.servers f) cell.map
 
     ok : AloneOk setting top good.stores good.visits good.reached f cell row holder
-    ok = good.alone f cell row holder whole prefix is alone
+    ok = good.alone f cell row holder whole is_prefix is alone
 
     two : other_one ≢ holder
-    two = other_apart row holder ((leaving.steady_at it f prefix).linked cell row is).apart
+    two = other_apart row holder ((leaving.steady_at it f is_prefix).linked cell row is).apart
 
     has_holder : has_server holder row ≡ true
-    has_holder = holds f cell row holder whole prefix is alone
+    has_holder = holds f cell row holder whole is_prefix is alone
 
     -- elsewhere the copies are covered, and the other server is as it was
     beside_else : has_server k row ≡ true → AliveIn (state_after setting.servers top) cell → IsElsewhere there cell → leaving.IsLeftAt it f there cell row
@@ -260,24 +260,24 @@ module _ (it : AtJob) where
         still same = left_on row cell o (olds f k) (news f k) same left
 
         b : HasBeen setting w k there cell
-        b = let h = good.been k there cell o visit in record { front = h.front; within = h.within; placed = h.placed }
+        b = let h = good.been k there cell o visit in record { prefix = h.prefix; within = h.within; placed = h.placed }
 
         alive : AliveIn (server_state setting w k) cell
         alive = alive_own cell lives
 
-        mine : (now : LinkRow) × IsLinked setting front cell now
-        mine = linked_alive setting top firm.plain b.front front cell b.row b.within (firm.servers k) b.linked alive
+        mine : (now : LinkRow) × IsLinked setting prefix cell now
+        mine = linked_alive setting top firm.plain b.prefix prefix cell b.row b.within (firm.servers k) b.linked alive
 
-        past : there < place_by setting front mine.0
+        past : there < place_by setting prefix mine.0
         past =
-            let up = places_up setting top firm.plain b.front front cell b.row mine.0 b.within (firm.servers k) b.linked mine.1 in
+            let up = places_up setting top firm.plain b.prefix prefix cell b.row mine.0 b.within (firm.servers k) b.linked mine.1 in
             let at = b.at in
             below (omega arith) (away mine.0 mine.1 alive)
 
         by : IsNow f → StaysLeft row cell o (news f k)
-        by now = elim (fronts_meet f front top prefix (firm.servers k)) [
-          | inr p ↦ (let le = places_up setting top firm.plain front f cell mine.0 row p prefix mine.1 is in absurd (omega (arith, past)))
-          | inl p ↦ elim (alone_or_flagged setting records w stores firm good started f front cell row mine.0 k whole p (firm.servers k) is
+        by now = elim (prefixes_meet f prefix top is_prefix (firm.servers k)) [
+          | inr p ↦ (let le = places_up setting top firm.plain prefix f cell mine.0 row p is_prefix mine.1 is in absurd (omega (arith, past)))
+          | inl p ↦ elim (alone_or_flagged setting records w stores firm good started f prefix cell row mine.0 k whole p (firm.servers k) is
               (alone ∙ ap (λ n. Only n whole) e) mine.1 alive
               (λ q lt. ap (λ n. good.visits (other_of n row) q cell) (sym e) ∙ beyond q lt)) [
                 | inl so ↦ held now p so.0 so.1
@@ -295,15 +295,15 @@ module _ (it : AtJob) where
               ]
         ]
           where
-            held : IsNow f → IsPrefix f front → (kept : Bool) → mine.0.state ≡ Only k kept → StaysLeft row cell o (news f k)
+            held : IsNow f → IsPrefix f prefix → (kept : Bool) → mine.0.state ≡ Only k kept → StaysLeft row cell o (news f k)
             held now p kept so =
-                let later = rows_later setting top firm.plain f front cell row mine.0 p (firm.servers k) is mine.1 in
+                let later = rows_later setting top firm.plain f prefix cell row mine.0 p (firm.servers k) is mine.1 in
                 let keeps = worked.keeps_holder it cell mine.0 mine.1 alive kept so in (
                   λ was. elim (keeps.marks (subst (λ s. IsMarked s cell) (leaving.store_was it f now) (left.0 was))) [
                     | inl marked ↦ subst (λ s. IsMarked s cell) (sym (leaving.store_now it f now)) marked
                     | inr met ↦ true_false met
-                        (ap is_some (ap (λ n. good.visits n (place_by setting front mine.0) cell)
-                        (other_later row mine.0 k later ∙ ap (λ n. other_of n row) (sym e)) ∙ beyond (place_by setting front mine.0) past))
+                        (ap is_some (ap (λ n. good.visits n (place_by setting prefix mine.0) cell)
+                        (other_later row mine.0 k later ∙ ap (λ n. other_of n row) (sym e)) ∙ beyond (place_by setting prefix mine.0) past))
                   ],
                   λ was copied.
                       let all = left.1 was copied in
@@ -350,7 +350,7 @@ module _ (it : AtJob) where
 
     module _ (has : has_server k row ≡ true) where
       left_here : AliveIn (state_after setting.servers top) cell → IsElsewhere there cell → good.reached cell ≤ there → leaving.IsLeftAt it f there cell row
-      left_here lives away last = left_else f cell row prefix is has lives away last
+      left_here lives away last = left_else f cell row is_prefix is has lives away last
 
       -- a server of the link other than the holder
       is_holder : (h : ℕ) (kept : Bool) (other : LinkRow) → other_of holder row ≡ k → other_of h other ≡ k → IsLater row other ⊎ IsLater other row
@@ -382,36 +382,36 @@ module _ (it : AtJob) where
               → blank_joins_in setting more other_one ≡ blank_joins_in setting f other_one
           now_at more same = ap (blank_joins_in setting more) e ∙ same ∙ sym now ∙ ap (blank_joins_in setting f) (sym e)
 
-          -- after the front the holder started a ballot
-          by_caught : (more : List Command) (kept : Bool) → IsPrefix f front → (u : IsCaughtUp setting records w stores firm good f front cell holder kept)
+          -- after the prefix the holder started a ballot
+          by_caught : (more : List Command) (kept : Bool) → IsPrefix f prefix → (u : IsCaughtUp setting records w stores firm good f prefix cell holder kept)
               → HasFilled setting top visits f cell holder other_one
           by_caught more kept p u =
-              let u_top = front_on u.until front top u.before (firm.servers k) in
+              let u_top = prefix_on u.until prefix top u.before (firm.servers k) in
               let low = joins_grow setting.servers f u.until k u.following in
               let high = joins_grow setting.servers u.until top k u_top in
               filled_at u.until u.row u.own u_top u.linked (now_at u.until (omega (arith, now))) u.visited
 
-          by_since : (mine : LinkRow) → IsLinked setting front cell mine → IsPrefix f front → ((kept : Bool) → mine.state ≡ Only holder kept → ⊥)
+          by_since : (mine : LinkRow) → IsLinked setting prefix cell mine → IsPrefix f prefix → ((kept : Bool) → mine.state ≡ Only holder kept → ⊥)
               → (mine.state ≡ Lost → ⊥)
               → HasFilled setting top visits f cell holder other_one
           by_since mine linked p not_held not_lost =
-              elim (alone_since setting records w stores firm good started f front cell row mine holder whole p
+              elim (alone_since setting records w stores firm good started f prefix cell row mine holder whole p
               (firm.servers k) is alone linked (alive_own cell lives)) [
                 | inl held ↦ absurd (not_held held.0 held.1)
                 | inr (inl lost) ↦ absurd (not_lost lost)
                 | inr (inr u) ↦ by_caught f whole p u
               ]
 
-          by_mine : (mine : LinkRow) → IsLinked setting front cell mine → (chain_in done.own.store.chains cell ≡ chain_in (w.servers k).own.store.chains cell)
+          by_mine : (mine : LinkRow) → IsLinked setting prefix cell mine → (chain_in done.own.store.chains cell ≡ chain_in (w.servers k).own.store.chains cell)
               ⊎ HasFilled setting top visits f cell holder other_one
-          by_mine mine linked = elim ((leaving.steady_at it front (firm.servers k)).linked cell mine linked).served [
+          by_mine mine linked = elim ((leaving.steady_at it prefix (firm.servers k)).linked cell mine linked).served [
             | ByNone one o so pair out ↦ inl (job.keeping.lost cell mine linked (alive_own cell lives) so).rest.chain
-            | ByBoth so one o ↦ elim (fronts_meet f front top prefix (firm.servers k)) [
+            | ByBoth so one o ↦ elim (prefixes_meet f prefix top is_prefix (firm.servers k)) [
               | inl p ↦ inr (by_since mine linked p (λ kept g. alone_not_both mine holder g so) (λ g. lost_not_both mine g so))
               | inr p ↦ elim (both_since setting records w stores firm good k job.works.runs job.works.seat cell mine linked so
-                  (has_mine mine linked) f row p prefix is (leaving.alive_at it f cell prefix lives)) [
+                  (has_mine mine linked) f row p is_prefix is (leaving.alive_at it f cell is_prefix lives)) [
                     | inl same ↦ (
-                        let one_is = one_row setting top firm.plain front f cell mine row (firm.servers k) prefix linked is (sym same) in
+                        let one_is = one_row setting top firm.plain prefix f cell mine row (firm.servers k) is_prefix linked is (sym same) in
                         alone_not_both row holder alone (ap (λ (x : LinkRow). x.state) one_is ∙ so))
                     | inr held ↦ absurd (two (e ∙ sym (same_only (sym alone ∙ held.1))))
                   ]
@@ -419,10 +419,10 @@ module _ (it : AtJob) where
             | ByOne h o kept so pair out ↦ elim (same_or_apart h k) [
               | inl mine_h ↦ (
                   let its : mine.state ≡ Only k kept = so ∙ ap (λ n. Only n kept) mine_h in
-                  elim (fronts_meet f front top prefix (firm.servers k)) [
+                  elim (prefixes_meet f prefix top is_prefix (firm.servers k)) [
                     | inl p ↦ inr (by_since mine linked p (λ b g. two (e ∙ sym (same_only (sym g ∙ its)))) (λ g. alone_not_lost mine k its g))
                     | inr p ↦ elim (holds_since setting records w stores firm good k job.works.runs job.works.seat cell mine linked started kept
-                        its f row p prefix is (leaving.alive_at it f cell prefix lives)) [
+                        its f row p is_prefix is (leaving.alive_at it f cell is_prefix lives)) [
                           | inl held ↦ absurd (two (e ∙ sym (same_only (sym alone ∙ held.1))))
                           | inr flagged ↦ inl (leaving.flagged_leaves it cell lives mine linked
                               (has_mine mine linked) kept its flagged).chain
@@ -432,23 +432,23 @@ module _ (it : AtJob) where
                   (has_mine mine linked) h kept so ne).changes [
                     | inl chain ↦ inl chain
                     | inr m ↦ (
-                        let has_h = holder_is_one (server_state setting w k) (leaving.steady_at it front (firm.servers k)) h cell mine linked so in
+                        let has_h = holder_is_one (server_state setting w k) (leaving.steady_at it prefix (firm.servers k)) h cell mine linked so in
                         let its = is_holder h kept mine e
                         (leaving.other it cell lives mine linked
                         (has_mine mine linked) h kept so ne) (later_or mine linked) has_h ne in
-                        inr (filled_at front mine m.by (firm.servers k) linked (now_at front job.works.counts)
-                        (ap (λ n. good.visits n (place_by setting front mine) cell) (sym its) ∙ m.met)))
+                        inr (filled_at prefix mine m.by (firm.servers k) linked (now_at prefix job.works.counts)
+                        (ap (λ n. good.visits n (place_by setting prefix mine) cell) (sym its) ∙ m.met)))
                   ]
             ]
           ]
             where
-              later_or : (mine : LinkRow) → IsLinked setting front cell mine → IsLater row mine ⊎ IsLater mine row
-              later_or mine linked = elim (fronts_meet f front top prefix (firm.servers k)) [
-                | inl p ↦ inl (rows_later setting top firm.plain f front cell row mine p (firm.servers k) is linked)
-                | inr p ↦ inr (rows_later setting top firm.plain front f cell mine row p prefix linked is)
+              later_or : (mine : LinkRow) → IsLinked setting prefix cell mine → IsLater row mine ⊎ IsLater mine row
+              later_or mine linked = elim (prefixes_meet f prefix top is_prefix (firm.servers k)) [
+                | inl p ↦ inl (rows_later setting top firm.plain f prefix cell row mine p (firm.servers k) is linked)
+                | inr p ↦ inr (rows_later setting top firm.plain prefix f cell mine row p is_prefix linked is)
               ]
 
-              has_mine : (mine : LinkRow) → IsLinked setting front cell mine → has_server k mine ≡ true
+              has_mine : (mine : LinkRow) → IsLinked setting prefix cell mine → has_server k mine ≡ true
               has_mine mine linked = elim (later_or mine linked) [
                 | inl so ↦ one_before row mine k so ∙ has
                 | inr so ↦ sym (one_before mine row k so) ∙ has
@@ -482,28 +482,28 @@ module _ (it : AtJob) where
         unfilled = unfilled_kept;
       }
 
-      alone_at : IsLinked setting front cell row → AliveIn (server_state setting w k) cell → place_by setting front row ≡ there
+      alone_at : IsLinked setting prefix cell row → AliveIn (server_state setting w k) cell → place_by setting prefix row ≡ there
           → AloneOk setting top next visits reached f cell row holder
       alone_at mine alive e =
           let now = worked.alone_now it cell row mine alive holder whole alone has in
-          let one = news_here f cell row holder prefix is mine e has_holder in
-          let two_is = news_here f cell row other_one prefix is mine e (other_is_one row holder) in
+          let one = news_here f cell row holder is_prefix is mine e has_holder in
+          let two_is = news_here f cell row other_one is_prefix is mine e (other_is_one row holder) in
           record {
             copying = subst (λ many. AreCopying many row cell (visits holder there cell) (visits other_one there cell))
-                (links_same setting top firm.plain front f cell row row (firm.servers k) prefix mine is)
+                (links_same setting top firm.plain prefix f cell row row (firm.servers k) is_prefix mine is)
                 (subst (λ place. AreCopying (links_of (server_state setting w k) cell.map) row cell (visits holder place cell) (visits other_one place cell))
                 e now.copying);
             beside = λ lives last. subst (λ place. AreBeside (news f) visits place row cell holder other_one) e
-                (beside_stays (news front) (news f) visits visits (place_by setting front row) cell holder other_one
-                (same_stays (news front) (news f) visits (place_by setting front row) cell holder (sym one))
-                (same_stays (news front) (news f) visits (place_by setting front row) cell other_one (sym two_is)) row
+                (beside_stays (news prefix) (news f) visits visits (place_by setting prefix row) cell holder other_one
+                (same_stays (news prefix) (news f) visits (place_by setting prefix row) cell holder (sym one))
+                (same_stays (news prefix) (news f) visits (place_by setting prefix row) cell other_one (sym two_is)) row
                 (now.beside lives (subst (λ place. good.reached cell ≤ place) (sym e) (last_old cell there last))));
             stays = λ lives o visit beyond. subst (StaysLeft row cell o) one
                 (now.stays lives o (ap (λ p. visits holder p cell) e ∙ visit) (λ p lt. beyond p (let same = e in omega arith)));
             unfilled = unfilled_kept;
           }
 
-      pub said_alone_at : IsLinked setting front cell row → AliveIn (server_state setting w k) cell → place_by setting front row ≡ there → (said : Body) →
+      pub said_alone_at : IsLinked setting prefix cell row → AliveIn (server_state setting w k) cell → place_by setting prefix row ≡ there → (said : Body) →
           (about said).cell ≡ Some cell
           → IsTold row (good.visits holder there cell) (good.visits other_one there cell) said
           → IsTold row (visits holder there cell) (visits other_one there cell) said
@@ -512,20 +512,20 @@ module _ (it : AtJob) where
           subst (λ place. IsTold row (visits holder place cell) (visits other_one place cell) said) e
           (now.told said of (subst (λ place. IsTold row (good.visits holder place cell) (good.visits other_one place cell) said) (sym e) told))
 
-      pub page_at : AliveIn (state_after setting.servers top) cell → IsLinked setting front cell row → AliveIn (server_state setting w k) cell
-          → place_by setting front row ≡ there → (after block : Option ℕ)
+      pub page_at : AliveIn (state_after setting.servers top) cell → IsLinked setting prefix cell row → AliveIn (server_state setting w k) cell
+          → place_by setting prefix row ≡ there → (after block : Option ℕ)
           → IsPage cell (olds f other_one) (good.visits other_one there cell) after block
           → IsPage cell (news f other_one) (visits other_one there cell) after block
       page_at lives mine alive e after block page =
           let now = worked.alone_now it cell row mine alive holder whole alone has in
           let its = other_is_one row holder in
-          subst (λ b. IsPage cell b (visits other_one there cell) after block) (news_here f cell row other_one prefix is mine e its)
-          (subst (λ place. IsPage cell (news front other_one) (visits other_one place cell) after block) e
-          (now.page lives after block (subst (λ place. IsPage cell (olds front other_one) (good.visits other_one place cell) after block) (sym e)
-          (subst (λ b. IsPage cell b (good.visits other_one there cell) after block) (sym (olds_here f cell row other_one prefix is mine e its)) page))))
+          subst (λ b. IsPage cell b (visits other_one there cell) after block) (news_here f cell row other_one is_prefix is mine e its)
+          (subst (λ place. IsPage cell (news prefix other_one) (visits other_one place cell) after block) e
+          (now.page lives after block (subst (λ place. IsPage cell (olds prefix other_one) (good.visits other_one place cell) after block) (sym e)
+          (subst (λ b. IsPage cell b (good.visits other_one there cell) after block) (sym (olds_here f cell row other_one is_prefix is mine e its)) page))))
 
     pub alone_kept : AloneOk setting top next visits reached f cell row holder
     alone_kept = by_bool (has_server k row)
-        (λ has. at_or_else f cell row prefix is (alone_at has) (alone_else has))
+        (λ has. at_or_else f cell row is_prefix is (alone_at has) (alone_else has))
         (λ off. alone_framed (step_at it) f cell row holder has_holder
         (stranger_leaves f there cell row off) ok)
