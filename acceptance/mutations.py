@@ -1,11 +1,13 @@
 """Good scripts with a few mistakes in them, at random."""
-import random
+import random, re
 
 LINES = (b"servers 3 slots 4", b"net lose 2", b"net twice 1000000", b"wait", b"wait now", b"# a comment", b"#", b"", b" \t", b"op settle", b"op stop 0",
          b"op start 1", b"op blank 7", b"op stop 1 at 3", b"op fault 0 data sync 1", b"op fault 1 state read 0", b"h disk d-_9 on 0 1", b"a disk d0 on 1 1",
          b"b move d0 on 0 1", b"c snap d0 t", b"d read d0@t 3", b"e read d0@ 3", b"f write d0 1 ramp 255", b"g write d0 1 halves 1", b"i read d0 1")
-NUMBERS = (b"0", b"1", b"2", b"7", b"8", b"255", b"256", b"1000001", b"281474976710655", b"281474976710656", b"18446744073709551615",
-           b"18446744073709551616", b"99999999999999999999", b"100000000000000000000", b"00000000000000000001", b"000000000000000000001", b"-1", b"+1", b"1.", b"0x1")
+# At the limits of places, and of what is a number.
+NUMBERS = (b"0", b"1", b"2", b"7", b"8", b"9", b"255", b"256", b"1024", b"1025", b"1000000", b"1000001", b"281474976710655", b"281474976710656",
+           b"18446744073709551615", b"18446744073709551616", b"99999999999999999999", b"100000000000000000000", b"00000000000000000001",
+           b"000000000000000000001", b"-1", b"+1", b"1.", b"0x1")
 NAMES = (b"d0", b"D0", b"0d", b"-d", b"d" * 16, b"d" * 17, b"d0@t", b"d0@t@u", b"@t", b"on", b"vol", b"op", b"a", b"d_-")
 BYTES = (b"\r", b"\n", b"\t", b"\0", b" ", b"#", b"@", b"\x7f", b"\x80", b"\xff", b"0", b"9", b"a", b"z", b"A")
 
@@ -26,6 +28,14 @@ def at_word(draw, script):
     words[place : place + 1] = draw.choice(([draw.choice(NUMBERS)], [draw.choice(NUMBERS)], [draw.choice(NAMES)], [], words[place : place + 1] * 2))
     lines[at] = b" ".join(words)
     return b"\n".join(lines)
+
+def at_number(draw, script):
+    """A number is another one."""
+    places = [found.span() for found in re.finditer(rb"(?<![^ ])[0-9]+(?![^ \n])", script)]
+    if not places:
+        return script
+    start, end = draw.choice(places[:2] + places) if draw.randrange(4) else places[draw.randrange(min(2, len(places)))]
+    return script[:start] + draw.choice(NUMBERS) + script[end:]
 
 def at_line(draw, script):
     """A line more, or one missing, or two that change places, or one that stands many times."""
@@ -59,5 +69,5 @@ def mutated(script, seed):
     draw = random.Random(seed)
     script = b"".join(script.splitlines(True)[: draw.choice((3, 12, 40, 80))])
     for _ in range(draw.choice((1, 1, 1, 2, 2, 3, 4))):
-        script = draw.choice((at_byte, without_some, at_word, at_word, at_word, at_line, at_line, spread, ends))(draw, script)
+        script = draw.choice((at_byte, without_some, at_word, at_word, at_number, at_number, at_number, at_line, at_line, spread, ends))(draw, script)
     return script
