@@ -27,8 +27,8 @@ pub use Rattle.law_state.proofs.Moments.{last_moment, moment_more}
 pub use Rattle.law_state.specs.Moments.{IsMoment}
 pub use Rattle.law_steps.proofs.CopiesRest.{row_named}
 pub use Rattle.law_steps.proofs.Imports.{Acted, AreStepsFrom, Command, Filling, Firm, IsPrefix, Letter, Log, Pairs, Record, Script, Server, Setting, State}
-pub use Rattle.law_steps.proofs.Imports.{Step, Subject, World, all_put, at-empty, below_itself, blanked, chosen_log, chosen_state, coming, crossed}
-pub use Rattle.law_steps.proofs.Imports.{is_clients, length, log_rev, none_some, prefix_on, settling, state_after, stepped, subject_of, world_after}
+pub use Rattle.law_steps.proofs.Imports.{Step, Subject, World, all_put, at-empty, blanked, chosen_log, chosen_state, coming, crossed}
+pub use Rattle.law_steps.proofs.Imports.{length, log_rev, none_some, prefix_on, settling, state_after, stepped, subject_of, world_after}
 pub use Rattle.law_steps.proofs.KindsInHistories.{firm_now, happens, last_happens, own_plain, prefix_legal, proposed_pairs, ready_after, rests_after}
 pub use Rattle.law_steps.proofs.KindsInHistories.{rests_next, start_rests, world_more}
 pub use Rattle.law_steps.proofs.LettersOfSteps.{Aside, IsOfJob, Of_job, Was_sent, happens_sent, is_aside}
@@ -56,3 +56,5 @@ pub use Rattle.petal_table.proofs.Rows.{at_apart, at_same}
 pub use Rattle.spec_rules.specs.Store.{chains_at, is_marked, mark_on}
 pub use Rattle.spec_rules.specs.World.{with_answer}
 pub use Rattle.spec_rules.specs.Writes.{with_flag}
+pub use Rattle.law_state.proofs.Prefixes.{below_itself}
+pub use Rattle.spec_rules.specs.Writes.{is_clients}
