@@ -1,5 +1,5 @@
 -- Which words ask for what.
-use Rattle.std.specs.Prelude.{ℕ, nat_eq, List, [], ◌∷◌, codes, if◌then◌else◌, Option, Some, None, Result, Ok}
+use Rattle.std.specs.Prelude.{◌≤◌, ℕ, nat_eq, List, [], ◌∷◌, codes, if◌then◌else◌, Option, Some, None, Result, Ok}
 use Rattle.std.specs.Cmp.Lexicographic.{pointwise}
 use Rattle.petal_script.specs.Fields.{in_limits}
 use Rattle.petal_script.specs.declared.cause.Cause.{Cause}
@@ -10,7 +10,12 @@ abbrev pub both_numbers : Result ℕ Cause → Result ℕ Cause → Option Form
 both_numbers (Ok seed) (Ok count) = Some (Drill seed count)
 both_numbers _ _ = None
 
--- a seed below 2^31, and at most 800 requests
+-- the seed is below 2^31, and there are at most 800 requests
+abbrev pub IsWithinLimits : Form → Type 0
+IsWithinLimits Run = Unit {0}
+IsWithinLimits (Drill seed count) = (seed ≤ 2147483647) × (count ≤ 800)
+
+-- a drill of two numbers within these limits
 abbrev pub drill_of : (seed count : List ℕ) → Option Form
 drill_of seed count = both_numbers (in_limits 0 2147483647 seed) (in_limits 0 800 count)
 

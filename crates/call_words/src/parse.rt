@@ -1,10 +1,10 @@
 //! The form of the words.
 
-ghost use Rattle.std.specs.Prelude.{◌≡◌, List, ℕ, map, Some, IfOk, IfErr};
+ghost use Rattle.std.specs.Prelude.{◌≡◌, List, ℕ, map, Some, IfOk, IfErr, IfSome};
 ghost use Rattle.std.specs.String.{string_bytes};
 ghost use Rattle.clap.specs.Matches.{found_of, first_value};
 ghost use Rattle.clap.specs.Values.{kind_of};
-ghost use Rattle.call_words.specs.Form.{form_of, drill_of};
+ghost use Rattle.call_words.specs.Form.{form_of, drill_of, IsWithinLimits};
 ghost use Rattle.call_words.specs.Parsed.{parsed_words, HasBoth};
 
 use crate::form::Form;
@@ -42,7 +42,8 @@ fn word<'a>(matches: &ArgMatches<'a>, name: &str) -> &'a str
 
 /// The drill of two numbers, if the words are numbers within their limits.
 fn drill(seed: &str, count: &str) -> Option<Form>
-    ensures { result ≡ drill_of seed.now count.now }
+    ensures value { result ≡ drill_of seed.now count.now }
+    ensures limits { IfSome result IsWithinLimits }
 {
     let seed = in_limits(seed.as_bytes(), 0, 2_147_483_647).ok()?;
     let count = in_limits(count.as_bytes(), 0, 800).ok()?;
@@ -54,7 +55,8 @@ fn drill(seed: &str, count: &str) -> Option<Form>
 
 /// The form of the two words after `drill`.
 fn read_drill(alloc: Global, seed: &str, count: &str) -> Result<Option<Form>, NoMemory>
-    ensures { IfOk result (λ form. form ≡ drill_of seed.now count.now) }
+    ensures value { IfOk result (λ form. form ≡ drill_of seed.now count.now) }
+    ensures limits { IfOk result (λ form. IfSome form IsWithinLimits) }
 {
     let words = ["drill", "--", seed, count];
     match drill_matches(alloc, words.as_slice()) {
@@ -65,7 +67,8 @@ fn read_drill(alloc: Global, seed: &str, count: &str) -> Result<Option<Form>, No
 
 /// The form that the words are, if they are one.
 pub fn read_words(alloc: Global, words: &[String]) -> Result<Option<Form>, NoMemory>
-    ensures { IfOk result (λ form. form ≡ form_of (map string_bytes words.now)) }
+    ensures value { IfOk result (λ form. form ≡ form_of (map string_bytes words.now)) }
+    ensures limits { IfOk result (λ form. IfSome form IsWithinLimits) }
 {
     match words {
         [first] => {

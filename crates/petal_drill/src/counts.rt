@@ -1,6 +1,6 @@
 //! What a drill came to.
 
-ghost use Rattle.std.specs.Prelude.{◌≡◌, ◌<◌, ◌+◌, ◌^◌, IfOk, string_bytes};
+ghost use Rattle.std.specs.Prelude.{◌≡◌, ◌≤◌, ◌<◌, ◌+◌, ◌^◌, IfOk, string_bytes};
 ghost use Rattle.petal_drill.specs.Summary.{no_counts, counted, drill_name, counts_text, counts_line, stops_of};
 
 use petal_base::NoMemory;
@@ -43,7 +43,8 @@ impl Counts {
     pub fn add(&mut self, request: &Request, answer: &Answer)
         requires writes { self.old.writes + 1 < 2 ^ 32 }
         requires reads { self.old.reads + 1 < 2 ^ 32 }
-        ensures { self.new ≡ counted self.old request.now answer.now }
+        ensures value { self.new ≡ counted self.old request.now answer.now }
+        ensures few { self.new.writes + self.new.reads ≤ self.old.writes + self.old.reads + 1 }
     {
         match (request, answer) {
             (Request::Write { .. }, Answer::Ok) => self.writes += 1,

@@ -1,15 +1,16 @@
--- In every script that is read, lines rise, and phases rise with the numbers of lines.
+-- In every script that is read, lines rise and are few, and phases rise with the numbers of lines.
 use Rattle.std.proofs.Common.{◌≡◌, ℕ, ◌+◌, ◌-◌, ◌≤◌, ◌<◌, Bool, true, false, not, ◌&&◌, ◌==◌, List, [], ◌∷◌, ◌++◌, length, refl, sym, ap, subst}
 use Rattle.std.proofs.Common.{cond, codes, arith, Some, None, is_some, Result, Ok, Err, ◌⊎◌, inl, inr}
 use Rattle.petal_script.specs.Text.{pieces, without_end, words_of}
 use Rattle.petal_script.specs.Words.{Word, ◌>>=◌, is_word, two_words, three_words}
 use Rattle.petal_script.specs.Fields.{in_limits}
-use Rattle.petal_script.specs.Script.{TextLine, text_lines, lines_after, first_line, servers_line, net_line}
+use Rattle.petal_script.specs.Script.{TextLine, text_lines, lines_after, first_line, servers_line, net_line, too_many}
 use Rattle.law_script.specs.Laws.{IsAccepted, Does, skipped, nets, waits, asks, Follows, line_at}
 use Rattle.petal_script.specs.declared.cause.Cause.{Cause}
 use Rattle.petal_script.specs.declared.cause.Cause.TheVariants.{BadLine, NoServersLine}
 use Rattle.script_lines.specs.declared.request.Line.{Line}
 use Rattle.script_lines.specs.declared.script.Script.{Script}
+use Rattle.std.proofs.lemmas.Bool.Decides.{nat_tests}
 use Rattle.spec_rules.specs.Lists.{In}
 use Rattle.spec_rules.proofs.ListLemmas.{in-append}
 use Rattle.spec_history.specs.Order.{AreRising}
@@ -22,18 +23,19 @@ record Read (phases : ℕ) (lines : List Line) (n : ℕ) : Type 0 where
   within : (line : Line) → In line lines → line.phase < phases
   rise : AreOrdered lines
   rising : AreRising lines
+  few : length lines ≤ 1024
 
 none_read : (n : ℕ) → Read 1 [] n
 unfolding In
-none_read n = record { begun = omega arith; below = λ line h. absurd h; within = λ line h. absurd h; rise = λ one other h. absurd h; rising = tt }
+none_read n = record { begun = omega arith; below = λ line h. absurd h; within = λ line h. absurd h; rise = λ one other h. absurd h; rising = tt; few = omega arith }
 
 later : (phases : ℕ) (lines : List Line) (n : ℕ) → Read phases lines n → Read phases lines (n + 1)
 later phases lines n r =
-    record { begun = r.begun; below = (λ line h. let f = r.below line h in omega arith); within = r.within; rise = r.rise; rising = r.rising }
+    record { begun = r.begun; below = (λ line h. let f = r.below line h in omega arith); within = r.within; rise = r.rise; rising = r.rising; few = r.few }
 
 waited : (phases : ℕ) (lines : List Line) (n : ℕ) → Read phases lines n → Read (phases + 1) lines n
 waited phases lines n r =
-    record { begun = omega arith; below = r.below; within = (λ line h. let f = r.within line h in omega arith); rise = r.rise; rising = r.rising }
+    record { begun = omega arith; below = r.below; within = (λ line h. let f = r.within line h in omega arith); rise = r.rise; rising = r.rising; few = r.few }
 
 only : (line other : Line) → In line (other ∷ []) → line ≡ other
 unfolding In
@@ -53,9 +55,9 @@ rising_more (first ∷ lines) new rising below = (
 )
 
 -- one line more, of the next number and the last phase
-read_more : (phases : ℕ) (lines : List Line) (n : ℕ) (new : Line) → new.number ≡ n + 1 → new.phase ≡ phases - 1 → Read phases lines n
-    → Read phases (lines ++ new ∷ []) (n + 1)
-read_more phases lines n new number phase r = record {
+read_more : (phases : ℕ) (lines : List Line) (n : ℕ) (new : Line) → new.number ≡ n + 1 → new.phase ≡ phases - 1 → length (lines ++ new ∷ []) ≤ 1024
+    → Read phases lines n → Read phases (lines ++ new ∷ []) (n + 1)
+read_more phases lines n new number phase few r = record {
   begun = r.begun;
   below = λ line h. elim (in-append line lines (new ∷ []) h) [
     | inl old ↦ (let f = r.below line old in omega arith)
@@ -77,6 +79,7 @@ read_more phases lines n new number phase r = record {
     ]
   ];
   rising = rising_more lines new r.rising (λ line h. let f = r.below line h in omega arith);
+  few = few;
 }
 
 -- two scripts of the same phases and lines
@@ -127,13 +130,19 @@ net_like s t words is =
       ]
     ]
 
+not_too_many : (lines : List Line) → too_many lines ≡ false → length lines ≤ 1024
+unfolding too_many
+not_too_many lines few = grind (arith, nat_tests, few)
+
 -- a line that is taken after the servers line
 does_read : (s t : Script) (told : TextLine) (n : ℕ) → told.number ≡ n + 1 → Read s.phases s.lines n → Does s told t → Read t.phases t.lines (n + 1)
 does_read s t told n number r (skipped is same) = rw same (later s.phases s.lines n r)
 does_read s t told n number r (nets first words spelled is net) = like s t (n + 1) (net_like s t words net) (later s.phases s.lines n r)
 does_read s t told n number r (waits first spelled is same) = rw same (waited s.phases s.lines (n + 1) (later s.phases s.lines n r))
 does_read s t told n number r (asks first words client request spelled asked few many same) =
-    rw same (read_more s.phases s.lines n (line_at s told.number client request) number refl r)
+    let line = line_at s told.number client request in
+    let short : length (s.lines ++ line ∷ []) ≤ 1024 = subst (λ (u : Script). length u.lines ≤ 1024) same (not_too_many t.lines few) in
+    rw same (read_more s.phases s.lines n line number refl short r)
 
 -- ### Lines one after the other
 
@@ -212,3 +221,6 @@ script-rises text s a = (script-read text s a).read.rise
 
 pub lines-rise : (text : List ℕ) (s : Script) → IsAccepted (text_lines text) s → AreRising s.lines
 lines-rise text s a = (script-read text s a).read.rising
+
+pub lines-few : (text : List ℕ) (s : Script) → IsAccepted (text_lines text) s → length s.lines ≤ 1024
+lines-few text s a = (script-read text s a).read.few

@@ -1,6 +1,6 @@
 -- What is written at the end of a phase.
 use Rattle.std.proofs.Common.{◌≡◌, ◌≤◌, ℕ, ◌+◌, true, false, List, [], ◌∷◌, ◌++◌, length, take, is_some, refl, sym, ap, ◌∙◌, subst}
-use Rattle.std.proofs.Common.{append_assoc, arith, Result, Ok, Err}
+use Rattle.std.proofs.Common.{append_assoc, arith, Option, Some, None, Result, Ok, Err}
 use Rattle.std.proofs.lemmas.Bool.Decides.{nat_tests}
 use Rattle.std.specs.Prelude.{nat_lt}
 use Rattle.std.proofs.Math.Seq.{take-append_seam, take-append-add}
@@ -21,7 +21,11 @@ use Rattle.spec_history.specs.Steps.{AreSteps}
 use Rattle.spec_history.specs.Text.{answers_of, text_of}
 use Rattle.spec_history.specs.declared.record.Record.{Record}
 use Rattle.plain_schedule.specs.Phases.{Progress, GoesByPhases, Ends, records_of}
-use Rattle.petal_run.specs.Asked.{Play, by_text}
+use Rattle.call_words.specs.declared.form.Form.{Form}
+use Rattle.call_words.specs.declared.form.Form.TheVariants as forms
+use Rattle.petal_drill.specs.Drill.{drill_text}
+use Rattle.petal_drill.specs.Summary.{summary}
+use Rattle.petal_run.specs.Asked.{Play, Drill, by_text, by_form}
 use Rattle.petal_run.specs.Said.{Done, DoneInPart, EndsWithPhase, WrittenByPhases, WrotePhases, WroteInPhase}
 use Rattle.petal_run.specs.Written.{Wrote, text_of_answers}
 
@@ -131,15 +135,24 @@ nothing_of : (text : List ℕ) (r : Result Script Refusal) (old : List ℕ) → 
 nothing_of text (Err refusal) old law is = (refl, none_added old _)
 nothing_of text (Ok script) old law is = (nothing_legal script, law text script [] is tt, none_added old _)
 
-pub nothing_done : KeepsLaw → (text old : List ℕ) → DoneInPart (by_text (script_of text)) [] old old
-nothing_done law text old = nothing_of text (script_of text) old law refl
+nothing_drilled : (seed count : ℕ) (r : Result Script Refusal) (old : List ℕ) → KeepsLaw → script_of (drill_text seed count) ≡ r
+    → DoneInPart (Drill seed count r) [] old old
+nothing_drilled seed count (Err refusal) old law is = (refl, refl)
+nothing_drilled seed count (Ok script) old law is = (nothing_legal script, law (drill_text seed count) script [] is tt, none_added old _)
+
+pub nothing_done : KeepsLaw → (form : Option Form) (text old : List ℕ) → DoneInPart (by_form form text) [] old old
+nothing_done law None text old = (refl, none_added old _)
+nothing_done law (Some forms.Run) text old = nothing_of text (script_of text) old law refl
+nothing_done law (Some (forms.Drill seed count)) text old = nothing_drilled seed count (script_of (drill_text seed count)) old law refl
 
 nothing_of_wrote : (r : Result Script Refusal) (old : List ℕ) → WrittenByPhases (by_text r) [] old old
 nothing_of_wrote (Err refusal) old = refl
 nothing_of_wrote (Ok script) old = none_wrote script old
 
-pub nothing_wrote : (text old : List ℕ) → WrittenByPhases (by_text (script_of text)) [] old old
-nothing_wrote text old = nothing_of_wrote (script_of text) old
+pub nothing_wrote : (form : Option Form) (text old : List ℕ) → WrittenByPhases (by_form form text) [] old old
+nothing_wrote None text old = refl
+nothing_wrote (Some forms.Run) text old = nothing_of_wrote (script_of text) old
+nothing_wrote (Some (forms.Drill seed count)) text old = refl
 
 -- ### How a play ends
 
@@ -182,4 +195,35 @@ play_ends script p history same is g = (
   p.phases,
   subst (λ (r : List Record). AnswersPhases p.phases script.lines r) (sym is)
       (subst (λ (s : Script). AnswersPhases p.phases s.lines p.ended) same g.exactly),
+)
+
+-- ### How a drill ends
+
+pub drill_ends : (script : Script) (p : Progress) (history : List Record) → p.script ≡ script → history ≡ records_of p
+    → all_answered (answers_of (records_of p)) p.script.lines ≡ true → all_answered (answers_of history) script.lines ≡ true
+drill_ends script p history same is whole =
+    ap (λ r. all_answered (answers_of r) script.lines) is
+    ∙ ap (λ (s : Script). all_answered (answers_of (records_of p)) s.lines) (sym same) ∙ whole
+
+pub drill_adds : (seed count : ℕ) (script : Script) (p : Progress) (history : List Record) (old new : List ℕ) → p.script ≡ script → history ≡ records_of p
+    → Adds old (summary seed count p.script.lines (answers_of (records_of p))) new
+    → Adds old (summary seed count script.lines (answers_of history)) new
+drill_adds seed count script p history old new same is adds =
+    subst (λ (r : List Record). Adds old (summary seed count script.lines (answers_of r)) new) (sym is)
+    (subst (λ (s : Script). Adds old (summary seed count s.lines (answers_of (records_of p))) new) same adds)
+
+-- the answers of the history of a drill are those of its play
+pub done_drill : (seed count : ℕ) (script : Script) (p : Progress) (history : List Record) (status : ℕ) (old new : List ℕ) → status ≡ 0
+    → p.script ≡ script → history ≡ records_of p → all_answered (answers_of (records_of p)) p.script.lines ≡ true
+    → IsLegal script history → Keeps script history → new ≡ old ++ summary seed count p.script.lines (answers_of (records_of p))
+    → Done (Drill seed count (Ok script)) status history [] old new
+done_drill seed count script p history status old new ended same is whole legal keeps wrote = (
+  ended,
+  record {
+    legal = legal;
+    whole = drill_ends script p history same is whole;
+    keeps = keeps;
+  },
+  wrote ∙ ap (λ (s : Script). old ++ summary seed count s.lines (answers_of (records_of p))) same
+      ∙ ap (λ r. old ++ summary seed count script.lines (answers_of r)) (sym is),
 )

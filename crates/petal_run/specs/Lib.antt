@@ -1,5 +1,4 @@
 pub mod Asked
 pub mod Said
 pub mod Statuses
-pub mod Words
 pub mod Written

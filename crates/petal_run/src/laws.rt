@@ -1,10 +1,11 @@
 //! What is plain of scripts that are read.
 
-ghost use Rattle.std.specs.Prelude.{◌≡◌, List, [], ℕ, Ok};
+ghost use Rattle.std.specs.Prelude.{◌≡◌, ◌≤◌, List, [], ℕ, length, Option, Ok};
 ghost use Rattle.spec_history.specs.Order.{AreRising};
 ghost use Rattle.petal_script.specs.Script.{script_of};
 ghost use Rattle.script_lines.specs.declared.script.Script.{Script};
-ghost use Rattle.petal_run.specs.Asked.{by_text};
+ghost use Rattle.call_words.specs.declared.form.Form.{Form};
+ghost use Rattle.petal_run.specs.Asked.{by_form};
 ghost use Rattle.server_host.specs.Playable.{AreOrdered};
 ghost use Rattle.petal_run.specs.Said.{DoneInPart, WrittenByPhases};
 
@@ -25,10 +26,17 @@ pub fn lines_rise()
     what_a_script_is();
 }
 
-/// Where nothing is done, a part of what a text asks for is done.
+/// A script that is read has at most 1,024 lines.
+pub fn lines_are_few()
+    ensures { (text : List ℕ) (script : Script) → script_of text ≡ Ok script → length script.lines ≤ 1024 }
+{
+    what_a_script_is();
+}
+
+/// Where nothing is done, a part of what words and a text ask for is done.
 pub fn nothing_is_a_part()
-    ensures part { (text old : List ℕ) → DoneInPart (by_text (script_of text)) [] old old }
-    ensures by_phases { (text old : List ℕ) → WrittenByPhases (by_text (script_of text)) [] old old }
+    ensures part { (form : Option Form) (text old : List ℕ) → DoneInPart (by_form form text) [] old old }
+    ensures by_phases { (form : Option Form) (text old : List ℕ) → WrittenByPhases (by_form form text) [] old old }
 {
     read_scripts_are_sound();
 }

@@ -1,17 +1,20 @@
 //! The top call, and how it ends.
 
-ghost use Rattle.std.specs.Prelude.{◌≡◌, ◌≤◌, ◌<◌, ◌⊎◌, [], false, map, IsSome};
+ghost use Rattle.std.specs.Prelude.{◌≡◌, ◌≤◌, ◌<◌, ◌⊎◌, [], map, None, Some, IsSome};
 ghost use Rattle.std.specs.String.{string_bytes};
+ghost use Rattle.call_words.specs.Form.{form_of};
+ghost use Rattle.call_words.specs.declared.form.Form.TheVariants as forms;
 ghost use Rattle.petal_run.specs.Asked.{asked, text_read};
 ghost use Rattle.petal_run.specs.Said.{Done, DoneInPart, EndsWithPhase, WrittenByPhases, WrittenInPhase};
 ghost use Rattle.petal_run.specs.Statuses.{status_no_form, status_refused, status_gave_up, status_source_failed, status_sink_failed};
-ghost use Rattle.petal_run.specs.Words.{is_run};
 
+use crate::drill::run_drill;
 use crate::laws::nothing_is_a_part;
 use crate::reading::read_text;
 use crate::script::{given_up, run_text, say, without_history};
-use crate::words::is_run;
 use byte_streams::{Sink, Source};
+use call_words::{Form, read_words};
+use petal_base::NoMemory;
 use petal_disk::{DeviceError, Shelf};
 use plain_schedule::GaveUp;
 use spec_history::History;
@@ -51,8 +54,9 @@ pub(crate) const SINK_FAILED: u8 = 5;
 const USAGE: &str = "usage: petal run [FOLDER] | petal drill SEED COUNT\n";
 
 /// Does what the words ask for. The words `run` alone read a script from the source, play it on one thread with servers and
-/// stores of its own, and write the answers of each phase to the sink at that phase's end. It waits for as long as that takes,
-/// and nothing promises that it returns: its clauses say what holds where it does.
+/// stores of its own, and write the answers of each phase to the sink at that phase's end. The words `drill SEED COUNT` play the
+/// script that they stand for, and then write what its answers came to. It waits for as long as that takes, and nothing
+/// promises that it returns: its clauses say what holds where it does.
 ///
 /// Statuses 0 to 2 come exactly where the words and the script say so, unless it is given up or a count of faults rose.
 /// The first failure of the sink ends the run.
@@ -70,7 +74,7 @@ pub fn petal<T: Wait, R: Source, W: Sink, S: Shelf>(
     ensures done { R.observable → W.observable → result.status ≤ status_refused
         → Done (asked (map string_bytes words.now) (text_read (R.left source.old))) result.status result.history.records
         (R.left source.new) (W.taken sink.old) (W.taken sink.new) }
-    ensures usage { result.status ≡ status_no_form → is_run (map string_bytes words.now) ≡ false }
+    ensures usage { result.status ≡ status_no_form → form_of (map string_bytes words.now) ≡ None }
     ensures in_part { R.observable → W.observable → (result.status ≡ status_gave_up) ⊎ (result.status ≡ status_sink_failed)
         → DoneInPart (asked (map string_bytes words.now) (text_read (R.left source.old))) result.history.records
         (W.taken sink.old) (W.taken sink.new) }
@@ -90,15 +94,18 @@ pub fn petal<T: Wait, R: Source, W: Sink, S: Shelf>(
     ensures sink_failed { result.status ≡ status_sink_failed → W.faults sink.old < W.faults sink.new }
     ensures source_later { R.faults source.old ≤ R.faults source.new }
     ensures sink_later { W.faults sink.old ≤ W.faults sink.new }
-    ensures unasked { is_run (map string_bytes words.now) ≡ false → source.new ≡ source.old }
+    ensures unasked { (form_of (map string_bytes words.now) ≡ Some forms.Run → ⊥) → source.new ≡ source.old }
     ensures shelf { shelf.new ≡ shelf.old }
     ensures given_up { result.status ≡ status_gave_up → IsSome result.gave_up }
     ensures gave_up { IsSome result.gave_up → result.status ≡ status_gave_up }
 {
-    if !is_run(words) {
-        return say(alloc, sink, USAGE.as_bytes(), NO_FORM);
-    }
     nothing_is_a_part();
+    match read_words(alloc, words) {
+        Ok(Some(Form::Run)) => {}
+        Ok(Some(Form::Drill { seed, count })) => return run_drill(rt, alloc, seed, count, sink),
+        Ok(None) => return say(alloc, sink, USAGE.as_bytes(), NO_FORM),
+        Err(NoMemory) => return given_up(alloc, GaveUp::NoMemory),
+    }
     let text = match read_text(alloc, source) {
         Ok(text) => text,
         Err(DeviceError::Failed) => return without_history(alloc, SOURCE_FAILED),

@@ -179,7 +179,7 @@ fn play_phases<R: Wait, W: Sink>(rt: &R, alloc: Global, playing: &mut Playing, s
 
 /// Why a play that ended with this status was given up, where it was. It was by its script's steps, or there was no memory for the text of
 /// its answers.
-fn cause_of(status: u8, playing: &Playing) -> Option<GaveUp>
+pub(crate) fn cause_of(status: u8, playing: &Playing) -> Option<GaveUp>
     ensures given_up { status ≡ status_gave_up → IsSome result }
     ensures gave_up { IsSome result → status ≡ status_gave_up }
 {

@@ -3,8 +3,9 @@
 ghost use Rattle.std.specs.Prelude.{◌≡◌, ◌∷◌, [], is_some, nat_eq, IfOk, OnOk, OnErr, IfSome, IfNone};
 ghost use Rattle.std.specs.Cmp.Lexicographic.{pointwise};
 ghost use Rattle.std.specs.Map.{keys_of};
+ghost use Rattle.std.specs.Option.{option_copied};
 ghost use Rattle.std.specs.Ordering.{nat_cmp};
-ghost use Rattle.petal_table.specs.Table.{put};
+ghost use Rattle.petal_table.specs.Table.{at, put};
 ghost use Rattle.spec_history.specs.Text.{answers_of};
 ghost use Rattle.plain_schedule.specs.Places.{numbers};
 
@@ -60,6 +61,14 @@ impl Answers {
     {
         let _ = self.rows.insert(line, answer)?;
         Ok(())
+    }
+
+    /// The answer of a line.
+    #[tactic(auto, unfolding(petal_table::specs::Table::at))]
+    pub fn get(&self, line: u32) -> Option<&Answer>
+        ensures { option_copied result ≡ at nat_cmp self.now line }
+    {
+        self.rows.get(&line)
     }
 
     /// Whether exactly these lines have answers. The lines stand by rising number.

@@ -246,6 +246,20 @@ impl Playing {
         }
     }
 
+    /// The script.
+    pub fn script(&self) -> &Script
+        ensures { result.now ≡ self.now.script }
+    {
+        self.rounds.world.script()
+    }
+
+    /// The answers of all records so far.
+    pub fn answers(&self, alloc: Global) -> Result<Answers, NoMemory>
+        ensures { IfOk result (λ answers. answers ≡ answers_of (records_of self.now)) }
+    {
+        Answers::of_records(alloc, self.rounds.world.records())
+    }
+
     /// Why it was given up, where it was.
     pub fn gave_up(&self) -> Option<GaveUp> {
         self.gave_up

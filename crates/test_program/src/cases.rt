@@ -410,6 +410,40 @@ fn faults(rt: HostRuntime) -> Result<(), Fail> {
     are_so(&rt, rt.alloc(), FAULTS)
 }
 
+const DRILLS: &[Case] = &[
+    Case {
+        shows: "a drill without requests",
+        words: &["drill", "0", "0"],
+        start: "no script",
+        written: &["drill 0 0: writes 0 reads 0 stops 0 sum 0\n"],
+        ..RUN
+    },
+    Case {
+        shows: "a drill of a write and a read",
+        words: &["drill", "1", "2"],
+        written: &["drill 1 2: writes 1 reads 1 stops 0 sum 0\n"],
+        ..RUN
+    },
+    Case {
+        shows: "a drill with two stops and two starts",
+        words: &["drill", "1", "40"],
+        written: &["drill 1 40: writes 30 reads 10 stops 2 sum 144\n"],
+        ..RUN
+    },
+    Case {
+        shows: "a drill whose line cannot be written",
+        words: &["drill", "1", "2"],
+        fault: Fault::Sink(1),
+        status: 5,
+        ..RUN
+    },
+];
+
+#[test]
+fn drills(rt: HostRuntime) -> Result<(), Fail> {
+    are_so(&rt, rt.alloc(), DRILLS)
+}
+
 const WORDS: &[Case] = &[
     Case {
         shows: "no word",
@@ -427,8 +461,13 @@ const WORDS: &[Case] = &[
         ..NO_FORM
     },
     Case {
-        shows: "a drill",
-        words: &["drill", "0", "0"],
+        shows: "a drill of one request too many",
+        words: &["drill", "1", "801"],
+        ..NO_FORM
+    },
+    Case {
+        shows: "a drill of a word that is no number",
+        words: &["drill", "--", "1"],
         ..NO_FORM
     },
     Case {
