@@ -212,7 +212,7 @@ module _ (run : Run) where
 
   -- what one of the records tells
   tells_at : (at : IsMoment records) (m : Plain) → F (At script at.prefix) m
-      → T m (stepped of_run (At script at.prefix) at.own).world (told of_run (At script at.prefix) at.own at.following)
+      → T m (stepped of_run (At script at.prefix) at.own).world (events_at of_run (At script at.prefix) at.own at.following)
   tells_at at m follow =
       let it = at_moment run at in
       let w = after it.prior in

@@ -299,8 +299,8 @@ read_sound text script e =
     let begun = ok_is IsBegun (first_line (words_of a.servers.text)) a.begun (begun_empty (words_of a.servers.text)) a.begins in
     let empty = begun.empty in
     follows_so_far a.following a.begun script 0 a.follows
-    (above_zero (text_lines text) (lines_above 0 0 (pieces text)) a.prefix a.servers a.following a.lies)
-    (after_rises a.prefix a.servers a.following (subst AreRising a.lies (lines_rise 0 0 (pieces text))))
+    (above_zero (text_lines text) (lines_above 0 0 (pieces text)) a.front a.servers a.following a.lies)
+    (after_rises a.front a.servers a.following (subst AreRising a.lies (lines_rise 0 0 (pieces text))))
     (record {
       numbered = λ one other i j e. absurd (subst (In one) empty i);
       below = λ line i. absurd (subst (In line) empty i);

@@ -65,7 +65,7 @@ impl ClientPlan {
         if self.is_open() {
             return None;
         }
-        match self.due.prefix() {
+        match self.due.front() {
             Some(due) if due.phase == phase => Some(*due),
             _ => None,
         }
