@@ -1,3 +1,2 @@
-mod Few
 mod Lines
 mod Turns

@@ -6,9 +6,7 @@
 
 mod counts;
 mod drill;
-mod laws;
 mod writer;
 
 pub use counts::{Counts, summary_text};
 pub use drill::drill_script;
-pub use laws::counts_are_few;

@@ -27,7 +27,8 @@ record Read (phases : ℕ) (lines : List Line) (n : ℕ) : Type 0 where
 
 none_read : (n : ℕ) → Read 1 [] n
 unfolding In
-none_read n = record { begun = omega arith; below = λ line h. absurd h; within = λ line h. absurd h; rise = λ one other h. absurd h; rising = tt; few = omega arith }
+none_read n =
+    record { begun = omega arith; below = λ line h. absurd h; within = λ line h. absurd h; rise = λ one other h. absurd h; rising = tt; few = omega arith }
 
 later : (phases : ℕ) (lines : List Line) (n : ℕ) → Read phases lines n → Read phases lines (n + 1)
 later phases lines n r =
