@@ -211,7 +211,7 @@ first_no_lines (first ∷ words) s is =
 
 script-read : (text : List ℕ) (s : Script) → IsAccepted (text_lines text) s → ReadUpTo s
 script-read text s a =
-    let n = after_numbered a.prefix a.servers a.following 0 0 (pieces text) a.lies in
+    let n = after_numbered a.front a.servers a.following 0 0 (pieces text) a.lies in
     let f = first_no_lines (words_of a.servers.text) a.begun a.begins in
     let empty : Read a.begun.phases a.begun.lines n.number = rw (f.lines, f.phases) (none_read n.number) in
     let on : Follows a.begun (lines_after n.number n.reach n.text) s = subst (λ lines. Follows a.begun lines s) n.are a.follows in

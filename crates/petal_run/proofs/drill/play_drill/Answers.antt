@@ -32,7 +32,7 @@ returns-in-Ok-clause-in_part g c = λ told which.
     let part : Adds old (summary c.args.seed c.args.count c.args.script.lines (answers_of history)) new = elim which [
       | inl three ↦ subst (λ sink. Adds old (summary c.args.seed c.args.count c.args.script.lines (answers_of history)) (g.W.Sink.taken sink))
           (sym (c.play_and_sum_up-status.ensures.nothing three)) (none_added old _)
-      | inr five ↦ drill_adds c.args.seed c.args.count c.args.script p history old new same is (c.play_and_sum_up-status.ensures.front told five)
+      | inr five ↦ drill_adds c.args.seed c.args.count c.args.script p history old new same is (c.play_and_sum_up-status.ensures.prefix told five)
     ] in
     (legal, c.every_history_keeps_the_law.ensures c.args.script history c.requires.sound legal.steps, part)
 
@@ -42,7 +42,7 @@ returns-in-Ok-clause-last_phase g c = λ told five.
     let same : p.script ≡ c.args.script = c.play_and_sum_up-status.ensures.script ∙ ap (λ (q : Progress). q.script) c.in-Ok.ensures.start in
     drill_adds c.args.seed c.args.count c.args.script p c.into_history.result.records (g.W.Sink.taken c.args.sink.now)
     (g.W.Sink.taken c.play_and_sum_up-status.new.sink) same (ap (λ h. h.records) c.into_history.ensures.value)
-    (c.play_and_sum_up-status.ensures.front told five)
+    (c.play_and_sum_up-status.ensures.prefix told five)
 
 pub returns-in-Ok-clause-whole_phase : goal.returns-in-Ok-clause-whole_phase
 returns-in-Ok-clause-whole_phase g c = λ five.

@@ -11,12 +11,12 @@ use Rattle.petal_run.proofs.outcome.petal.Goals as goal
 pub returns-in-Ok-None-clause-in_part : goal.returns-in-Ok-None-clause-in_part
 returns-in-Ok-None-clause-in_part g c = λ reads writes failed.
     let other : form_of (map string_bytes c.args.words.now) ≡ None = sym c.in-Ok-None.ensures.value ∙ c.in-Ok-None.field-0-is in
-    rw other (c.say.ensures.history, rw c.as_bytes.ensures.value at (c.say.ensures.front writes))
+    rw other (c.say.ensures.history, rw c.as_bytes.ensures.value at (c.say.ensures.prefix writes))
 
 pub returns-in-Ok-None-clause-last_phase : goal.returns-in-Ok-None-clause-last_phase
 returns-in-Ok-None-clause-last_phase g c = λ reads writes failed.
     let other : form_of (map string_bytes c.args.words.now) ≡ None = sym c.in-Ok-None.ensures.value ∙ c.in-Ok-None.field-0-is in
-    rw other (rw c.as_bytes.ensures.value at (c.say.ensures.front writes))
+    rw other (rw c.as_bytes.ensures.value at (c.say.ensures.prefix writes))
 
 pub returns-clause-done : goal.returns-clause-done
 returns-clause-done g c = λ reads writes ended.

@@ -12,7 +12,7 @@ returns-in-Err-Failed-clause-last g c = λ told base five wrote.
     let new = c.play_phase.new.self in
     let ends : Ends old new c.in-Ok-Some.answers = rw c.in-Ok-Some.field-0-is at c.in-Ok-Some.ensures.ends in
     wrote_last old new c.in-Ok-Some.answers c.play_phase.ensures.script c.requires.by_phases c.play_phase.ensures.by_phases ends
-    base (g.W.Sink.taken c.args.sink.now) (g.W.Sink.taken c.tell.new.sink) wrote (c.in-Err-Failed.ensures.front (ap Err c.in-Err-Failed.field-0-is) told)
+    base (g.W.Sink.taken c.args.sink.now) (g.W.Sink.taken c.tell.new.sink) wrote (c.in-Err-Failed.ensures.prefix (ap Err c.in-Err-Failed.field-0-is) told)
 
 pub returns-in-Err-NoMemory-clause-phases : goal.returns-in-Err-NoMemory-clause-phases
 returns-in-Err-NoMemory-clause-phases g c = λ told base three wrote.
