@@ -175,7 +175,7 @@ pub fn post_for(
     }
 }
 
-fn letter_of(client: ClientId, rev: Rev, nth: u32, post: Post) -> Letter
+fn letter_of(client: ClientId, rev: Rev, nth: u64, post: Post) -> Letter
     ensures { result ≡ record { from = actor.Client client; inc = 0; to = post.to; rev = rev; stamp = 0; nth = nth; body = post.body } }
 {
     Letter {

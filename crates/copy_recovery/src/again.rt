@@ -1,6 +1,6 @@
 //! What a tick sends again.
 
-ghost use Rattle.std.specs.Prelude.{◌≡◌, ◌+◌, ◌++◌, List, length, IfOk, Some};
+ghost use Rattle.std.specs.Prelude.{◌≡◌, ◌++◌, List, length, IfOk, Some};
 ghost use Rattle.petal_disk.specs.Keeping.{KeepsDevice};
 ghost use Rattle.petal_msg.specs.declared.copying.CopyAction.TheVariants as copy_action;
 ghost use Rattle.spec_rules.specs.Copies as copies;
@@ -88,35 +88,29 @@ fn pages_after<D: Disk>(
     ensures { IfOk result (λ letters. letters
         ≡ before ++ letters_of (sender here.now) (length before) (copies.page_posts here.now (own_of side.now store.now))) }
 {
-    let Ok(mut nth) = u32::try_from(before.len()) else {
-        return Err(NoMemory);
-    };
     let mut letters = before;
     for row in here.state().links() {
         let found = page_awaited(here, side, store, row);
-        let more = with_letter(here, letters, nth, found)?;
-        letters = more.0;
-        nth = more.1;
+        letters = with_letter(here, letters, found)?;
     }
     Ok(letters)
 }
 
-/// The letters of the step so far with that of one copy more, if it waits for an answer, and the number of the next letter.
+/// The letters of the step so far with that of one copy more, if it waits for an answer.
 fn with_awaited<D: Disk>(
     here: &JobContext,
     store: &mut Store<D>,
     cell: Cell,
     copy: Copying,
     letters: Sequence<Letter>,
-    nth: u32,
-) -> Result<(Sequence<Letter>, u32), DeviceError>
+) -> Result<Sequence<Letter>, DeviceError>
     ensures letters { IfOk result (λ more. D.observable → (side : Sides) → (posts : List Post)
         → posts ≡ copies.copy_awaited here.now (own_of side store.old) cell copy (copies.copy_stage (store_of store.old) cell copy)
-        → (more.0 ≡ letters ++ letters_of (sender here.now) nth posts) × (more.1 ≡ nth + length posts)) }
+        → more ≡ letters ++ letters_of (sender here.now) (length letters) posts) }
     ensures look { IsLook D.Disk store.old store.new result }
 {
     let found = awaited(here, store, cell, copy)?;
-    Ok(with_letter(here, letters, nth, found)?)
+    Ok(with_letter(here, letters, found)?)
 }
 
 /// Letters of the step, and after them those of the copies that are not yet answered.
@@ -130,14 +124,9 @@ fn copies_after<D: Disk>(
         ≡ before ++ letters_of (sender here.now) (length before) (copies.copy_posts here.now (own_of side.now store.old))) }
     ensures look { IsLook D.Disk store.old store.new result }
 {
-    let Ok(mut nth) = u32::try_from(before.len()) else {
-        return Err(DeviceError::NoMemory);
-    };
     let mut letters = before;
     for (cell, copy) in side.copies.iter() {
-        let more = with_awaited(here, store, *cell, *copy, letters, nth)?;
-        letters = more.0;
-        nth = more.1;
+        letters = with_awaited(here, store, *cell, *copy, letters)?;
     }
     Ok(letters)
 }

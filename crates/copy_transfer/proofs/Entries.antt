@@ -7,13 +7,15 @@ use Rattle.petal_msg.specs.declared.copying.LastCopy.{LastCopy}
 use Rattle.spec_rules.specs.Copies.{Entry, cell_holder, hears_entry, hears_sync, on_sync, puts_entry}
 use Rattle.spec_rules.specs.Server.{PairState, JobContext, silent}
 use Rattle.spec_rules.specs.Store.{cell_cmp, free_of}
-use Rattle.copy_transfer.specs.Entries.{one_more}
+use Rattle.copy_transfer.specs.Entries.{one_more, put_at}
 
-next_is : (next : LastCopy) (last : LastCopy) → Some next ≡ option_map one_more (Some last) → next ≡ one_more last
-next_is next last is = cc
+next_is : (place : ℕ) (next : LastCopy) (last : LastCopy) → Some next ≡ option_map (put_at place) (Some last) → next ≡ put_at place last
+next_is place next last is = cc
 
-pub next_of : (next last : LastCopy) (o : Option LastCopy) → Some next ≡ option_map one_more o → o ≡ Some last → next ≡ one_more last
-next_of next last o is there = next_is next last (is ∙ ap (option_map one_more) there)
+pub next_of : (place : ℕ) (next last : LastCopy) (o : Option LastCopy) → Some next ≡ option_map (put_at place) o → o ≡ Some last
+    → last.index ≡ place → next ≡ one_more last
+next_of place next last o is there same =
+    next_is place next last (is ∙ ap (option_map (put_at place)) there) ∙ ap (λ (n : ℕ). put_at n last) (sym same)
 
 pub hears_next : (own : PairState) (entry : Entry) (holder : ℕ) (last : LastCopy) → nat_lt entry.index last.index ≡ false → (entry.index == last.index) ≡ true
     → puts_entry own entry last holder (nat_lt 0 (free_of own.store)) ≡ hears_entry own entry holder last

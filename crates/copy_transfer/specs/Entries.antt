@@ -21,6 +21,10 @@ dropped own cell epoch = record {
   jobs = job.Stage cell ∷ [];
 }
 
+-- the copy with the entries up to this place put
+abbrev pub put_at : (place : ℕ) → LastCopy → LastCopy
+put_at place last = record last { index = place + 1 }
+
 -- the copy with one entry more that is put
 abbrev pub one_more : LastCopy → LastCopy
-one_more last = record last { index = last.index + 1 }
+one_more last = put_at last.index last

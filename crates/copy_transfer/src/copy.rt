@@ -1,6 +1,6 @@
 //! The stages of a copy at the holder of the link.
 
-ghost use Rattle.std.specs.Prelude.{◌≡◌, nat_lt, length, option_map, IsSome, IfOk, OnOk, OnErr};
+ghost use Rattle.std.specs.Prelude.{◌≡◌, ◌<◌, ◌-◌, ◌^◌, nat_lt, length, option_map, true, IsSome, IfOk, OnOk, OnErr};
 ghost use Rattle.busy_marks.specs.Marks.{above};
 ghost use Rattle.petal_base.specs.Cells.{key_at};
 ghost use Rattle.petal_table.specs.Table.{at};
@@ -31,7 +31,8 @@ use server_store::Store;
 
 /// Whether the copy has an entry at its place.
 pub fn has_next<D: Disk>(store: &Store<D>, cell: Cell, copy: Copying) -> bool
-    ensures { result ≡ nat_lt copy.index (length (chain_in (store_of store.now).chains cell)) }
+    ensures next { result ≡ nat_lt copy.index (length (chain_in (store_of store.now).chains cell)) }
+    ensures within { result ≡ true → copy.index < 2 ^ 32 - 1 }
 {
     nth(store, cell, copy.index as usize).is_some()
 }

@@ -1,6 +1,6 @@
 //! What the holder of a link does with the letters of the other server about a copy.
 
-ghost use Rattle.std.specs.Prelude.{◌≡◌, ◌+◌, true, IfOk};
+ghost use Rattle.std.specs.Prelude.{◌≡◌, ◌<◌, ◌+◌, ◌-◌, ◌^◌, true};
 ghost use Rattle.spec_rules.specs.Copies as copies;
 ghost use Rattle.spec_rules.specs.Progress.{with_full, without_copying};
 ghost use Rattle.spec_rules.specs.Server.{silent};
@@ -9,7 +9,7 @@ ghost use Rattle.pair_memory.specs.JobResult.{IsDone, IsSaid, held};
 
 use crate::copy::{copy_acts, has_next};
 use pair_memory::{JobContext, JobResult, PairMemory, WorkError, silent};
-use petal_base::{Cell, NoMemory, Op};
+use petal_base::{Cell, Op};
 use petal_disk::Disk;
 use petal_msg::Copying;
 use server_store::Store;
@@ -71,20 +71,22 @@ fn is_syncing<D: Disk>(
     copy: Copying,
     op: Op,
 ) -> bool
-    ensures { result ≡ copies.is_syncing (own_of side.now store.now) cell copy op }
+    ensures syncing { result ≡ copies.is_syncing (own_of side.now store.now) cell copy op }
+    ensures within { result ≡ true → copy.index < 2 ^ 32 - 1 }
 {
     let _ = side;
     copy.op == op && copy.trimmed && has_next(store, cell, copy)
 }
 
 /// The copy with one entry more that is put.
-fn synced(copy: Copying) -> Result<Copying, NoMemory>
-    ensures { IfOk result (λ next. next ≡ record copy { index = copy.index + 1 }) }
+fn synced(copy: Copying) -> Copying
+    requires { copy.index < 2 ^ 32 - 1 }
+    ensures { result ≡ record copy { index = copy.index + 1 } }
 {
-    Ok(Copying {
-        index: copy.index.checked_add(1).ok_or(NoMemory)?,
+    Copying {
+        index: copy.index + 1,
         ..copy
-    })
+    }
 }
 
 /// The other server has put the entry of this place: the next one follows, or the block's marks are taken away.
@@ -105,7 +107,7 @@ pub fn on_synced<D: Disk>(
 {
     match side.copies.copying_on(cell) {
         Some(copy) if is_syncing(side, store, cell, copy, op) && copy.index == index => {
-            let next = synced(copy)?;
+            let next = synced(copy);
             copy_acts(here, side, store, cell, next)
         }
         _ => silent(here, side, store),

@@ -11,7 +11,7 @@ ghost use Rattle.spec_rules.specs.Store.{cell_cmp, free_of};
 ghost use Rattle.kept_chains.specs.Kept.{store_of};
 ghost use Rattle.pair_memory.specs.PairMemory.{own_of, HasTicketsAt};
 ghost use Rattle.pair_memory.specs.JobResult.{IsDone, IsSaid, held};
-ghost use Rattle.copy_transfer.specs.Entries.{entry_of, one_more};
+ghost use Rattle.copy_transfer.specs.Entries.{entry_of, one_more, put_at};
 
 use link_blocks::holder_on;
 use pair_memory::{JobContext, JobResult, PairMemory, WorkError, only, put_new, say_to, silent};
@@ -53,14 +53,14 @@ fn say_synced<D: Disk>(
     say_to(here, side, store, Some(holder), body)
 }
 
-/// The copy with one entry more that is put.
-fn advanced(last: &LastCopy) -> Result<LastCopy, NoMemory>
-    ensures { IfOk result (λ next. next ≡ one_more last.now) }
+/// The copy with the entry at this place put.
+fn advanced(last: &LastCopy, place: u32) -> Result<LastCopy, NoMemory>
+    ensures { IfOk result (λ next. next ≡ put_at place last.now) }
 {
     Ok(LastCopy {
         op: last.op,
         epochs: last.epochs.clone()?,
-        index: last.index.checked_add(1).ok_or(NoMemory)?,
+        index: place as u64 + 1,
     })
 }
 
@@ -100,37 +100,38 @@ fn hear_entry<D: Disk>(
     store: &mut Store<D>,
     entry: &CopiedEntry,
     holder: ServerId,
-    index: u32,
+    index: u64,
 ) -> Result<JobResult, WorkError>
     requires { HasTicketsAt side.old store.old }
     ensures { (last : Last) → at cell_cmp side.old.copies.last (cell_of entry.now.key) ≡ Some last → last.index ≡ index
         → IsDone D.Disk here.now (held side.old store.old) (held side.new store.new) result
         (copies.hears_entry (own_of side.old store.old) (entry_of entry.now) holder last) }
 {
-    if entry.index < index {
+    let place = entry.index as u64;
+    if place < index {
         return say_synced(here, side, store, entry, holder);
     }
-    if entry.index != index {
+    if place != index {
         return silent(here, side, store);
     }
-    match next_copy(side, entry.key.cell())? {
+    match next_copy(side, entry.key.cell(), entry.index)? {
         Some(next) => put_entry(here, side, store, entry, holder, next),
         None => silent(here, side, store),
     }
 }
 
-/// The last copy of the cell with one entry more that is put.
-fn next_copy(side: &PairMemory, cell: Cell) -> Result<Option<LastCopy>, NoMemory>
-    ensures { IfOk result (λ next. next ≡ option_map one_more (at cell_cmp side.now.copies.last cell)) }
+/// The last copy of the cell with the entry at this place put.
+fn next_copy(side: &PairMemory, cell: Cell, place: u32) -> Result<Option<LastCopy>, NoMemory>
+    ensures { IfOk result (λ next. next ≡ option_map (put_at place) (at cell_cmp side.now.copies.last cell)) }
 {
     match side.copies.last_copy(cell) {
-        Some(last) => Ok(Some(advanced(last)?)),
+        Some(last) => Ok(Some(advanced(last, place)?)),
         None => Ok(None),
     }
 }
 
 /// The number of the last copy of the cell to this server, and how many of its entries are put.
-fn last_place(side: &PairMemory, cell: Cell) -> Option<(Op, u32)>
+fn last_place(side: &PairMemory, cell: Cell) -> Option<(Op, u64)>
     ensures { result ≡ option_map (λ last. (last.op, last.index)) (at cell_cmp side.now.copies.last cell) }
 {
     match side.copies.last_copy(cell) {

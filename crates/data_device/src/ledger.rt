@@ -1,7 +1,7 @@
 //! Which slot is whose: that of an entry, of a ticket, or free.
 
 ghost use Rattle.std.specs.Prelude.{◌≡◌, ◌≢◌, ◌≤◌, ◌<◌, ◌+◌, ◌-◌, ◌++◌, ◌∷◌, ◌↔◌, [], length, All, Contains, Ok, None, IfOk};
-ghost use Rattle.std.specs.Prelude.{OnErr, IfSome, IfNone, Some, true, slice_get};
+ghost use Rattle.std.specs.Prelude.{◌^◌, OnErr, IfSome, IfNone, Some, true, slice_get};
 ghost use Rattle.std.specs.Bool.{OnTrue, OnFalse};
 ghost use Rattle.physical_map.specs.Entries.{key_of, slot_of, without_key};
 ghost use Rattle.physical_map.specs.Keys.{placed, newest, IsInOrder};
@@ -83,6 +83,7 @@ impl Ledger {
     pub fn free(&self) -> u32
         ensures value { result ≡ self.now.slots - (length self.now.entries + length self.now.tickets) }
         ensures order { IsInOrder key_of self.now.entries }
+        ensures few { length self.now.entries < 2 ^ 32 }
     {
         self.slots.free()
     }

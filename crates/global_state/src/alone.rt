@@ -1,8 +1,10 @@
 //! Links by their names, and those that one server holds alone.
 
 ghost use Rattle.std.specs.Prelude.{◌≡◌, ◌&&◌, false, if◌then◌else◌, None, Some, option_copied};
+ghost use Rattle.std.specs.List.{All};
 ghost use Rattle.std.specs.Option.{option_map_or};
 ghost use Rattle.global_tables.specs.Link.{has_server, is_link, link_at, other_of};
+ghost use Rattle.link_table.specs.Numbers.{IsNumbered};
 ghost use Rattle.spec_state.specs.CellState.{cell_link};
 ghost use Rattle.spec_state.specs.Command.{is_alone};
 ghost use Rattle.spec_state.specs.State.{is_up};
@@ -28,7 +30,8 @@ pub fn holder_of(server: ServerId, row: &LinkRow) -> Option<ServerId>
 impl GlobalState {
     /// The links of all live maps.
     pub fn links(&self) -> &[LinkRow]
-        ensures { result.now ≡ self.now.links }
+        ensures links { result.now ≡ self.now.links }
+        ensures numbered { All IsNumbered result.now }
     {
         self.tables.links.rows()
     }

@@ -1,6 +1,6 @@
 //! Moves: which cells are on their way from map to map, and where to.
 
-ghost use Rattle.std.specs.Prelude.{◌≡◌, Option, find, option_and_then};
+ghost use Rattle.std.specs.Prelude.{◌≡◌, ◌<◌, IfSome, Option, find, option_and_then};
 ghost use Rattle.std.specs.List.{range_with_len};
 ghost use Rattle.global_tables.specs.Disk.{disk_at};
 ghost use Rattle.spec_state.specs.CellState.{cell_asked, cell_link, comes_under, coming, is_fenced, map_asked, move_region, region_at};
@@ -10,6 +10,7 @@ use crate::state::GlobalState;
 use chain_place::region;
 use global_tables::{DiskRow, Move, RegionState};
 use petal_base::{BlockNo, Cell, MapId, REGIONS, ServerId};
+use petal_command::RegionNumber;
 use spec_state::DiskView;
 use state_fold::{is_fenced, move_region};
 
@@ -41,11 +42,22 @@ fn first_fenced(moving: &Option<Move>) -> Option<u8>
     (0..REGIONS).find(|region| is_fenced(move_region(*region, moving)))
 }
 
-fn region_on_way(moving: &Option<Move>) -> Option<u8>
+/// The region, as commands name it.
+fn numbered(region: Option<u8>) -> Option<RegionNumber>
+    requires { IfSome region (λ number. number < 16) }
+    ensures { result ≡ region }
+{
+    match region {
+        Some(number) => Some(RegionNumber::new(number)),
+        None => None,
+    }
+}
+
+fn region_on_way(moving: &Option<Move>) -> Option<RegionNumber>
     ensures { result ≡ region_on_way moving.now }
 {
     match moving {
-        Some(_) => first_fenced(moving),
+        Some(_) => numbered(first_fenced(moving)),
         None => None,
     }
 }
@@ -101,7 +113,7 @@ impl GlobalState {
     }
 
     /// The region that is on its way from this map.
-    pub fn region_leaving(&self, map: MapId) -> Option<u8>
+    pub fn region_leaving(&self, map: MapId) -> Option<RegionNumber>
         ensures { result ≡ region_leaving self.now map }
     {
         match self.tables.mover(map) {

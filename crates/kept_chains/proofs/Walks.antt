@@ -1,9 +1,12 @@
 -- What a walk over the entries or the marks finds.
-use Rattle.std.proofs.Common.{◌≡◌, inl, inr, ℕ, zero, suc, ◌<◌, ◌==◌, ◌&&◌, ◌||◌, Bool, true, false, cond, T, nat_le, nat_lt, List, [], ◌∷◌, map}
+use Rattle.std.proofs.Common.{◌≡◌, inl, inr, ℕ, zero, suc, ◌-◌, ◌^◌, ◌<◌, ◌==◌, not, length, ◌&&◌, ◌||◌, Bool, true, false, cond, T}
+use Rattle.std.proofs.Common.{nat_le, nat_lt, List, [], ◌∷◌, map}
 use Rattle.std.proofs.Common.{Option, Some, None, is_some, option_map, refl, sym, subst, ap, ◌∙◌, arith}
 use Rattle.std.proofs.lemmas.Bool.{cases_Bool}
 use Rattle.std.proofs.lemmas.Bool.Decides.{nat_tests}
-use Rattle.std.proofs.lemmas.Option.{slice_get-map}
+use Rattle.std.proofs.lemmas.Option.{slice_get-map, slice_get_within}
+use Rattle.std.proofs.lemmas.List.{length-map}
+use Rattle.std.proofs.lemmas.List.Filters.{length-filter_both}
 use Rattle.std.specs.Prelude.{filter, slice_get, nat_eq}
 use Rattle.std.specs.List.{list_any}
 use Rattle.std.specs.declared.cmp.Ordering.TheVariants.{Less, Equal, Greater}
@@ -160,6 +163,14 @@ nth_is es cell place order =
     ∙ ap (λ (l : List (ℕ × ℕ)). slice_get l place) (places_are es cell)
     ∙ slice_get-map place_of (chain_held cell es) place
     ∙ ap (λ (chain : Chain). option_map place_of (slice_get chain place)) (sym (chain_is key_held stored_of es cell order))
+
+-- who has fewer entries than numbers has a number for the place after each of them
+pub nth_within : (es : List Held) (cell : Cell) (place : ℕ) (entry : Entry) → length es < 2 ^ 32
+    → slice_get (chain_of cell (listed es)) place ≡ Some entry → place < 2 ^ 32 - 1
+nth_within es cell place entry few is =
+    let inside = slice_get_within (chain_of cell (listed es)) place entry is in
+    let parts = length-filter_both (λ e. in_cell cell e.key) (λ e. not (in_cell cell e.key)) (λ _. refl) (listed es) in
+    omega (arith, inside, parts, length-map es (λ h. h.entry), few)
 
 pub epochs_is : (es : List Held) (cell : Cell) → IsInOrder key_held es
     → map (λ (e : Entry). e.key.epoch) (chain_of cell (listed es)) ≡ epochs_of (chain_in (chains_of es) cell)

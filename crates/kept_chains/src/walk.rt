@@ -1,6 +1,6 @@
 //! The blocks of a map in order, and the entries of a block.
 
-ghost use Rattle.std.specs.Prelude.{◌≡◌, filter, map, nat_eq, slice_get, option_map, IfOk, is_some};
+ghost use Rattle.std.specs.Prelude.{◌≡◌, ◌<◌, ◌-◌, ◌^◌, filter, map, nat_eq, slice_get, option_map, IfOk, IfSome, is_some};
 ghost use Rattle.std.specs.List.{list_any};
 ghost use Rattle.std.specs.Ordering.{nat_cmp};
 ghost use Rattle.petal_base.specs.Cells.{cell_of};
@@ -107,7 +107,8 @@ pub fn mark_left<D: Disk>(store: &Store<D>, cell: Cell) -> Option<MarkKind>
 
 /// The epoch and the version of the entry at this place of a cell's chain, counted from 0.
 pub fn nth<D: Disk>(store: &Store<D>, cell: Cell, place: usize) -> Option<(Epoch, Version)>
-    ensures { result ≡ option_map place_of (slice_get (chain_in (chains_of store.now.entries) cell) place) }
+    ensures found { result ≡ option_map place_of (slice_get (chain_in (chains_of store.now.entries) cell) place) }
+    ensures within { IfSome result (λ _. place < 2 ^ 32 - 1) }
 {
     // What `free` promises tells the proof that the entries are in order.
     let _ = store.free();

@@ -1,6 +1,7 @@
 //! The links of which nothing is left to copy.
 
 ghost use Rattle.std.specs.Prelude.{◌≡◌, ◌++◌, IfOk, OnOk};
+ghost use Rattle.link_table.specs.Numbers.{IsNumbered};
 ghost use Rattle.spec_rules.specs.Returns as returns;
 ghost use Rattle.spec_state.specs.State.{inc_of};
 ghost use Rattle.spec_rules.specs.State.{other_in};
@@ -11,7 +12,7 @@ use crate::next::next_copy;
 use crate::roles::other_in;
 use global_state::LinkRow;
 use pair_memory::{JobContext, PairMemory, Store};
-use petal_base::{NoMemory, ServerId};
+use petal_base::NoMemory;
 use petal_command::{Command, LinkNumber, ServerNumber};
 use petal_disk::Disk;
 use petal_msg::NextCopy;
@@ -26,20 +27,21 @@ fn is_nothing(next: NextCopy) -> bool
 }
 
 /// The link's Caught, where the other server is In.
-fn caught_as(here: &JobContext, row: &LinkRow, other: ServerId) -> Result<Option<Command>, NoMemory>
-    ensures { IfOk result (λ found. listed found ≡ returns.caught_as here.now row.now other (inc_of here.now.state other)) }
+fn caught_as(here: &JobContext, row: &LinkRow, other: ServerNumber) -> Option<Command>
+    requires { IsNumbered row.now }
+    ensures { listed result ≡ returns.caught_as here.now row.now other (inc_of here.now.state other) }
 {
-    let Some(other_inc) = here.state().inc_in(other) else {
-        return Ok(None);
+    let Some(other_inc) = here.state().inc_in(other.get()) else {
+        return None;
     };
-    Ok(Some(Command::Caught {
+    Some(Command::Caught {
         map: row.map,
-        link: LinkNumber::checked(row.link).ok_or(NoMemory)?,
+        link: LinkNumber::new(row.link),
         holder: here.number(),
         holder_inc: here.inc(),
-        other: ServerNumber::checked(other).ok_or(NoMemory)?,
+        other,
         other_inc,
-    }))
+    })
 }
 
 /// The link's Caught, where this server holds the link alone and nothing of it is left to copy.
@@ -48,17 +50,17 @@ fn caught_of<D: Disk>(
     side: &PairMemory,
     store: &Store<D>,
     row: &LinkRow,
-) -> Result<Option<Command>, NoMemory>
-    ensures { IfOk result (λ found. listed found
-        ≡ returns.caught_of here.now (own_of side.now store.now) row.now (other_in here.now.state here.now.me row.now)) }
+) -> Option<Command>
+    requires { IsNumbered row.now }
+    ensures { listed result ≡ returns.caught_of here.now (own_of side.now store.now) row.now (other_in here.now.state here.now.me row.now) }
 {
     let Some(other) = other_in(here, row) else {
-        return Ok(None);
+        return None;
     };
     if !is_nothing(next_copy(here, side, store, row)) {
-        return Ok(None);
+        return None;
     }
-    caught_as(here, row, other)
+    caught_as(here, row, ServerNumber::new(other))
 }
 
 /// The wants so far, with one more, if any.
@@ -74,7 +76,7 @@ fn with_found(wants: &mut Vec<Command>, found: Option<Command>) -> Result<(), No
 /// The Caught of each link that the server holds alone, whose other server is In, and of which nothing is left to copy.
 ///
 /// # Errors
-/// Out of memory, or where a link or its other server has no number that a command can name.
+/// Out of memory.
 pub fn caught_links<D: Disk>(
     here: &JobContext,
     side: &PairMemory,
@@ -84,7 +86,7 @@ pub fn caught_links<D: Disk>(
 {
     let mut wants = Vec::new(here.alloc());
     for row in here.state().links() {
-        let found = caught_of(here, side, store, row)?;
+        let found = caught_of(here, side, store, row);
         with_found(&mut wants, found)?;
     }
     Ok(wants)

@@ -5,6 +5,8 @@
 #![tactic(auto)]
 
 ghost use Rattle.std.specs.Prelude.{◌≡◌, ◌≤◌, [], ◌++◌, IfOk, OnOk, OnErr, length, true, option_copied};
+ghost use Rattle.std.specs.List.{All};
+ghost use Rattle.link_table.specs.Numbers.{IsNumbered};
 ghost use Rattle.global_tables.specs.Link.{link_at, new_rows, new_row, new_state, is_up, left, row_left, left_state, joined, row_blanked, blanked_state};
 ghost use Rattle.global_tables.specs.Link.{caught, row_caught, dropped, has_server, other_of, is_link, row_between};
 
@@ -21,11 +23,15 @@ pub struct Links {
 
 impl Model for Links {
     ghost use Rattle.std.specs.Prelude.{List};
+    ghost use Rattle.std.specs.List.{All};
     ghost use Rattle.global_tables.specs.declared.link.LinkRow.{LinkRow};
+    ghost use Rattle.link_table.specs.Numbers.{IsNumbered};
 
     ghost Value = { List LinkRow };
 
     ghost view = { λ l. l.rows.items };
+
+    ghost invariant = { λ l. All IsNumbered l.rows.items };
 }
 
 impl Links {
@@ -47,7 +53,8 @@ impl Links {
 
     /// All rows.
     pub fn rows(&self) -> &[LinkRow]
-        ensures { result.now ≡ self.now }
+        ensures rows { result.now ≡ self.now }
+        ensures numbered { All IsNumbered result.now }
     {
         &self.rows
     }

@@ -9,6 +9,7 @@ use Rattle.std.specs.List.{flat_map}
 use Rattle.petal_msg.specs.declared.letter.Letter.{Letter}
 use Rattle.spec_rules.specs.Server.{Post, Sender, letters_of}
 use Rattle.spec_rules.proofs.Letters.{letters_append}
+use Rattle.pair_memory.proofs.Letters.{count_letters}
 use Rattle.petal_disk.specs.Keeping.{KeepsDevice}
 use Rattle.petal_disk.specs.declared.disk.Disk.{Ghosts}
 use Rattle.petal_disk.proofs.Keeping.{keeps_all, keeps_on}
@@ -47,22 +48,16 @@ module _ {D : Type 0} (device : Ghosts D) (stays : (d : D) → device.came_to d 
       run = onward before.disk mid.disk after.disk seen.run look.run;
     }
 
-letters_length : (who : Sender) (n : ℕ) (ps : List Post) → length (letters_of who n ps) ≡ length ps
-letters_length who n [] = refl
-letters_length who n (p ∷ ps) = let rest = letters_length who (n + 1) ps in omega (arith, rest)
-
 -- letters after letters of the same step
 pub letters_two : (who : Sender) (before letters all : List Letter) (ps qs : List Post) → letters ≡ before ++ letters_of who (length before) ps
     → all ≡ letters ++ letters_of who (length letters) qs → all ≡ before ++ letters_of who (length before) (ps ++ qs)
 letters_two who before letters all ps qs first second =
-    let count : length letters ≡ length before + length ps =
-    ap length first ∙ length-append before (letters_of who (length before) ps) ∙ ap (λ (n : ℕ). length before + n) (letters_length who (length before) ps) in
     second
-    ∙ (λ i. first i ++ letters_of who (count i) qs)
+    ∙ (λ i. first i ++ letters_of who (count_letters who before letters ps first i) qs)
     ∙ append_assoc before (letters_of who (length before) ps) (letters_of who (length before + length ps) qs)
     ∙ ap (λ (ls : List Letter). before ++ ls) (sym (letters_append who (length before) ps qs))
 
-module _ {X : Type 0} (who : Sender) (f : X → List Post) (before : List Letter) (n : ℕ) (xs : List X) (at later : ℕ) (x : X) (is : later ≡ suc at)
+module _ {X : Type 0} (who : Sender) (f : X → List Post) (before : List Letter) (xs : List X) (at later : ℕ) (x : X) (is : later ≡ suc at)
     (within : at < length xs) where
   one_more : flat_map f (take later xs) ≡ flat_map f (take at xs) ++ f (get_or xs at x)
   one_more =
@@ -70,19 +65,8 @@ module _ {X : Type 0} (who : Sender) (f : X → List Post) (before : List Letter
       ∙ ap (λ (ps : List Post). flat_map f (take at xs) ++ ps) (flat_map-cons f (get_or xs at x) [] ∙ append-nil (f (get_or xs at x)))
 
   -- the letters of one more item
-  pub letters_more : (letters more : List Letter) (nth : ℕ) → letters ≡ before ++ letters_of who n (flat_map f (take at xs))
-      → nth ≡ n + length (flat_map f (take at xs))
-      → more ≡ letters ++ letters_of who nth (f (get_or xs at x)) → more ≡ before ++ letters_of who n (flat_map f (take later xs))
-  letters_more letters more nth so_far count next =
-      let old = flat_map f (take at xs) in
-      next ∙ (λ i. so_far i ++ letters_of who (count i) (f (get_or xs at x)))
-      ∙ append_assoc before (letters_of who n old) (letters_of who (n + length old) (f (get_or xs at x)))
-      ∙ ap (λ (ls : List Letter). before ++ ls) (sym (letters_append who n old (f (get_or xs at x))))
-      ∙ ap (λ (ps : List Post). before ++ letters_of who n ps) (sym one_more)
-
-  pub count_more : (nth next : ℕ) → nth ≡ n + length (flat_map f (take at xs)) → next ≡ nth + length (f (get_or xs at x))
-      → next ≡ n + length (flat_map f (take later xs))
-  count_more nth next count more =
-      let total : length (flat_map f (take later xs)) ≡ length (flat_map f (take at xs)) + length (f (get_or xs at x)) =
-      ap length one_more ∙ length-append (flat_map f (take at xs)) (f (get_or xs at x)) in
-      omega (arith, total, count, more)
+  pub letters_more : (letters more : List Letter) → letters ≡ before ++ letters_of who (length before) (flat_map f (take at xs))
+      → more ≡ letters ++ letters_of who (length letters) (f (get_or xs at x)) → more ≡ before ++ letters_of who (length before) (flat_map f (take later xs))
+  letters_more letters more so_far next =
+      letters_two who before letters more (flat_map f (take at xs)) (f (get_or xs at x)) so_far next
+      ∙ ap (λ (ps : List Post). before ++ letters_of who (length before) ps) (sym one_more)

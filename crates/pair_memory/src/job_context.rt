@@ -153,7 +153,7 @@ impl<'a> JobContext<'a> {
     }
 
     /// A letter from there: the one of this number of its step.
-    pub fn letter(&self, to: Actor, nth: u32, body: Body) -> Letter
+    pub fn letter(&self, to: Actor, nth: u64, body: Body) -> Letter
         ensures { result ∷ [] ≡ letters_of (sender self.now) nth (record { to = to; body = body } ∷ []) }
     {
         Letter {

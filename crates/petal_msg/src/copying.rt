@@ -40,7 +40,7 @@ pub struct LastCopy {
     /// The epochs of the holder's entries.
     pub epochs: Sequence<Epoch>,
     /// How many of these entries are put.
-    pub index: u32,
+    pub index: u64,
 }
 
 /// What a copy does next.

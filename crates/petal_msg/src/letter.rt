@@ -23,6 +23,6 @@ pub struct Letter {
     /// The stamp of the step that sent it.
     pub stamp: Stamp,
     /// Its place among the letters of that step, from 0.
-    pub nth: u32,
+    pub nth: u64,
     pub body: Body,
 }

@@ -56,7 +56,7 @@ fn note_filled<D: Disk>(
         (filled_with (own_of side.old store.now) row.now key (posts_of found)) }
 {
     let _ = store;
-    let (letters, _) = with_letter(here, Sequence::new(here.alloc()), 0, found)?;
+    let letters = with_letter(here, Sequence::new(here.alloc()), found)?;
     side.filled.put(link_id(row), key)?;
     side.copies.set_full(false);
     Ok(only(letters))

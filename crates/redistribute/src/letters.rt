@@ -110,16 +110,11 @@ pub fn fills_after<D: Disk>(
         ≡ before ++ letters_of (sender here.now) (length before) (fills.fill_posts here.now (own_of side.now store.old))) }
     ensures look { IsLook D.Disk store.old store.new result }
 {
-    let Ok(mut nth) = u32::try_from(before.len()) else {
-        return Err(DeviceError::NoMemory);
-    };
     let mut letters = before;
     for row in here.state().links() {
         let key = fill_of(here, side, store, row);
         let found = fill_letter(here, store, key)?;
-        let more = with_letter(here, letters, nth, found)?;
-        letters = more.0;
-        nth = more.1;
+        letters = with_letter(here, letters, found)?;
     }
     Ok(letters)
 }

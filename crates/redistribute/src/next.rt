@@ -117,7 +117,7 @@ pub fn left_after<D: Disk>(
     ensures { result ≡ left_after here.now.state row.now (region_to_move here.now.state here.now.me row.now) last.now (store_of store.now).chains }
 {
     match region_to_move(here, row) {
-        Some(moved) => next_after(here, store, row, moved, last),
+        Some(moved) => next_after(here, store, row, moved.get(), last),
         None => None,
     }
 }

@@ -9,10 +9,11 @@ ghost use Rattle.petal_table.specs.Table.{at};
 use global_state::LinkRow;
 use pair_memory::{JobContext, PairMemory, link_id};
 use petal_base::Key;
+use petal_command::RegionNumber;
 
 /// The region that the server is to move of a link: it leads the link, a disk is on its way from the link's map, and the link is
 /// not noted.
-pub fn region_to_move(here: &JobContext, row: &LinkRow) -> Option<u8>
+pub fn region_to_move(here: &JobContext, row: &LinkRow) -> Option<RegionNumber>
     ensures { result ≡ fills.region_to_move here.now.state here.now.me row.now }
 {
     match here.state().row_lead(row) {
@@ -21,11 +22,11 @@ pub fn region_to_move(here: &JobContext, row: &LinkRow) -> Option<u8>
     }
 }
 
-fn not_noted(here: &JobContext, row: &LinkRow) -> Option<u8>
+fn not_noted(here: &JobContext, row: &LinkRow) -> Option<RegionNumber>
     ensures { result ≡ fills.not_noted here.now.state row.now (region_leaving here.now.state row.now.map) }
 {
     match here.state().region_leaving(row.map) {
-        Some(region) if !here.state().noted(row.map, region, row.link) => Some(region),
+        Some(region) if !here.state().noted(row.map, region.get(), row.link) => Some(region),
         _ => None,
     }
 }

@@ -2,6 +2,7 @@
 
 ghost use Rattle.std.specs.Prelude.{◌≡◌, ◌++◌, IfOk, OnOk};
 ghost use Rattle.std.specs.List.{flat_map};
+ghost use Rattle.link_table.specs.Numbers.{IsNumbered};
 ghost use Rattle.spec_rules.specs.Fills as fills;
 ghost use Rattle.pair_memory.specs.PairMemory.{own_of};
 ghost use Rattle.redistribute.specs.Wants.{listed};
@@ -11,7 +12,7 @@ use crate::region::region_to_move;
 use global_state::LinkRow;
 use pair_memory::{JobContext, PairMemory};
 use petal_base::NoMemory;
-use petal_command::{Command, LinkNumber, RegionNumber};
+use petal_command::{Command, LinkNumber};
 use petal_disk::Disk;
 use server_store::Store;
 
@@ -21,20 +22,21 @@ fn moved_of<D: Disk>(
     side: &PairMemory,
     store: &Store<D>,
     row: &LinkRow,
-) -> Result<Option<Command>, NoMemory>
-    ensures { IfOk result (λ found. listed found ≡ fills.moved_of here.now (own_of side.now store.now) row.now) }
+) -> Option<Command>
+    requires { IsNumbered row.now }
+    ensures { listed result ≡ fills.moved_of here.now (own_of side.now store.now) row.now }
 {
     let Some(region) = region_to_move(here, row) else {
-        return Ok(None);
+        return None;
     };
     if fill_of(here, side, store, row).is_some() {
-        return Ok(None);
+        return None;
     }
-    Ok(Some(Command::Moved {
+    Some(Command::Moved {
         map: row.map,
-        region: RegionNumber::checked(region).ok_or(NoMemory)?,
-        link: LinkNumber::checked(row.link).ok_or(NoMemory)?,
-    }))
+        region,
+        link: LinkNumber::new(row.link),
+    })
 }
 
 /// The wants so far, with one more, if any.
@@ -50,7 +52,7 @@ fn with_found(wants: &mut Vec<Command>, found: Option<Command>) -> Result<(), No
 /// The Moved of each link of which nothing is left, at a server that is In as itself.
 ///
 /// # Errors
-/// Out of memory, or where a link has no number that a command can name.
+/// Out of memory.
 pub fn moving<D: Disk>(
     here: &JobContext,
     side: &PairMemory,
@@ -60,7 +62,7 @@ pub fn moving<D: Disk>(
 {
     let mut wants = Vec::new(here.alloc());
     for row in here.state().links() {
-        let found = moved_of(here, side, store, row)?;
+        let found = moved_of(here, side, store, row);
         with_found(&mut wants, found)?;
     }
     Ok(wants)

@@ -10,7 +10,7 @@ use petal_msg::{Actor, Letter};
 #[derive(Clone, Copy, Debug, PartialEq, Eq, PartialOrd, Ord)]
 pub struct LetterName {
     pub stamp: Stamp,
-    pub nth: u32,
+    pub nth: u64,
     /// 0 for a server, 1 for a client.
     pub side: u8,
     pub number: u8,

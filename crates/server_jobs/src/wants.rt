@@ -49,7 +49,7 @@ fn with_report(wants: &mut Vec<Command>, log: &LogSide, fence: Option<u32>) -> R
 /// awaits it and nothing that it holds is under way; then the `Moved` of each link of which nothing is left to move.
 ///
 /// # Errors
-/// Out of memory, or where a link or a server has no number that a command can name.
+/// Out of memory.
 #[tactic(auto, using(crate::proofs::Wanting::wants_out, crate::proofs::Wanting::wants_on))]
 pub fn own_wants<D: Disk>(
     alloc: Global,

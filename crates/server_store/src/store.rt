@@ -518,10 +518,12 @@ impl<D: Disk> Store<D> {
         )
     }
 
-    /// How many slots are neither in use nor promised to a ticket. The entries are in the order of their keys.
+    /// How many slots are neither in use nor promised to a ticket. The entries are in the order of their keys, and a `u32` can
+    /// count them.
     pub fn free(&self) -> u32
         ensures value { result ≡ free_slots self.now }
         ensures order { IsInOrder key_held self.now.entries }
+        ensures few { length self.now.entries < 2 ^ 32 }
     {
         self.ledger.free()
     }

@@ -18,11 +18,11 @@ impl Envelope {
     fn add_down(
         &self,
         letters: &mut Sequence<Letter>,
-        nth: u32,
+        nth: u64,
         server: ServerId,
         me: ServerNumber,
         inc: Inc,
-    ) -> Result<u32, NoMemory>
+    ) -> Result<u64, NoMemory>
         requires within { nth ≤ server }
         ensures count { IfOk result (λ next. next ≤ server + 1) }
         ensures letters { (rest : List ℕ) → IfOk result (λ next.
@@ -51,7 +51,7 @@ impl Envelope {
         ensures { IfOk result (λ letters. letters ≡ letters_of self.now 0 (down_posts me inc servers)) }
     {
         let mut letters = Sequence::new(alloc);
-        let mut nth: u32 = 0;
+        let mut nth: u64 = 0;
         for server in 0..servers {
             nth = self.add_down(&mut letters, nth, server, me, inc)?;
         }

@@ -52,7 +52,7 @@ impl Envelope {
     }
 
     /// A letter from there: the one of this number of its step.
-    pub fn letter(&self, to: Actor, nth: u32, body: Body) -> Letter
+    pub fn letter(&self, to: Actor, nth: u64, body: Body) -> Letter
         ensures { result ∷ [] ≡ letters_of self.now nth (record { to = to; body = body } ∷ []) }
     {
         Letter {
@@ -67,7 +67,7 @@ impl Envelope {
     }
 
     /// The letter to a server.
-    fn letter_to(&self, server: ServerId, nth: u32, said: &Pax) -> Letter
+    fn letter_to(&self, server: ServerId, nth: u64, said: &Pax) -> Letter
         ensures { result ∷ [] ≡ letters_of self.now nth (post_of (body.Pax said.now) server ∷ []) }
     {
         self.letter(Actor::Server(server), nth, Body::Pax(said.copy()))
@@ -93,7 +93,7 @@ impl Envelope {
     {
         let mut letters = room;
         for server in 0..servers {
-            letters.push_reserved(self.letter_to(server, server as u32, said));
+            letters.push_reserved(self.letter_to(server, server as u64, said));
         }
         Sequence::of(letters)
     }
@@ -102,11 +102,11 @@ impl Envelope {
     fn add_unheard(
         &self,
         letters: &mut Sequence<Letter>,
-        nth: u32,
+        nth: u64,
         server: ServerId,
         heard: &[bool; 256],
         said: &Pax,
-    ) -> Result<u32, NoMemory>
+    ) -> Result<u64, NoMemory>
         requires within { nth ≤ server }
         ensures count { IfOk result (λ next. next ≤ server + 1) }
         ensures letters { (rest : List ℕ) → IfOk result (λ next.
@@ -132,7 +132,7 @@ impl Envelope {
             ≡ letters_of self.now 0 (map (post_of (body.Pax said.now)) (filter (λ n. not (is_in heard.now n)) (range_with_len 0 servers)))) }
     {
         let mut letters = Sequence::new(alloc);
-        let mut nth: u32 = 0;
+        let mut nth: u64 = 0;
         for server in 0..servers {
             nth = self.add_unheard(&mut letters, nth, server, heard, said)?;
         }

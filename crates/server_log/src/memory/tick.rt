@@ -120,9 +120,7 @@ impl LogSide {
             return Err(NoMemory);
         }
         let to = ((self.proposer.me.get() as u16 + 1 + self.asks as u16) % servers) as u8;
-        let Ok(nth) = u32::try_from(letters.len()) else {
-            return Err(NoMemory);
-        };
+        let nth = letters.len() as u64;
         let ask = Body::Ask { rev: self.rev() };
         let mut letters = letters;
         letters.push(self.envelope().letter(Actor::Server(to), nth, ask))?;

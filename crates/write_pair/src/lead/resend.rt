@@ -1,6 +1,6 @@
 //! What a tick sends again.
 
-ghost use Rattle.std.specs.Prelude.{◌≡◌, ◌+◌, ◌++◌, length, IfOk};
+ghost use Rattle.std.specs.Prelude.{◌≡◌, ◌++◌, length, IfOk};
 ghost use Rattle.std.specs.List.{flat_map};
 ghost use Rattle.spec_rules.specs.Server.{PairState, letters_of, sender};
 ghost use Rattle.spec_rules.specs.Jobs.{sent_again};
@@ -39,17 +39,16 @@ fn awaited(here: &JobContext, op: &Pending) -> Result<Option<(ServerId, Body)>, 
     }
 }
 
-/// The letters of the step so far with those of one operation more, and the number of the next letter.
+/// The letters of the step so far with those of one operation more.
 fn with_awaited(
     here: &JobContext,
     letters: Sequence<Letter>,
-    nth: u32,
     op: &Pending,
-) -> Result<(Sequence<Letter>, u32), NoMemory>
-    ensures { IfOk result (λ more. (own : PairState) → (more.0 ≡ letters ++ letters_of (sender here.now) nth (sent_again here.now own op.now))
-        × (more.1 ≡ nth + length (sent_again here.now own op.now))) }
+) -> Result<Sequence<Letter>, NoMemory>
+    ensures { IfOk result (λ more. (own : PairState)
+        → more ≡ letters ++ letters_of (sender here.now) (length letters) (sent_again here.now own op.now)) }
 {
-    with_letter(here, letters, nth, awaited(here, op)?)
+    with_letter(here, letters, awaited(here, op)?)
 }
 
 fn all_after(
@@ -60,15 +59,9 @@ fn all_after(
     ensures { IfOk result (λ letters. (own : PairState)
         → letters ≡ before ++ letters_of (sender here.now) (length before) (flat_map (λ row. sent_again here.now own row.1) locks.now)) }
 {
-    let Ok(first) = u32::try_from(before.len()) else {
-        return Err(NoMemory);
-    };
     let mut letters = before;
-    let mut nth = first;
     for (_, op) in locks.iter() {
-        let more = with_awaited(here, letters, nth, op)?;
-        letters = more.0;
-        nth = more.1;
+        letters = with_awaited(here, letters, op)?;
     }
     Ok(letters)
 }

@@ -26,8 +26,8 @@ loop-cell-preserved g c =
       letters = λ told.
           let same : store_of c.loop-cell.store ≡ store_of first = ap (λ (s : Holdings _). store_of s) seen.same in
           let f : Cell × Copying → List Post = λ row. copy_awaited here (own_of side first) row.0 row.1 (copy_stage (store_of first) row.0 row.1) in
-          let more = c.in_ok-more.ensures.letters told side (f (cell, copy))
+          let more = c.in_ok-letters.ensures.letters told side (f (cell, copy))
           (sym (ap (λ (s : Store). copy_awaited here (side_own side s) cell copy (copy_stage s cell copy)) same)) in
-          next_letters (sender here) f c.loop-cell.letters c.in_ok-more.more.0 _ c.loop-cell.nth c.in_ok-more.more.1
-          (cell, copy) c.loop-cell.cell-iterator c.next.new.self c.in-Some.ensures.steps more.0 more.1 (c.loop-cell.invariant.letters told);
+          next_letters (sender here) f c.loop-cell.letters c.in_ok-letters.letters _
+          (cell, copy) c.loop-cell.cell-iterator c.next.new.self c.in-Some.ensures.steps more (c.loop-cell.invariant.letters told);
     }

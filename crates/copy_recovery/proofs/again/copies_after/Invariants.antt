@@ -12,7 +12,7 @@ abbrev pub invariant-loop-cell : goal.invariant-loop-cell
 invariant-loop-cell g l = record {
   seen : IsSeen g.D.Disk l.fn.store l.store;
   letters : g.D.Disk.observable →
-      l.letters ++ letters_of (sender l.here) l.nth
+      l.letters ++ letters_of (sender l.here) (length l.letters)
       (flat_map (λ row. copy_awaited l.here (own_of l.side l.fn.store) row.0 row.1 (copy_stage (store_of l.fn.store) row.0 row.1)) l.cell-iterator)
       ≡ l.initial.letters
       ++ letters_of (sender l.here) (length l.initial.letters)

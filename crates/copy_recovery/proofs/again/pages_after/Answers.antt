@@ -5,7 +5,7 @@ use Rattle.spec_rules.specs.Copies.{page_for}
 use Rattle.spec_rules.specs.Server.{Post, letters_of, sender}
 use Rattle.spec_rules.specs.State.{other_in}
 use Rattle.pair_memory.specs.PairMemory.{own_of}
-use Rattle.pair_memory.proofs.Looks.{count_more, letters_more}
+use Rattle.pair_memory.proofs.Looks.{letters_more}
 use Rattle.copy_recovery.proofs.again.pages_after.Goals as goal
 
 abbrev no_row : LinkRow
@@ -21,11 +21,7 @@ loop-row-preserved g c =
     let is : at + 1 ≡ suc at = omega arith in
     let sent = c.page_awaited-found.ensures in
     record {
-      letters = letters_more (sender here) f c.args.before (length c.args.before) rows
-          at (at + 1) no_row is c.loop-row-test.true c.loop-row.letters c.in_ok-more.more.0 c.loop-row.nth
-          c.loop-row.invariant.letters c.loop-row.invariant.count
-          (c.in_ok-more.ensures.0 ∙ ap (λ (ps : List Post). c.loop-row.letters ++ letters_of (sender here) c.loop-row.nth ps) sent);
-      count = count_more (sender here) f c.args.before (length c.args.before) rows at (at + 1) no_row is c.loop-row-test.true c.loop-row.nth c.in_ok-more.more.1
-          c.loop-row.invariant.count
-          (c.in_ok-more.ensures.1 ∙ ap (λ (ps : List Post). c.loop-row.nth + length ps) sent);
+      letters = letters_more (sender here) f c.args.before rows at (at + 1) no_row is c.loop-row-test.true c.loop-row.letters c.in_ok-letters.letters
+          c.loop-row.invariant.letters
+          (c.in_ok-letters.ensures ∙ ap (λ (ps : List Post). c.loop-row.letters ++ letters_of (sender here) (length c.loop-row.letters) ps) sent);
     }

@@ -12,6 +12,4 @@ invariant-loop-row g l = record {
   letters : l.letters ≡ l.initial.letters
       ++ letters_of (sender l.here) (length l.initial.letters)
       (flat_map (λ row. page_for l.here.state (own_of l.side l.store) row (other_in l.here.state l.here.me row)) (take l.row-index l.row-items));
-  count : l.nth ≡ length l.initial.letters
-      + length (flat_map (λ row. page_for l.here.state (own_of l.side l.store) row (other_in l.here.state l.here.me row)) (take l.row-index l.row-items));
 }

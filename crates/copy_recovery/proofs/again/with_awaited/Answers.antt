@@ -1,11 +1,8 @@
-use Rattle.std.proofs.Common.{◌+◌, ◌++◌, List, length, sym, ap, ◌∙◌}
+use Rattle.std.proofs.Common.{◌++◌, List, length, sym, ap, ◌∙◌}
 use Rattle.spec_rules.specs.Server.{Post, letters_of, sender}
 use Rattle.copy_recovery.proofs.again.with_awaited.Goals as goal
 
 pub returns-clause-letters : goal.returns-clause-letters
 returns-clause-letters g c = λ told side posts is.
-    let letter = c.in_ok-found.ensures.letter told side ∙ sym is in
-    let more = c.in_ok-with_letter.ensures in (
-      more.0 ∙ ap (λ (ps : List Post). c.args.letters ++ letters_of (sender c.args.here.now) c.args.nth ps) letter,
-      more.1 ∙ ap (λ (ps : List Post). c.args.nth + length ps) letter,
-    )
+    c.in_ok-with_letter.ensures
+    ∙ ap (λ (ps : List Post). c.args.letters ++ letters_of (sender c.args.here.now) (length c.args.letters) ps) (c.in_ok-found.ensures.letter told side ∙ sym is)

@@ -4,4 +4,4 @@ use Rattle.kept_chains.proofs.walk.read_nth.Goals as goal
 
 pub returns-in_ok-bytes-in-Some-clause-entry : goal.returns-in_ok-bytes-in-Some-clause-entry
 returns-in_ok-bytes-in-Some-clause-entry g c = λ told.
-    read_is c.args.store.now.entries c.args.cell c.args.place _ _ _ (sym c.in-Some.is ∙ c.nth.ensures) (c.in_ok-bytes-in-Some.ensures.bytes told)
+    read_is c.args.store.now.entries c.args.cell c.args.place _ _ _ (sym c.in-Some.is ∙ c.nth.ensures.found) (c.in_ok-bytes-in-Some.ensures.bytes told)

@@ -6,7 +6,7 @@ use Rattle.spec_rules.specs.Fills.{fill_of, fills_row, sends_key}
 use Rattle.spec_rules.specs.Server.{PairState, Post, letters_of, sender}
 use Rattle.server_store.specs.Holdings.{Holdings}
 use Rattle.pair_memory.specs.PairMemory.{own_of}
-use Rattle.pair_memory.proofs.Looks.{count_more, letters_more, seen_then}
+use Rattle.pair_memory.proofs.Looks.{letters_more, seen_then}
 use Rattle.redistribute.proofs.letters.fills_after.Goals as goal
 
 abbrev no_row : LinkRow
@@ -31,11 +31,7 @@ loop-row-preserved g c =
     record {
       seen = seen_then g.D.Disk law.stays law.goes_on first c.loop-row.store c.fill_letter.new.store c.fill_letter.result seen c.fill_letter.ensures.look;
       letters = λ told.
-          letters_more (sender here) f _ _ rows at (at + 1) no_row is c.loop-row-test.true c.loop-row.letters c.in_ok-more.more.0 c.loop-row.nth
-          (c.loop-row.invariant.letters told) (c.loop-row.invariant.count told)
-          (c.in_ok-more.ensures.0 ∙ ap (λ (ps : List Post). c.loop-row.letters ++ letters_of (sender here) c.loop-row.nth ps) (letter told));
-      count = λ told.
-          count_more (sender here) f c.loop-row.letters _ rows at (at + 1) no_row is c.loop-row-test.true c.loop-row.nth c.in_ok-more.more.1
-          (c.loop-row.invariant.count told)
-          (c.in_ok-more.ensures.1 ∙ ap (λ (ps : List Post). c.loop-row.nth + length ps) (letter told));
+          letters_more (sender here) f _ rows at (at + 1) no_row is c.loop-row-test.true c.loop-row.letters c.in_ok-letters.letters
+          (c.loop-row.invariant.letters told)
+          (c.in_ok-letters.ensures ∙ ap (λ (ps : List Post). c.loop-row.letters ++ letters_of (sender here) (length c.loop-row.letters) ps) (letter told));
     }

@@ -12,6 +12,4 @@ invariant-loop-row g l = record {
   seen : IsSeen g.D.Disk l.fn.store l.store;
   letters : g.D.Disk.observable → l.letters ≡ l.initial.letters
       ++ letters_of (sender l.here) (length l.initial.letters) (flat_map (fills_row l.here (own_of l.side l.fn.store)) (take l.row-index l.row-items));
-  count : g.D.Disk.observable
-      → l.nth ≡ length l.initial.letters + length (flat_map (fills_row l.here (own_of l.side l.fn.store)) (take l.row-index l.row-items));
 }

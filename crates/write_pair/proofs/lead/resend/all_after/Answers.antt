@@ -7,12 +7,11 @@ use Rattle.write_pair.proofs.lead.resend.all_after.Goals as goal
 
 pub loop-op-preserved : goal.loop-op-preserved
 loop-op-preserved c = λ own.
-    let more = c.in_ok-more.ensures own in
-    next_letters (sender c.args.here.now) (λ (row : Cell × Pending). sent_again c.args.here.now own row.1) c.loop-op.letters c.in_ok-more.more.0 _
-    c.loop-op.nth c.in_ok-more.more.1 (c.in-Some.field-0-0.now, c.in-Some.op.now) c.loop-op.op-iterator c.next.new.self c.in-Some.ensures.steps
-    more.0 more.1 (c.loop-op.invariant own)
+    next_letters (sender c.args.here.now) (λ (row : Cell × Pending). sent_again c.args.here.now own row.1) c.loop-op.letters c.in_ok-letters.letters _
+    (c.in-Some.field-0-0.now, c.in-Some.op.now) c.loop-op.op-iterator c.next.new.self c.in-Some.ensures.steps
+    (c.in_ok-letters.ensures own) (c.loop-op.invariant own)
 
 pub returns : goal.returns
 returns c = λ own.
     last_letters (sender c.args.here.now) (λ (row : Cell × Pending). sent_again c.args.here.now own row.1) c.loop-op.letters _
-    c.loop-op.nth c.loop-op.op-iterator c.in-None.ensures.steps.0 (c.loop-op.invariant own)
+    c.loop-op.op-iterator c.in-None.ensures.steps.0 (c.loop-op.invariant own)

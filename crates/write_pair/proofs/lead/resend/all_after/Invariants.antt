@@ -7,5 +7,5 @@ use Rattle.write_pair.proofs.lead.resend.all_after.Given as goal
 
 abbrev pub invariant-loop-op : goal.invariant-loop-op
 invariant-loop-op l = (own : PairState)
-    → l.letters ++ letters_of (sender l.here) l.nth (flat_map (λ row. sent_again l.here own row.1) l.op-iterator)
+    → l.letters ++ letters_of (sender l.here) (length l.letters) (flat_map (λ row. sent_again l.here own row.1) l.op-iterator)
     ≡ l.initial.letters ++ letters_of (sender l.here) (length l.initial.letters) (flat_map (λ row. sent_again l.here own row.1) l.locks)
