@@ -1,8 +1,23 @@
 -- What happens to one cell keeps its two copies together.
-use Rattle.law_copies.proofs.Imports.{◌+◌, ◌<◌, ◌≡◌, ◌≤◌, Body, Cell, Key, List, None, PairState, Pending, Replicated, Reserved, Some, arith, at, cell_cmp}
-use Rattle.law_copies.proofs.Imports.{chain_in, false, inl, inr, nat_cmp, progress, put, subst, sym, true, version_of, ℕ}
-use Rattle.law_copies.specs.Pair.{Pair, pair_of, far, ceiling, Grows, PairOk, IsPutting, Keeps, Known}
+use Rattle.law_copies.proofs.Imports.{◌+◌, ◌<◌, ◌∙◌, ◌≡◌, ◌≤◌, ◌⊎◌, Body, Cell, Key, List, None, PairState, Pending, Replicated, Reserved, Some, Stage}
+use Rattle.law_copies.proofs.Imports.{arith, at, by_bool, cell_cmp, chain_in, false, first, inl, inr, nat_cmp, progress, put, putting, said, second, subst}
+use Rattle.law_copies.proofs.Imports.{sym, true, version_of, ℕ}
+use Rattle.law_copies.specs.Pair.{Grows, IsPutting, Keeps, Known, Pair, PairOk, ceiling, far, pair_of}
 use Rattle.petal_msg.specs.declared.body.Body.TheVariants as body
+
+-- one change after another
+pub keeps_then : {old now new : Pair} → Keeps old now → Keeps now new → Keeps old new
+keeps_then one two = record {
+  ok = two.ok;
+  grows = record {
+    onward = let a = one.grows.onward in let b = two.grows.onward in omega arith;
+    higher = let a = one.grows.higher in let b = two.grows.higher in omega arith;
+    putting = λ number key bytes is. elim (one.grows.putting number key bytes is) [
+      | inl still ↦ two.grows.putting number key bytes still
+      | inr past ↦ inr (let b = two.grows.onward in omega arith)
+    ];
+  };
+}
 
 -- nothing happens to the cell, but new numbers may be given to others
 pub stays : (pair : Pair) (next : ℕ) → PairOk pair → pair.next ≤ next → Keeps pair (record pair { next = next })
@@ -29,11 +44,14 @@ pub opens : (pair : Pair) (op : Pending) → PairOk pair → pair.pending ≡ No
     → Keeps pair (record pair { pending = Some op; next = pair.next + 1 })
 opens pair op ok none number reserved put = grind arith
 
--- the first server marks the block, once the second has set a slot apart
-pub marks : (pair : Pair) (op new : Pending) → PairOk pair → pair.pending ≡ Some op → op.stage.put ≡ false → op.op + op.op ≤ far pair → new.op ≡ op.op
-    → new.stage.put ≡ false
-    → Keeps pair (record pair { pending = Some new })
-marks pair op new ok some at begun number put = grind arith
+-- an operation goes on at another stage: it says no more of the second server than was so, or that server told
+pub restages : (pair : Pair) (op : Pending) (stage : Stage) → PairOk pair → pair.pending ≡ Some op → stage.put ≡ op.stage.put
+    → (stage.reserved ≡ true → (op.stage.reserved ≡ true) ⊎ (op.op + op.op ≤ far pair))
+    → (stage.paired ≡ true → (op.stage.paired ≡ true) ⊎ (op.op + op.op + 1 ≤ far pair))
+    → Keeps pair (record pair { pending = Some (record op { stage = stage }) })
+restages pair op stage ok some put reserved paired =
+    by_bool op.stage.put (λ done. let later : stage.put ≡ true = put ∙ done in grind arith)
+    (λ fresh. let later : stage.put ≡ false = put ∙ fresh in grind arith)
 
 -- the first server puts its copy, once the block is marked
 pub puts : (pair : Pair) (op new : Pending) → PairOk pair → pair.pending ≡ Some op → op.stage.reserved ≡ true → op.stage.put ≡ false → new.op ≡ op.op
@@ -47,12 +65,6 @@ puts pair op new ok some reserved at number key bytes put paired = grind arith
 -- the second server has no room
 pub refuses : (pair : Pair) (op : Pending) → PairOk pair → pair.pending ≡ Some op → op.stage.put ≡ false → Keeps pair (record pair { pending = None })
 refuses pair op ok some at = grind arith
-
--- the mark may go once the second server has followed
-pub unmarks : (pair : Pair) (op new : Pending) → PairOk pair → pair.pending ≡ Some op → op.stage.put ≡ true → op.op + op.op + 1 ≤ far pair
-    → new.op ≡ op.op → new.stage.put ≡ true
-    → Keeps pair (record pair { pending = Some new })
-unmarks pair op new ok some at past number put = grind arith
 
 -- the operation is done with: the second server said that it has followed
 pub closes : (pair : Pair) (op : Pending) → PairOk pair → pair.pending ≡ Some op → op.stage.put ≡ true → op.stage.paired ≡ true

@@ -1,10 +1,15 @@
 -- A server, and a cell whose link is in Both by its own state: what the server does of copies is of other cells.
-use Rattle.law_copies.proofs.Imports.{◌∙◌, ◌≡◌, ◌≢◌, Body, Both, Cell, JobContext, LinkRow, PairState, Some, ap, cell_link, in_both, is_second, is_the_one}
-use Rattle.law_copies.proofs.Imports.{option_map, other_of, same_some, second_secondary, secondary, so_both, sym, true}
+use Rattle.law_copies.proofs.Imports.{◌∙◌, ◌≡◌, ◌≢◌, Body, Both, Cell, JobContext, Key, LastCopy, LinkRow, PairState, Pending, Some, Stored, ap, at}
+use Rattle.law_copies.proofs.Imports.{cell_holder, cell_link, cell_of, chain_in, drop_apart, drop_none, first, follows, in_both, inl, inr, is_lead}
+use Rattle.law_copies.proofs.Imports.{is_second, is_the, is_the_one, key_at, lead_links, leads_link, option_and_then, option_map, other_of, pending_on}
+use Rattle.law_copies.proofs.Imports.{refl, row_lead, same_cell_or_apart, same_numbers, same_some, second_secondary, secondary, so_both, state_lead, subst}
+use Rattle.law_copies.proofs.Imports.{sym, true, without_entry, ℕ}
+use Rattle.law_jobs.specs.Effects.{A_copy, A_new_copy, A_sweep, An_operation, As_copy, As_operation, IsDroppedFor, IsPutFor, The_last_copy}
 use Rattle.law_copies.specs.LoneSteps.{IsFit}
 use Rattle.law_copies.specs.Visits.{AliveIn}
 use Rattle.law_copies.proofs.OtherIsNotHolder.{held_by}
-use Rattle.law_copies.proofs.RolesOfWorkers.{IsHeldBy, IsHeldHere, not_both, other_alone}
+use Rattle.law_copies.proofs.RolesOfWorkers.{IsHeldBy, IsHeldHere, IsLedHere, led_alive, not_both, other_alone}
+use Rattle.law_copies.proofs.WorkedCell.{unborn}
 
 -- what it handles, where it is and what it has, and the cell's row
 pub record CellInBoth : Type 1 where
@@ -19,7 +24,7 @@ pub record CellInBoth : Type 1 where
   pub both_row : row.state ≡ Both
 
 module _ (it : CellInBoth) where
-  open it use {heard, here, own, fit, cell, row, is_row, both_row}
+  open it use {heard, here, own, fit, cell, row, is_row, alive, both_row}
 
   pub cell_both : in_both here.state cell ≡ true
   cell_both = so_both here.state cell row is_row both_row
@@ -31,9 +36,28 @@ module _ (it : CellInBoth) where
   pub not_held_here : IsHeldHere here cell → ⊥
   not_held_here held = not_both here.me held.row (other_alone here.state here.me held.other held.row held.other_is) (both_of held.row held.is)
 
+  held_apart : (q : Cell) (holder : ℕ) → cell_holder here q ≡ Some holder → cell ≢ q
+  held_apart q holder held e =
+      let h = held_by here cell holder (ap (cell_holder here) e ∙ held) in not_both (other_of here.me h.0) h.0 h.1.alone (both_of h.0 h.1.is)
+
   pub not_held_by : IsHeldBy here cell → ⊥
-  not_held_by by =
-      let h = held_by here cell by.holder by.held in not_both (other_of here.me h.0) h.0 h.1.alone (both_of h.0 h.1.is)
+  not_held_by by = held_apart cell by.holder by.held refl
+
+  -- what a copy puts or drops is of other cells
+  pub copied_apart : (key : Key) (stored : Stored) (last : LastCopy) → IsPutFor heard here own key stored (As_copy last) → cell ≢ cell_of key
+  copied_apart _ _ _ (A_copy entry holder last of at) = held_apart (cell_of entry.key) holder of.held
+
+  pub drop_rests : (now : PairState) (key : Key) → now.store.chains ≡ own.store.chains → IsDroppedFor heard here own key
+      → chain_in (without_entry now.store key).chains cell ≡ chain_in now.store.chains cell
+  drop_rests now _ same (A_new_copy number q epochs holder epoch h held newer) = drop_apart now.store (key_at q epoch) cell (held_apart q holder held)
+  drop_rests now _ same (The_last_copy q holder last epoch epochs held is beyond) = drop_apart now.store (key_at q epoch) cell (held_apart q holder held)
+  drop_rests now _ same (A_sweep key off) = elim (same_cell_or_apart cell (cell_of key)) [
+    | inl e ↦
+        let bare = unborn heard here own fit.ready cell alive (fit.bare cell) (cell_of key) e off in
+        let none = ap (λ t. chain_in t cell) same ∙ bare.chain in
+        drop_none now.store key cell none ∙ sym none
+    | inr ne ↦ drop_apart now.store key cell ne
+  ]
 
   -- ### The first server
 
@@ -44,3 +68,27 @@ module _ (it : CellInBoth) where
         let two = second_secondary here.state fit.steady q here.me (is_the_one _ here.me s) in
         let there : secondary here.state q ≡ Some row.secondary = ap (option_map (λ (r : LinkRow). r.secondary)) (ap (cell_link here.state) (sym e) ∙ is_row) in
         (fit.steady.linked cell row is_row).apart (leads ∙ same_some (sym two ∙ there))
+
+  -- ### The second server
+
+  module _ (follows : row.secondary ≡ here.me) where
+    -- it doesn't lead the cell's link
+    leads_not : leads_link here.state here.me cell ≡ true → ⊥
+    leads_not leads =
+        let first : row.primary ≡ here.me = same_numbers row.primary here.me
+        (sym (ap (λ o. is_the (option_and_then (row_lead here.state) o) here.me) is_row ∙ ap
+        (λ x. is_the (state_lead here.state row.primary x) here.me) both_row)
+        ∙ leads) in
+        (fit.steady.linked cell row is_row).apart (first ∙ sym follows)
+
+    -- it leads other cells
+    pub lead_apart : (q : Cell) → is_lead here.state here.me q ≡ true → cell ≢ q
+    lead_apart q l e = leads_not (subst (λ (c : Cell). leads_link here.state here.me c ≡ true) (sym e) (lead_links here.state here.me q l).1)
+
+    pub op_apart : (op : Pending) → pending_on own op.cell ≡ Some op → cell ≢ op.cell
+    op_apart op is e =
+        let staged = fit.ready.staged op.cell op is in
+        leads_not (led_alive here cell alive (subst (IsLedHere here) (sym e) (record { born = staged.born; leads = staged.leads })))
+
+    pub own_put_apart : (key : Key) (stored : Stored) (op : Pending) → IsPutFor heard here own key stored (As_operation op) → cell ≢ cell_of key
+    own_put_apart _ _ _ (An_operation op stage is fresh why paired) e = op_apart op is (e ∙ (fit.ready.staged op.cell op is).keyed)

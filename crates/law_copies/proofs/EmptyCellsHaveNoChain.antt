@@ -36,7 +36,7 @@ drop_filled store key all = set_filled store.chains (cell_of key) (without nat_c
 pub did_filled : (heard : Body → Type 0) (here : JobContext) (own : PairState) → AreFilled own.store.chains → (done : JobResult) → Did heard here own done
     → AreFilled done.own.store.chains
 did_filled heard here own all done d =
-    chains_keep AreFilled heard here own (λ chains key stored why kept. entry_filled chains (cell_of key) key.epoch stored kept) drop_filled all done d
+    chains_keep AreFilled heard here own (λ chains key stored noted why kept. entry_filled chains (cell_of key) key.epoch stored kept) drop_filled all done d
 
 -- a chain that is there has an entry
 pub has_entry : (chains : Table Cell Chain) → AreFilled chains → (cell : Cell) → is_some (at cell_cmp chains cell) ≡ true

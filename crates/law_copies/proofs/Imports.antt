@@ -38,7 +38,7 @@ unfoldable pub use Rattle.law_steps.proofs.Imports.{put, without}
 pub use Rattle.law_jobs.specs.Imports.{Begins_copy, By_holder, By_lead, By_other, By_second, Closes, Closes_alone, Did, DidHolder, DidLead, DidOther}
 pub use Rattle.law_jobs.specs.Imports.{DidSecond, Finds_it_full, Follows, Gives_up, Goes_on_copying, Goes_on_retired, Goes_on_trimming, IsHeldWith, IsOfCopy}
 pub use Rattle.law_jobs.specs.Imports.{Is_copied_to, Marks, Marks_alone, Opens, Opens_alone, Opens_fill, Opens_fill_alone, Puts, Puts_alone, Puts_entry}
-pub use Rattle.law_jobs.specs.Imports.{Sets_apart, Taken, TakenCopy, Turns_page, Unmarks, Unmarks_alone, first_copy, first_last, progress}
+pub use Rattle.law_jobs.specs.Imports.{Sets_apart, Taken, TakenCopy, Turns_page, Unmarks, Unmarks_alone, chains_with, first_copy, first_last, progress}
 pub use Rattle.law_jobs.proofs.Imports.{As_it_is, As_told, Asks_page, Asks_to_trim, Blanks, By_ballot, By_entry, By_filler, By_job, By_read, By_sweep}
 pub use Rattle.law_jobs.proofs.Imports.{Closes_copy, CopyStep, Copy_as_is, Copy_synced, Copy_trimmed, Declines, Drops_entry, Ends, Fails, Goes, Handled}
 pub use Rattle.law_jobs.proofs.Imports.{Happens, Is_trimmed, Promises, Rests, Sends, Serves, Serving, Stays, Tidies, TrimStep, Turns, Unmarks_copied, Wakes}
@@ -60,8 +60,8 @@ pub use Rattle.law_jobs.proofs.JobsSay.{letters_of_job}
 pub use Rattle.law_jobs.proofs.MarksApart.{mark_beside, mark_kept, mark_there, stale_kept, unmark_beside, unmark_none}
 pub use Rattle.law_jobs.proofs.Runs.{At, OneMore, Run, before_part, by_run, firm_in, grown_in, happened_in, longer, more_of, rests_in, run_of, setting_in}
 pub use Rattle.law_jobs.proofs.Runs.{since, stepped_in}
-pub use Rattle.law_jobs.specs.Effects.{Counts, Drops, Effect, Ends_copy, For_a_fill, For_a_write, Idle, IsAt, IsCopiedFor, IsIdle, IsOpening, IsPutAt}
-pub use Rattle.law_jobs.specs.Effects.{Is_begun, Is_copied, Is_further, May, Of_key, Of_operation, Sets, applied}
+pub use Rattle.law_jobs.specs.Effects.{Counts, Drops, Effect, Ends_copy, For_a_fill, For_a_write, Idle, IsAt, IsIdle, IsOpening}
+pub use Rattle.law_jobs.specs.Effects.{Is_copied, May, Sets, applied}
 pub use Rattle.law_jobs.specs.Sayings.{Asks_copy, Asks_slot, Begins, Ends_fill, Goes_on, Has_copy, Has_slot, IsCopying, Is_sync_full, Is_synced, Moves}
 pub use Rattle.law_jobs.specs.Sayings.{Moves_on, Says, Syncs, Tells_page, Trims}
 pub use Rattle.law_jobs.specs.Worked.{holder_cell, lead_cell, other_cell, page_cell, second_cell, worked}

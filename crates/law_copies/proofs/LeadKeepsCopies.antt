@@ -1,138 +1,168 @@
 -- What a step of the first server of a cell in Both keeps of its two copies.
-use Rattle.law_copies.proofs.Imports.{◌+◌, ◌∙◌, ◌≡◌, ◌≢◌, Body, Busy, By_lead, Cell, Chain, Closes, Closes_alone, DidLead, Gives_up, Goes_on_retired}
-use Rattle.law_copies.proofs.Imports.{JobResult, Marks, Marks_alone, None, Opens, Opens_alone, Opens_fill, Opens_fill_alone, Option, PairState, Pending, Puts}
-use Rattle.law_copies.proofs.Imports.{Puts_alone, Some, Stage, Store, Taken, Unmarks, Unmarks_alone, about, ap, at, both_not_alone, cell_cmp, cell_gone}
-use Rattle.law_copies.proofs.Imports.{cell_of, cell_same, chain_in, chain_put, did_count, ends, false, fill_operation, gives_back, inl, inr, is_alone_on}
-use Rattle.law_copies.proofs.Imports.{lead_cell, live, marks, nat_cmp, of_ending, operation, put, puts, putting, refl, so_both, stage_live, subst, sym}
-use Rattle.law_copies.proofs.Imports.{taking, true, true_false, unmarks, version_of, with_mark_at, with_opened, with_paired, with_pending, with_reserved}
-use Rattle.law_copies.proofs.Imports.{without_pending}
-use Rattle.law_copies.specs.Pair.{pair_of, PairOk, Keeps, Known}
+use Rattle.law_copies.proofs.Imports.{◌+◌, ◌∙◌, ◌≡◌, ◌≢◌, ◌≤◌, ◌⊎◌, Body, Cell, Did, Ending, JobResult, Key, LastOp, None, PairState, Pairs, Pending, Some}
+use Rattle.law_copies.proofs.Imports.{Stage, Stored, about, ap, arith, at, both, both_not_alone, both_row, by_bool, cell_apart, cell_cmp, cell_gone}
+use Rattle.law_copies.proofs.Imports.{cell_gone_apart, cell_of, cell_same, chain_in, chain_put, chains_with, ended, false, fill_operation, first, follows}
+use Rattle.law_copies.proofs.Imports.{inl, inr, is_alone_on, job_keeps, live, nat_cmp, operation, pending_on, put, putting, refl, said, same_cell_or_apart}
+use Rattle.law_copies.proofs.Imports.{so_both, stage_live, subst, sym, taking, true, true_false, version_of, without}
+use Rattle.law_jobs.specs.Effects.{A_lead, Alone_has, An_operation, As_copy, As_operation, As_second, Both_have, Closes, Counts, Drops, Effect, For_a_fill}
+use Rattle.law_jobs.specs.Effects.{For_a_write, Goes_on, HasEnded, IsApart, IsClosedFor, IsOpening, IsPaired, IsPutFor, IsReserved, IsSetFor, Is_apart}
+use Rattle.law_jobs.specs.Effects.{Is_declined, Is_over, Is_replicated, Is_retired, May, Opens, Puts, Sets, Was_paired, applied, entry_ahead}
+use Rattle.law_copies.specs.Pair.{Keeps, Known, Pair, PairOk, far, pair_of}
 use Rattle.law_copies.specs.Visits.{AliveIn}
-use Rattle.law_copies.proofs.CellInBoth.{CellInBoth}
-use Rattle.law_copies.proofs.WorkedCell.{rest_apart}
-use Rattle.law_copies.proofs.RolesOfWorkers.{IsSo, so_at, worked_or_apart}
-use Rattle.petal_msg.specs.declared.operation.Ending.TheVariants as ending
+use Rattle.law_copies.proofs.CellInBoth.{CellInBoth, copied_apart, drop_rests, second_apart}
+use Rattle.law_copies.proofs.WorkedCell.{own_apart, put_apart}
+use Rattle.petal_msg.specs.declared.body.Body.TheVariants as body
 use Rattle.law_copies.proofs.CellChangesKeepCopies as moves
 
-module _ (it : CellInBoth) (second_own : PairState) (ok : PairOk (pair_of it.own second_own it.cell))
+module _ (it : CellInBoth) (leads : it.row.primary ≡ it.here.me) (second_own : PairState) (ok : PairOk (pair_of it.own second_own it.cell))
     (known : (said : Body) → it.heard said → (about said).cell ≡ Some it.cell → Known (pair_of it.own second_own it.cell) said) where
   open it use {heard, here, own, fit, cell, row, is_row, alive, both_row}
 
+  abbrev pair : PairState → Pair
+  pair now = pair_of now second_own cell
+
   abbrev K : PairState → Type 0
-  K new = Keeps (pair_of own second_own cell) (pair_of new second_own cell)
+  K now = Keeps (pair own) (pair now)
 
-  -- the same at the cell of an operation, where it is this one
-  ok_at : (q : Cell) → q ≡ cell → PairOk (pair_of own second_own q)
-  ok_at q e = subst (λ (c : Cell). PairOk (pair_of own second_own c)) (sym e) ok
+  -- another cell is held alone, or no longer live
+  alone_not : {A : Type 0} (q : Cell) → cell ≡ q → is_alone_on here.state here.me q ≡ true → A
+  alone_not q e alone =
+      true_false alone (ap (is_alone_on here.state here.me) (sym e) ∙ both_not_alone here.state here.me cell (so_both here.state cell row is_row both_row))
 
-  known_at : (said : Body) → heard said → (q : Cell) → (about said).cell ≡ Some q → q ≡ cell → Known (pair_of own second_own q) said
-  known_at said h q is e = subst (λ (c : Cell). Known (pair_of own second_own c) said) (sym e) (known said h (is ∙ ap Some e))
+  retired_not : {A : Type 0} (q : Cell) (op : Pending) → pending_on own q ≡ Some op → cell ≡ q → live here.state q ≡ false → A
+  retired_not q op is e off = true_false (stage_live here.state q (fit.ready.staged q op is).born (subst (AliveIn here.state) e alive)) off
 
-  -- a job beside the cell
-  beside : (done : JobResult) (d : DidLead heard here own done) → lead_cell heard here own done d ≢ Some cell → K done.own
-  beside done d ne =
-      let rest = rest_apart heard here own fit.ready cell alive (fit.bare cell) done (By_lead done d) ne in
-      moves.first_stays own done.own second_own cell rest.chain rest.pending (did_count heard here own done (By_lead done d)) ok
+  apart_not : {A : Type 0} (op : Pending) → pending_on own op.cell ≡ Some op → cell ≡ op.cell → IsApart here op.cell → A
+  apart_not op is e (inl alone) = alone_not op.cell e alone
+  apart_not op is e (inr off) = retired_not op.cell op is e off
 
-  -- a cell that one server holds alone is another one
-  alone_not : {A : Type 0} (q : Cell) → q ≡ cell → is_alone_on here.state here.me q ≡ true → A
-  alone_not q e on = true_false (subst (λ (c : Cell). is_alone_on here.state here.me c ≡ true) e on)
-      (both_not_alone here.state here.me cell (so_both here.state cell row is_row both_row))
+  -- ### The operation of the cell
 
-  -- and so is one that is retired
-  retired_not : {A : Type 0} (now : PairState) (op : Pending) → Taken own now op → op.cell ≡ cell → live here.state op.cell ≡ false → A
-  retired_not now op taken e off =
-      let t = taking own now op taken in
-      let born = (fit.ready.staged op.cell t.old t.was).born in
-      true_false (stage_live here.state op.cell born (subst (λ (c : Cell). AliveIn here.state c) (sym e) alive)) off
+  opened : (op : Pending) → pending_on own op.cell ≡ None → op.op ≡ own.pairs.next → op.stage.reserved ≡ false → op.stage.put ≡ false → cell ≡ op.cell
+      → K (applied own (Opens op))
+  opened op none number unreserved unput e =
+      let there = ap (at cell_cmp (put cell_cmp own.pairs.pending op.cell op)) e ∙ cell_same own.pairs.pending op.cell op in
+      subst (Keeps (pair own)) (λ i. record (pair (applied own (Opens op))) { pending = sym there i })
+      (moves.opens (pair own) op ok (ap (at cell_cmp own.pairs.pending) e ∙ none) number unreserved unput)
 
-  -- ### At the cell
+  opens_keeps : (op : Pending) → IsOpening heard here own op → cell ≡ op.cell → K (applied own (Opens op))
+  opens_keeps _ (For_a_write want new) = opened (operation here own.pairs.next want) new.none refl refl refl
+  opens_keeps _ (For_a_fill moving new) = opened (fill_operation here own.pairs.next moving) new.none refl refl refl
 
-  -- only the operation changes
-  changes : (q : Cell) (new : PairState) (op : Option Pending) → new.store.chains ≡ own.store.chains → new.pairs.next ≡ own.pairs.next
-      → at cell_cmp new.pairs.pending q ≡ op → Keeps (pair_of own second_own q) (record (pair_of own second_own q) { pending = op })
-      → Keeps (pair_of own second_own q) (pair_of new second_own q)
-  changes q new op chains next there = subst (Keeps (pair_of own second_own q)) (λ i. record {
-    first = chain_in (sym chains i) q;
-    second = chain_in second_own.store.chains q;
-    pending = sym there i;
-    next = sym next i;
-    last = at cell_cmp second_own.pairs.last q;
-  })
+  reserved_so : (op : Pending) → cell ≡ op.cell → IsReserved heard here own op → (op.stage.reserved ≡ true) ⊎ (op.op + op.op ≤ far (pair own))
+  reserved_so op e (inl was) = inl was
+  reserved_so op e (inr (inl h)) = inr (known (body.Reserved op.op op.cell) h (ap Some (sym e)))
+  reserved_so op e (inr (inr why)) = apart_not op why.0 e why.1
 
-  -- an operation is opened
-  opens_keeps : (op : Pending) → at cell_cmp own.pairs.pending op.cell ≡ None → op.op ≡ own.pairs.next → op.stage.reserved ≡ false → op.stage.put ≡ false
-      → op.cell ≡ cell → Keeps (pair_of own second_own op.cell) (pair_of (with_opened own op) second_own op.cell)
-  opens_keeps op none number unreserved unput e =
-      let q = op.cell in
-      subst (Keeps (pair_of own second_own q)) (λ i. record (pair_of (with_opened own op) second_own q) {
-        pending = sym (cell_same own.pairs.pending q op) i;
-      })
-      (moves.opens (pair_of own second_own q) op (ok_at q e) none number unreserved unput)
+  paired_so : (op : Pending) → cell ≡ op.cell → IsPaired heard here own op.cell op → (op.stage.paired ≡ true) ⊎ (op.op + op.op + 1 ≤ far (pair own))
+  paired_so op e (Was_paired was) = inl was
+  paired_so op e (Is_replicated h is both done) = inr (known (body.Replicated op.op op.cell) h (ap Some (sym e)))
+  paired_so op e (Is_apart is apart) = apart_not op is e apart
 
-  puts_keeps : (op : Pending) → at cell_cmp own.pairs.pending op.cell ≡ Some op → op.stage ≡ putting → op.cell ≡ cell
-      → Keeps (pair_of own second_own op.cell) (pair_of (puts own op).own second_own op.cell)
-  puts_keeps op is stage e =
-      let chains = own.store.chains in
+  sets_keeps : (now : PairState) (op : Pending) → IsSetFor heard here own now op → PairOk (pair now) → cell ≡ op.cell
+      → Keeps (pair now) (record (pair now) { pending = Some op })
+  sets_keeps now _ (Goes_on op stage there same reserved paired) so e =
+      moves.restages (pair now) op stage so (ap (at cell_cmp now.pairs.pending) e ∙ there) same (λ r. reserved_so op e (reserved r))
+      (λ p. paired_so op e (paired p))
+
+  closes_keeps : (now : PairState) (op : Pending) (how : Ending) → HasEnded heard here own op how → at cell_cmp now.pairs.pending cell ≡ Some op
+      → PairOk (pair now) → cell ≡ op.cell → Keeps (pair now) (record (pair now) { pending = None })
+  closes_keeps now op _ (Is_declined _ h is reserved unput) there so e = moves.refuses (pair now) op so there unput
+  closes_keeps now op _ (Both_have _ is both stage) there so e =
+      moves.closes (pair now) op so there (ap (λ (s : Stage). s.put) stage) (ap (λ (s : Stage). s.paired) stage)
+  closes_keeps now op _ (Alone_has _ _ taken alone stale done free) there so e = alone_not op.cell e alone
+  closes_keeps now op _ (Is_retired then _ taken off) there so e =
+      let t = taking own then op taken in retired_not op.cell t.old t.was e off
+
+  closed_so : (now : PairState) (q : Cell) → IsClosedFor heard here own now q → PairOk (pair now) → cell ≡ q
+      → Keeps (pair now) (record (pair now) { pending = None })
+  closed_so now _ (Is_over op how ended there) so e = closes_keeps now op how ended (ap (at cell_cmp now.pairs.pending) e ∙ there) so e
+
+  -- an operation that puts has a slot at its second server, which has not put
+  unpaired : (op : Pending) (stage : Stage) → cell ≡ op.cell → op.stage ≡ putting → (stage.paired ≡ true → IsPaired heard here own op.cell op)
+      → stage.paired ≡ false
+  unpaired op stage e is paired = by_bool stage.paired (λ p. by (paired p)) (λ f. f)
+    where
+      by : IsPaired heard here own op.cell op → stage.paired ≡ false
+      by (Was_paired was) = true_false was (ap (λ (s : Stage). s.paired) is)
+      by (Is_replicated h there both done) = true_false done (ap (λ (s : Stage). s.put) is)
+      by (Is_apart there apart) = apart_not op there e apart
+
+  puts_keeps : (now : PairState) (op : Pending) (stage : Stage) → pending_on own op.cell ≡ Some op → op.stage ≡ putting → stage.paired ≡ false
+      → now.store.chains ≡ own.store.chains → now.pairs ≡ own.pairs → cell ≡ op.cell
+      → K (applied now (Puts op.key (entry_ahead own op.cell op)
+      (As_operation (record op { version = version_of (chain_in own.store.chains op.cell) + 1; stage = record stage { put = true } }))))
+  puts_keeps now op stage is stage_is alone chains pairs e =
+      let entry = entry_ahead own op.cell op in
+      let two : Pending = record op { version = entry.version; stage = record stage { put = true } } in
       let keyed = (fit.ready.staged op.cell op is).keyed in
-      let version = version_of (chain_in chains op.cell) + 1 in
-      let two : Pending = record op { version = version; stage = record op.stage { put = true } } in
-      let new = (puts own op).own in
-      let chain : Chain = put nat_cmp (chain_in chains (cell_of op.key)) op.key.epoch (record { version = version; bytes = op.bytes }) in
-      let there : at cell_cmp new.pairs.pending op.cell ≡ Some two = cell_same own.pairs.pending op.cell two in
-      let copied : put nat_cmp (chain_in chains op.cell) op.key.epoch (record { version = version; bytes = op.bytes }) ≡ chain_in new.store.chains op.cell =
-      ap (λ (c : Cell). put nat_cmp (chain_in chains c) op.key.epoch (record { version = version; bytes = op.bytes })) (sym keyed)
-      ∙ sym (chain_put chains (cell_of op.key) chain) ∙ ap (chain_in new.store.chains) keyed in
-      subst (Keeps (pair_of own second_own op.cell)) (λ i. record (pair_of new second_own op.cell) { first = copied i; pending = sym there i })
-      (moves.puts (pair_of own second_own op.cell) op two (ok_at op.cell e) is (ap (λ (s : Stage). s.reserved) stage)
-      (ap (λ (s : Stage). s.put) stage) refl refl refl refl (ap (λ (s : Stage). s.paired) stage))
+      let new = applied now (Puts op.key entry (As_operation two)) in
+      let copied : put nat_cmp (chain_in own.store.chains op.cell) op.key.epoch entry ≡ chain_in new.store.chains op.cell =
+      ap (λ (q : Cell). put nat_cmp (chain_in own.store.chains q) op.key.epoch entry) (sym keyed)
+      ∙ sym (chain_put own.store.chains (cell_of op.key) (put nat_cmp (chain_in own.store.chains (cell_of op.key)) op.key.epoch entry))
+      ∙ ap (λ t. chain_in (chains_with t op.key entry) (cell_of op.key)) (sym chains) ∙ ap (chain_in new.store.chains) keyed in
+      subst (λ (q : Cell). Keeps (pair_of own second_own q) (pair_of new second_own q)) (sym e)
+      (subst (Keeps (pair_of own second_own op.cell)) (λ i. record (pair_of new second_own op.cell) {
+        first = copied i;
+        pending = sym (cell_same now.pairs.pending op.cell two) i;
+        next = sym (ap (λ (p : Pairs). p.next) pairs) i;
+      }) (moves.puts (pair_of own second_own op.cell) op two (subst (λ (q : Cell). PairOk (pair_of own second_own q)) e ok) is
+      (ap (λ (s : Stage). s.reserved) stage_is) (ap (λ (s : Stage). s.put) stage_is) refl refl refl refl alone))
 
-  -- ### Each kind of its jobs
+  put_so : (now : PairState) (key : Key) (stored : Stored) (op : Pending) → IsPutFor heard here own key stored (As_operation op)
+      → now.store.chains ≡ own.store.chains → (now.pairs ≡ own.pairs) ⊎ IsApart here op.cell → cell ≡ op.cell
+      → K (applied now (Puts key stored (As_operation op)))
+  put_so now _ _ _ (An_operation op stage is fresh (inr apart) paired) chains same e = apart_not op is e apart
+  put_so now _ _ _ (An_operation op stage is fresh (inl stage_is) paired) chains (inr apart) e = apart_not op is e apart
+  put_so now _ _ _ (An_operation op stage is fresh (inl stage_is) paired) chains (inl pairs) e =
+      puts_keeps now op stage is stage_is (unpaired op stage e stage_is paired) chains pairs e
 
-  abbrev Here : PairState → Cell → Type 0
-  Here new q = q ≡ cell → Keeps (pair_of own second_own q) (pair_of new second_own q)
+  -- ### All effects
 
-  lead_here : (done : JobResult) (d : DidLead heard here own done) → IsSo (Here done.own) (lead_cell heard here own done d)
-  lead_here _ (Gives_up op h is reserved put) =
-      let base = gives_back (without_pending own op.cell) in
-      let f = of_ending here base op op.kind ending.Full in
-      λ e. changes op.cell (ends here base op op.kind ending.Full).own None
-      (ap (λ (t : Store). t.chains) f.store) f.next (ap (λ t. at cell_cmp t op.cell) f.pending ∙ cell_gone own.pairs.pending op.cell)
-      (moves.refuses (pair_of own second_own op.cell) op (ok_at op.cell e) is put)
-  lead_here _ (Opens want new both) = opens_keeps (operation here own.pairs.next want) new.none refl refl refl
-  lead_here _ (Marks op h is both stage) =
-      let one = with_reserved op in
-      let two = with_mark_at one Busy true in
-      let at_put = ap (λ (s : Stage). s.put) stage in
-      λ e. changes op.cell (marks (with_pending own one) one Busy).own (Some two) refl refl
-      (cell_same (put cell_cmp own.pairs.pending op.cell one) op.cell two)
-      (moves.marks (pair_of own second_own op.cell) op two (ok_at op.cell e) is at_put (known_at _ h op.cell refl e) refl at_put)
-  lead_here _ (Puts op is both stage) = puts_keeps op is stage
-  lead_here _ (Unmarks op h is both stage) =
-      let one = with_paired op in
-      let two = with_mark_at one Busy false in
-      let at_put = ap (λ (s : Stage). s.put) stage in
-      λ e. changes op.cell (unmarks (with_pending own one) one Busy).own (Some two) refl refl
-      (cell_same (put cell_cmp own.pairs.pending op.cell one) op.cell two)
-      (moves.unmarks (pair_of own second_own op.cell) op two (ok_at op.cell e) is at_put (known_at _ h op.cell refl e) refl at_put)
-  lead_here _ (Closes op is both stage) =
-      let base = without_pending own op.cell in
-      let f = of_ending here base op op.kind ending.Written in
-      λ e. changes op.cell (ends here base op op.kind ending.Written).own None
-      (ap (λ (t : Store). t.chains) f.store) f.next (ap (λ t. at cell_cmp t op.cell) f.pending ∙ cell_gone own.pairs.pending op.cell)
-      (moves.closes (pair_of own second_own op.cell) op (ok_at op.cell e) is (ap (λ (s : Stage). s.put) stage) (ap (λ (s : Stage). s.paired) stage))
-  lead_here _ (Opens_alone want new on) = λ e. alone_not want.cell e on
-  lead_here _ (Marks_alone now op taken on fresh) = λ e. alone_not op.cell e on
-  lead_here _ (Puts_alone now op taken on stale put) = λ e. alone_not op.cell e on
-  lead_here _ (Unmarks_alone now op taken on stale put busy) = λ e. alone_not op.cell e on
-  lead_here _ (Closes_alone now op taken on stale put free) = λ e. alone_not op.cell e on
-  lead_here _ (Opens_fill moving new room both) = opens_keeps (fill_operation here own.pairs.next moving) new.none refl refl refl
-  lead_here _ (Opens_fill_alone moving new room on) = λ e. alone_not (cell_of moving.key) e on
-  lead_here _ (Goes_on_retired now op taken retired) = λ e. retired_not now op taken e retired
-  lead_here _ _ = tt
+  second_put : (key : Key) (stored : Stored) (last : LastOp) → IsPutFor heard here own key stored (As_second last) → cell ≢ cell_of key
+  second_put _ _ _ (A_lead number key told version bytes h follows last next) = second_apart it leads (cell_of key) follows
 
-  pub lead_keeps : (done : JobResult) → DidLead heard here own done → K done.own
-  lead_keeps done d = elim (worked_or_apart (lead_cell heard here own done d) cell) [
-    | inl e ↦ so_at (Here done.own) (lead_cell heard here own done d) (lead_here done d) cell e refl
-    | inr ne ↦ beside done d ne
+  -- the cell stays
+  after : (now new : PairState) → K now → chain_in new.store.chains cell ≡ chain_in now.store.chains cell
+      → at cell_cmp new.pairs.pending cell ≡ at cell_cmp now.pairs.pending cell → now.pairs.next ≤ new.pairs.next → K new
+  after now new k chain pending next = moves.keeps_then k (moves.first_stays now new second_own cell chain pending next k.ok)
+
+  -- the operation is at the cell, or at another one
+  pending_so : (now : PairState) (op : Pending) → K now
+      → (cell ≡ op.cell → Keeps (pair now) (record (pair now) { pending = Some op })) → K (applied now (Sets op))
+  pending_so now op k here_it = elim (same_cell_or_apart cell op.cell) [
+    | inl e ↦
+        let there = ap (at cell_cmp (put cell_cmp now.pairs.pending op.cell op)) e ∙ cell_same now.pairs.pending op.cell op in
+        moves.keeps_then k (subst (Keeps (pair now)) (λ i. record (pair now) { pending = sym there i }) (here_it e))
+    | inr ne ↦ after now (applied now (Sets op)) k refl (cell_apart now.pairs.pending op.cell op cell ne) (omega arith)
   ]
+
+  each : (now : PairState) (e : Effect) → May heard here own now e → K now → K (applied now e)
+  each now (Opens op) may k = elim (same_cell_or_apart cell op.cell) [
+    | inl e ↦ subst (λ (o : PairState). K (applied o (Opens op))) (sym may.1) (opens_keeps op may.0 e)
+    | inr ne ↦ after now (applied now (Opens op)) k refl (cell_apart now.pairs.pending op.cell op cell ne) (omega arith)
+  ]
+  each now (Sets op) may k = pending_so now op k (sets_keeps now op may.0 k.ok)
+  each now (Closes q) may k = elim (same_cell_or_apart cell q) [
+    | inl e ↦
+        let gone = ap (at cell_cmp (without cell_cmp now.pairs.pending q)) e ∙ cell_gone now.pairs.pending q in
+        moves.keeps_then k (subst (Keeps (pair now)) (λ i. record (pair now) { pending = sym gone i }) (closed_so now q may k.ok e))
+    | inr ne ↦ after now (applied now (Closes q)) k refl (cell_gone_apart now.pairs.pending q cell ne) (omega arith)
+  ]
+  each now Counts may k = after now (applied now Counts) k refl refl (omega arith)
+  each now (Puts key stored (As_operation op)) may k = elim (same_cell_or_apart cell op.cell) [
+    | inl e ↦ put_so now key stored op may.0 may.1 may.2.1 e
+    | inr ne ↦
+        let apart = own_apart heard here own fit.ready cell alive (fit.bare cell) key stored op may.0 ne in
+        after now (applied now (Puts key stored (As_operation op))) k (put_apart now.store.chains key stored cell apart)
+        (cell_apart now.pairs.pending op.cell op cell ne) (omega arith)
+  ]
+  each now (Puts key stored (As_second last)) may k = after now (applied now (Puts key stored (As_second last))) k
+      (put_apart now.store.chains key stored cell (second_put key stored last may.0)) refl (omega arith)
+  each now (Puts key stored (As_copy last)) may k = after now (applied now (Puts key stored (As_copy last))) k
+      (put_apart now.store.chains key stored cell (copied_apart it key stored last may.0)) refl (omega arith)
+  each now (Drops key) may k = after now (applied now (Drops key)) k (drop_rests it now key may.0 may.2) refl (omega arith)
+  each now _ may k = k
+
+  pub lead_keeps : (done : JobResult) → Did heard here own done → K done.own
+  lead_keeps = job_keeps heard here own K each (moves.stays (pair own) own.pairs.next ok (omega arith))

@@ -1,10 +1,11 @@
 -- A server speaks of pairs and copies only of live cells whose link it is of.
 use Rattle.law_copies.proofs.Imports.{◌∙◌, ◌≡◌, ◌⊎◌, Asks_copy, Asks_slot, Begins, Body, Cell, Copying, Did, Effect, Ends_fill, Entry, Goes_on, Has_copy}
-use Rattle.law_copies.proofs.Imports.{Has_slot, In, IsCopiedFor, IsCopying, IsOfCopy, Is_begun, Is_copied, Is_further, Is_sync_full, Is_synced, JobContext}
-use Rattle.law_copies.proofs.Imports.{JobResult, LastCopy, May, Moves, Moves_on, PairState, Pending, Post, Says, Some, Syncs, Tells_page, Trims, about, ap}
-use Rattle.law_copies.proofs.Imports.{applied, by_bool, cell_apart, cell_holder, cell_of, ended, false, follows, inl, inr, is_between, is_lead, is_second}
-use Rattle.law_copies.proofs.Imports.{job_keeps, last_copy, lead_links, leads_link, letters_of_job, live, logged_apart, none_some, pending_on, refl}
-use Rattle.law_copies.proofs.Imports.{retired_second, same_cell_or_apart, same_some, second, subject_of, subst, sym, true, true_false, ℕ}
+use Rattle.law_copies.proofs.Imports.{Has_slot, In, IsCopying, IsOfCopy, Is_copied, Is_sync_full, Is_synced, JobContext, JobResult, Key, LastCopy, May}
+use Rattle.law_copies.proofs.Imports.{Moves, Moves_on, PairState, Pending, Post, Says, Some, Stored, Syncs, Tells_page, Trims, about, after, ap, applied}
+use Rattle.law_copies.proofs.Imports.{at, both, by_bool, cell_apart, cell_cmp, cell_holder, cell_of, ended, false, first_last, follows, inl, inr}
+use Rattle.law_copies.proofs.Imports.{is_between, is_lead, is_second, job_keeps, last_copy, lead_links, leads_link, letters_of_job, live, logged_apart}
+use Rattle.law_copies.proofs.Imports.{none_some, pending_on, put, refl, retired_second, said, same_cell_or_apart, same_some, second, subject_of, subst, sym}
+use Rattle.law_copies.proofs.Imports.{true, true_false, ℕ}
 use Rattle.law_jobs.specs.Sayings.{Ends}
 use Rattle.law_copies.specs.LoneSteps.{IsFit}
 use Rattle.law_copies.proofs.ForeignCellsStay.{IsIdleAt, second_live}
@@ -12,6 +13,7 @@ use Rattle.law_copies.proofs.MuteLettersTellNothing.{ended_mute, moved_mute}
 use Rattle.law_copies.proofs.RolesOfWorkers.{IsHeldBy, IsHeldHere, begun_held, entry_held, taken_held}
 use Rattle.petal_msg.specs.declared.body.Body.TheVariants as body
 use Rattle.law_jobs.specs.Sayings as says
+use Rattle.law_jobs.specs.Effects.{A_copy, As_copy, IsPutFor, Puts}
 
 module _ (heard : Body → Type 0) (here : JobContext) (own : PairState) where
   -- the cell is live, and the server has to do with it
@@ -37,15 +39,20 @@ module _ (heard : Body → Type 0) (here : JobContext) (own : PairState) where
     abbrev IsLive : PairState → Type 0
     IsLive now = (last : LastCopy) → last_copy now q ≡ Some last → live here.state q ≡ true
 
-    copied_live : (cell : Cell) (last : LastCopy) → IsCopiedFor heard own cell last → live here.state cell ≡ true
-    copied_live cell _ (Is_begun number epochs h) = fit.lives (body.Trim number cell epochs) h refl cell refl
-    copied_live cell _ (Is_further last index is) = fit.copied cell last is
+    put_live : (key : Key) (stored : Stored) (last : LastCopy) → IsPutFor heard here own key stored (As_copy last) → live here.state (cell_of key) ≡ true
+    put_live _ _ _ (A_copy entry holder last of at) = fit.copied (cell_of entry.key) last of.last_is
 
-    each_live : (now : PairState) (e : Effect) → May heard here own now e → IsLive now → IsLive (applied now e)
-    each_live now (Is_copied cell next) may so last is = elim (same_cell_or_apart q cell) [
-      | inl e ↦ ap (live here.state) e ∙ copied_live cell next may
+    noted_live : (now : PairState) (cell : Cell) (next : LastCopy) → live here.state cell ≡ true → IsLive now → (last : LastCopy)
+        → at cell_cmp (put cell_cmp now.copies.last cell next) q ≡ Some last → live here.state q ≡ true
+    noted_live now cell next lives so last is = elim (same_cell_or_apart q cell) [
+      | inl e ↦ ap (live here.state) e ∙ lives
       | inr ne ↦ so last (sym (cell_apart now.copies.last cell next q ne) ∙ is)
     ]
+
+    each_live : (now : PairState) (e : Effect) → May heard here own now e → IsLive now → IsLive (applied now e)
+    each_live now (Is_copied cell number epochs) may so last is =
+        noted_live now cell (first_last number epochs) (fit.lives (body.Trim number cell epochs) may refl cell refl) so last is
+    each_live now (Puts key stored (As_copy next)) may so last is = noted_live now (cell_of key) next (put_live key stored next may.0) so last is
     each_live now _ may so last is = so last is
 
     pub did_copied : (done : JobResult) → Did heard here own done → IsLive done.own

@@ -1,72 +1,114 @@
 -- What a step of the second server of a cell in Both keeps of its two copies.
-use Rattle.law_copies.proofs.Imports.{◌+◌, ◌∙◌, ◌≡◌, ◌≢◌, ◌≤◌, ◌⊎◌, Body, Cell, Chain, Declines, DidSecond, Follows, JobContext, JobResult, Key, LastOp, List}
-use Rattle.law_copies.proofs.Imports.{PairState, Promises, Sets_apart, Some, about, ap, arith, at, cell_apart, cell_cmp, cell_of, cell_same, chain_apart}
-use Rattle.law_copies.proofs.Imports.{chain_in, chain_put, follows, inl, inr, nat_cmp, progress, put, refl, same_cell_or_apart, subst, sym, told_own}
-use Rattle.law_copies.proofs.Imports.{version_of, with_last, with_tickets, ℕ}
-use Rattle.law_copies.specs.Pair.{Pair, pair_of, far, PairOk, IsPutting, Keeps, Known}
+use Rattle.law_copies.proofs.Imports.{◌+◌, ◌∙◌, ◌≡◌, ◌≤◌, ◌⊎◌, Body, Cell, Did, JobResult, Key, LastOp, List, PairState, Pending, Some, Stored, about, ap}
+use Rattle.law_copies.proofs.Imports.{arith, at, cell_apart, cell_cmp, cell_of, cell_same, chain_in, chain_put, chains_with, first, follows, inl, inr}
+use Rattle.law_copies.proofs.Imports.{job_keeps, nat_cmp, progress, put, putting, refl, said, same_cell_or_apart, same_some, second, subst, sym, version_of}
+use Rattle.law_copies.proofs.Imports.{ℕ}
+use Rattle.law_jobs.specs.Effects.{A_lead, As_copy, As_operation, As_second, Drops, Effect, IsPutFor, May, Puts, Reserves, applied}
+use Rattle.law_copies.specs.BothSteps.{LacksFill}
+use Rattle.law_copies.specs.Pair.{IsPutting, Keeps, Known, Pair, PairOk, far, pair_of}
+use Rattle.law_copies.proofs.CellInBoth.{CellInBoth, copied_apart, drop_rests, own_put_apart}
+use Rattle.law_copies.proofs.WorkedCell.{put_apart}
 use Rattle.petal_msg.specs.declared.body.Body.TheVariants as body
 use Rattle.petal_msg.specs.declared.operation.FollowProgress.TheVariants as follow_progress
 use Rattle.law_copies.proofs.CellChangesKeepCopies as moves
 
 -- a second server that has not followed was asked to by an operation that is pending
-pub asked : (number : ℕ) (key : Key) (bytes : List ℕ) (pair : Pair) → pair.last ≡ Some (record { op = number; progress = follow_progress.Reserved })
+asked : (number : ℕ) (key : Key) (bytes : List ℕ) (pair : Pair) → pair.last ≡ Some (record { op = number; progress = follow_progress.Reserved })
     → IsPutting pair.pending number key bytes ⊎ (number + number + 1 ≤ far pair) → IsPutting pair.pending number key bytes
 asked number key bytes pair last (inl putting) = putting
 asked number key bytes pair last (inr past) = let e : far pair ≡ number + number = ap progress last in absurd (omega arith)
 
-module _ (heard : Body → Type 0) (here : JobContext) (first own : PairState) (cell : Cell) (ok : PairOk (pair_of first own cell))
-    (known : (said : Body) → heard said → (about said).cell ≡ Some cell → Known (pair_of first own cell) said) where
-  abbrev F : PairState → Type 0
-  F new = Keeps (pair_of first own cell) (pair_of first new cell)
+module _ (it : CellInBoth) (follows : it.row.secondary ≡ it.here.me) (first : PairState) (ok : PairOk (pair_of first it.own it.cell))
+    (known : (said : Body) → it.heard said → (about said).cell ≡ Some it.cell → Known (pair_of first it.own it.cell) said) where
+  open it use {heard, here, own, fit, cell}
 
-  ok_at : (q : Cell) → q ≡ cell → PairOk (pair_of first own q)
-  ok_at q e = subst (λ (c : Cell). PairOk (pair_of first own c)) (sym e) ok
+  abbrev pair : PairState → Pair
+  pair now = pair_of first now cell
 
-  known_at : (said : Body) → heard said → (q : Cell) → (about said).cell ≡ Some q → q ≡ cell → Known (pair_of first own q) said
-  known_at said h q is e = subst (λ (c : Cell). Known (pair_of first own c) said) (sym e) (known said h (is ∙ ap Some e))
+  -- the copies are kept together; and of an entry that moves nothing is here before the server has followed
+  pub record IsKept (now : PairState) : Type 0 where
+    pub keeps : Keeps (pair own) (pair now)
+    pub lacks : LacksFill first own cell → LacksFill first now cell
 
-  -- a step that changes the copy and the last operation of one cell
-  at_cell : (q : Cell) (new : PairState) → ((c : Cell) → c ≢ q → chain_in new.store.chains c ≡ chain_in own.store.chains c)
-      → ((c : Cell) → c ≢ q → at cell_cmp new.pairs.last c ≡ at cell_cmp own.pairs.last c)
-      → (q ≡ cell → Keeps (pair_of first own q) (pair_of first new q)) → Keeps (pair_of first own cell) (pair_of first new cell)
-  at_cell q new chains last keeps = elim (same_cell_or_apart cell q) [
-    | inl e ↦ subst (λ (c : Cell). Keeps (pair_of first own c) (pair_of first new c)) (sym e) (keeps (sym e))
-    | inr ne ↦ moves.second_stays first own new cell (chains cell ne) (last cell ne) ok
-  ]
+  -- the chain stays
+  further : (now new : PairState) → IsKept now → Keeps (pair now) (pair new) → chain_in new.store.chains cell ≡ chain_in now.store.chains cell → IsKept new
+  further now new k step chain = record {
+    keeps = moves.keeps_then k.keeps step;
+    lacks = λ old op there fill le.
+        let up = step.grows.onward in ap (λ c. at nat_cmp c op.key.epoch) chain ∙ k.lacks old op there fill (omega arith);
+  }
 
-  reserves_keeps : (number : ℕ) (q : Cell) (tickets : ℕ) → heard (body.Reserve number q) → progress (at cell_cmp own.pairs.last q) ≤ number + number
-      → F (with_last (with_tickets own tickets) q number follow_progress.Reserved)
-  reserves_keeps number q tickets h le =
-      let now : LastOp = record { op = number; progress = follow_progress.Reserved } in
-      let new = with_last (with_tickets own tickets) q number follow_progress.Reserved in
-      let there : at cell_cmp new.pairs.last q ≡ Some now = cell_same own.pairs.last q now in
-      at_cell q new (λ c ne. refl) (λ c ne. cell_apart own.pairs.last q now c ne)
-      (λ e. subst (Keeps (pair_of first own q)) (λ i. record (pair_of first new q) { last = sym there i })
-      (moves.reserves (pair_of first own q) number (ok_at q e) le (known_at _ h q refl e)))
+  -- the last operation as well
+  after : (now new : PairState) → IsKept now → chain_in new.store.chains cell ≡ chain_in now.store.chains cell
+      → at cell_cmp new.pairs.last cell ≡ at cell_cmp now.pairs.last cell → IsKept new
+  after now new k chain last = further now new k (moves.second_stays first now new cell chain last k.keeps.ok) chain
 
-  follows_keeps : (number : ℕ) (key : Key) (version : ℕ) (bytes : List ℕ) → heard (body.Replicate number key version bytes)
+  reserves : (now : PairState) (number : ℕ) → heard (body.Reserve number cell) → progress (at cell_cmp now.pairs.last cell) ≤ number + number
+      → IsKept now → IsKept (applied now (Reserves cell number))
+  reserves now number h le k =
+      let there = cell_same now.pairs.last cell (record { op = number; progress = follow_progress.Reserved }) in
+      further now (applied now (Reserves cell number)) k
+      (subst (Keeps (pair now)) (λ i. record (pair now) { last = sym there i }) (moves.reserves (pair now) number k.keeps.ok le (known _ h refl))) refl
+
+  -- it follows
+  abbrev followed : ℕ → LastOp
+  followed number = record { op = number; progress = follow_progress.Replicated }
+
+  follows_keeps : (now : PairState) (number : ℕ) (key : Key) (told version : ℕ) (bytes : List ℕ) → heard (body.Replicate number key told bytes)
       → at cell_cmp own.pairs.last (cell_of key) ≡ Some (record { op = number; progress = follow_progress.Reserved })
-      → F (follows here own number key bytes).own
-  follows_keeps number key version bytes h is =
+      → version ≡ version_of (chain_in own.store.chains (cell_of key)) + 1 → now.store.chains ≡ own.store.chains → cell ≡ cell_of key
+      → IsKept (applied now (Puts key (record { version = version; bytes = bytes }) (As_second (followed number))))
+  follows_keeps now number key told version bytes h is next chains e =
+      let last = followed number in
+      let stored : Stored = record { version = version; bytes = bytes } in
       let q = cell_of key in
-      let chains = own.store.chains in
-      let new = (follows here own number key bytes).own in
-      let now : LastOp = record { op = number; progress = follow_progress.Replicated } in
-      let there : at cell_cmp new.pairs.last q ≡ Some now = cell_same own.pairs.last q now in
-      let chain : Chain = put nat_cmp (chain_in chains q) key.epoch (record { version = version_of (chain_in chains q) + 1; bytes = bytes }) in
-      at_cell q new (λ c ne. chain_apart chains q chain c ne) (λ c ne. cell_apart own.pairs.last q now c ne)
-      (λ e. subst (Keeps (pair_of first own q))
-      (λ i. record {
-        first = chain_in first.store.chains q;
-        second = sym (chain_put chains q chain) i;
-        pending = at cell_cmp first.pairs.pending q;
-        next = first.pairs.next;
-        last = sym there i;
-      })
-      (moves.follows (pair_of first own q) number key bytes (ok_at q e) is (asked number key bytes (pair_of first own q) is (known_at _ h q refl e))))
+      let new = applied now (Puts key stored (As_second last)) in
+      let was = ap (at cell_cmp own.pairs.last) e ∙ is in
+      let putting = asked number key bytes (pair own) was (known (body.Replicate number key told bytes) h (ap Some (sym e))) in
+      let there : at cell_cmp new.pairs.last cell ≡ Some last = ap (at cell_cmp new.pairs.last) e ∙ cell_same now.pairs.last q last in
+      let chain : put nat_cmp (chain_in own.store.chains cell) key.epoch (record { version = version_of (chain_in own.store.chains cell) + 1; bytes = bytes })
+      ≡ chain_in new.store.chains cell =
+      ap (λ (c : Cell).
+      put nat_cmp (chain_in own.store.chains c) key.epoch (record { version = version_of (chain_in own.store.chains c) + 1; bytes = bytes })) e
+      ∙ ap (λ v. put nat_cmp (chain_in own.store.chains q) key.epoch (record { version = v; bytes = bytes })) (sym next)
+      ∙ sym (chain_put own.store.chains q (put nat_cmp (chain_in own.store.chains q) key.epoch stored))
+      ∙ ap (λ t. chain_in (chains_with t key stored) q) (sym chains) ∙ ap (chain_in new.store.chains) (sym e) in
+      record {
+        keeps = subst (Keeps (pair own)) (λ i. record (pair own) { second = chain i; last = sym there i })
+            (moves.follows (pair own) number key bytes ok was putting);
+        -- what is pending is what it has followed
+        lacks = λ old op pending fill le.
+            let same : op ≡ putting.op = same_some (sym pending ∙ putting.is) in
+            let number_is : op.op ≡ number = ap (λ (o : Pending). o.op) same ∙ putting.number_is in
+            let past : far (pair new) ≡ number + number + 1 = ap progress there in
+            absurd (omega arith);
+      }
 
-  pub second_keeps : (done : JobResult) → DidSecond heard here own done → F done.own
-  second_keeps _ (Sets_apart number q tickets h s le) = reserves_keeps number q tickets h le
-  second_keeps _ (Promises number q how s is) = subst F (sym (told_own here own q number how)) (moves.second_stays first own own cell refl refl ok)
-  second_keeps _ (Declines number q h s no_room) = moves.second_stays first own own cell refl refl ok
-  second_keeps _ (Follows number key version bytes h s is) = follows_keeps number key version bytes h is
+  second_put : (now : PairState) (key : Key) (stored : Stored) (last : LastOp) → IsPutFor heard here own key stored (As_second last)
+      → now.store.chains ≡ own.store.chains → cell ≡ cell_of key → IsKept (applied now (Puts key stored (As_second last)))
+  second_put now _ _ _ (A_lead number key told version bytes h s last next) chains e = follows_keeps now number key told version bytes h last next chains e
+
+  each : (now : PairState) (e : Effect) → May heard here own now e → IsKept now → IsKept (applied now e)
+  each now (Reserves q number) may k = elim (same_cell_or_apart cell q) [
+    | inl e ↦
+        subst (λ (c : Cell). IsKept (applied now (Reserves c number))) e (
+        reserves now number (subst (λ (c : Cell). heard (body.Reserve number c)) (sym e) may.0)
+        (subst (λ (c : Cell). progress (at cell_cmp now.pairs.last c) ≤ number + number) (sym e) may.2) k)
+    | inr ne ↦
+        after now (applied now (Reserves q number)) k refl
+        (cell_apart now.pairs.last q (record { op = number; progress = follow_progress.Reserved }) cell ne)
+  ]
+  each now (Puts key stored (As_operation op)) may k = after now (applied now (Puts key stored (As_operation op))) k
+      (put_apart now.store.chains key stored cell (own_put_apart it follows key stored op may.0)) refl
+  each now (Puts key stored (As_second last)) may k = elim (same_cell_or_apart cell (cell_of key)) [
+    | inl e ↦ second_put now key stored last may.0 may.1 e
+    | inr ne ↦ after now (applied now (Puts key stored (As_second last))) k (put_apart now.store.chains key stored cell ne)
+        (cell_apart now.pairs.last (cell_of key) last cell ne)
+  ]
+  each now (Puts key stored (As_copy last)) may k = after now (applied now (Puts key stored (As_copy last))) k
+      (put_apart now.store.chains key stored cell (copied_apart it key stored last may.0)) refl
+  each now (Drops key) may k = after now (applied now (Drops key)) k (drop_rests it now key may.0 may.2) refl
+  each now _ may k = record { keeps = k.keeps; lacks = k.lacks }
+
+  pub second_keeps : (done : JobResult) → Did heard here own done → IsKept done.own
+  second_keeps = job_keeps heard here own IsKept each (record { keeps = moves.second_stays first own own cell refl refl ok; lacks = λ old. old })

@@ -1,12 +1,13 @@
 -- A job leaves each cell as it is but the one that it works on.
-use Rattle.law_copies.proofs.Imports.{[], ◌<◌, ◌∙◌, ◌≡◌, ◌≢◌, ◌≤◌, Body, Cell, Chain, Copying, Did, Drops, Effect, Ends_copy, IsAt, IsIdle, IsPutAt, IsReady}
-use Rattle.law_copies.proofs.Imports.{Is_copied, JobContext, JobResult, Key, LastCopy, LastOp, MarkKind, May, Of_key, Of_operation, Option, PairState}
-use Rattle.law_copies.proofs.Imports.{Pending, Sets, Some, ap, applied, arith, at_keeps, cell_apart, cell_gone_apart, cell_of, chain_apart, chain_in}
-use Rattle.law_copies.proofs.Imports.{copying_on, drop_apart, drop_none, effects_at, false, has_proposed, inl, inr, is_marked, last_copy, last_on, live}
-use Rattle.law_copies.proofs.Imports.{mark_beside, nat_cmp, nat_tests, pending_on, put, refl, same_cell_or_apart, same_or_apart, stage_at, stage_live, subst}
-use Rattle.law_copies.proofs.Imports.{sym, true_false, unmark_beside, unmark_none, worked, ℕ}
+use Rattle.law_copies.proofs.Imports.{[], ◌<◌, ◌∙◌, ◌≡◌, ◌≢◌, ◌≤◌, Body, Cell, Chain, Copying, Did, Drops, Effect, Ends_copy, IsAt, IsIdle, IsReady}
+use Rattle.law_copies.proofs.Imports.{Is_copied, JobContext, JobResult, Key, LastCopy, LastOp, MarkKind, May, Option, PairState, Pending, Sets, Some}
+use Rattle.law_copies.proofs.Imports.{Stored, Table, ap, applied, arith, at, at_keeps, cell_apart, cell_gone_apart, cell_of, chain_apart, chain_in}
+use Rattle.law_copies.proofs.Imports.{chains_with, copying_on, drop_apart, drop_none, effects_at, false, first_last, has_proposed, inl, inr, is_marked}
+use Rattle.law_copies.proofs.Imports.{last_copy, last_on, live, mark_beside, marks, nat_cmp, nat_tests, pending_on, progress, put, refl, same_cell_or_apart}
+use Rattle.law_copies.proofs.Imports.{same_or_apart, stage_at, stage_live, subst, sym, true_false, unmark_beside, unmark_none, worked, ℕ}
 use Rattle.law_copies.specs.LoneSteps.{IsBare, KeepsCell, KeepsRest}
-use Rattle.law_jobs.specs.Effects.{Closes, Copies, Follows, Marks, Puts, Unmarks}
+use Rattle.law_jobs.specs.Effects.{An_operation, As_copy, As_operation, As_second, Closes, Copies, IsPutFor, Marks, Opens, Puts, Reserves, Unmarks}
+use Rattle.petal_msg.specs.declared.operation.FollowProgress.TheVariants as follow_progress
 
 pub above_none : (n : ℕ) → n ≢ 0 → 1 ≤ n
 above_none n ne = grind (arith, nat_tests)
@@ -28,21 +29,23 @@ rest_of q own = record {
   followed = last_on own q;
 }
 
--- an entry is put on another cell, since an operation's entry is of its own
-put_apart : (state : JobContext) (own : PairState) → IsReady state.state state.me (has_proposed state.state own) own.pairs.pending
-    → (q : Cell) (at : Option Cell) → at ≢ Some q → (key : Key) → IsPutAt own at key → q ≢ cell_of key
-put_apart here own ready q _ ne _ (Of_key key) e = ne (ap Some (sym e))
-put_apart here own ready q _ ne _ (Of_operation op is) e = ne (ap Some (sym (e ∙ (ready.staged op.cell op is).keyed)))
+pub put_apart : (chains : Table Cell Chain) (key : Key) (stored : Stored) (q : Cell) → q ≢ cell_of key
+    → chain_in (chains_with chains key stored) q ≡ chain_in chains q
+put_apart chains key stored q ne = chain_apart chains (cell_of key) (put nat_cmp (chain_in chains (cell_of key)) key.epoch stored) q ne
 
 module _ (heard : Body → Type 0) (here : JobContext) (own : PairState)
     (ready : IsReady here.state here.me (has_proposed here.state own) own.pairs.pending) (q : Cell) (alive : stage_at here.state q < 4)
     (bare : stage_at here.state q ≡ 0 → IsBare own q) where
   -- what is dropped of a cell that is no longer live is none of this one's: where this one is not live yet, it has nothing
-  unborn : (cell : Cell) → q ≡ cell → live here.state cell ≡ false → IsBare own q
+  pub unborn : (cell : Cell) → q ≡ cell → live here.state cell ≡ false → IsBare own q
   unborn cell e off = elim (same_or_apart (stage_at here.state q) 0) [
     | inl zero ↦ bare zero
     | inr ne ↦ true_false (stage_live here.state q (above_none (stage_at here.state q) ne) alive) (ap (live here.state) e ∙ off)
   ]
+
+  -- an operation's entry is of its own cell
+  pub own_apart : (key : Key) (stored : Stored) (op : Pending) → IsPutFor heard here own key stored (As_operation op) → q ≢ op.cell → q ≢ cell_of key
+  own_apart _ _ _ (An_operation op stage is fresh why paired) ne e = ne (e ∙ (ready.staged op.cell op is).keyed)
 
   module _ (at : Option Cell) (ne : at ≢ Some q) where
     apart : (cell : Cell) → at ≡ Some cell → q ≢ cell
@@ -52,16 +55,30 @@ module _ (heard : Body → Type 0) (here : JobContext) (own : PairState)
     Rest now = rest_of q now ≡ rest_of q own
 
     each_rest : (now : PairState) (e : Effect) → May heard here own now e → IsAt here own at e → Rest now → Rest (applied now e)
+    each_rest now (Opens op) may is same =
+        (λ i. record (rest_of q now) { pending = cell_apart now.pairs.pending op.cell op q (apart op.cell is) i }) ∙ same
     each_rest now (Sets op) may is same =
         (λ i. record (rest_of q now) { pending = cell_apart now.pairs.pending op.cell op q (apart op.cell is) i }) ∙ same
     each_rest now (Closes cell) may is same =
         (λ i. record (rest_of q now) { pending = cell_gone_apart now.pairs.pending cell q (apart cell is) i }) ∙ same
-    each_rest now (Follows cell last) may is same =
-        (λ i. record (rest_of q now) { followed = cell_apart now.pairs.last cell last q (apart cell is) i }) ∙ same
-    each_rest now (Puts key stored) may is same =
+    each_rest now (Reserves cell number) may is same =
         (λ i. record (rest_of q now) {
-          chain = chain_apart now.store.chains (cell_of key) (put nat_cmp (chain_in now.store.chains (cell_of key)) key.epoch stored) q
-              (put_apart here own ready q at ne key is) i;
+          followed = cell_apart now.pairs.last cell (record { op = number; progress = follow_progress.Reserved }) q (apart cell is) i;
+        }) ∙ same
+    each_rest now (Puts key stored (As_operation op)) may is same =
+        (λ i. record (rest_of q now) {
+          chain = put_apart now.store.chains key stored q (own_apart key stored op may.0 (apart op.cell is)) i;
+          pending = cell_apart now.pairs.pending op.cell op q (apart op.cell is) i;
+        }) ∙ same
+    each_rest now (Puts key stored (As_second last)) may is same =
+        (λ i. record (rest_of q now) {
+          chain = put_apart now.store.chains key stored q (apart (cell_of key) is) i;
+          followed = cell_apart now.pairs.last (cell_of key) last q (apart (cell_of key) is) i;
+        }) ∙ same
+    each_rest now (Puts key stored (As_copy last)) may is same =
+        (λ i. record (rest_of q now) {
+          chain = put_apart now.store.chains key stored q (apart (cell_of key) is) i;
+          last = cell_apart now.copies.last (cell_of key) last q (apart (cell_of key) is) i;
         }) ∙ same
     each_rest now (Drops key) may is same = elim (same_cell_or_apart q (cell_of key)) [
       | inl e ↦
@@ -75,8 +92,8 @@ module _ (heard : Body → Type 0) (here : JobContext) (own : PairState)
         (λ i. record (rest_of q now) { copying = cell_apart now.copies.pending cell copy q (apart cell is) i }) ∙ same
     each_rest now (Ends_copy cell) may is same =
         (λ i. record (rest_of q now) { copying = cell_gone_apart now.copies.pending cell q (apart cell is) i }) ∙ same
-    each_rest now (Is_copied cell last) may is same =
-        (λ i. record (rest_of q now) { last = cell_apart now.copies.last cell last q (apart cell is) i }) ∙ same
+    each_rest now (Is_copied cell number epochs) may is same =
+        (λ i. record (rest_of q now) { last = cell_apart now.copies.last cell (first_last number epochs) q (apart cell is) i }) ∙ same
     each_rest now _ may is same = same
 
     module _ (busy : IsIdle here own q → ⊥) where

@@ -18,7 +18,7 @@ pub use Rattle.law_jobs.specs.Imports.{AreSteps, Begins_copy, By_holder, By_lead
 pub use Rattle.law_jobs.specs.Imports.{DidOther, DidSecond, Finds_it_full, Follows, Gives_up, Goes_on_copying, Goes_on_retired, Goes_on_trimming, IsNextFill}
 pub use Rattle.law_jobs.specs.Imports.{IsNextKey, IsSound, Is_copied_to, Marks, Marks_alone, Opens, Opens_alone, Opens_fill, Opens_fill_alone, Puts}
 pub use Rattle.law_jobs.specs.Imports.{Puts_alone, Puts_entry, Sets_apart, Taken, TakenCopy, Turns_page, Unmarks, Unmarks_alone, chains_with, far_of}
-pub use Rattle.law_jobs.specs.Imports.{first_last, progress, setting_of, start}
+pub use Rattle.law_jobs.specs.Imports.{LastOp, first_last, progress, putting, setting_of, start}
 pub use Rattle.std.specs.Prelude.{◌+◌, ◌-◌}
 pub use Rattle.busy_marks.proofs.Orders.{is_mark}
 pub use Rattle.busy_marks.proofs.Sets.{is_set, set_apart, set_keeps, unset_apart, unset_back}

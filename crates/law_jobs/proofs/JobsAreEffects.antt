@@ -5,17 +5,16 @@ use Rattle.law_jobs.proofs.Imports.{Copying, Did, DidFiller, DidHolder, DidLead,
 use Rattle.law_jobs.proofs.Imports.{FollowProgress, Follows, Gives_up, Goes_on_copying, Goes_on_retired, Goes_on_trimming, Ignores, Is_copied_to, Is_filled}
 use Rattle.law_jobs.proofs.Imports.{Is_full, Is_out_of_slots, Is_trimmed, JobContext, JobResult, Key, LastCopy, LinkId, LinkRow, List, MarkKind, Marks}
 use Rattle.law_jobs.proofs.Imports.{Marks_alone, None, OpKind, Opens, Opens_alone, Opens_fill, Opens_fill_alone, Option, PairState, Pending, Promises, Puts}
-use Rattle.law_jobs.proofs.Imports.{Puts_alone, Puts_entry, Refuses, Sets_apart, Some, Stage, Stored, Sweeps, Taken, TakenCopy, Tidies, TrimStep, Turns_page}
-use Rattle.law_jobs.proofs.Imports.{Unmarks, Unmarks_alone, Unmarks_copied, above, acts, ap, arith, begins_copy, by_test, cell_at, cell_gone, cell_link}
-use Rattle.law_jobs.proofs.Imports.{cell_of, cell_same, chain_in, chains_with, ends, epochs_beyond, false, fill_operation, first_last, gives_back, gives_up}
-use Rattle.law_jobs.proofs.Imports.{id_of, inl, inr, is_alone_on, key_at, last_on, link_named, live, marks, next_stage, of_read, operation, pending_on}
-use Rattle.law_jobs.proofs.Imports.{progress, progress_on, puts, refl, row_named, subst, sym, taking, tells, told, true, true_false, version_of, with_copied}
-use Rattle.law_jobs.proofs.Imports.{with_flag, with_mark_at, with_opened, with_page, with_paired, with_pending, with_progress, with_reserved, without_copying}
-use Rattle.law_jobs.proofs.Imports.{without_pending, ℕ}
-use Rattle.law_jobs.specs.Effects.{Effect, applied, May, Becomes, As_it_was, Then, Alone_has, Both_have, By_operation, For_a_fill, For_a_write, Had_no_slot}
-use Rattle.law_jobs.specs.Effects.{HasEnded, Is_retired, Is_declined, IsFilledAs, IsOpening, Is_begun, Is_further, Is_opened, Goes_on, Has_put, An_operation}
-use Rattle.law_jobs.specs.Effects.{A_lead, A_copy, BecomesAt, Idle, IsAt, Of_key, Of_operation, A_new_copy, A_sweep, The_last_copy, Was_paired, IsDroppedFor}
-use Rattle.law_jobs.specs.Effects.{IsPaired, Is_apart, Is_replicated}
+use Rattle.law_jobs.proofs.Imports.{Puts_alone, Puts_entry, Refuses, Sets_apart, Some, Stage, Sweeps, Taken, TakenCopy, Tidies, TrimStep, Turns_page}
+use Rattle.law_jobs.proofs.Imports.{Unmarks, Unmarks_alone, Unmarks_copied, above, acts, ap, begins_copy, by_test, cell_at, cell_gone, cell_link, cell_of}
+use Rattle.law_jobs.proofs.Imports.{cell_same, chain_in, ends, epochs_beyond, false, fill_operation, gives_back, gives_up, id_of, inl, inr, key_at}
+use Rattle.law_jobs.proofs.Imports.{link_named, live, marks, next_stage, of_read, operation, pending_on, progress, progress_on, puts, putting, refl}
+use Rattle.law_jobs.proofs.Imports.{row_named, subst, sym, taking, tells, told, true, true_false, version_of, with_copied, with_flag, with_mark_at}
+use Rattle.law_jobs.proofs.Imports.{with_opened, with_page, with_paired, with_pending, with_progress, with_reserved, without_copying, without_pending, ℕ}
+use Rattle.law_jobs.specs.Effects.{A_copy, A_lead, A_new_copy, A_sweep, Alone_has, An_operation, As_copy, As_it_was, As_operation, As_second, Becomes}
+use Rattle.law_jobs.specs.Effects.{BecomesAt, Both_have, By_operation, Effect, For_a_fill, For_a_write, Goes_on, Had_no_slot, HasEnded, Idle, IsApart, IsAt}
+use Rattle.law_jobs.specs.Effects.{IsDroppedFor, IsFilledAs, IsOpening, IsPaired, IsReserved, IsSetFor, Is_apart, Is_declined, Is_over, Is_replicated}
+use Rattle.law_jobs.specs.Effects.{Is_retired, May, The_last_copy, Then, Was_paired, applied, entry_ahead}
 use Rattle.law_jobs.specs.Worked.{holder_cell, lead_cell, other_cell, page_cell, second_cell, worked}
 use Rattle.busy_marks.specs.declared.marks.MarkKind.TheVariants as mark
 use Rattle.petal_msg.specs.declared.retired.Retired.TheVariants as retired
@@ -34,14 +33,11 @@ module _ (heard : Body → Type 0) (here : JobContext) (own : PairState) where
 
   -- ### The lead
 
-  -- an operation is taken up where the server holds its link alone, or its cell is no longer live
-  abbrev IsApart : Pending → Type 0
-  IsApart op = (is_alone_on here.state here.me op.cell ≡ true) ⊎ (live here.state op.cell ≡ false)
-
-  taken_to : (now : PairState) (op : Pending) → Taken own now op → IsApart op → At op now
+  taken_to : (now : PairState) (op : Pending) → Taken own now op → IsApart here op.cell → At op now
   taken_to _ _ (As_it_is op is) apart = As_it_was
   taken_to _ _ (As_told op reserved paired is) apart = Then own (effect.Sets (told op reserved paired)) As_it_was
-      (Goes_on op (record op.stage { reserved = reserved; paired = paired }) is refl (λ e. Is_apart is apart), refl) refl
+      (Goes_on op (record op.stage { reserved = reserved; paired = paired }) is refl (λ e. inr (inr (is, apart))) (λ e. Is_apart is apart), refl)
+      refl
 
   ends_to : (now : PairState) (op : Pending) (how : Ending) → HasEnded heard here own op how → pending_on now op.cell ≡ None
       → now.pairs.finished ≡ own.pairs.finished → At op now → At op (ends here now op op.kind how).own
@@ -52,79 +48,78 @@ module _ (heard : Body → Type 0) (here : JobContext) (own : PairState) where
       by kind.Fill e = so
       by kind.Copy e = so
 
-  closes_to : (now : PairState) (op : Pending) → HasEnded heard here own op ending.Written → now.pairs.finished ≡ own.pairs.finished → At op now
-      → At op (ends here (without_pending now op.cell) op op.kind ending.Written).own
-  closes_to now op ended same so =
-      ends_to (without_pending now op.cell) op ending.Written ended (cell_gone now.pairs.pending op.cell) same (Then now (effect.Closes op.cell) so tt refl)
+  closes_to : (now : PairState) (op : Pending) → HasEnded heard here own op ending.Written → pending_on now op.cell ≡ Some op
+      → now.pairs.finished ≡ own.pairs.finished → At op now → At op (ends here (without_pending now op.cell) op op.kind ending.Written).own
+  closes_to now op ended there same so =
+      ends_to (without_pending now op.cell) op ending.Written ended (cell_gone now.pairs.pending op.cell) same
+      (Then now (effect.Closes op.cell) so (Is_over op ending.Written ended there) refl)
 
   flag_put : (stage : Stage) (which : MarkKind) (is : Bool) → (with_flag stage which is).put ≡ stage.put
   flag_put stage mark.Busy is = refl
   flag_put stage mark.Stale is = refl
 
+  flag_reserved : (op : Pending) (which : MarkKind) (is : Bool) → (with_flag op.stage which is).reserved ≡ true → IsReserved heard here own op
+  flag_reserved op mark.Busy is e = inl e
+  flag_reserved op mark.Stale is e = inl e
+
   flag_paired : (op : Pending) (which : MarkKind) (is : Bool) → (with_flag op.stage which is).paired ≡ true → IsPaired heard here own op.cell op
   flag_paired op mark.Busy is e = Was_paired e
   flag_paired op mark.Stale is e = Was_paired e
+
+  flags : (now : PairState) (op : Pending) (which : MarkKind) (is : Bool) → pending_on now op.cell ≡ Some op
+      → IsSetFor heard here own now (with_mark_at op which is)
+  flags now op which is there =
+      Goes_on op (with_flag op.stage which is) there (flag_put op.stage which is) (flag_reserved op which is) (flag_paired op which is)
 
   marks_to : (now : PairState) (op : Pending) (which : MarkKind) → pending_on now op.cell ≡ Some op → now.pairs.finished ≡ own.pairs.finished
       → At op now → At op (with_pending (applied now (effect.Marks which op.cell)) (with_mark_at op which true))
   marks_to now op which there same so =
       Then (applied now (effect.Marks which op.cell)) (effect.Sets (with_mark_at op which true)) (Then now (effect.Marks which op.cell) so tt refl)
-      (Goes_on op (with_flag op.stage which true) there (flag_put op.stage which true) (flag_paired op which true), same) refl
+      (flags (applied now (effect.Marks which op.cell)) op which true there, same) refl
 
   unmarks_to : (now : PairState) (op : Pending) (which : MarkKind) → pending_on now op.cell ≡ Some op → now.pairs.finished ≡ own.pairs.finished
       → At op now → At op (with_pending (applied now (effect.Unmarks which op.cell)) (with_mark_at op which false))
   unmarks_to now op which there same so =
       Then (applied now (effect.Unmarks which op.cell)) (effect.Sets (with_mark_at op which false)) (Then now (effect.Unmarks which op.cell) so tt (inl refl))
-      (Goes_on op (with_flag op.stage which false) there (flag_put op.stage which false) (flag_paired op which false), same) refl
+      (flags (applied now (effect.Unmarks which op.cell)) op which false there, same) refl
 
   opened_to : (op : Pending) → IsOpening heard here own op → At op (with_opened own op)
   opened_to op opening =
-      let counted = applied own effect.Counts in
-      let set = applied counted (effect.Sets op) in
-      Then set (effect.Holds_slots (own.store.tickets + 1))
-      (Then counted (effect.Sets op) (Then own effect.Counts As_it_was tt tt) (Is_opened op opening refl, refl) refl) tt tt
+      Then (applied own (effect.Opens op)) (effect.Holds_slots (own.store.tickets + 1)) (Then own (effect.Opens op) As_it_was (opening, refl) refl) tt tt
 
-  put_to : (op : Pending) (reserved paired : Bool) → pending_on own op.cell ≡ Some op → (live here.state op.cell ≡ true → op.stage.put ≡ false)
-      → (paired ≡ true → IsPaired heard here own op.cell op) → (now : PairState) → At op now → now.store.chains ≡ own.store.chains
-      → now.pairs.finished ≡ own.pairs.finished → At op (puts now (told op reserved paired)).own
-  put_to op reserved paired is fresh why now so chains same =
-      let new = told op reserved paired in
-      let version = version_of (chain_in now.store.chains op.cell) + 1 in
-      let stored : Stored = record { version = version; bytes = op.bytes } in
-      Then (applied now (effect.Puts op.key stored)) (effect.Sets (record new { version = version; stage = record new.stage { put = true } }))
-      (Then now (effect.Puts op.key stored) so (An_operation op version is fresh, chains) (Of_operation op is)) (
-        Has_put op version (record new.stage { put = true }) is
-            (λ i. chains_with (chains i) op.key (record { version = version_of (chain_in (chains i) op.cell) + 1; bytes = op.bytes })) why,
-        same,
-      ) refl
+  puts_as_is : (op : Pending) → pending_on own op.cell ≡ Some op → (live here.state op.cell ≡ true → op.stage.put ≡ false)
+      → (op.stage ≡ putting) ⊎ IsApart here op.cell → At op (puts own op).own
+  puts_as_is op is fresh why =
+      Then own (effect.Puts op.key (entry_ahead own op.cell op) (As_operation _)) As_it_was
+      (An_operation op op.stage is fresh why (λ e. Was_paired e), refl, (refl, inl refl)) refl
 
-  puts_as_is : (op : Pending) → pending_on own op.cell ≡ Some op → (live here.state op.cell ≡ true → op.stage.put ≡ false) → At op (puts own op).own
-  puts_as_is op is fresh = put_to op op.stage.reserved op.stage.paired is fresh (λ e. Was_paired e) own As_it_was refl refl
-
-  puts_taken : (now : PairState) (op : Pending) → Taken own now op → (live here.state op.cell ≡ true → op.stage.put ≡ false) → IsApart op
+  puts_taken : (now : PairState) (op : Pending) → Taken own now op → (live here.state op.cell ≡ true → op.stage.put ≡ false) → IsApart here op.cell
       → At op (puts now op).own
-  puts_taken _ _ (As_it_is op is) fresh apart = puts_as_is op is fresh
+  puts_taken _ _ (As_it_is op is) fresh apart = puts_as_is op is fresh (inr apart)
   puts_taken _ _ (As_told op reserved paired is) fresh apart =
-      let now = with_pending own (told op reserved paired) in
-      put_to op reserved paired is fresh (λ e. Is_apart is apart) now (taken_to now _ (As_told op reserved paired is) apart) refl refl
+      let new = told op reserved paired in
+      Then (with_pending own new) (effect.Puts op.key (entry_ahead own op.cell op) (As_operation _)) (taken_to _ _ (As_told op reserved paired is) apart)
+      (An_operation op new.stage is fresh (inr apart) (λ e. Is_apart is apart), refl, (refl, inr apart)) refl
 
-  drops_to : (now : PairState) (op : Pending) → At op now → At op (gives_up now op)
-  drops_to now op so =
-      let closed = Then now (effect.Closes op.cell) so tt refl in
+  drops_to : (now : PairState) (op : Pending) → Taken own now op → live here.state op.cell ≡ false → At op (gives_up now op)
+  drops_to now op taken off =
+      let over = Is_over op ending.Written (Is_retired now op taken off) (taking own now op taken).there in
+      let closed = Then now (effect.Closes op.cell) (taken_to now op taken (inr off)) over refl in
       by_test (At op) op.stage.put (without_pending now op.cell) (gives_back (without_pending now op.cell)) (λ put. closed)
       (λ fresh. Then (without_pending now op.cell) (effect.Holds_slots (now.store.tickets - 1)) closed tt tt)
 
-  marks_taken : (now : PairState) (op : Pending) → Taken own now op → IsApart op → (which : MarkKind)
+  marks_taken : (now : PairState) (op : Pending) → Taken own now op → IsApart here op.cell → (which : MarkKind)
       → At op (with_pending (applied now (effect.Marks which op.cell)) (with_mark_at op which true))
   marks_taken now op taken apart which = let t = taking own now op taken in marks_to now op which t.there t.finished (taken_to now op taken apart)
 
-  unmarks_taken : (now : PairState) (op : Pending) → Taken own now op → IsApart op → (which : MarkKind)
+  unmarks_taken : (now : PairState) (op : Pending) → Taken own now op → IsApart here op.cell → (which : MarkKind)
       → At op (with_pending (applied now (effect.Unmarks which op.cell)) (with_mark_at op which false))
   unmarks_taken now op taken apart which = let t = taking own now op taken in unmarks_to now op which t.there t.finished (taken_to now op taken apart)
 
-  closes_taken : (now : PairState) (op : Pending) → Taken own now op → IsApart op → HasEnded heard here own op ending.Written
+  closes_taken : (now : PairState) (op : Pending) → Taken own now op → IsApart here op.cell → HasEnded heard here own op ending.Written
       → At op (ends here (without_pending now op.cell) op op.kind ending.Written).own
-  closes_taken now op taken apart ended = closes_to now op ended (taking own now op taken).finished (taken_to now op taken apart)
+  closes_taken now op taken apart ended =
+      let t = taking own now op taken in closes_to now op ended t.there t.finished (taken_to now op taken apart)
 
   acts_to : (now : PairState) (op : Pending) → Taken own now op → live here.state op.cell ≡ false → (next : Action) → At op (acts here now op next).own
   acts_to now op taken off action.Reserve = taken_to now op taken (inr off)
@@ -133,7 +128,7 @@ module _ (heard : Body → Type 0) (here : JobContext) (own : PairState) where
   acts_to now op taken off action.Replicate = taken_to now op taken (inr off)
   acts_to now op taken off (action.Unmark which) = unmarks_taken now op taken (inr off) which
   acts_to now op taken off action.Answer = closes_taken now op taken (inr off) (Is_retired now op taken off)
-  acts_to now op taken off action.Drop = drops_to now op (taken_to now op taken (inr off))
+  acts_to now op taken off action.Drop = drops_to now op taken off
 
   opens_alone_to : (op : Pending) → IsOpening heard here own op → At op (marks (with_opened own op) op mark.Stale).own
   opens_alone_to op opening =
@@ -144,18 +139,20 @@ module _ (heard : Body → Type 0) (here : JobContext) (own : PairState) where
       Then own (effect.Finishes want.client (record { seq = want.seq; ending = ending.Full })) As_it_was (Had_no_slot want new full new.none, refl) tt
   lead_to _ (Gives_up op h is reserved put) =
       let closed = without_pending own op.cell in
-      ends_to (gives_back closed) op ending.Full (Is_declined op h is reserved put) (cell_gone own.pairs.pending op.cell) refl
-      (Then closed (effect.Holds_slots (own.store.tickets - 1)) (Then own (effect.Closes op.cell) As_it_was tt refl) tt tt)
+      let ended = Is_declined op h is reserved put in
+      ends_to (gives_back closed) op ending.Full ended (cell_gone own.pairs.pending op.cell) refl
+      (Then closed (effect.Holds_slots (own.store.tickets - 1)) (Then own (effect.Closes op.cell) As_it_was (Is_over op ending.Full ended is) refl) tt tt)
   lead_to _ (Opens want new both) = opened_to (operation here own.pairs.next want) (For_a_write want new)
   lead_to _ (Marks op h is both stage) =
       marks_to (with_pending own (with_reserved op)) (with_reserved op) mark.Busy (cell_same own.pairs.pending op.cell (with_reserved op)) refl
-      (Then own (effect.Sets (with_reserved op)) As_it_was (Goes_on op (record op.stage { reserved = true }) is refl (λ e. Was_paired e), refl) refl)
-  lead_to _ (Puts op is both stage) = puts_as_is op is (λ on. ap (λ (s : Stage). s.put) stage)
+      (Then own (effect.Sets (with_reserved op)) As_it_was
+      (Goes_on op (record op.stage { reserved = true }) is refl (λ e. inr (inl h)) (λ e. Was_paired e), refl) refl)
+  lead_to _ (Puts op is both stage) = puts_as_is op is (λ on. ap (λ (s : Stage). s.put) stage) (inl stage)
   lead_to _ (Unmarks op h is both stage) =
       unmarks_to (with_pending own (with_paired op)) (with_paired op) mark.Busy (cell_same own.pairs.pending op.cell (with_paired op)) refl
       (Then own (effect.Sets (with_paired op)) As_it_was
-      (Goes_on op (record op.stage { paired = true }) is refl (λ e. Is_replicated h is both (ap (λ (s : Stage). s.put) stage)), refl) refl)
-  lead_to _ (Closes op is both stage) = closes_to own op (Both_have op is both stage) refl As_it_was
+      (Goes_on op (record op.stage { paired = true }) is refl (λ e. inl e) (λ e. Is_replicated h is both (ap (λ (s : Stage). s.put) stage)), refl) refl)
+  lead_to _ (Closes op is both stage) = closes_to own op (Both_have op is both stage) is refl As_it_was
   lead_to _ (Opens_alone want new alone) = opens_alone_to (operation here own.pairs.next want) (For_a_write want new)
   lead_to _ (Marks_alone now op taken alone fresh) = marks_taken now op taken (inl alone) mark.Stale
   lead_to _ (Puts_alone now op taken alone stale put) = puts_taken now op taken (λ on. put) (inl alone)
@@ -174,14 +171,12 @@ module _ (heard : Body → Type 0) (here : JobContext) (own : PairState) where
 
   second_to : (done : JobResult) (d : DidSecond heard here own done) → To (second_cell heard here own done d) done.own
   second_to _ (Sets_apart number cell tickets h is le) =
-      Then (applied own (effect.Holds_slots tickets)) (effect.Follows cell (record { op = number; progress = follow_progress.Reserved }))
-      (Then own (effect.Holds_slots tickets) As_it_was tt tt) le refl
+      Then (applied own (effect.Holds_slots tickets)) (effect.Reserves cell number) (Then own (effect.Holds_slots tickets) As_it_was tt tt) (h, is, le) refl
   second_to _ (Promises number cell how s is) = tells_to None own cell number how As_it_was
   second_to _ (Follows number key version bytes h is last) =
-      let stored : Stored = record { version = version_of (chain_in own.store.chains (cell_of key)) + 1; bytes = bytes } in
-      Then (applied own (effect.Puts key stored)) (effect.Follows (cell_of key) (record { op = number; progress = follow_progress.Replicated }))
-      (Then own (effect.Puts key stored) As_it_was (A_lead number key version stored.version bytes h is last, refl) (Of_key key))
-      (let was : progress (last_on own (cell_of key)) ≡ number + number = ap progress last in omega arith) refl
+      let next = version_of (chain_in own.store.chains (cell_of key)) + 1 in
+      Then own (effect.Puts key (record { version = next; bytes = bytes }) (As_second (record { op = number; progress = follow_progress.Replicated })))
+      As_it_was (A_lead number key version next bytes h is last refl, refl, refl) refl
   second_to _ _ = As_it_was
 
   -- ### Copies
@@ -242,15 +237,12 @@ module _ (heard : Body → Type 0) (here : JobContext) (own : PairState) where
   other_to : (done : JobResult) (d : DidOther heard here own done) → To (other_cell heard here own done d) done.own
   other_to done (Is_copied_to number cell epochs holder _ h held newer step) =
       trim_to _ cell _ holder done step (λ epoch later is. A_new_copy number cell epochs holder epoch h held newer)
-      (Then own (effect.Is_copied cell (first_last number epochs)) As_it_was (Is_begun number epochs h) refl) refl refl
+      (Then own (effect.Is_copied cell number epochs) As_it_was h refl) refl refl
   other_to done (Goes_on_trimming cell holder last _ held is step) =
       trim_to own cell last holder done step (λ epoch later beyond. The_last_copy cell holder last epoch later held is beyond) As_it_was refl refl
   other_to _ (Puts_entry entry holder last of_copy at room) =
-      let apart = applied own (effect.Holds_slots (own.store.tickets + 1)) in
-      Then (applied apart (effect.Puts entry.key entry.stored)) (effect.Is_copied (cell_of entry.key) (record last { index = last.index + 1 }))
-      (Then apart (effect.Puts entry.key entry.stored) (Then own (effect.Holds_slots (own.store.tickets + 1)) As_it_was tt tt)
-      (A_copy entry holder last of_copy at, refl)
-      (Of_key entry.key)) (Is_further last (last.index + 1) of_copy.last_is) refl
+      Then (applied own (effect.Holds_slots (own.store.tickets + 1))) (effect.Puts entry.key entry.stored (As_copy (record last { index = last.index + 1 })))
+      (Then own (effect.Holds_slots (own.store.tickets + 1)) As_it_was tt tt) (A_copy entry holder last of_copy at, refl, refl) refl
   other_to _ _ = As_it_was
 
   -- ### Moves and sweeps

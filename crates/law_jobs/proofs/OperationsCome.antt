@@ -1,10 +1,10 @@
 -- What is pending after a job was so before, in whatever stage, or was opened under the next number; and which request a job is done with.
-use Rattle.law_jobs.proofs.Imports.{◌+◌, ◌∙◌, ◌≡◌, ◌≤◌, ◌⊎◌, Body, Cell, Did, Finished, IsSame, JobContext, JobResult, None, PairState, Pending, Some, Stage}
-use Rattle.law_jobs.proofs.Imports.{Table, Was, ap, arith, at, at_apart, at_same, cell_apart, cell_cmp, cell_gone, cell_gone_apart, cell_same, inl, inr}
-use Rattle.law_jobs.proofs.Imports.{nat_cmp, put, refl, same_cell_or_apart, same_itself, same_on, same_or_apart, same_some, stood, subst, sym, was_same}
-use Rattle.law_jobs.proofs.Imports.{without, ℕ}
-use Rattle.law_jobs.specs.Effects.{By_operation, Closes, Counts, Effect, Finishes, Goes_on, Had_no_slot, Has_put, Is_opened, IsFinishedFor, IsOpening}
-use Rattle.law_jobs.specs.Effects.{IsSetFor, May, Sets, applied}
+use Rattle.law_jobs.proofs.Imports.{◌+◌, ◌∙◌, ◌≡◌, ◌≤◌, ◌⊎◌, Body, Cell, Did, Finished, IsSame, JobContext, JobResult, Key, None, PairState, Pending, Some}
+use Rattle.law_jobs.proofs.Imports.{Stage, Stored, Table, Was, ap, arith, at, at_apart, at_same, cell_apart, cell_cmp, cell_gone, cell_gone_apart}
+use Rattle.law_jobs.proofs.Imports.{cell_same, inl, inr, nat_cmp, put, refl, same_cell_or_apart, same_itself, same_on, same_or_apart, same_some, stood}
+use Rattle.law_jobs.proofs.Imports.{subst, sym, was_same, without, ℕ}
+use Rattle.law_jobs.specs.Effects.{An_operation, As_operation, By_operation, Closes, Counts, Effect, Finishes, Goes_on, Had_no_slot, IsFinishedFor}
+use Rattle.law_jobs.specs.Effects.{IsOpening, IsPutFor, IsSetFor, May, Opens, Puts, Sets, applied}
 use Rattle.law_jobs.proofs.JobsAreEffects.{job_keeps}
 
 pub restaged : (op : Pending) (version : ℕ) (stage : Stage) → IsSame op (record op { version = version; stage = stage })
@@ -27,24 +27,36 @@ module _ (heard : Body → Type 0) (here : JobContext) (own : PairState) where
 
   set_so : (now : PairState) (op : Pending) → IsSetFor heard here own now op → HaveCome now → (cell : Cell) → cell ≡ op.cell
       → HasCome now.pairs.next cell op
-  set_so now _ (Is_opened op opening number) so cell e = Is_new op opening e (same_itself op) (omega arith)
-  set_so now _ (Goes_on op stage is put paired) so cell e =
+  set_so now _ (Goes_on op stage is put reserved paired) so cell e =
       further now.pairs.next cell op _ (restaged op op.version stage) (so cell op (ap (at cell_cmp now.pairs.pending) e ∙ is))
-  set_so now _ (Has_put op version stage is ahead paired) so cell e =
-      Stood (record { was = op; is = ap (at cell_cmp own.pairs.pending) e ∙ is; same = restaged op version stage })
+
+  put_so : (next : ℕ) (key : Key) (stored : Stored) (op : Pending) → IsPutFor heard here own key stored (As_operation op) → (cell : Cell) → cell ≡ op.cell
+      → HasCome next cell op
+  put_so next _ _ _ (An_operation op stage is fresh why paired) cell e =
+      Stood (record { was = op; is = ap (at cell_cmp own.pairs.pending) e ∙ is; same = restaged op _ _ })
+
+  come_with : (next : ℕ) (t : Table Cell Pending) (set : Pending) → ((cell : Cell) → cell ≡ set.cell → HasCome next cell set)
+      → ((cell : Cell) (op : Pending) → at cell_cmp t cell ≡ Some op → HasCome next cell op) → (cell : Cell) (op : Pending)
+      → at cell_cmp (put cell_cmp t set.cell set) cell ≡ Some op → HasCome next cell op
+  come_with next t set comes so cell op there = elim (same_cell_or_apart cell set.cell) [
+    | inl e ↦
+        let same = same_some (sym (cell_same t set.cell set) ∙ ap (at cell_cmp (put cell_cmp t set.cell set)) (sym e) ∙ there) in
+        subst (HasCome next cell) same (comes cell e)
+    | inr ne ↦ so cell op (sym (cell_apart t set.cell set cell ne) ∙ there)
+  ]
 
   counted : (next : ℕ) (cell : Cell) (op : Pending) → HasCome next cell op → HasCome (next + 1) cell op
   counted next cell op (Stood was) = Stood was
   counted next cell op (Is_new first opening at_cell same le) = Is_new first opening at_cell same (omega arith)
 
   each_come : (now : PairState) (e : Effect) → May heard here own now e → HaveCome now → HaveCome (applied now e)
-  each_come now (Sets next) may so cell op there = elim (same_cell_or_apart cell next.cell) [
-    | inl e ↦
-        let t = now.pairs.pending in
-        let same = same_some (sym (cell_same t next.cell next) ∙ ap (at cell_cmp (put cell_cmp t next.cell next)) (sym e) ∙ there) in
-        subst (HasCome now.pairs.next cell) same (set_so now next may.0 so cell e)
-    | inr ne ↦ so cell op (sym (cell_apart now.pairs.pending next.cell next cell ne) ∙ there)
-  ]
+  each_come now (Opens new) may so cell op there =
+      let number : now.pairs.next ≡ own.pairs.next = ap (λ (o : PairState). o.pairs.next) may.1 in
+      come_with (now.pairs.next + 1) now.pairs.pending new (λ q e. Is_new new may.0 e (same_itself new) (omega arith))
+      (λ q old is. counted now.pairs.next q old (so q old is)) cell op there
+  each_come now (Sets next) may so cell op there = come_with now.pairs.next now.pairs.pending next (set_so now next may.0 so) so cell op there
+  each_come now (Puts key stored (As_operation next)) may so cell op there =
+      come_with now.pairs.next now.pairs.pending next (put_so now.pairs.next key stored next may.0) so cell op there
   each_come now (Closes of) may so cell op there = so cell op (stood now.pairs.pending of cell op there)
   each_come now Counts may so cell op there = counted now.pairs.next cell op (so cell op there)
   each_come now _ may so cell op there = so cell op there
@@ -78,7 +90,9 @@ module _ (heard : Body → Type 0) (here : JobContext) (own : PairState) where
   F now = HasFinished now.pairs.finished now.pairs.pending
 
   each_finish : (now : PairState) (e : Effect) → May heard here own now e → F now → F (applied now e)
+  each_finish now (Opens op) may so = None_new (ap (λ (o : PairState). o.pairs.finished) may.1)
   each_finish now (Sets op) may so = None_new may.1
+  each_finish now (Puts key stored (As_operation op)) may so = None_new may.2.0
   each_finish now (Closes cell) may so = after_closing now.pairs.finished now.pairs.pending cell so
   each_finish now (Finishes client last) may so = Is_done client last may.0 (ap (λ t. put nat_cmp t client last) may.1)
   each_finish now _ may so = so

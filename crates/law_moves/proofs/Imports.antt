@@ -75,8 +75,8 @@ pub use Rattle.law_jobs.proofs.FillsByJobs.{IsOpenedFill, Is_next, Is_other, did
 pub use Rattle.law_jobs.proofs.OperationsCome.{restaged}
 pub use Rattle.law_jobs.proofs.Runs.{after}
 pub use Rattle.law_jobs.specs.ComingCells.{WasComing}
-pub use Rattle.law_jobs.specs.Effects.{A_new_copy, A_sweep, Alone_has, Both_have, Closes, Goes_on, HasEnded, Has_put, IsDroppedFor, IsPaired, IsSetFor}
-pub use Rattle.law_jobs.specs.Effects.{Is_apart, Is_opened, Is_replicated, Is_retired, Puts, The_last_copy, Was_paired, chains_ahead}
+pub use Rattle.law_jobs.specs.Effects.{A_new_copy, A_sweep, Alone_has, Both_have, Closes, Goes_on, HasEnded, IsDroppedFor, IsPaired, IsSetFor}
+pub use Rattle.law_jobs.specs.Effects.{Is_apart, Is_replicated, Is_retired, Puts, The_last_copy, Was_paired, chains_ahead}
 pub use Rattle.law_log.proofs.FillJobsLeaveLog.{filled_beside, filled_here}
 pub use Rattle.law_log.proofs.LogInHistories.{first_incs, join_was_wanted, moved_was_wanted}
 pub use Rattle.law_log.specs.ProposedCommands.{WasMoving}

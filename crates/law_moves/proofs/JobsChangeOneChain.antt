@@ -3,12 +3,13 @@
 use Rattle.law_moves.proofs.Imports.{[], ◌+◌, ◌<◌, ◌∙◌, ◌∷◌, ◌≡◌, ◌≢◌, ◌≤◌, A_lead, A_new_copy, A_sweep, An_operation, As_it_is, Body, Cell, Chain, Did}
 use Rattle.law_moves.proofs.Imports.{Effect, Entry, IsDroppedFor, IsPutFor, IsSeatedOrMute, JobContext, JobResult, Key, LastCopy, List, May, PairState}
 use Rattle.law_moves.proofs.Imports.{Pending, Puts, Some, Store, Stored, Table, Taken, The_last_copy, ap, applied, arith, at, at_same, by_bool, cell_holder}
-use Rattle.law_moves.proofs.Imports.{cell_of, chain_apart, chain_in, chain_put, chains_ahead, chains_with, cond, drop_apart, drop_none, epochs_beyond, false}
-use Rattle.law_moves.proofs.Imports.{inl, inr, is_eq, is_in, is_second, job_keeps, key_at, last_copy, last_on, live, lookup, max, nat_cmp, none_some}
+use Rattle.law_moves.proofs.Imports.{cell_of, chain_apart, chain_in, chain_put, chains_ahead, chains_with, cond, drop_apart, drop_none, epochs_beyond}
+use Rattle.law_moves.proofs.Imports.{false, inl, inr, is_eq, is_in, is_second, job_keeps, key_at, last_copy, last_on, live, lookup, max, nat_cmp, none_some}
 use Rattle.law_moves.proofs.Imports.{pending_on, put, refl, same_some, subst, sym, true, version_of, without_entry, ℕ}
 use Rattle.std.specs.BTreeMap.{is_at}
 use Rattle.petal_msg.specs.declared.body.Body.TheVariants as body
 use Rattle.petal_msg.specs.declared.operation.FollowProgress.TheVariants as follow_progress
+use Rattle.law_jobs.specs.Effects.{Noted, entry_ahead}
 use Rattle.law_jobs.specs.Effects as effect
 
 -- an operation that is pending here was put
@@ -122,10 +123,10 @@ module _ (heard : Body → Type 0) (here : JobContext) (own : PairState) (never 
     copied : {new : Table Cell Chain} (cell : Cell) (holder : ℕ) → cell_holder here cell ≡ Some holder → CopiesSo heard own cell new → S new
     copied cell holder held how = A_copy (record { cell = cell; holder = holder; held = held; seat = seat; how = how })
 
-    puts_so : (chains : Table Cell Chain) (key : Key) (stored : Stored) → IsPutFor heard here own key stored → chains ≡ own.store.chains
-        → S (chains_with chains key stored)
-    puts_so chains _ _ (An_operation op version is fresh) same =
-        let stored : Stored = record { version = version; bytes = op.bytes } in
+    puts_so : (chains : Table Cell Chain) (key : Key) (stored : Stored) (noted : Noted) → IsPutFor heard here own key stored noted
+        → chains ≡ own.store.chains → S (chains_with chains key stored)
+    puts_so chains _ _ _ (An_operation op stage is fresh why paired) same =
+        let stored = entry_ahead own op.cell op in
         An_own (record {
           op = op;
           is = is;
@@ -134,7 +135,7 @@ module _ (heard : Body → Type 0) (here : JobContext) (own : PairState) (never 
           bytes = refl;
           chains = ap (λ c. chains_with c op.key stored) same;
         })
-    puts_so chains _ _ (A_lead number key told version bytes h follows last) same =
+    puts_so chains _ _ _ (A_lead number key told version bytes h follows last next) same =
         let stored : Stored = record { version = version; bytes = bytes } in
         An_asked (record {
           number = number;
@@ -149,7 +150,7 @@ module _ (heard : Body → Type 0) (here : JobContext) (own : PairState) (never 
           put = refl;
           chains = ap (λ c. chains_with c key stored) same;
         })
-    puts_so chains _ _ (effect.A_copy entry holder last of_copy next) same =
+    puts_so chains _ _ _ (effect.A_copy entry holder last of_copy next) same =
         copied (cell_of entry.key) holder of_copy.held
         (Is_put entry last refl of_copy.said of_copy.last_is of_copy.op_is next (ap (λ c. chains_with c entry.key entry.stored) same))
 
@@ -170,7 +171,7 @@ module _ (heard : Body → Type 0) (here : JobContext) (own : PairState) (never 
         })
 
     each : (now : PairState) (e : Effect) → May heard here own now e → S now.store.chains → S (applied now e).store.chains
-    each now (Puts key stored) may so = puts_so now.store.chains key stored may.0 may.1
+    each now (Puts key stored noted) may so = puts_so now.store.chains key stored noted may.0 may.1
     each now (effect.Drops key) may so = drops_so now.store key may.2 may.0
     each now _ may so = so
 

@@ -1,11 +1,12 @@
 -- What is pending after a job was so before: with the same number, and put only if it was, or the job put it, and its copy told only for a reason; or
 -- it is new, under the next number, and neither put nor copied.
-use Rattle.law_moves.proofs.Imports.{◌∙◌, ◌≡◌, ◌⊎◌, Body, Cell, Chain, Closes, Did, Drops, Effect, For_a_fill, For_a_write, Goes_on, Has_put, IsPaired}
-use Rattle.law_moves.proofs.Imports.{IsSame, IsSetFor, Is_apart, Is_opened, Is_replicated, JobContext, JobResult, Key, May, None, PairState, Pending, Puts}
-use Rattle.law_moves.proofs.Imports.{Sets, Some, Stored, Table, Was_paired, ap, applied, at, by_bool, cell_apart, cell_cmp, cell_of, cell_same, chain_in}
-use Rattle.law_moves.proofs.Imports.{chains_ahead, chains_with, false, inl, inr, job_keeps, none_some, put, refl, restaged, same_cell_or_apart, same_itself}
-use Rattle.law_moves.proofs.Imports.{same_on, same_some, stood, subst, sym, true, true_false}
+use Rattle.law_moves.proofs.Imports.{◌∙◌, ◌≡◌, ◌⊎◌, Body, Cell, Chain, Closes, Did, Drops, Effect, For_a_fill, For_a_write, Goes_on, IsPaired, IsSame}
+use Rattle.law_moves.proofs.Imports.{IsSetFor, Is_apart, Is_replicated, JobContext, JobResult, Key, May, None, PairState, Pending, Puts, Sets, Some, Stored}
+use Rattle.law_moves.proofs.Imports.{Table, Was_paired, ap, applied, at, by_bool, cell_apart, cell_cmp, cell_of, cell_same, chain_in, chains_ahead}
+use Rattle.law_moves.proofs.Imports.{chains_with, false, inl, inr, job_keeps, none_some, put, refl, restaged, same_cell_or_apart, same_itself, same_on}
+use Rattle.law_moves.proofs.Imports.{same_some, stood, subst, sym, true, true_false}
 use Rattle.law_moves.proofs.JobsChangeOneChain.{not_ahead}
+use Rattle.law_jobs.specs.Effects.{An_operation, As_operation, IsOpening, IsPutFor, Opens, entry_ahead}
 
 -- the operation was pending, or is new
 pub data WasSo (heard : Body → Type 0) (here : JobContext) (own : PairState) (chains : Table Cell Chain) (q : Cell) (op : Pending) : Type 0 where
@@ -41,17 +42,22 @@ module _ (heard : Body → Type 0) (here : JobContext) (own : PairState)
 
   -- one that is set
   set_so : (now : PairState) (next : Pending) → IsSetFor heard here own now next → AreSo now → (q : Cell) → q ≡ next.cell → W now.store.chains q next
-  set_so now _ (Is_opened _ (For_a_write want new) number) so q e = Is_new (ap (at cell_cmp own.pairs.pending) e ∙ new.none) refl refl refl
-  set_so now _ (Is_opened _ (For_a_fill moving new) number) so q e = Is_new (ap (at cell_cmp own.pairs.pending) e ∙ new.none) refl refl refl
-  set_so now _ (Goes_on op stage is put paired) so q e = elim (so q op (ap (at cell_cmp now.pairs.pending) e ∙ is)) [
+  set_so now _ (Goes_on op stage is put reserved paired) so q e = elim (so q op (ap (at cell_cmp now.pairs.pending) e ∙ is)) [
     | Is_new none number fresh alone ↦ Is_new none number (put ∙ fresh)
         (by_bool stage.paired (λ done. unpaired q op none alone (subst (λ c. IsPaired heard here own c op) (sym e) (paired done))) (λ f. f))
     | It_was o was same how why ↦ It_was o was (same_on o op _ same (restaged op op.version stage)) (λ done. how (sym put ∙ done))
         (λ done. paired_on q o op was why (subst (λ c. IsPaired heard here own c op) (sym e) (paired done)))
   ]
-  set_so now _ (Has_put op version stage is ahead paired) so q e =
-      It_was op (ap (at cell_cmp own.pairs.pending) e ∙ is) (restaged op version stage)
-      (λ done. inr (ahead ∙ ap (λ c. chains_ahead own c op) (sym e)))
+
+  opened_so : (chains : Table Cell Chain) (op : Pending) → IsOpening heard here own op → (q : Cell) → q ≡ op.cell → W chains q op
+  opened_so chains _ (For_a_write want new) q e = Is_new (ap (at cell_cmp own.pairs.pending) e ∙ new.none) refl refl refl
+  opened_so chains _ (For_a_fill moving new) q e = Is_new (ap (at cell_cmp own.pairs.pending) e ∙ new.none) refl refl refl
+
+  noted_so : (chains : Table Cell Chain) → chains ≡ own.store.chains → (key : Key) (stored : Stored) (op : Pending)
+      → IsPutFor heard here own key stored (As_operation op) → (q : Cell) → q ≡ op.cell → W (chains_with chains key stored) q op
+  noted_so chains same _ _ _ (An_operation op stage is fresh why paired) q e =
+      It_was op (ap (at cell_cmp own.pairs.pending) e ∙ is) (restaged op _ _)
+      (λ done. inr (ap (λ t. chains_with t op.key (entry_ahead own op.cell op)) same ∙ ap (λ c. chains_ahead own c op) (sym e)))
       (λ done. subst (λ c. IsPaired heard here own c op) (sym e) (paired done))
 
   put_so : (chains : Table Cell Chain) (key : Key) (stored : Stored) → chains ≡ own.store.chains → (q : Cell) (op : Pending) → W chains q op
@@ -61,16 +67,25 @@ module _ (heard : Body → Type 0) (here : JobContext) (own : PairState)
       It_was o was as_it (λ done.
       elim (how done) [ inl put ↦ inl put | inr ahead ↦ absurd (not_ahead own q o (keyed q o was) (ap (λ c. chain_in c q) (sym ahead ∙ same))) ]) why
 
-  each : (now : PairState) (e : Effect) → May heard here own now e → AreSo now → AreSo (applied now e)
-  each now (Sets next) may so q op there = elim (same_cell_or_apart q next.cell) [
+  -- one that is set is on its own cell, and others stay
+  so_with : (chains : Table Cell Chain) (t : Table Cell Pending) (next : Pending) (q : Cell) → (q ≡ next.cell → W chains q next)
+      → ((op : Pending) → at cell_cmp t q ≡ Some op → W chains q op) → (op : Pending) → at cell_cmp (put cell_cmp t next.cell next) q ≡ Some op → W chains q op
+  so_with chains t next q comes so op there = elim (same_cell_or_apart q next.cell) [
     | inl e ↦
-        let t = now.pairs.pending in
         let same = same_some (sym (cell_same t next.cell next) ∙ ap (at cell_cmp (put cell_cmp t next.cell next)) (sym e) ∙ there) in
-        subst (W now.store.chains q) same (set_so now next may.0 so q e)
-    | inr ne ↦ so q op (sym (cell_apart now.pairs.pending next.cell next q ne) ∙ there)
+        subst (W chains q) same (comes e)
+    | inr ne ↦ so op (sym (cell_apart t next.cell next q ne) ∙ there)
   ]
+
+  each : (now : PairState) (e : Effect) → May heard here own now e → AreSo now → AreSo (applied now e)
+  each now (Opens next) may so q op there =
+      so_with now.store.chains now.pairs.pending next q (opened_so now.store.chains next may.0 q) (so q) op there
+  each now (Sets next) may so q op there = so_with now.store.chains now.pairs.pending next q (set_so now next may.0 so q) (so q) op there
   each now (Closes cell) may so q op there = so q op (stood now.pairs.pending cell q op there)
-  each now (Puts key stored) may so q op there = put_so now.store.chains key stored may.1 q op (so q op there)
+  each now (Puts key stored (As_operation next)) may so q op there =
+      so_with (chains_with now.store.chains key stored) now.pairs.pending next q (noted_so now.store.chains may.1 key stored next may.0 q)
+      (λ old is. put_so now.store.chains key stored may.1 q old (so q old is)) op there
+  each now (Puts key stored _) may so q op there = put_so now.store.chains key stored may.1 q op (so q op there)
   each now (Drops key) may so q op there = stands _ q op (ap (λ t. at cell_cmp t q) (sym may.1) ∙ there)
   each now _ may so q op there = so q op there
 
