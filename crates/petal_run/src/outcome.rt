@@ -14,7 +14,6 @@ use crate::reading::read_text;
 use crate::script::{given_up, run_text, say, without_history};
 use byte_streams::{Sink, Source};
 use call_words::{Form, read_words};
-use petal_base::NoMemory;
 use petal_disk::{DeviceError, Shelf};
 use plain_schedule::GaveUp;
 use spec_history::History;
@@ -100,11 +99,10 @@ pub fn petal<T: Wait, R: Source, W: Sink, S: Shelf>(
     ensures gave_up { IsSome result.gave_up → result.status ≡ status_gave_up }
 {
     nothing_is_a_part();
-    match read_words(alloc, words) {
-        Ok(Some(Form::Run)) => {}
-        Ok(Some(Form::Drill { seed, count })) => return run_drill(rt, alloc, seed, count, sink),
-        Ok(None) => return say(alloc, sink, USAGE.as_bytes(), NO_FORM),
-        Err(NoMemory) => return given_up(alloc, GaveUp::NoMemory),
+    match read_words(words) {
+        Some(Form::Run) => {}
+        Some(Form::Drill { seed, count }) => return run_drill(rt, alloc, seed, count, sink),
+        None => return say(alloc, sink, USAGE.as_bytes(), NO_FORM),
     }
     let text = match read_text(alloc, source) {
         Ok(text) => text,
