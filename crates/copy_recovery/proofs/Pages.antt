@@ -48,7 +48,7 @@ refused_done {D = D} device here old new before after e rule same commit = recor
   keeps = tt;
   holds = λ _ _. tt;
   moments = commit.moments;
-  still = λ is told holds. subst (HoldsAt device) (sym (commit.memory (ap Err (memory_is e commit.errors (err_is (work_error e) NoMemory is))))) holds;
+  still = λ is observed holds. subst (HoldsAt device) (sym (commit.memory (ap Err (memory_is e commit.errors (err_is (work_error e) NoMemory is))))) holds;
   same = λ is.
       (let kept = commit.memory (ap Err (memory_is e commit.errors (err_is (work_error e) NoMemory is))) in
       (same, kept ∙ ap (λ (s : Holdings D). record before { disk = s.disk }) (sym kept)));

@@ -92,18 +92,18 @@ log_has n devices i c low e = elim (cases_lt i (length (chosen_log n devices))) 
     ended at = let none = at_sum n devices (length (chosen_log n devices) + 1) (i + 1) None (omega arith) (log_ends n devices) in absurd (cc)
 
 -- a list whose entries all stand in the other is its front
-front_of : {X : Type 0} (xs ys : List X) → ((i : ℕ) (x : X) → slice_get xs i ≡ Some x → slice_get ys i ≡ Some x) → (later : List X) × (ys ≡ xs ++ later)
-front_of [] ys h = (ys, refl)
-front_of (x ∷ xs) [] h = let first = h 0 x refl in absurd (cc)
-front_of (x ∷ xs) (y ∷ ys) h =
+prefix_of : {X : Type 0} (xs ys : List X) → ((i : ℕ) (x : X) → slice_get xs i ≡ Some x → slice_get ys i ≡ Some x) → (later : List X) × (ys ≡ xs ++ later)
+prefix_of [] ys h = (ys, refl)
+prefix_of (x ∷ xs) [] h = let first = h 0 x refl in absurd (cc)
+prefix_of (x ∷ xs) (y ∷ ys) h =
     let first : y ≡ x = ap (λ o. unwrap_or o x) (h 0 x refl) in
-    let more = front_of xs ys (λ i z e. h (suc i) z e) in
+    let more = prefix_of xs ys (λ i z e. h (suc i) z e) in
     (more.0, ap (λ z. z ∷ ys) first ∙ ap (λ zs. x ∷ zs) more.1)
 
--- commands chosen for the places 1, 2, .. are a front of the log
-pub front_of_log : (n : ℕ) (devices : Devices) (run : List Command)
+-- commands chosen for the places 1, 2, .. are a prefix of the log
+pub prefix_of_log : (n : ℕ) (devices : Devices) (run : List Command)
     → ((i : ℕ) (c : Command) → slice_get run i ≡ Some c → chosen_at n devices (i + 1) ≡ Some c) → (later : List Command) × (chosen_log n devices ≡ run ++ later)
-front_of_log n devices run each = front_of run (chosen_log n devices) (λ i c e. log_has n devices i c (reached i c e) (each i c e))
+prefix_of_log n devices run each = prefix_of run (chosen_log n devices) (λ i c e. log_has n devices i c (reached i c e) (each i c e))
   where
     long : (k : ℕ) → k ≡ length (chosen_log n devices) → k < length run → ⊥
     long k is low =
@@ -121,7 +121,7 @@ front_of_log n devices run each = front_of run (chosen_log n devices) (λ i c e.
 -- with more records it only grows
 pub log_grows : (n : ℕ) (devices later : Devices) → IsKept devices later → IsSingle n later
     → (more : List Command) × (chosen_log n later ≡ chosen_log n devices ++ more)
-log_grows n devices later kept single = front_of_log n later (chosen_log n devices) each
+log_grows n devices later kept single = prefix_of_log n later (chosen_log n devices) each
   where
     each : (i : ℕ) (c : Command) → slice_get (chosen_log n devices) i ≡ Some c → chosen_at n later (i + 1) ≡ Some c
     each i c e = chosen_is_told n later (i + 1) c single

@@ -1,5 +1,5 @@
 -- Prepare, Accept and Chosen, and the start of a ballot: what is kept, in the schedule as on the device.
-use Rattle.law_log.proofs.Imports.{[], if◌then◌else◌, ◌+◌, ◌<◌, ◌∙◌, ◌∷◌, ◌≡◌, ◌≢◌, Accepted, Acceptor, Actor, Ballot, Bool, Chosen, Command, In, IsTold}
+use Rattle.law_log.proofs.Imports.{[], if◌then◌else◌, ◌+◌, ◌<◌, ◌∙◌, ◌∷◌, ◌≡◌, ◌≢◌, Accepted, Acceptor, Actor, Ballot, Bool, Chosen, Command, In, IsAnnounced}
 use Rattle.law_log.proofs.Imports.{List, Pax, Phase, Promise, Some, StateRecord, World, accept, accept_reply, acceptor_accepted, acceptor_chosen, acceptor_of}
 use Rattle.law_log.proofs.Imports.{acceptor_promise, ap, by_test, cast, commits, committed, false, in_cons, in_here, in_there, inc_accepted, inc_chosen}
 use Rattle.law_log.proofs.Imports.{inc_promise, inl, inr, is_open, keep, known_accepted, known_at, known_elsewhere, known_here, known_promise, learn, learns}
@@ -92,7 +92,7 @@ seen_accept n records entries p place b c o seen = record {
   applied = λ i command e. known_accepted records place b c (i + 1) ∙ seen.applied i command e;
 }
 
-pub seen_learn : (n : ℕ) (records : List StateRecord) (entries : List Command) (p : World) (place : ℕ) (c : Command) → IsTold p place c
+pub seen_learn : (n : ℕ) (records : List StateRecord) (entries : List Command) (p : World) (place : ℕ) (c : Command) → IsAnnounced p place c
     → ((d : Command) → known_at records place ≡ Some d → d ≡ c)
     → IsSeenAt n records entries p → IsSeenAt n (committed records (Chosen place c)) entries (learn p n place c)
 seen_learn n records entries p place c t one seen = record {
@@ -171,7 +171,7 @@ module _ (it : RunningLog) where
         (accepted (actor.Server from) place b c (low.letters from (pax.Accept place b c) i) _ _ (ap (λ a. accept_reply place a b) (sym (seen.acceptors place)))
         (quiet_acceptance place (p.acceptors n place) b) _ _ refl (ap (λ a. is_open a b) (seen.acceptors place)))
 
-    pub learn_turn : (place : ℕ) (c : Command) → IsTold p place c → ((d : Command) → IsTold p place d → d ≡ c)
+    pub learn_turn : (place : ℕ) (c : Command) → IsAnnounced p place c → ((d : Command) → IsAnnounced p place d → d ≡ c)
         → HasTurn servers n true (learns log place c).log [] p Good
     unfolding learns
     learn_turn place c t one =

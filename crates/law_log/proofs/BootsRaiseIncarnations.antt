@@ -1,7 +1,7 @@
 -- A server that boots, in the schedule: its incarnation is raised, and it begins with what its device knows.
 use Rattle.law_log.proofs.Imports.{[], ◌+◌, ◌∙◌, ◌∷◌, ◌≡◌, Accepted, Ballot, Bool, Boots, Command, Goes, Idle, Inc, IsProposer, List, Log, None, Option}
 use Rattle.law_log.proofs.Imports.{Phase, Some, StateRecord, StopsAfter, World, acceptor_inc, ap, arith, commits, committed, false, inc_committed, inc_of}
-use Rattle.law_log.proofs.Imports.{known_at, known_front, known_inc, raise, read_log, refl, subst, sym, true, turn, ℕ}
+use Rattle.law_log.proofs.Imports.{known_at, known_prefix, known_inc, raise, read_log, refl, subst, sym, true, turn, ℕ}
 use Rattle.law_log.specs.AgreedLog.{AreLow, IsBusyAs, IsSeenAt}
 use Rattle.law_log.proofs.LogJobsInSchedule.{run_known}
 use Rattle.law_log.proofs.VotesAfterCommits.{same_votes}
@@ -43,7 +43,7 @@ seen_raised n records entries p inc is seen = record {
 }
 
 -- what it has applied then, it knows
-seen_read : (n : ℕ) (log : Log) (entries : List Command) (p : World) → IsSeenAt n log.records entries p → IsSeenAt n log.records (known_front log) p
+seen_read : (n : ℕ) (log : Log) (entries : List Command) (p : World) → IsSeenAt n log.records entries p → IsSeenAt n log.records (known_prefix log) p
 seen_read n log entries p seen = record {
   acceptors = seen.acceptors;
   known = seen.known;

@@ -1,7 +1,7 @@
 -- The chosen log of a world whose steps are those of a schedule.
 use Rattle.law_log.proofs.Imports.{[], ◌++◌, ◌+◌, ◌<◌, ◌∙◌, ◌∷◌, ◌≡◌, ◌≤◌, ◌⊎◌, Agrees, Among, Bool, Caught, Command, Drained, Firm, HasProperTuples}
-use Rattle.law_log.proofs.Imports.{HasSchedule, IsChosen, IsChosenBy, IsPrefix, IsSingle, IsTold, Join, Leave, Letter, List, Moved, None, Setting, Some, ap}
-use Rattle.law_log.proofs.Imports.{append_assoc, arith, begin, by_bool, chosen_at, chosen_is_told, chosen_log, chosen_state, devices, false, front_of_log}
+use Rattle.law_log.proofs.Imports.{HasSchedule, IsChosen, IsChosenBy, IsPrefix, IsSingle, IsAnnounced, Join, Leave, Letter, List, Moved, None, Setting, Some, ap}
+use Rattle.law_log.proofs.Imports.{append_assoc, arith, begin, by_bool, chosen_at, chosen_is_told, chosen_log, chosen_state, devices, false, prefix_of_log}
 use Rattle.law_log.proofs.Imports.{inl, inr, is_in, length, log_ends, log_has, log_tells, nat_tests, none_some, run, slice_get, state_after, subst, sym}
 use Rattle.law_log.proofs.Imports.{told_is_chosen, true, true_false, who_is_in, who_is_out, ℕ}
 use Rattle.spec_rules.specs.World.{World}
@@ -45,11 +45,11 @@ module _ {Was : Minded} (setting : Setting) (w : World) (fair : IsFair setting) 
   pub single : IsSingle setting.servers (devices w)
   single place a b i j = chosen_once setting w fair.small l place b a (by_schedule place b j) (by_schedule place a i)
 
-  told_at : (place : ℕ) (c : Command) → IsTold P place c → chosen_at setting.servers (devices w) place ≡ Some c
+  told_at : (place : ℕ) (c : Command) → IsAnnounced P place c → chosen_at setting.servers (devices w) place ≡ Some c
   told_at place c t = chosen_is_told setting.servers (devices w) place c single (by_records place c (told_chosen setting w fair.small l place c t))
 
   -- what is told for a place stands there in the chosen log, since all places before were told
-  pub told_stands : (i : ℕ) (c : Command) → IsTold P (i + 1) c → slice_get (chosen_log setting w) i ≡ Some c
+  pub told_stands : (i : ℕ) (c : Command) → IsAnnounced P (i + 1) c → slice_get (chosen_log setting w) i ≡ Some c
   told_stands i c t = log_has setting.servers (devices w) i c (none_between (length (chosen_log setting w)) (log_ends setting.servers (devices w)))
       (told_at (i + 1) c t)
     where
@@ -65,11 +65,11 @@ module _ {Was : Minded} (setting : Setting) (w : World) (fair : IsFair setting) 
   agrees = record {
     known = λ n i c e. told_stands i c ((l.is.servers n).told (i + 1) c e);
     servers = λ n.
-        let prefix = front_of_log setting.servers (devices w) (w.servers n).log.applied
+        let prefix = prefix_of_log setting.servers (devices w) (w.servers n).log.applied
         (λ i c e. told_at (i + 1) c ((l.is.servers n).told (i + 1) c ((l.is.servers n).applied i c e))) in
         record { later = prefix.0; is = prefix.1 };
     clients = λ d.
-        let prefix = front_of_log setting.servers (devices w) (w.clients d).applied (λ i c e. told_at (i + 1) c (l.is.applied d i c e)) in
+        let prefix = prefix_of_log setting.servers (devices w) (w.clients d).applied (λ i c e. told_at (i + 1) c (l.is.applied d i c e)) in
         record { later = prefix.0; is = prefix.1 };
   }
 
@@ -84,7 +84,7 @@ module _ {Was : Minded} (setting : Setting) (w : World) (fair : IsFair setting) 
         | inl called ↦ inl called
         | inr returns ↦ (
             let many = returns.told.many in
-            let prefix = front_of_log setting.servers (devices w) returns.prefix (λ j d is. told_at (j + 1) d (returns.told.told j d is)) in
+            let prefix = prefix_of_log setting.servers (devices w) returns.prefix (λ j d is. told_at (j + 1) d (returns.told.told j d is)) in
             inr (returns.prefix, record { later = prefix.0; is = prefix.1 }, omega arith, returns.is, returns.was))
       ]
 
@@ -209,7 +209,7 @@ module _ {Was : Minded} (setting : Setting) (w : World) (fair : IsFair setting) 
   }
 
   news_told : (letter : Letter) → Among letter w.sent → (after : ℕ) (commands : List Command) → letter.body ≡ body.News after commands
-      → (i : ℕ) (command : Command) → slice_get commands i ≡ Some command → IsTold P (after + i + 1) command
+      → (i : ℕ) (command : Command) → slice_get commands i ≡ Some command → IsAnnounced P (after + i + 1) command
   news_told letter there after commands is = subst (IsBacked P (IsCalledAnywhere setting w) (IsSaidBy P letter.from)) is (l.is.sent letter there)
 
   pub has_schedule : HasSchedule setting.servers w
@@ -234,7 +234,7 @@ module _ {Was : Minded} (setting : Setting) (w : World) (fair : IsFair setting) 
 pub grown_log : {Was : Minded} (setting : Setting) (w v : World) → IsFair setting → Logged Was setting v → IsGrown w v
     → IsPrefix (chosen_log setting w) (chosen_log setting v)
 grown_log setting w v fair l grown =
-    let prefix = front_of_log setting.servers (devices v) (chosen_log setting w)
+    let prefix = prefix_of_log setting.servers (devices v) (chosen_log setting w)
     (λ i c e.
     let k = told_is_chosen setting.servers (devices w) (i + 1) c (log_tells setting.servers (devices w) i c e) in
     chosen_is_told setting.servers (devices v) (i + 1) c (single setting v fair l) (k.0, k.1, k.2, λ s is. grown s (i + 1) k.0 c (k.3 s is))) in

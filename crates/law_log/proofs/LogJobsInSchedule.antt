@@ -1,6 +1,6 @@
 -- Each job of the log, as the schedule has it.
 use Rattle.law_log.proofs.Imports.{[], if◌then◌else◌, ◌++◌, ◌+◌, ◌<◌, ◌||◌, ◌∙◌, ◌∷◌, ◌≡◌, ◌⊎◌, Actor, Among, Body, Bool, Command, Heard, Idle, In}
-use Rattle.law_log.proofs.Imports.{IsProposer, IsTold, Job, Leave, Letter, List, Log, LogDone, None, Nothing, Option, Pax, Phase, Post, Some, Voter, World}
+use Rattle.law_log.proofs.Imports.{IsProposer, IsAnnounced, Job, Leave, Letter, List, Log, LogDone, None, Nothing, Option, Pax, Phase, Post, Some, Voter, World}
 use Rattle.law_log.proofs.Imports.{acceptor_of, ap, applies, applies_known, applies_then, arith, before_known, by_test, false, first_wanted, fold, get_last}
 use Rattle.law_log.proofs.Imports.{has_command, hear, hears_log, hears_of_ballot, in-append, inc_accepted, inc_chosen, inc_promise, inl, inr, is_due, is_open}
 use Rattle.law_log.proofs.Imports.{is_some, keeps, known, known_at, known_run, learns, learns_first, leave_before, length, length-append, less_by, log_does}
@@ -176,7 +176,7 @@ own_leaves {A} me inc (Some earlier) c so h = by_test (λ (xs : List Command). A
 pub record JobLog : Type 1 where
   pub voting : VotingLog
   pub open voting use {running, servers, n, log, p, low, seen, busy, inc}
-  pub one : (place : ℕ) (c d : Command) → IsTold p place c → IsTold p place d → d ≡ c
+  pub one : (place : ℕ) (c d : Command) → IsAnnounced p place c → IsAnnounced p place d → d ≡ c
   pub Good : ℕ → Command → Type 0
   pub Fine : Command → Type 0
   pub fine : (c : Command) → Among c log.wants → Fine c
@@ -240,10 +240,10 @@ module _ (it : JobLog) where
   unfolding on_ask
   told own who rev = wants_these own log.wants log.leaves _ fine leaving
       (λ post i. only (λ (x : Post). IsBacked p (λ command. ⊥) (λ said. In (sent n said) p.letters) x.body) _ post i
-      (λ i c e. let at : rev + 1 + i ≡ rev + i + 1 = omega arith in subst (λ place. IsTold p place c) at
+      (λ i c e. let at : rev + 1 + i ≡ rev + i + 1 = omega arith in subst (λ place. IsAnnounced p place c) at
       (seen.told (rev + 1 + i) c (run_known log 64 (rev + 1) i c e))))
 
-  learnt : (own : Job) (place : ℕ) (c : Command) → IsTold p place c → Left own (learns log place c)
+  learnt : (own : Job) (place : ℕ) (c : Command) → IsAnnounced p place c → Left own (learns log place c)
   unfolding learns
   learnt own place c t =
       let at = proposer_there log.phase (p.proposers n) busy.proposer in
@@ -251,15 +251,15 @@ module _ (it : JobLog) where
       wants_as_before own _ (learn_wants log place c) (λ letter h. learn_follows log place c letter h)
       (record { events = h.events; wanted = h.wanted; turns = h.turns })
 
-  told_first : (letter : Letter) (after : ℕ) (commands : List Command) → ((i : ℕ) (c : Command) → slice_get commands i ≡ Some c → IsTold p (after + i + 1) c)
-      → (first : ℕ × Command) (rest : List (ℕ × Command)) → unknown_from log (after + 1) commands ≡ first ∷ rest → IsTold p first.0 first.1
+  told_first : (letter : Letter) (after : ℕ) (commands : List Command) → ((i : ℕ) (c : Command) → slice_get commands i ≡ Some c → IsAnnounced p (after + i + 1) c)
+      → (first : ℕ × Command) (rest : List (ℕ × Command)) → unknown_from log (after + 1) commands ≡ first ∷ rest → IsAnnounced p first.0 first.1
   told_first letter after commands told first rest e =
       let at = is_listed log (after + 1) commands first rest e in
       let f = at.1 in
       let same : after + at.0 + 1 ≡ first.0 = omega arith in
-      subst (λ place. IsTold p place first.1) same (told at.0 first.1 at.2)
+      subst (λ place. IsAnnounced p place first.1) same (told at.0 first.1 at.2)
 
-  heard_news : (letter : Letter) (after : ℕ) (commands : List Command) → ((i : ℕ) (c : Command) → slice_get commands i ≡ Some c → IsTold p (after + i + 1) c)
+  heard_news : (letter : Letter) (after : ℕ) (commands : List Command) → ((i : ℕ) (c : Command) → slice_get commands i ≡ Some c → IsAnnounced p (after + i + 1) c)
       → (listed : List (ℕ × Command)) → unknown_from log (after + 1) commands ≡ listed → Left (job.Letter letter) (learns_first log letter listed)
   heard_news letter after commands told [] e = kept (job.Letter letter)
   heard_news letter after commands told (first ∷ []) e = learnt (job.Letter letter) first.0 first.1 (told_first letter after commands told first [] e)
@@ -277,7 +277,7 @@ module _ (it : JobLog) where
         applied = h.applied;
       }
 
-  news : (letter : Letter) (after : ℕ) (commands : List Command) → ((i : ℕ) (c : Command) → slice_get commands i ≡ Some c → IsTold p (after + i + 1) c)
+  news : (letter : Letter) (after : ℕ) (commands : List Command) → ((i : ℕ) (c : Command) → slice_get commands i ≡ Some c → IsAnnounced p (after + i + 1) c)
       → Left (job.Letter letter) (on_news log letter after commands)
   unfolding on_news
   news letter after commands told = heard_news letter after commands told (unknown_from log (after + 1) commands) refl

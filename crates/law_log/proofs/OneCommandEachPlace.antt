@@ -1,5 +1,5 @@
 -- What follows from what is kept: one command a place is told, those that are told were asked for, and logs are plain.
-use Rattle.law_log.proofs.Imports.{◌+◌, ◌==◌, ◌≡◌, ◌≤◌, Among, Bool, Caught, Command, Drained, HasProperTuple, HasProperTuples, IsChosen, IsTold, Join, Leave}
+use Rattle.law_log.proofs.Imports.{◌+◌, ◌==◌, ◌≡◌, ◌≤◌, Among, Bool, Caught, Command, Drained, HasProperTuple, HasProperTuples, IsChosen, IsAnnounced, Join, Leave}
 use Rattle.law_log.proofs.Imports.{Line, List, MakeDisk, Moved, Request, Server, Setting, Snap, Some, StartMove, Witness, ap, begin, begin_holds, command_of}
 use Rattle.law_log.proofs.Imports.{false, inl, inr, is_caught, is_tuple, lines_of, log_in, none_some, one_chosen, refl, run, run_holds, same_some}
 use Rattle.law_log.proofs.Imports.{server_state, servers_of, slice_get, subst, sym, true, true_false, ℕ}
@@ -21,7 +21,7 @@ pub record IsFair (setting : Setting) : Type 0 where
 -- ### What is told
 
 module _ {Was : Minded} (setting : Setting) (w : World) (small : setting.servers ≤ 256) (l : Logged Was setting w) where
-  pub told_chosen : (place : ℕ) (c : Command) → IsTold (run setting.servers l.events begin) place c
+  pub told_chosen : (place : ℕ) (c : Command) → IsAnnounced (run setting.servers l.events begin) place c
       → IsChosen setting.servers (run setting.servers l.events begin) place c
   told_chosen place c t = (run_holds setting.servers begin small (begin_holds setting.servers) l.events).backed t.from (Chosen place c) t.is
 
@@ -35,11 +35,11 @@ module _ {Was : Minded} (setting : Setting) (w : World) (small : setting.servers
       one_chosen setting.servers (run setting.servers l.events begin)
       (run_holds setting.servers begin small (begin_holds setting.servers) l.events) place d c m k
 
-  pub told_once : (place : ℕ) (c d : Command) → IsTold (run setting.servers l.events begin) place c
-      → IsTold (run setting.servers l.events begin) place d → d ≡ c
+  pub told_once : (place : ℕ) (c d : Command) → IsAnnounced (run setting.servers l.events begin) place c
+      → IsAnnounced (run setting.servers l.events begin) place d → d ≡ c
   told_once place c d t u = chosen_once place c d (told_chosen place c t) (told_chosen place d u)
 
-  pub told_wanted : (place : ℕ) (c : Command) → IsTold (run setting.servers l.events begin) place c
+  pub told_wanted : (place : ℕ) (c : Command) → IsAnnounced (run setting.servers l.events begin) place c
       → MayWant Was setting w w.servers (run setting.servers l.events begin) place c
   told_wanted place c t = chosen_wanted place c (told_chosen place c t)
 

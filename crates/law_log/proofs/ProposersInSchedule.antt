@@ -1,6 +1,6 @@
 -- A proposer: the ballot that it starts, and what it makes of the letters that answer it.
 use Rattle.law_log.proofs.Imports.{[], if◌then◌else◌, ◌&&◌, ◌+◌, ◌<◌, ◌∙◌, ◌∷◌, ◌≡◌, ◌≤◌, Acceptor, Among, Ballot, Body, Bool, Collecting, Command, Decided}
-use Rattle.law_log.proofs.Imports.{Goes, Heard, Idle, In, IsAbout, IsAskedFor, IsProposer, IsTold, IsWanted, List, Log, None, Nothing, Option, Pax, Phase}
+use Rattle.law_log.proofs.Imports.{Goes, Heard, Idle, In, IsAbout, IsAskedFor, IsProposer, IsAnnounced, IsWanted, List, Log, None, Nothing, Option, Pax, Phase}
 use Rattle.law_log.proofs.Imports.{Post, Promise, Refused, Send, Some, Starts, Voter, Voting, World, acceptor_of, ap, arith, by_test, collected, collecting}
 use Rattle.law_log.proofs.Imports.{comes_out, committed, count_below, counted, counts, false, first_wanted, gives_way, greatest_place, has_majority, hear}
 use Rattle.law_log.proofs.Imports.{hears_of_ballot, higher, in_here, in_there, inl, inr, is_for, is_open, is_unpromised, keep, learns, less_test, map, nat_le}
@@ -221,7 +221,7 @@ module _ (it : VotingLog) (Good : ℕ → Command → Type 0) (there : Phase) (i
   answered (Voting place ballot command heard) e about a from said i hands = heard_there (Voting place ballot command heard) about a from said i hands
 
   -- what another server told of a place is what this one knows of it
-  pub pax_turn : ((place : ℕ) (c d : Command) → IsTold p place c → IsTold p place d → d ≡ c) → IsAbout log.phase there → (from : ℕ) (said : Pax)
+  pub pax_turn : ((place : ℕ) (c d : Command) → IsAnnounced p place c → IsAnnounced p place d → d ≡ c) → IsAbout log.phase there → (from : ℕ) (said : Pax)
       → In (sent from said) p.letters
       → HasTurn servers n true (hears_of_ballot voter log from said).log
       (hears_of_ballot voter log from said).posts p Good
@@ -229,7 +229,7 @@ module _ (it : VotingLog) (Good : ℕ → Command → Type 0) (there : Phase) (i
   pax_turn one about from (pax.Prepare place b) i = prepare_turn it.running Good there is from place b i
   pax_turn one about from (pax.Accept place b c) i = accept_turn it.running Good there is from place b c i
   pax_turn one about from (pax.Chosen place c) i =
-      let t : IsTold p place c = record { from = from; is = i } in
+      let t : IsAnnounced p place c = record { from = from; is = i } in
       let h = learn_turn it.running Good there is place c t (λ d u. one place c d t u) in
       record { events = h.events; wanted = h.wanted; turns = h.turns }
   pax_turn one about from (pax.Promise place b best) i = answered log.phase refl about busy.asked from (pax.Promise place b best) i refl

@@ -1,6 +1,6 @@
 -- What changes in a schedule when one server does something.
 use Rattle.law_log.proofs.Imports.{[], ◌++◌, ◌+◌, ◌<◌, ◌↔◌, ◌∙◌, ◌∷◌, ◌≡◌, ◌≢◌, ◌⊎◌, Acceptor, Actor, Among, Ballot, Body, Bool, Collecting, Command, Event}
-use Rattle.law_log.proofs.Imports.{Goes, Handed, Idle, In, IsAbout, IsAskedFor, IsProposer, IsTold, IsWanted, Leave, Letter, List, Log, None, Option, Pax}
+use Rattle.law_log.proofs.Imports.{Goes, Handed, Idle, In, IsAbout, IsAskedFor, IsProposer, IsAnnounced, IsWanted, Leave, Letter, List, Log, None, Option, Pax}
 use Rattle.law_log.proofs.Imports.{Phase, Post, Sent, Some, Starts, StateRecord, Stops, Vote, Voting, World, ap, cast, false, handed, in_cons, in_here}
 use Rattle.law_log.proofs.Imports.{in_there, inl, inr, keep, learn, only, put_at_cases, refl, run, run-append, send, sent, subst, sym, true, turn, vote, ℕ}
 use Rattle.law_log.specs.AgreedLog.{IsReached, IsLow, AreLow, IsSeenAt, IsBusyAs, IsBacked}
@@ -78,8 +78,8 @@ apart_turn n p to =
 
 -- ### What stays so while letters are added
 
-pub told_more : (p q : World) → ((x : Sent) → In x p.letters → In x q.letters) → (place : ℕ) (command : Command) → IsTold p place command
-    → IsTold q place command
+pub told_more : (p q : World) → ((x : Sent) → In x p.letters → In x q.letters) → (place : ℕ) (command : Command) → IsAnnounced p place command
+    → IsAnnounced q place command
 told_more p q more place command t = record { from = t.from; is = more _ t.is }
 
 pub reached_more : (p q : World) → ((x : Sent) → In x p.letters → In x q.letters) → (place : ℕ) → IsReached p place → IsReached q place

@@ -1,6 +1,6 @@
 -- Each legal step keeps what is kept, from the start on.
 use Rattle.law_log.proofs.Imports.{[], ◌++◌, ◌+◌, ◌<◌, ◌∷◌, ◌≡◌, ◌≤◌, Accepted, Actor, Among, AreStepsFrom, Asked, Ballot, Body, Call, Client, Command}
-use Rattle.law_log.proofs.Imports.{Deliver, In, Inc, IsTold, Letter, Line, List, MayActor, MayClient, Pax, Reaction, Record, Setting, Some, Step, Tick}
+use Rattle.law_log.proofs.Imports.{Deliver, In, Inc, IsAnnounced, Letter, Line, List, MayActor, MayClient, Pax, Reaction, Record, Setting, Some, Step, Tick}
 use Rattle.law_log.proofs.Imports.{all_put_apart, ap, arith, begin, calls, client_sender, client_state, client_step, in-append, in_later, inl, inr, less_by}
 use Rattle.law_log.proofs.Imports.{less_test, next_line, none_some, put_same, reacts, refl, run, server_state, server_step, slice_get, stamped, start, step}
 use Rattle.law_log.proofs.Imports.{stepped, subst, sym, world_after, ℕ}
@@ -42,7 +42,7 @@ module _ {Was : Minded} (setting : Setting) (w : World) (l : Logged Was setting 
   P = run setting.servers l.events begin
 
   abbrev Told : ℕ → Command → Type 0
-  Told place command = IsTold P place command
+  Told place command = IsAnnounced P place command
 
   abbrev After : Reaction → World
   After reacted = (reacts w c stamp reacted).world
@@ -90,7 +90,7 @@ module _ {Was : Minded} (setting : Setting) (w : World) (l : Logged Was setting 
             leaves = λ s command i. more command (l.is.leaves s command i);
             queued = λ s letter i. in_later letter _ w.sent (l.is.queued s letter i);
             applied = all_put_apart w.clients c reacted.client (λ d (x : Client). (i : ℕ) (command : Command) → slice_get x.applied i ≡ Some command
-                → IsTold P (i + 1) command)
+                → IsAnnounced P (i + 1) command)
                 (λ d ne. l.is.applied d) r.fine.applied;
             asked = all_put_apart w.clients c reacted.client (λ d (x : Client). (asked : Asked) → x.asked ≡ Some asked → IsOpen setting.lines d x.seq asked)
                 (λ d ne. l.is.asked d) r.fine.asked;

@@ -18,7 +18,7 @@ use Rattle.spec_paxos.specs.Schedule as schedule
 use Rattle.spec_paxos.specs.declared.phase.Phase.{Phase}
 use Rattle.spec_paxos.specs.declared.record.StateRecord.{StateRecord}
 use Rattle.spec_paxos.specs.declared.record.StateRecord.TheVariants.{Accepted}
-use Rattle.spec_rules.specs.Agreement.{IsTold, IsProposer, IsAskedFor}
+use Rattle.spec_rules.specs.Agreement.{IsAnnounced, IsProposer, IsAskedFor}
 use Rattle.spec_rules.specs.Clients.{Asked}
 use Rattle.spec_rules.specs.Lists.{In as Among}
 use Rattle.spec_rules.specs.Server.{Server}
@@ -32,12 +32,12 @@ use Rattle.law_log.specs.ProposedCommands.{IsCaughtAt, IsCalledFor, IsMovedAt, I
 -- for each place from 1 up to before this one, some server told which command is chosen
 pub record IsReached (p : schedule.World) (place : ℕ) : Type 0 where
   pub starts : 0 < place
-  pub told : (i : ℕ) → i + 1 < place → (command : Command) × IsTold p (i + 1) command
+  pub told : (i : ℕ) → i + 1 < place → (command : Command) × IsAnnounced p (i + 1) command
 
 -- these commands were told for the places before this one
 pub record IsToldBefore (p : schedule.World) (place : ℕ) (prefix : List Command) : Type 0 where
   pub many : length prefix + 1 ≡ place
-  pub told : (i : ℕ) (command : Command) → slice_get prefix i ≡ Some command → IsTold p (i + 1) command
+  pub told : (i : ℕ) (command : Command) → slice_get prefix i ≡ Some command → IsAnnounced p (i + 1) command
 
 -- what is remembered of a server that started a ballot: that it had the Caught of this link in mind then, whether its store waited to be
 -- filled before, that before it had no client's write under way on a cell of which the active fence held the writes, or that it was to move
@@ -113,7 +113,7 @@ pub record IsSeenAt (s : ℕ) (records : List StateRecord) (entries : List Comma
   pub known : (place : ℕ) → p.known s place ≡ known_at records place
   pub inc : p.incs s ≡ inc_of records
   pub votes : (place : ℕ) (ballot : Ballot) (command : Command) → In (schedule.vote s place ballot command) p.votes ↔ In (Accepted place ballot command) records
-  pub told : (place : ℕ) (command : Command) → known_at records place ≡ Some command → IsTold p place command
+  pub told : (place : ℕ) (command : Command) → known_at records place ≡ Some command → IsAnnounced p place command
   pub applied : (i : ℕ) (command : Command) → slice_get entries i ≡ Some command → known_at records (i + 1) ≡ Some command
 
 -- a stopped server has no proposer there, and what it was about was asked for
@@ -129,7 +129,7 @@ abbrev pub IsBacked : schedule.World → (Command → Type 0) → (Pax → Type 
 IsBacked p Good Said (body.Down server inc) = Good (Leave server inc)
 IsBacked p Good Said (body.Propose command) = Good command
 IsBacked p Good Said (body.Pax said) = Said said
-IsBacked p Good Said (body.News after commands) = (i : ℕ) (command : Command) → slice_get commands i ≡ Some command → IsTold p (after + i + 1) command
+IsBacked p Good Said (body.News after commands) = (i : ℕ) (command : Command) → slice_get commands i ≡ Some command → IsAnnounced p (after + i + 1) command
 IsBacked p Good Said _ = ⊤
 
 -- a server's letter of a ballot was sent there
@@ -162,7 +162,7 @@ pub record IsLogged (Was : Minded) (setting : Setting) (w : World) (events : Lis
   pub wants : (s : ℕ) (command : Command) → Among command (w.servers s).log.wants → IsCalledAnywhere setting w command
   pub leaves : (s : ℕ) (command : Command) → Among command (w.servers s).log.leaves → IsCalledAnywhere setting w command
   pub queued : (s : ℕ) (letter : Letter) → Among (job.Letter letter) (w.servers s).queue → Among letter w.sent
-  pub applied : (c i : ℕ) (command : Command) → slice_get (w.clients c).applied i ≡ Some command → IsTold p (i + 1) command
+  pub applied : (c i : ℕ) (command : Command) → slice_get (w.clients c).applied i ≡ Some command → IsAnnounced p (i + 1) command
   pub asked : (c : ℕ) (asked : Asked) → (w.clients c).asked ≡ Some asked → IsOpen setting.lines c (w.clients c).seq asked
 
 pub record Logged (Was : Minded) (setting : Setting) (w : World) : Type 0 where

@@ -10,7 +10,7 @@ pub use Rattle.std.specs.Prelude.{min, nat_le}
 pub use Rattle.law_agreement.proofs.MovesKeepFacts.{at_put, not_in_nobody, one_server}
 pub use Rattle.law_agreement.proofs.Quorum.{either, majorities_meet}
 pub use Rattle.law_agreement.proofs.SchedulesKeepFacts.{at_true, for_them, joined}
-pub use Rattle.spec_paxos.proofs.Committed.{in_front}
+pub use Rattle.spec_paxos.proofs.Committed.{in_prefix}
 pub use Rattle.spec_paxos.proofs.standing.Committed.{IsFit, IsRising, accepted_in, accepted_stands, committed_in, in_committed, known_stands, pledge_rises}
 pub use Rattle.spec_paxos.proofs.standing.Committed.{promise_covers, promise_pledges, promised_rises, rising_committed}
 pub use Rattle.spec_paxos.proofs.standing.Listed.{listing}

@@ -4,7 +4,7 @@ use Rattle.law_standing.proofs.Imports.{Chosen, Command, End, Event, Fits, Goes,
 use Rattle.law_standing.proofs.Imports.{None, Option, Phase, Prepare, Promise, PromiseFrom, Proposes, Refuse, Report, Sent, Setting, Some, Standing, Started}
 use Rattle.law_standing.proofs.Imports.{Starts, StateRecord, Stops, StopsAfter, StopsBefore, Told, Vote, World, accepted_at, accepted_in, accepted_stands}
 use Rattle.law_standing.proofs.Imports.{and_parts, ap, arith, arrives, at_true, begin, boots, cases_lt, collected, comes_out, commit, committed, committed_in}
-use Rattle.law_standing.proofs.Imports.{counted, counts, either, ended, false, for_them, handed, happens, has_majority, hear, in_committed, in_cons, in_front}
+use Rattle.law_standing.proofs.Imports.{counted, counts, either, ended, false, for_them, handed, happens, has_majority, hear, in_committed, in_cons, in_prefix}
 use Rattle.law_standing.proofs.Imports.{in_got, in_here, in_nil, in_reported, in_there, inc_of, inl, inr, is_behind, is_for, is_in, is_open_at, is_open_from}
 use Rattle.law_standing.proofs.Imports.{is_unpromised_from, is_within, joined, keep, least, length, listed, listing, majorities_meet, may_propose, min}
 use Rattle.law_standing.proofs.Imports.{nat_le, nat_lt, nat_tests, not, not_in_nobody, number, one_server, promise_covers, promise_of, promise_pledges}
@@ -51,7 +51,7 @@ gathers o w s told heard from until accepted k promise = (k.0, heard_more, cast_
     old_up = reported_rises told.reported (accepted ++ told.reported) (λ r i. in_behind r accepted told.reported i)
 
     new_up : (p : ℕ) → rank_of (reported_at accepted p) ≤ rank_of (reported_at (accepted ++ told.reported) p)
-    new_up = reported_rises accepted (accepted ++ told.reported) (λ r i. in_front r accepted told.reported i)
+    new_up = reported_rises accepted (accepted ++ told.reported) (λ r i. in_prefix r accepted told.reported i)
 
     theirs : ((p : ℕ) → told.from ≤ p → HasPromised w from p told.ballot)
         × ((p : ℕ) → told.from ≤ p → is_within (least told.until until) p ≡ true

@@ -31,7 +31,7 @@ pub use Rattle.law_log.proofs.Imports.{hears_reserved, hears_sync, hears_sync_fu
 pub use Rattle.law_log.proofs.Imports.{idle_mark, is_caught, is_due, is_eq, is_flagged, is_from_in, is_kept_back, is_log_job, is_logged, is_next, is_nothing}
 pub use Rattle.law_log.proofs.Imports.{is_open, is_overfull, is_pending_for, is_read, is_replicating, is_reserving, is_second, is_settled, is_some}
 pub use Rattle.law_log.proofs.Imports.{is_syncing, is_under_way, is_witness, is_write, job_done, judged, judged_by, keeps, key_at, known, known_at}
-pub use Rattle.law_log.proofs.Imports.{known_front, known_inc, known_run, last_copy, last_on, learns_first, less_by, link_before, link_jobs, link_named}
+pub use Rattle.law_log.proofs.Imports.{known_prefix, known_inc, known_run, last_copy, last_on, learns_first, less_by, link_before, link_jobs, link_named}
 pub use Rattle.law_log.proofs.Imports.{log_plain, mends_found, moving, nat_cmp, next_entries, next_line, next_place, no_progress, only, opened, opens}
 pub use Rattle.law_log.proofs.Imports.{opens_fill, other_in, own_join, own_leave, own_wants, page_asked, page_for, page_posts, page_wanted, pending_on}
 pub use Rattle.law_log.proofs.Imports.{post_in_turn, post_of, post_to, posts_for, progress_on, proposed, proposes, put_apart, put_same, puts_entry, raised}

@@ -2,7 +2,7 @@
 -- records. And it is not yet In as its next incarnation, of which no Join can be chosen before.
 use Rattle.law_steps.proofs.Imports.{[], ◌+◌, ◌<◌, ◌==◌, ◌∙◌, ◌∷◌, ◌≡◌, ◌≢◌, ◌≤◌, ◌⊎◌, Accepted, AreSteps, Bool, Command, Inc, IsPrefix, IsSound, List, Log}
 use Rattle.law_steps.proofs.Imports.{Promise, Record, Row, Script, Some, StateRecord, accept_row, ap, arith, before_known, by_bool, by_test, choose_row}
-use Rattle.law_steps.proofs.Imports.{chosen_log, chosen_state, empty_row, false, fold, history_agrees, inl, inr, is_in, known, known_at, known_front}
+use Rattle.law_steps.proofs.Imports.{chosen_log, chosen_state, empty_row, false, fold, history_agrees, inl, inr, is_in, known, known_at, known_prefix}
 use Rattle.law_steps.proofs.Imports.{known_inc, known_run, length, logged, none_some, out_has_stopped, promise_row, raised, refl, row_after, run_known}
 use Rattle.law_steps.proofs.Imports.{same_numbers, same_some, setting_of, slice_get, start, state_after, suc, sym, true, true_false, who_is_in_has_begun}
 use Rattle.law_steps.proofs.Imports.{world_after, zero, ℕ}
@@ -120,7 +120,7 @@ may_wake script records sound legal n =
     let w = world_after setting (start setting) records in
     let server = w.servers n in
     let log = (raised server).log in
-    let prefix = known_front log in
+    let prefix = known_prefix log in
     let still : (place : ℕ) → known log place ≡ known_at server.log.records place = λ place. known_inc server.log.records (server.life.inc + 1) place in
     let applied : (i : ℕ) (c : Command) → slice_get server.log.applied i ≡ Some c → known log (i + 1) ≡ Some c =
     λ i c e. still (i + 1) ∙ ((logged script records sound legal).is.servers n).applied i c e in

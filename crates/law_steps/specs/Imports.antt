@@ -35,7 +35,7 @@ pub use Rattle.script_lines.specs.declared.answer.Answer.{Answer}
 pub use Rattle.script_lines.specs.declared.request.Line.{Line}
 pub use Rattle.script_lines.specs.declared.request.Pattern.{Pattern}
 pub use Rattle.spec_history.specs.Steps.{stepped}
-pub use Rattle.spec_rules.specs.Boots.{awake, blanked, known_front, raised, stays, wakes}
+pub use Rattle.spec_rules.specs.Boots.{awake, blanked, known_prefix, raised, stays, wakes}
 pub use Rattle.spec_rules.specs.Clients.{Asked, Client, Reaction, Sight, answers, command_of, epoch_for, is_read, is_witness, is_write, verdict_for}
 pub use Rattle.spec_rules.specs.Clients.{with_sight}
 unfoldable pub use Rattle.spec_rules.specs.Clients.{refusal}

@@ -128,7 +128,7 @@ failed_letters old After = refl
 
 -- ### Over the devices
 
-module _ {D : Type 0} (device : Ghosts D) (told : device.observable) (old : Mounted D) (off : old.core.running ≡ false)
+module _ {D : Type 0} (device : Ghosts D) (observed : device.observable) (old : Mounted D) (off : old.core.running ≡ false)
     (holds : HoldsAt device old.store) (kept : logs.HoldsAt device old.state) (opened : old.store.tickets ≡ []) where
   -- no slot is set apart
   closed : store_of old.store ≡ shut (store_of old.store)
@@ -138,11 +138,11 @@ module _ {D : Type 0} (device : Ghosts D) (told : device.observable) (old : Moun
       → device.came_to old.store.disk old.store.disk
       → Booted device old (record { core = core; store = old.store; state = state }) Done letters
   boot_done core state letters boot rests =
-      let is = boot.step told kept (store_of old.store) (few_stored device old.store holds) in
+      let is = boot.step observed kept (store_of old.store) (few_stored device old.store holds) in
       record {
         site = booted_site old core old.store state letters closed boot.voter is;
         sends = booted_letters old core old.store state letters is;
-        stands = record { tickets = λ _. blank core.side old.store boot.side opened; store = holds; state = boot.holds told kept };
+        stands = record { tickets = λ _. blank core.side old.store boot.side opened; store = holds; state = boot.holds observed kept };
         cause = λ no. absurd no;
         run = record { run = rests; state_run = boot.run };
       }
@@ -152,7 +152,7 @@ module _ {D : Type 0} (device : Ghosts D) (told : device.observable) (old : Moun
       → Booted device old (record { core = core; store = old.store; state = state }) Done []
   boot_full core state boot rests =
       let full = boot.full refl in
-      let is = full.stays told kept (store_of old.store) in
+      let is = full.stays observed kept (store_of old.store) in
       let still : core.running ≡ false = ap (λ (it : ServerView). it.running) full.same.0 ∙ off in
       record {
         site = full_site old core old.store state full.same.0 off closed (ap (λ (k : Keeping D). k.records) full.same.1) is;

@@ -18,7 +18,7 @@ use Rattle.state_store.specs.Device.{Keeping}
 use Rattle.memory_server.specs.Booted.{Worked}
 use Rattle.memory_server.specs.Server.{Mounted, Ran, Stands, left_at, whole_after, whole_of}
 
-module _ {D : Type 0} (device : Ghosts D) (told : device.observable) (old : Mounted D) (stands : Stands device old) where
+module _ {D : Type 0} (device : Ghosts D) (observed : device.observable) (old : Mounted D) (stands : Stands device old) where
   -- what the rule leaves is what is there
   whole_is : (new : Mounted D) (letters : List Letter) → new.core.log.voter ≡ old.core.log.voter
       → acted new.core (store_of new.store) new.state.records letters
@@ -65,7 +65,7 @@ module _ {D : Type 0} (device : Ghosts D) (told : device.observable) (old : Moun
       ≡ works (here_in old.core) (server_of old.core (store_of old.store) old.state.records) old.core.queue
       = step (store_of store) state.records
       ∙ (λ i. stops (here_in (full.same.0 i)) (server_of (full.same.0 i) (stored i) (recorded i)))
-      ∙ sym (full.stops told told stands.store stands.state) in
+      ∙ sym (full.stops observed observed stands.store stands.state) in
       record {
         site = λ i. left_at (whole_is (record { core = new; store = store; state = state }) letters voter is i);
         sends = ap (λ (left : Acted). left.letters) is;

@@ -90,8 +90,8 @@ module _ {X : Type 0} (test : Cell → Bool) where
   found_taken (r ∷ rs) c is =
       let rest = found_taken rs c in
       elim (test r.0) as (λ b. test r.0 ≡ b → cond b (Some r.0) (find test (keys_of rs)) ≡ Some c → test c ≡ true) [
-        | true ↦ λ told found. let same : r.0 ≡ c = cc in sym (ap test same) ∙ told
-        | false ↦ λ told found. rest found
+        | true ↦ λ observed found. let same : r.0 ≡ c = cc in sym (ap test same) ∙ observed
+        | false ↦ λ observed found. rest found
       ] refl is
 
   -- so many rows the test takes

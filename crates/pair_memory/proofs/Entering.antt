@@ -88,7 +88,7 @@ module _ {D : Type 0} (device : Ghosts D) (stays : (d : D) → device.came_to d 
 
     kept_of : {R : Type 0} {result : Result R StoreError} → IsCommit device mid after result (settled (store_of mid)) → device.observable
         → after.entries ≡ before.entries
-    kept_of commit told = commit.kept told ∙ ap (λ (s : Holdings D). s.entries) cross.store
+    kept_of commit observed = commit.kept observed ∙ ap (λ (s : Holdings D). s.entries) cross.store
 
     run_of : {R : Type 0} {result : Result R StoreError} → IsCommit device mid after result (settled (store_of mid)) → device.came_to before.disk after.disk
     run_of commit = subst (λ (d : D). device.came_to d after.disk) same_disk commit.run
@@ -96,10 +96,10 @@ module _ {D : Type 0} (device : Ghosts D) (stays : (d : D) → device.came_to d 
     pub entered_settled : {T : Type 0} (done : T) → IsCommit device mid after (Ok done) (settled (store_of mid))
         → IsEntered device here (Some entry) old new before after (Ok done)
     entered_settled done commit = record {
-      own = λ told. ap (λ (s : Store). record (own_of new mid) { store = s }) (commit.done told) ∙ ruled;
+      own = λ observed. ap (λ (s : Store). record (own_of new mid) { store = s }) (commit.done observed) ∙ ruled;
       keeps = keeps_of commit;
-      holds = λ told holds. commit.holds told (mid_holds holds);
-      moments = λ told holds. moments_of (commit.moments told (mid_holds holds));
+      holds = λ observed holds. commit.holds observed (mid_holds holds);
+      moments = λ observed holds. moments_of (commit.moments observed (mid_holds holds));
       kept = kept_of commit;
       errors = tt;
       cause = record {
@@ -125,7 +125,7 @@ module _ {D : Type 0} (device : Ghosts D) (stays : (d : D) → device.came_to d 
       own = tt;
       keeps = keeps_of commit;
       holds = λ _ _. tt;
-      moments = λ told holds. moments_of (commit.moments told (mid_holds holds));
+      moments = λ observed holds. moments_of (commit.moments observed (mid_holds holds));
       kept = kept_of commit;
       errors = refl;
       cause = record {

@@ -43,7 +43,7 @@ module _ {D : Type 0} (device : Ghosts D) (stays : (d : D) → device.came_to d 
     seen_then = record {
       same = look.same ∙ ap (λ (s : Holdings D). record s { disk = after.disk }) seen.same;
       kept = keeps_on device.size device.seen device.may_leave device.moment device.left_since before.disk mid.disk after.disk seen.kept look.kept;
-      holds = λ told holds. look.holds told (seen.holds told holds);
+      holds = λ observed holds. look.holds observed (seen.holds observed holds);
       later = let first = seen.later in let second = look.cause.later in omega (arith, first, second);
       run = onward before.disk mid.disk after.disk seen.run look.run;
     }

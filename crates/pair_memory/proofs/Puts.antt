@@ -68,8 +68,8 @@ module _ {D T : Type 0} (device : Ghosts D) (before mid after : Holdings D) (slo
       → IsChange device before after result (with_new (store_of before) key (record { version = version; bytes = bytes }) room)
   put_new_is room has = rw has (record {
     done = on_ok result _ _ _
-        (λ content counted told.
-        spent_is (record before { tickets = before.tickets ++ slot ∷ [] }) after key version slot bytes at_slot.out (content told) at_slot.rest counted
+        (λ content counted observed.
+        spent_is (record before { tickets = before.tickets ++ slot ∷ [] }) after key version slot bytes at_slot.out (content observed) at_slot.rest counted
         ∙ ap (λ (s : Store). with_entry s key (record { version = version; bytes = bytes }))
         (kept_is before (record before { tickets = before.tickets ++ slot ∷ [] }) slot refl))
         at_slot.content at_slot.counted;

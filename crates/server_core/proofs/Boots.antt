@@ -14,7 +14,7 @@ use Rattle.spec_paxos.specs.Kept.{committed, inc_of}
 use Rattle.spec_paxos.specs.declared.record.StateRecord.{StateRecord}
 use Rattle.spec_paxos.specs.declared.record.StateRecord.TheVariants.{Inc}
 use Rattle.spec_rules.proofs.Applied.{servers_after}
-use Rattle.spec_rules.specs.Boots.{awake, boots, known_front, raised, stays, wakes}
+use Rattle.spec_rules.specs.Boots.{awake, boots, known_prefix, raised, stays, wakes}
 use Rattle.spec_rules.specs.Entries.{known_run}
 use Rattle.spec_rules.specs.Jobs.{down_posts, is_overfull}
 use Rattle.petal_base.specs.Limits.{journal_records}
@@ -66,20 +66,20 @@ module _ (old : ServerView) (store : Store) (before : List StateRecord) (known :
       → acted new (shut store) after letters ≡ boots at was Done
   woken new after letters count made counted is sent few_store few_log =
       let records : (raised was).log.records ≡ after = raised_are ∙ sym made in
-      let applied : known_run (raised was).log 1 count ≡ known_front (raised was).log
+      let applied : known_run (raised was).log 1 count ≡ known_prefix (raised was).log
       = ap (λ (n : ℕ). known_run (raised was).log 1 n) (counted ∙ ap (λ (rs : List StateRecord). length rs) (sym records)) in
-      let core : new ≡ booted old.log.voter (known_front (raised was).log)
+      let core : new ≡ booted old.log.voter (known_prefix (raised was).log)
       = is (raised was).log records ∙ ap (λ (entries : List Command). booted old.log.voter entries) applied in
       let fits : length (raised_records before) ≤ journal_records = subst (λ (rs : List StateRecord). length rs ≤ journal_records) made few_log in
-      let who : sender_of new.log ≡ record { from = actor.Server old.log.voter.me; inc = old.log.voter.inc + 1; rev = length (known_front (raised was).log) }
+      let who : sender_of new.log ≡ record { from = actor.Server old.log.voter.me; inc = old.log.voter.inc + 1; rev = length (known_prefix (raised was).log) }
       = ap (λ (it : ServerView). sender_of it.log) core
       ∙ ap (λ (rev : ℕ). record { from = actor.Server old.log.voter.me; inc = old.log.voter.inc + 1; rev = rev })
-      (rev_counts old.log.voter.servers (known_front (raised was).log)) in
-      let told : letters ≡ (wakes at (awake (raised was))).letters
+      (rev_counts old.log.voter.servers (known_prefix (raised was).log)) in
+      let observed : letters ≡ (wakes at (awake (raised was))).letters
       = sent ∙ ap (λ (from : Sender). letters_of from 0 (down_posts old.log.voter.me old.log.voter.inc old.log.voter.servers)) who
-      ∙ ap (λ (n : ℕ). letters_of (record { from = actor.Server old.log.voter.me; inc = old.log.voter.inc + 1; rev = length (known_front (raised was).log) }) 0
+      ∙ ap (λ (n : ℕ). letters_of (record { from = actor.Server old.log.voter.me; inc = old.log.voter.inc + 1; rev = length (known_prefix (raised was).log) }) 0
       (down_posts old.log.voter.me old.log.voter.inc n)) (sym (servers_after old.log.voter.servers old.log.applied)) in
-      (λ i. acted (core i) (shut store) (sym records i) (told i))
+      (λ i. acted (core i) (shut store) (sym records i) (observed i))
       ∙ sym (chosen false (room few_store fits))
 
 -- what a crash leaves, by how many records there are
@@ -122,8 +122,8 @@ module _ {D : Type 0} (device : Ghosts D) (old : ServerView) (before : Keeping D
   booted_done new after letters made is sent holds left later run =
       let core = is (record first_log { records = after.records }) refl in
       record {
-        step = λ told held store few.
-            let after_holds = holds told held in
+        step = λ observed held store few.
+            let after_holds = holds observed held in
             woken old store before.records known new after.records letters after.region.count made after_holds.count is sent few
             (few_records device after after_holds);
         runs = ap (λ (it : ServerView). it.running) core;
@@ -131,7 +131,7 @@ module _ {D : Type 0} (device : Ghosts D) (old : ServerView) (before : Keeping D
         side = ap (λ (it : ServerView). it.side) core;
         raised = made;
         holds = holds;
-        moments = λ told held. with_or_without device before.disk after.disk before.records (left told held);
+        moments = λ observed held. with_or_without device before.disk after.disk before.records (left observed held);
         same = tt;
         kept = λ no. absurd (cc);
         full = λ no. absurd (cc);

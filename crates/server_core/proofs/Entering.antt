@@ -96,13 +96,13 @@ module _ {D : Type 0} (device : Ghosts D) (records : List StateRecord) (old : Se
       → new.queue ≡ (drop 1 old.queue ++ follow_ups done) ++ jobs_by (here_in old).state (here_in old).me (next_known old.log records) (own_of old.side before)
       → IsStoreWork device records old new before after (Ok done.letters)
   applied_work new after made done entered by running voter queue = record {
-    work = λ told holds few_log.
-        entry_worked old (store_of before) records there new (store_of after) done by running voter (entered.own told) queue
-        (few_stored device after (entered.holds told holds)) few_log;
+    work = λ observed holds few_log.
+        entry_worked old (store_of before) records there new (store_of after) done by running voter (entered.own observed) queue
+        (few_stored device after (entered.holds observed holds)) few_log;
     life = (running, voter);
     keeps = entered.keeps;
     holds = entered.holds;
-    moments = λ told holds. left_as after (entered.moments told holds);
+    moments = λ observed holds. left_as after (entered.moments observed holds);
     still = λ no. absurd (cc);
     same = λ no. absurd (cc);
     kept = tt;
@@ -121,7 +121,7 @@ module _ {D : Type 0} (device : Ghosts D) (records : List StateRecord) (old : Se
     life = (running, voter);
     keeps = tt;
     holds = λ _ _. tt;
-    moments = λ told holds. left_as after (entered.moments told holds);
+    moments = λ observed holds. left_as after (entered.moments observed holds);
     still = λ no. absurd (cc);
     same = λ no. absurd (cc);
     kept = entered.kept;

@@ -15,7 +15,7 @@ module _ {D T U : Type 0} (device : Ghosts D) (onward : (a b c : D) → device.c
       record {
         same = look.same ∙ ap (λ (s : Holdings D). record s { disk = after.disk }) seen.same;
         kept = keeps_on device.size device.seen device.may_leave device.moment device.left_since before.disk mid.disk after.disk seen.kept look.kept;
-        holds = λ told holds. look.holds told (seen.holds told holds);
+        holds = λ observed holds. look.holds observed (seen.holds observed holds);
         cause = record {
           later = omega (arith, later, last);
           failed = λ no. let more : device.faults mid.disk < device.faults after.disk = look.cause.failed no in omega (arith, later, more);

@@ -45,10 +45,10 @@ module _ {D : Type 0} (device : Ghosts D) (records : List StateRecord) (old new 
       → device.observable → HoldsAt device before → length records ≤ journal_records
       → acted new (store_of after) records letters ≡ works (here_in old) (server_of old (store_of before) records) old.queue
   unfolding made
-  pair_worked done letters is running log queue same told holds few_log =
-      let by = is.done told in
+  pair_worked done letters is running log queue same observed holds few_log =
+      let by = is.done observed in
       let few_store : rule.own.store.records ≤ journal_records
-      = let few = few_stored device after (is.holds told holds) in
+      = let few = few_stored device after (is.holds observed holds) in
       let left : length after.log.records ≡ rule.own.store.records = ap (λ (own : PairState). own.store.records) by.own in
       omega (arith, few, left) in
       let jobs = queue ∙ ap (λ (js : List Job). drop 1 old.queue ++ js) by.jobs in
@@ -65,7 +65,7 @@ module _ {D : Type 0} (device : Ghosts D) (records : List StateRecord) (old new 
     life = (running, ap (λ (part : Part). part.voter) log);
     keeps = is.keeps;
     holds = is.holds;
-    moments = λ told holds. pair_moments (is.moments told holds);
+    moments = λ observed holds. pair_moments (is.moments observed holds);
     still = λ no. absurd (cc);
     same = λ no. absurd (cc);
     kept = tt;
@@ -81,7 +81,7 @@ module _ {D E : Type 0} (device : Ghosts D) (other : Ghosts E) (old new : Server
   full_store before after state full = record {
     count = inl full.count;
     same = (full.same.0, full.same.1, refl);
-    stops = λ told also holds kept. full.stops told holds;
+    stops = λ observed also holds kept. full.stops observed holds;
   }
 
   pub full_log : (store : Holdings D) (before after : Keeping E) → IsFullLog other (store_of store) old new before after
@@ -89,5 +89,5 @@ module _ {D E : Type 0} (device : Ghosts D) (other : Ghosts E) (old new : Server
   full_log store before after full = record {
     count = inr full.count;
     same = (full.same.0, refl, full.same.1);
-    stops = λ told also holds kept. full.stops also kept;
+    stops = λ observed also holds kept. full.stops also kept;
   }

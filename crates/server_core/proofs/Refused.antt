@@ -31,8 +31,8 @@ pub log_moments : {D : Type 0} (device : Ghosts D) (store : Store) (old : Server
     → IsLogDone device old.log new before after result (log_rule old.log old.side store before.records first old.log.voter)
     → device.observable → HoldsAt device before
     → LeavesOnly device.moment device.left_since before.disk after.disk (StandsForEither before.records (left_by_first old store before.records).log.records)
-log_moments device store old before after first there kind done told holds =
-    left_as device before.disk after.disk before.records _ _ (log_left old store before.records first there kind) (done.moments told holds)
+log_moments device store old before after first there kind done observed holds =
+    left_as device before.disk after.disk before.records _ _ (log_left old store before.records first there kind) (done.moments observed holds)
 
 module _ {D : Type 0} (device : Ghosts D) (store : Store) (old new : ServerView) (before after : Keeping D) (first : Job)
     (there : slice_get old.queue 0 ≡ Some first) (kind : kind_of first ≡ OfLog)
@@ -52,7 +52,7 @@ module _ {D : Type 0} (device : Ghosts D) (store : Store) (old new : ServerView)
       record {
         count = full.count;
         same = (same_core full.same.0, full.same.1);
-        stops = λ told holds. log_stops old store before.records first there kind (full_records device before holds full.count _ full.over);
+        stops = λ observed holds. log_stops old store before.records first there kind (full_records device before holds full.count _ full.over);
       }
 
   -- the job's refusal is told by that of the state store

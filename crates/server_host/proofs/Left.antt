@@ -7,7 +7,7 @@ use Rattle.petal_msg.specs.declared.letter.Actor.TheVariants as actor
 use Rattle.petal_msg.specs.declared.letter.Letter.{Letter}
 use Rattle.spec_paxos.specs.Kept.{known_at}
 use Rattle.spec_rules.proofs.Applied.{servers_after}
-use Rattle.spec_rules.specs.Boots.{awake, known_front, raised, stays, wakes}
+use Rattle.spec_rules.specs.Boots.{awake, known_prefix, raised, stays, wakes}
 use Rattle.spec_rules.specs.Entries.{before_known, known_run}
 use Rattle.spec_rules.specs.Jobs.{down_posts, here_of, is_overfull}
 use Rattle.spec_rules.specs.Log.{Log, rev_of, state_in}
@@ -124,19 +124,19 @@ module _ (servers n inc : ℕ) (log : Log) (own : PairState) (queue : List Job) 
   count : servers_of here_left.state ≡ servers_of here_now.state
   count = servers_after servers shown.log.applied ∙ sym (servers_after servers log.applied)
 
-  front : known_front (raised shown).log ≡ known_front (raised asleep).log
-  front = same_run (raised shown).log (raised asleep).log refl 1 (length (raised asleep).log.records)
+  prefix : known_prefix (raised shown).log ≡ known_prefix (raised asleep).log
+  prefix = same_run (raised shown).log (raised asleep).log refl 1 (length (raised asleep).log.records)
 
   booted_letters : (full : Bool) → (if full then stays shown else wakes here_left (awake (raised shown))).letters
       ≡ (if full then stays asleep else wakes here_now (awake (raised asleep))).letters
   booted_letters true = refl
   booted_letters false =
-      λ i. letters_of (record { from = actor.Server n; inc = inc + 1; rev = length (front i) }) 0 (down_posts n inc (count i))
+      λ i. letters_of (record { from = actor.Server n; inc = inc + 1; rev = length (prefix i) }) 0 (down_posts n inc (count i))
 
   booted_left : (full : Bool) → left_of (if full then stays shown else wakes here_left (awake (raised shown))).server
       ≡ left_of (if full then stays asleep else wakes here_now (awake (raised asleep))).server
   booted_left true = refl
-  booted_left false = λ i. record (awake (raised asleep)) { log = record (awake (raised asleep)).log { applied = front i } }
+  booted_left false = λ i. record (awake (raised asleep)) { log = record (awake (raised asleep)).log { applied = prefix i } }
 
   raised_left : (full : Bool) → left_of (if full then shown else raised shown) ≡ left_of (if full then asleep else raised asleep)
   raised_left true = refl

@@ -87,7 +87,7 @@ module _ {D : Type 0} (device : Ghosts D) where
     done = tt;
     voter = refl;
     holds = λ _ _. tt;
-    moments = λ told holds. left_as before.disk after.disk before.records made rule.log.records is (left told holds);
+    moments = λ observed holds. left_as before.disk after.disk before.records made rule.log.records is (left observed holds);
     kept = kept;
     same = λ out. (refl, memory (refusal_is _ refusal e NoMemory refl refused out));
     only = only;

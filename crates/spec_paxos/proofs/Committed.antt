@@ -161,11 +161,11 @@ commits_is old new entry (inr more) = elim (committed_as old entry) [
 
 -- ### Which records there are
 
-pub in_front : {X : Type 0} (x : X) (xs ys : List X) → In x xs → In x (xs ++ ys)
+pub in_prefix : {X : Type 0} (x : X) (xs ys : List X) → In x xs → In x (xs ++ ys)
 unfolding In
-in_front x [] ys h = absurd h
-in_front x (y ∷ xs) ys (inl is) = inl is
-in_front x (y ∷ xs) ys (inr later) = inr (in_front x xs ys later)
+in_prefix x [] ys h = absurd h
+in_prefix x (y ∷ xs) ys (inl is) = inl is
+in_prefix x (y ∷ xs) ys (inr later) = inr (in_prefix x xs ys later)
 
 pub in_last : {X : Type 0} (x : X) (xs : List X) → In x (xs ++ x ∷ [])
 unfolding In
@@ -185,7 +185,7 @@ in_either x y (z ∷ xs) (inr later) = elim (in_either x y xs later) [
 pub in_committed : (r : StateRecord) (records : List StateRecord) (entry : StateRecord) → In r records → In r (committed records entry)
 in_committed r records entry h = elim (committed_as records entry) [
   | Left nothing is ↦ subst (λ l. In r l) (sym is) h
-  | More something is ↦ subst (λ l. In r l) (sym is) (in_front r records (entry ∷ []) h)
+  | More something is ↦ subst (λ l. In r l) (sym is) (in_prefix r records (entry ∷ []) h)
 ]
 
 pub committed_in : (r : StateRecord) (records : List StateRecord) (entry : StateRecord) → In r (committed records entry) → In r records ⊎ (r ≡ entry)

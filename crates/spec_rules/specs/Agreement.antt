@@ -18,7 +18,7 @@ use Rattle.spec_rules.specs.Lists.{In as Among}
 use Rattle.spec_rules.specs.World.{World, devices}
 
 -- some server told that the command is chosen for the place
-pub record IsTold (p : schedule.World) (place : ℕ) (command : Command) : Type 0 where
+pub record IsAnnounced (p : schedule.World) (place : ℕ) (command : Command) : Type 0 where
   pub from : ℕ
   pub is : In (schedule.sent from (Chosen place command)) p.letters
 
@@ -55,9 +55,9 @@ pub record IsSeenAs (servers : ℕ) (w : World) (p : schedule.World) : Type 0 wh
       → In (schedule.vote s place ballot command) p.votes ↔ In (Accepted place ballot command) (devices w s)
   pub letters : (letter : Letter) (from : ℕ) (said : Pax) → Among letter w.sent → letter.from ≡ actor.Server from → letter.body ≡ body.Pax said
       → In (schedule.sent from said) p.letters
-  pub told : (s place : ℕ) (command : Command) → known_at (devices w s) place ≡ Some command → IsTold p place command
+  pub told : (s place : ℕ) (command : Command) → known_at (devices w s) place ≡ Some command → IsAnnounced p place command
   pub news : (letter : Letter) (after i : ℕ) (commands : List Command) (command : Command) → Among letter w.sent → letter.body ≡ body.News after commands
-      → slice_get commands i ≡ Some command → IsTold p (after + i + 1) command
+      → slice_get commands i ≡ Some command → IsAnnounced p (after + i + 1) command
 
 -- the events of a schedule that leave such a world
 pub record HasSchedule (servers : ℕ) (w : World) : Type 0 where

@@ -21,12 +21,12 @@ raised server =
     record server { life = record server.life { inc = inc }; log = commits server.log (Inc inc) }
 
 -- the entries that the device knows to be chosen, up to the first that it doesn't know
-abbrev pub known_front : Log → List Command
-known_front log = known_run log 1 (length log.records)
+abbrev pub known_prefix : Log → List Command
+known_prefix log = known_run log 1 (length log.records)
 
 -- its state device as it is, with the entries applied that are known there
 abbrev pub read_log : Log → Log
-read_log log = record first_log { records = log.records; applied = known_front log }
+read_log log = record first_log { records = log.records; applied = known_prefix log }
 
 -- it runs, with its devices as they are and nothing in memory
 abbrev pub awake : Server → Server

@@ -66,13 +66,13 @@ fn is_leave_before(leave: &Command, other: &Command) -> bool
 
 /// What stands before, and after it the rest of a list with this Leave in its place, once.
 fn with_leave_after(
-    front: Sequence<Command>,
+    prefix: Sequence<Command>,
     rest: &[Command],
     leave: &Command,
 ) -> Result<Sequence<Command>, NoMemory>
-    ensures { IfOk result (λ all. all ≡ front ++ rules.with_leave rest.now leave.now) }
+    ensures { IfOk result (λ all. all ≡ prefix ++ rules.with_leave rest.now leave.now) }
 {
-    let mut all = front;
+    let mut all = prefix;
     match rest.split_first() {
         None => {
             all.push(leave.copy())?;
@@ -93,10 +93,10 @@ fn with_leave_after(
 }
 
 /// These commands after others.
-fn with_all(front: Sequence<Command>, commands: &[Command]) -> Result<Sequence<Command>, NoMemory>
-    ensures { IfOk result (λ all. all ≡ front ++ commands.now) }
+fn with_all(prefix: Sequence<Command>, commands: &[Command]) -> Result<Sequence<Command>, NoMemory>
+    ensures { IfOk result (λ all. all ≡ prefix ++ commands.now) }
 {
-    let mut all = front;
+    let mut all = prefix;
     match commands.split_first() {
         None => Ok(all),
         Some((first, more)) => {
@@ -131,15 +131,15 @@ fn due(alloc: Global, state: &GlobalState, leaves: &[Command]) -> Result<Vec<Com
 /// The list with these Leaves in their places.
 fn with_leaves(
     alloc: Global,
-    front: Sequence<Command>,
+    prefix: Sequence<Command>,
     leaves: &[Command],
 ) -> Result<Sequence<Command>, NoMemory>
-    ensures { IfOk result (λ all. all ≡ fold rules.with_leave front leaves.now) }
+    ensures { IfOk result (λ all. all ≡ fold rules.with_leave prefix leaves.now) }
 {
     match leaves.split_first() {
-        None => Ok(front),
+        None => Ok(prefix),
         Some((first, more)) => {
-            let next = with_leave(alloc, front.as_slice(), first)?;
+            let next = with_leave(alloc, prefix.as_slice(), first)?;
             with_leaves(alloc, next, more)
         }
     }

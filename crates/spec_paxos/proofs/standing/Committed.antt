@@ -15,7 +15,7 @@ use Rattle.spec_paxos.specs.Kept.{empty_row, greater, promise_row, accept_row, c
 use Rattle.spec_paxos.specs.declared.record.Row.{Row}
 use Rattle.spec_paxos.specs.standing.Kept.{StateRecord, Inc, PromiseFrom, Accepted, Chosen, row_after, row_of, promised_at, accepted_at, known_at}
 use Rattle.spec_paxos.specs.standing.Kept.{inc_of, highest_after, promised_from, covering_after, AddsNothing, Commits, adds_nothing, committed}
-use Rattle.spec_paxos.proofs.Committed.{fold_last, in_front, in_last, in_either, row_is, row_same}
+use Rattle.spec_paxos.proofs.Committed.{fold_last, in_prefix, in_last, in_either, row_is, row_same}
 
 -- ### A commit adds its record, or nothing
 
@@ -59,7 +59,7 @@ commits_is old new entry (inr more) = elim (commits old entry) [
 pub in_committed : (x : StateRecord) (records : List StateRecord) (entry : StateRecord) → In x records → In x (committed records entry)
 in_committed x records entry h = elim (commits records entry) [
   | Left nothing is ↦ subst (λ l. In x l) (sym is) h
-  | More something is ↦ subst (λ l. In x l) (sym is) (in_front x records (entry ∷ []) h)
+  | More something is ↦ subst (λ l. In x l) (sym is) (in_prefix x records (entry ∷ []) h)
 ]
 
 pub committed_in : (x : StateRecord) (records : List StateRecord) (entry : StateRecord) → In x (committed records entry) → In x records ⊎ (x ≡ entry)

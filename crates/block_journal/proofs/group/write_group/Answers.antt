@@ -12,18 +12,18 @@ returns-clause-laid g c =
     let requires = c.requires in
     let end = c.piece_bytes-end.ensures in
     on_ok_weaker c.write_kept.result
-    (λ written told.
-    let whole = (g.met.D.Disk g.world.𝓛 g.world.𝓜 g.world.𝓡 ((λ s x. x), (λ x. x), (λ x. x), λ x. x)).whole c.args.disk.now told in
+    (λ written observed.
+    let whole = (g.met.D.Disk g.world.𝓛 g.world.𝓜 g.world.𝓡 ((λ s x. x), (λ x. x), (λ x. x), λ x. x)).whole c.args.disk.now observed in
     laid_whole c.args.at c.args.limit c.piece_bytes-end.result c.args.bodies.now _ _ c.lay_out.new.piece c.requires.some c.requires.room
     (omega (arith, whole, c.requires.region))
-    (omega (arith, c.lay_out.auto.piece, end.within, c.requires.few)) end.inside end.ends (written told) c.lay_out.ensures)
+    (omega (arith, c.lay_out.auto.piece, end.within, c.requires.few)) end.inside end.ends (written observed) c.lay_out.ensures)
     c.write_kept.ensures.written
 
 pub returns-clause-torn : goal.returns-clause-torn
-returns-clause-torn g c told =
+returns-clause-torn g c observed =
     let end = c.piece_bytes-end.ensures in
     torn_wider (c.args.at + 1) _ (c.args.at + 1) (64 * c.args.limit - 1) _ _ (omega arith)
-    (omega (arith, piece_within c.args.limit _ _ c.lay_out.new.piece c.requires.some c.requires.room end.inside end.ends)) (c.write_kept.ensures.torn told)
+    (omega (arith, piece_within c.args.limit _ _ c.lay_out.new.piece c.requires.some c.requires.room end.inside end.ends)) (c.write_kept.ensures.torn observed)
 
 pub returns-clause-crash : goal.returns-clause-crash
 returns-clause-crash g c =

@@ -14,8 +14,8 @@ loop-first-init g c =
     let low = c.args.at + 1 in
     record {
       within = omega arith;
-      laid = λ told. laid_none c.args.at 32768 _ (c.args.head.now ∷ g.B.Bodies.bodies c.args.bodies.now) (omega arith);
-      torn = λ told. torn_nothing low 2097151 _;
+      laid = λ observed. laid_none c.args.at 32768 _ (c.args.head.now ∷ g.B.Bodies.bodies c.args.bodies.now) (omega arith);
+      torn = λ observed. torn_nothing low 2097151 _;
       size = refl;
       crash = λ file left. (file, left, torn_nothing low 2097151 file);
       moments = started d.moment d.left_since c.args.disk.now (LeftByWrite low 2097151 (d.may_leave c.args.disk.now))
@@ -32,8 +32,8 @@ loop-first-preserved g c =
     let inv = c.loop-first.invariant in
     record {
       within = search rules;
-      laid = λ told. c.in_ok-write_piece.ensures.laid told (inv.laid told);
-      torn = λ told. torn_twice low 2097151 _ _ _ (inv.torn told) (c.write_piece.ensures.torn told);
+      laid = λ observed. c.in_ok-write_piece.ensures.laid observed (inv.laid observed);
+      torn = λ observed. torn_twice low 2097151 _ _ _ (inv.torn observed) (c.write_piece.ensures.torn observed);
       size = c.write_piece.ensures.size ∙ inv.size;
       crash = follows_more low 2097151 low 2097151 (omega arith) (omega arith) _ _ _ inv.crash c.write_piece.ensures.crash;
       moments = moments_more low 2097151 low 2097151 (omega arith) (omega arith) d.moment d.left_since _ _ _ _ _ inv.crash inv.moments

@@ -12,8 +12,8 @@ returns-clause-laid g c =
     let end = c.piece_bytes-end.ensures in
     let requires = c.requires in
     on_ok_weaker c.write_at.result
-    (λ written told laid.
-    let whole = (g.met.D.Disk g.world.𝓛 g.world.𝓜 g.world.𝓡 ((λ s x. x), (λ x. x), (λ x. x), λ x. x)).whole c.args.disk.now told in
+    (λ written observed laid.
+    let whole = (g.met.D.Disk g.world.𝓛 g.world.𝓜 g.world.𝓡 ((λ s x. x), (λ x. x), (λ x. x), λ x. x)).whole c.args.disk.now observed in
     laid_more c.args.at 32768 c.args.first c.args.records c.piece_bytes-end.result (c.args.head.now ∷ g.B.Bodies.bodies c.args.bodies.now) _ _
     c.lay_out_list.new.piece (record {
       some = c.requires.some;
@@ -23,12 +23,12 @@ returns-clause-laid g c =
       has = omega (arith, c.lay_out_list.auto.piece, end.within, c.requires.buffer);
       inside = λ lt. end.inside (omega (arith, lt));
       ends = λ last. end.ends (omega (arith, last, c.requires.some));
-      is = written told;
+      is = written observed;
     }) c.lay_out_list.ensures laid)
     c.write_at.ensures.written
 
 pub returns-clause-torn : goal.returns-clause-torn
-returns-clause-torn g c told =
+returns-clause-torn g c observed =
     let end = c.piece_bytes-end.ensures in
     torn_wider (c.args.at + 64 * c.args.first + 1) _ (c.args.at + 1) 2097151 _ _ (omega arith)
     (omega (
@@ -38,7 +38,7 @@ returns-clause-torn g c told =
       c.requires.few,
       piece_within (32768 - c.args.first) c.args.records _ c.lay_out_list.new.piece
           c.requires.some (omega (arith, c.requires.within, c.requires.few)) end.inside end.ends,
-    )) (c.write_at.ensures.torn told)
+    )) (c.write_at.ensures.torn observed)
 
 pub returns-clause-crash : goal.returns-clause-crash
 returns-clause-crash g c =

@@ -23,11 +23,11 @@ loop-cell-preserved g c =
     let seen = c.loop-cell.invariant.seen in
     record {
       seen = seen_then g.D.Disk law.stays law.goes_on first c.loop-cell.store c.with_awaited.new.store c.with_awaited.result seen c.with_awaited.ensures.look;
-      letters = λ told.
+      letters = λ observed.
           let same : store_of c.loop-cell.store ≡ store_of first = ap (λ (s : Holdings _). store_of s) seen.same in
           let f : Cell × Copying → List Post = λ row. copy_awaited here (own_of side first) row.0 row.1 (copy_stage (store_of first) row.0 row.1) in
-          let more = c.in_ok-letters.ensures.letters told side (f (cell, copy))
+          let more = c.in_ok-letters.ensures.letters observed side (f (cell, copy))
           (sym (ap (λ (s : Store). copy_awaited here (side_own side s) cell copy (copy_stage s cell copy)) same)) in
           next_letters (sender here) f c.loop-cell.letters c.in_ok-letters.letters _
-          (cell, copy) c.loop-cell.cell-iterator c.next.new.self c.in-Some.ensures.steps more (c.loop-cell.invariant.letters told);
+          (cell, copy) c.loop-cell.cell-iterator c.next.new.self c.in-Some.ensures.steps more (c.loop-cell.invariant.letters observed);
     }

@@ -16,11 +16,11 @@ returns-clause-change g c =
     let there = slot_is old.entries c.args.key order c.requires in
     record {
       done = on_ok c.drop_key.result _ _ _
-          (λ content records told. dropped_is old new c.args.key order (content told) c.drop_key.ensures.rest
+          (λ content records observed. dropped_is old new c.args.key order (content observed) c.drop_key.ensures.rest
           (ap length (rw there at records) ∙ length-append old.log.records (kind.Drop c.args.key ∷ [])))
           c.drop_key.ensures.content c.drop_key.ensures.committed.records;
       holds = c.drop_key.ensures.committed.holds;
-      moments = λ told holds. drop_moments g.D.Disk old new c.args.key order (c.drop_key.ensures.committed.any_moment told holds);
+      moments = λ observed holds. drop_moments g.D.Disk old new c.args.key order (c.drop_key.ensures.committed.any_moment observed holds);
       tickets = ap (λ (s : Holdings _). s.tickets) c.drop_key.ensures.rest;
       kept = c.drop_key.ensures.kept;
       errors = grind (arith, common_steps);

@@ -9,9 +9,9 @@ returns g c =
     record {
       done = grind (arith, common_steps);
       holds = c.mark.ensures.committed.holds;
-      moments = λ told holds.
+      moments = λ observed holds.
           mark_moments g.D.Disk only_now c.args.store.now c.mark.new.self c.args.kind c.args.cell c.mark.ensures.idle holds
-          (c.mark.ensures.committed.any_moment told holds);
+          (c.mark.ensures.committed.any_moment observed holds);
       tickets = grind (arith, common_steps);
       kept = c.mark.ensures.kept;
       errors = grind (arith, common_steps);

@@ -9,9 +9,9 @@ returns-clause-commit g c =
     record {
       done = grind (arith, common_steps);
       holds = c.settle_fresh.ensures.committed.holds;
-      moments = λ told holds.
+      moments = λ observed holds.
           settle_moments g.D.Disk only_now c.args.store.now c.settle_fresh.new.self c.settle_fresh.ensures.idle holds
-          (c.settle_fresh.ensures.committed.any_moment told holds);
+          (c.settle_fresh.ensures.committed.any_moment observed holds);
       tickets = grind (arith, common_steps);
       kept = c.settle_fresh.ensures.kept;
       errors = grind (arith, common_steps);

@@ -9,9 +9,9 @@ returns g c =
     record {
       done = grind (arith, common_steps);
       holds = c.unmark.ensures.committed.holds;
-      moments = λ told holds.
+      moments = λ observed holds.
           unmark_moments g.D.Disk only_now c.args.store.now c.unmark.new.self c.args.kind c.args.cell c.unmark.ensures.idle holds
-          (c.unmark.ensures.committed.any_moment told holds);
+          (c.unmark.ensures.committed.any_moment observed holds);
       tickets = grind (arith, common_steps);
       kept = c.unmark.ensures.kept;
       errors = grind (arith, common_steps);

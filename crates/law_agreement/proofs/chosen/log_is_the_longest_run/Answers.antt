@@ -1,5 +1,5 @@
-use Rattle.law_agreement.proofs.ChosenLogGrows.{log_tells, log_ends, log_has, front_of_log}
+use Rattle.law_agreement.proofs.ChosenLogGrows.{log_tells, log_ends, log_has, prefix_of_log}
 use Rattle.law_agreement.proofs.chosen.log_is_the_longest_run.Goals as goal
 
 pub returns : goal.returns
-returns c = record { tells = log_tells; ends = log_ends; has = log_has; front = front_of_log }
+returns c = record { tells = log_tells; ends = log_ends; has = log_has; prefix = prefix_of_log }

@@ -7,10 +7,10 @@ use Rattle.memory_server.proofs.Booting.{booted_on, failed_on}
 use Rattle.memory_server.proofs.boot.boot_blank.Goals as goal
 
 pub returns-in_ok-attempt-in-Ok : goal.returns-in_ok-attempt-in-Ok
-returns-in_ok-attempt-in-Ok g c = λ told kept.
+returns-in_ok-attempt-in-Ok g c = λ observed kept.
     let made = c.in-Ok.made in
     let law = g.met.D.Disk g.world.𝓛 g.world.𝓜 g.world.𝓡 ((λ s x. x), (λ x. x), (λ x. x), λ x. x) in
-    let booted = c.in_ok-attempt-in-Ok.ensures told (c.in-Ok.ensures.holds told) kept in
+    let booted = c.in_ok-attempt-in-Ok.ensures observed (c.in-Ok.ensures.holds observed) kept in
     booted_on g.D.Disk c.args.core.now c.args.store.now c.args.state.now c.args.disk kept made
     _ _ _ (ap store_of c.in-Ok.ensures.ok ∙ ap blank_store c.slots.ensures)
     c.in-Ok.ensures.later
@@ -18,7 +18,7 @@ returns-in_ok-attempt-in-Ok g c = λ told kept.
     booted
 
 pub returns-in-Err-default-Failed : goal.returns-in-Err-default-Failed
-returns-in-Err-default-Failed g c = λ told kept.
+returns-in-Err-default-Failed g c = λ observed kept.
     let failed = c.in-Err-default-Failed in
     let law = g.met.D.Disk g.world.𝓛 g.world.𝓜 g.world.𝓡 ((λ s x. x), (λ x. x), (λ x. x), λ x. x) in
     let room = subst (λ size. slot_start c.args.store.now.slots ≤ size) (sym failed.ensures.err_size) c.requires.room in

@@ -8,4 +8,4 @@ pub returns-in-None-clause-booted : goal.returns-in-None-clause-booted
 returns-in-None-clause-booted g c =
     let none = sym c.take.ensures.value ∙ c.in-None.is in
     rw (none, c.take.ensures.after)
-    (IfOk-weaker c.boot_again.result _ _ (λ attempt booted told holds kept. booted_own g.D.Disk (booted told (holds refl) kept)) c.boot_again.ensures)
+    (IfOk-weaker c.boot_again.result _ _ (λ attempt booted observed holds kept. booted_own g.D.Disk (booted observed (holds refl) kept)) c.boot_again.ensures)

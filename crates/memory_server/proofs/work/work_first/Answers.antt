@@ -13,38 +13,38 @@ use Rattle.memory_server.specs.declared.recovery.Counts.{Counts}
 use Rattle.memory_server.proofs.work.work_first.Goals as goal
 
 pub returns-in-Ok-Some : goal.returns-in-Ok-Some
-returns-in-Ok-Some g c = λ told.
+returns-in-Ok-Some g c = λ observed.
     let old : Mounted _ = record { core = c.args.core.now; store = c.args.store.now; state = c.args.state.now } in
     let new : Mounted _ = record { core = c.work.new.self; store = c.work.new.store; state = c.work.new.state } in
     let stands = c.requires.stands in
     let worked = c.in-Ok-Some.ensures in
     rw (c.done.ensures, c.in-Ok-Some.letters-is)
-    (work_done g.D.Disk told old stands new c.in-Ok-Some.letters ((rw c.in-Ok-Some.field-0-is at worked.work) told told stands.store stands.state)
-    worked.life.1 worked.keeps (worked.holds told stands.store) (worked.state_holds told stands.state)
+    (work_done g.D.Disk observed old stands new c.in-Ok-Some.letters ((rw c.in-Ok-Some.field-0-is at worked.work) observed observed stands.store stands.state)
+    worked.life.1 worked.keeps (worked.holds observed stands.store) (worked.state_holds observed stands.state)
     (record { run = worked.run; state_run = worked.state_run }))
 
 pub returns-in-Ok-None : goal.returns-in-Ok-None
-returns-in-Ok-None g c = λ told.
+returns-in-Ok-None g c = λ observed.
     let old : Mounted _ = record { core = c.args.core.now; store = c.args.store.now; state = c.args.state.now } in
     let new : Mounted _ = record { core = c.work.new.self; store = c.work.new.store; state = c.work.new.state } in
     let stands = c.requires.stands in
     let worked = c.in-Ok-None.ensures in
     rw (c.done-in-Ok-None.ensures, c.new.ensures)
-    (work_done g.D.Disk told old stands new []
-    (none_done g.D.Disk told old stands new ((rw c.in-Ok-None.field-0-is at worked.work) told told stands.store stands.state))
-    worked.life.1 worked.keeps (worked.holds told stands.store) (worked.state_holds told stands.state)
+    (work_done g.D.Disk observed old stands new []
+    (none_done g.D.Disk observed old stands new ((rw c.in-Ok-None.field-0-is at worked.work) observed observed stands.store stands.state))
+    worked.life.1 worked.keeps (worked.holds observed stands.store) (worked.state_holds observed stands.state)
     (record { run = worked.run; state_run = worked.state_run }))
 
 pub returns-in-Err-JournalFull : goal.returns-in-Err-JournalFull
-returns-in-Err-JournalFull g c = λ told.
+returns-in-Err-JournalFull g c = λ observed.
     let old : Mounted _ = record { core = c.args.core.now; store = c.args.store.now; state = c.args.state.now } in
     let worked = rw c.in-Err-JournalFull.field-0-is at c.in-Err-JournalFull.ensures in
     rw c.done-in-Err-JournalFull.ensures
-    (full_done g.D.Disk told old c.requires.stands c.work.new.self c.stop.new.self c.work.new.store c.work.new.state c.stop.result (worked.full refl)
+    (full_done g.D.Disk observed old c.requires.stands c.work.new.self c.stop.new.self c.work.new.store c.work.new.state c.stop.result (worked.full refl)
     c.stop.ensures.step c.stop.ensures.rest (record { run = worked.run; state_run = worked.state_run }))
 
 pub returns-in_ok-end-in-Err-Failed : goal.returns-in_ok-end-in-Err-Failed
-returns-in_ok-end-in-Err-Failed g c = λ told.
+returns-in_ok-end-in-Err-Failed g c = λ observed.
     let core = c.args.core.now in
     let store = c.args.store.now in
     let state = c.args.state.now in
@@ -54,8 +54,8 @@ returns-in_ok-end-in-Err-Failed g c = λ told.
     let will = shown_of (left_by_first core (store_of store) state.records) in
     let worked = rw c.in-Err-Failed.field-0-is at c.in-Err-Failed.ensures in
     let law = g.met.D.Disk g.world.𝓛 g.world.𝓜 g.world.𝓡 ((λ s x. x), (λ x. x), (λ x. x), λ x. x) in
-    let moments = worked.moments told stands.store in
-    let state_moments = worked.state_moments told stands.state in
+    let moments = worked.moments observed stands.store in
+    let state_moments = worked.state_moments observed stands.state in
     let stored : (x : List ℕ) → g.D.Disk.may_leave c.work.new.store.disk x → StandsAsEither was.store will.store x
     = λ x left. moments.each x (law.counts_now c.work.new.store.disk (g.D.Disk.moment store.disk) x moments.later left) in
     let recorded : (x : List ℕ) → g.D.Disk.may_leave c.work.new.state.disk x → StandsForEither was.records will.records x
@@ -67,13 +67,13 @@ returns-in_ok-end-in-Err-Failed g c = λ told.
     let reopened = c.in_ok-end-in-Err-Failed.ensures in
     let rest = c.stop-letters.ensures.rest in
     let off = ap (λ (it : ServerView). it.running) rest in
-    let held = reopened.holds was will told small stored in
-    let kept = reopened.state_holds was will told recorded in
+    let held = reopened.holds was will observed small stored in
+    let kept = reopened.state_holds was will observed recorded in
     let few = few_after stands c.reopen.new.store c.reopen.new.state held kept in
     rw c.failed.ensures (record {
       site = fault_site old c.stop-letters.new.self c.reopen.new.store c.reopen.new.state end off
           (ap (λ (it : ServerView). it.log.voter) rest ∙ worked.life.1)
-          (reopened.ends was will told small stored recorded (ap (λ (counts : Counts). counts.stored) c.of-before.ensures ∙ stands.store.count)
+          (reopened.ends was will observed small stored recorded (ap (λ (counts : Counts). counts.stored) c.of-before.ensures ∙ stands.store.count)
           (ap (λ (counts : Counts). counts.kept) c.of-before.ensures ∙ stands.state.count) (fault_commits old))
           few.0 few.1;
       sends = ap (λ (acted : Acted). acted.letters) (c.stop-letters.ensures.step (store_of store) state.records)

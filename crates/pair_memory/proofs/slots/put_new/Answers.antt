@@ -27,8 +27,8 @@ returns-in-Ok-clause-change g c =
       full = λ no. absurd (cc);
       full_rest = λ no. absurd (cc);
       holds = c.in-Ok.ensures.committed.holds;
-      moments = λ told holds. put_moments g.D.Disk mid c.put.new.self c.args.key c.args.version c.in-Some.ticket c.args.block.now
-          (rw c.block.ensures at (c.put.ensures.committed.any_moment told holds));
+      moments = λ observed holds. put_moments g.D.Disk mid c.put.new.self c.args.key c.args.version c.in-Some.ticket c.args.block.now
+          (rw c.block.ensures at (c.put.ensures.committed.any_moment observed holds));
       cause = record { later = c.put.ensures.committed.cause.later; failed = λ no. absurd (cc) };
       run = c.put.ensures.committed.run;
     }) _ (sym room)
@@ -52,8 +52,8 @@ returns-in-Err-clause-change g c =
       full = λ is. c.in-Err.ensures.full.0 (ap Err (err_is c.in-Err.error JournalFull is));
       full_rest = λ is. c.in-Err.ensures.full_rest (ap Err (err_is c.in-Err.error JournalFull is));
       holds = λ _ _. tt;
-      moments = λ told holds. put_moments g.D.Disk mid c.put.new.self c.args.key c.args.version c.in-Some.ticket c.args.block.now
-          (rw c.block.ensures at (c.put.ensures.committed.any_moment told holds));
+      moments = λ observed holds. put_moments g.D.Disk mid c.put.new.self c.args.key c.args.version c.in-Some.ticket c.args.block.now
+          (rw c.block.ensures at (c.put.ensures.committed.any_moment observed holds));
       cause = record {
         later = c.put.ensures.committed.cause.later;
         failed = λ is. c.in-Err.ensures.committed.cause.failed

@@ -4,17 +4,17 @@ use Rattle.pair_memory.proofs.Tickets.{spent_is}
 use Rattle.pair_memory.proofs.slots.spend.Goals as goal
 
 pub returns-in-Ok-clause-ok : goal.returns-in-Ok-clause-ok
-returns-in-Ok-clause-ok g c = λ told.
+returns-in-Ok-clause-ok g c = λ observed.
     spent_is c.args.store.now c.put.new.self c.args.key c.args.version c.in-Some.ticket c.args.block.now
-    (c.requires.out c.in-Some.ticket (sym c.in-Some.ensures.value)) (rw c.block.ensures at (c.in-Ok.ensures.content told)) c.put.ensures.rest
+    (c.requires.out c.in-Some.ticket (sym c.in-Some.ensures.value)) (rw c.block.ensures at (c.in-Ok.ensures.content observed)) c.put.ensures.rest
     (ap length c.in-Ok.ensures.committed.records ∙ length-append c.args.store.now.log.records _)
 
 pub returns-in-Ok-clause-moments : goal.returns-in-Ok-clause-moments
-returns-in-Ok-clause-moments g c = λ told holds.
+returns-in-Ok-clause-moments g c = λ observed holds.
     put_moments g.D.Disk c.args.store.now c.put.new.self c.args.key c.args.version c.in-Some.ticket c.args.block.now
-    (rw c.block.ensures at (c.put.ensures.committed.any_moment told holds))
+    (rw c.block.ensures at (c.put.ensures.committed.any_moment observed holds))
 
 pub returns-in-Err-clause-moments : goal.returns-in-Err-clause-moments
-returns-in-Err-clause-moments g c = λ told holds.
+returns-in-Err-clause-moments g c = λ observed holds.
     put_moments g.D.Disk c.args.store.now c.put.new.self c.args.key c.args.version c.in-Some.ticket c.args.block.now
-    (rw c.block.ensures at (c.put.ensures.committed.any_moment told holds))
+    (rw c.block.ensures at (c.put.ensures.committed.any_moment observed holds))

@@ -16,6 +16,6 @@ returns-in-Ok g c =
     let read = c.answer_read.ensures in
     let only_now = (g.met.D.Disk g.world.𝓛 g.world.𝓜 g.world.𝓡 ((λ s x. x), (λ x. x), (λ x. x), λ x. x)).only_now in
     after_read g.D.Disk only_now here side side old new same read.device read.holds read.run c.say.result _ _ read.cause.later
-    (λ told. told_is here (own_of side new) (own_of side old) c.args.client c.args.seq c.args.cell c.args.epoch c.in-Ok.reply c.said.result
-    (ap (λ store. own_of side store) same) may (c.in-Ok.ensures.reply told) c.said.ensures)
+    (λ observed. told_is here (own_of side new) (own_of side old) c.args.client c.args.seq c.args.cell c.args.epoch c.in-Ok.reply c.said.result
+    (ap (λ store. own_of side store) same) may (c.in-Ok.ensures.reply observed) c.said.ensures)
     c.say.ensures

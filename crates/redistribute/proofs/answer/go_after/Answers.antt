@@ -21,9 +21,9 @@ returns-in-Ok g c =
     let own = own_of side old in
     let only_now = (g.met.D.Disk g.world.𝓛 g.world.𝓜 g.world.𝓡 ((λ s x. x), (λ x. x), (λ x. x), λ x. x)).only_now in
     after_read g.D.Disk only_now here side c.note_filled.new.side old new look.same look.kept look.holds look.run c.note_filled.result _ _ look.cause.later
-    (λ told.
+    (λ observed.
     ap (λ (s : Holdings _). filled_with (own_of side s) row c.args.key (posts_of c.in-Ok.found)) look.same
     ∙ ap (λ (ps : List Post). filled_with own row c.args.key ps)
-    (c.in-Ok.ensures.letter told side ∙ ap (λ (k : Option Key). sends_key here.state own k) c.left_after-next.ensures)
+    (c.in-Ok.ensures.letter observed side ∙ ap (λ (k : Option Key). sends_key here.state own k) c.left_after-next.ensures)
     ∙ after_is here own row c.args.key)
     c.note_filled.ensures

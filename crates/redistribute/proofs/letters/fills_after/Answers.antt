@@ -24,14 +24,14 @@ loop-row-preserved g c =
     let is : at + 1 ≡ suc at = omega arith in
     let seen = c.loop-row.invariant.seen in
     let same : own_of side c.loop-row.store ≡ own_of side first = ap (λ (s : Holdings _). own_of side s) seen.same in
-    let letter = λ (told : g.D.Disk.observable).
-    c.in_ok-found.ensures.letter told side
+    let letter = λ (observed : g.D.Disk.observable).
+    c.in_ok-found.ensures.letter observed side
     ∙ ap (λ (k : Option Key). sends_key here.state (own_of side c.loop-row.store) k) c.fill_of-key.ensures
     ∙ ap (λ (own : PairState). sends_key here.state own (fill_of here.state here.me (get_or rows at no_row) own)) same in
     record {
       seen = seen_then g.D.Disk law.stays law.goes_on first c.loop-row.store c.fill_letter.new.store c.fill_letter.result seen c.fill_letter.ensures.look;
-      letters = λ told.
+      letters = λ observed.
           letters_more (sender here) f _ rows at (at + 1) no_row is c.loop-row-test.true c.loop-row.letters c.in_ok-letters.letters
-          (c.loop-row.invariant.letters told)
-          (c.in_ok-letters.ensures ∙ ap (λ (ps : List Post). c.loop-row.letters ++ letters_of (sender here) (length c.loop-row.letters) ps) (letter told));
+          (c.loop-row.invariant.letters observed)
+          (c.in_ok-letters.ensures ∙ ap (λ (ps : List Post). c.loop-row.letters ++ letters_of (sender here) (length c.loop-row.letters) ps) (letter observed));
     }

@@ -23,9 +23,9 @@ returns-clause-letters g c =
     let last = rw (c.new-here.ensures, c.number.ensures, c.inc.ensures, c.state.ensures) at c.fills_after.ensures.letters in
     let same : own_of it.side c.letters_after.new.store ≡ own = ap (λ (s : Holdings _). own_of it.side s) c.letters_after.ensures.same in
     rw (← c.parts.view_is)
-    (of_each _ _ (λ all is told.
-    letters_two (sender here) c.args.before copies all (copy_posts here own ++ page_posts here own) (fill_posts here own) (first told)
-    (is told ∙ ap (λ (o : PairState). copies ++ letters_of (sender here) (length copies) (fill_posts here o)) same)
+    (of_each _ _ (λ all is observed.
+    letters_two (sender here) c.args.before copies all (copy_posts here own ++ page_posts here own) (fill_posts here own) (first observed)
+    (is observed ∙ ap (λ (o : PairState). copies ++ letters_of (sender here) (length copies) (fill_posts here o)) same)
     ∙ ap (λ (posts : List Post). c.args.before ++ letters_of (sender here) (length c.args.before) posts) (sym (again_in here own may)))
     c.fills_after.result last)
 

@@ -19,9 +19,9 @@ returns-in-Ok g c =
       done = grind (arith, common_steps);
       voter = refl;
       holds = c.in-Ok.ensures.holds;
-      moments = λ told holds.
+      moments = λ observed holds.
           left_as g.D.Disk old.disk new.disk old.records (if open_now then committed old.records entry else old.records) _ (open_records log open_now entry)
-          (c.in-Ok.ensures.any_moment told holds);
+          (c.in-Ok.ensures.any_moment observed holds);
       kept = tt;
       same = λ no. absurd (cc);
       only = tt;

@@ -27,9 +27,9 @@ returns-in-Ok g c =
       });
       voter = rw c.begin-prepare.ensures.begun refl;
       holds = search rules;
-      moments = λ told holds.
+      moments = λ observed holds.
           left_as g.D.Disk old.disk new.disk old.records (committed old.records entry) _ (records_are part old.records place round want next)
-          (rw c.me.ensures at (c.in-Ok.ensures.any_moment told holds));
+          (rw c.me.ensures at (c.in-Ok.ensures.any_moment observed holds));
       kept = tt;
       same = λ no. absurd (cc);
       only = tt;

@@ -12,8 +12,8 @@ pub returns-clause-holds : goal.returns-clause-holds
 returns-clause-holds g c records =
     let d = g.D.Disk in
     let only : d.observable → Only (d.seen c.has_header.new.disk) (d.may_leave c.has_header.new.disk) = search rules in
-    if_ok_then c.read_journal.result (c.read_journal.ensures.holds records) (λ o holds told stands.
-    holds told (only told) (subst (λ (file : List ℕ). StandsFor file records) (sym c.has_header.ensures.device.same_seen) stands))
+    if_ok_then c.read_journal.result (c.read_journal.ensures.holds records) (λ o holds observed stands.
+    holds observed (only observed) (subst (λ (file : List ℕ). StandsFor file records) (sym c.has_header.ensures.device.same_seen) stands))
 
 pub returns-clause-device : goal.returns-clause-device
 returns-clause-device g c =

@@ -10,8 +10,8 @@ returns-in_err-write_kept-clause-any_moment g c =
     (rw c.head_body.ensures at c.write_kept.ensures.any_moment)
 
 pub returns-in_err-write_kept-clause-outside : goal.returns-in_err-write_kept-clause-outside
-returns-in_err-write_kept-clause-outside g c told =
-    torn_more c.args.base 4194304 (c.args.base + 1) 63 (omega arith) (omega arith) _ _ _ (c.clear.ensures.torn told) ((rw c.head_body.ensures at c.write_kept.ensures.torn) told)
+returns-in_err-write_kept-clause-outside g c observed =
+    torn_more c.args.base 4194304 (c.args.base + 1) 63 (omega arith) (omega arith) _ _ _ (c.clear.ensures.torn observed) ((rw c.head_body.ensures at c.write_kept.ensures.torn) observed)
 
 pub returns-in_err-write_kept-2-clause-any_moment : goal.returns-in_err-write_kept-2-clause-any_moment
 returns-in_err-write_kept-2-clause-any_moment g c =
@@ -24,8 +24,8 @@ returns-in_err-write_kept-2-clause-any_moment g c =
     c.write_kept-2.ensures.any_moment
 
 pub returns-in_err-write_kept-2-clause-outside : goal.returns-in_err-write_kept-2-clause-outside
-returns-in_err-write_kept-2-clause-outside g c told =
-    torn_more c.args.base 4194304 c.args.base 1 (omega arith) (omega arith) _ _ _ (torn_more c.args.base 4194304 (c.args.base + 1) 63 (omega arith) (omega arith) _ _ _ (c.clear.ensures.torn told) ((rw c.head_body.ensures at c.write_kept.ensures.torn) told)) (c.write_kept-2.ensures.torn told)
+returns-in_err-write_kept-2-clause-outside g c observed =
+    torn_more c.args.base 4194304 c.args.base 1 (omega arith) (omega arith) _ _ _ (torn_more c.args.base 4194304 (c.args.base + 1) 63 (omega arith) (omega arith) _ _ _ (c.clear.ensures.torn observed) ((rw c.head_body.ensures at c.write_kept.ensures.torn) observed)) (c.write_kept-2.ensures.torn observed)
 
 pub returns-clause-any_moment : goal.returns-clause-any_moment
 returns-clause-any_moment g c =
@@ -38,13 +38,13 @@ returns-clause-any_moment g c =
     c.write_kept-2.ensures.any_moment
 
 pub returns-clause-outside : goal.returns-clause-outside
-returns-clause-outside g c told =
-    torn_more c.args.base 4194304 c.args.base 1 (omega arith) (omega arith) _ _ _ (torn_more c.args.base 4194304 (c.args.base + 1) 63 (omega arith) (omega arith) _ _ _ (c.clear.ensures.torn told) ((rw c.head_body.ensures at c.write_kept.ensures.torn) told)) (c.write_kept-2.ensures.torn told)
+returns-clause-outside g c observed =
+    torn_more c.args.base 4194304 c.args.base 1 (omega arith) (omega arith) _ _ _ (torn_more c.args.base 4194304 (c.args.base + 1) 63 (omega arith) (omega arith) _ _ _ (c.clear.ensures.torn observed) ((rw c.head_body.ensures at c.write_kept.ensures.torn) observed)) (c.write_kept-2.ensures.torn observed)
 
 pub returns-clause-stored : goal.returns-clause-stored
-returns-clause-stored g c told =
-    let whole = (g.met.D.Disk g.world.𝓛 g.world.𝓜 g.world.𝓡 ((λ s x. x), (λ x. x), (λ x. x), λ x. x)).whole c.args.disk.now told in
+returns-clause-stored g c observed =
+    let whole = (g.met.D.Disk g.world.𝓛 g.world.𝓜 g.world.𝓡 ((λ s x. x), (λ x. x), (λ x. x), λ x. x)).whole c.args.disk.now observed in
     formatted_stored c.args.base (g.D.Disk.seen c.clear.new.disk) (g.D.Disk.seen c.write_kept.new.disk) (g.D.Disk.seen c.write_kept-2.new.disk)
-    (c.in_ok-clear.ensures.zeros told) (omega (arith, whole, c.requires, (c.clear.ensures.torn told).size))
-    ((rw c.head_body.ensures at c.in_ok-write_kept.ensures.written) told)
-    (c.in_ok-write_kept-2.ensures.written told) _ (c.in_ok-write_kept-2.ensures.durable told)
+    (c.in_ok-clear.ensures.zeros observed) (omega (arith, whole, c.requires, (c.clear.ensures.torn observed).size))
+    ((rw c.head_body.ensures at c.in_ok-write_kept.ensures.written) observed)
+    (c.in_ok-write_kept-2.ensures.written observed) _ (c.in_ok-write_kept-2.ensures.durable observed)

@@ -5,62 +5,62 @@ use Rattle.data_device.proofs.Devices.{IsPlaced, headed_device, formatted_device
 use Rattle.data_device.proofs.record_log.RecordLog.format.Goals as goal
 
 pub returns-clause-logs : goal.returns-clause-logs
-returns-clause-logs g c told =
+returns-clause-logs g c observed =
     let j = c.in_ok-journal.journal in
     let at : IsPlaced j = record { base = ap (λ r. r.base) c.in_ok-journal.ensures.region; limit = ap (λ r. r.limit) c.in_ok-journal.ensures.region } in
-    let whole = (g.met.D.Disk g.world.𝓛 g.world.𝓜 g.world.𝓡 ((λ s x. x), (λ x. x), (λ x. x), λ x. x)).whole c.format_after_gate.new.disk told in
+    let whole = (g.met.D.Disk g.world.𝓛 g.world.𝓜 g.world.𝓡 ((λ s x. x), (λ x. x), (λ x. x), λ x. x)).whole c.format_after_gate.new.disk observed in
     let fits : 64 ≤ length (g.D.Disk.seen c.format_after_gate.new.disk) = omega (arith, whole, c.format_after_gate.ensures.size, c.requires) in
     let log : Log = record { fresh = c.args.said.fresh; records = c.new.result.items; region = j } in
     let stands = headed_device c.args.said.slots c.args.said.fresh j _ _
-    at fits (c.in_ok-journal.ensures.stored told).now ((rw c.spell.ensures at c.in_ok-write_header.ensures.written) told) in
+    at fits (c.in_ok-journal.ensures.stored observed).now ((rw c.spell.ensures at c.in_ok-write_header.ensures.written) observed) in
     formatted_device c.args.said.slots log _ _ (ap (λ r. r.count) c.in_ok-journal.ensures.region) c.new.ensures stands
-    (c.in_ok-write_header.ensures.durable told)
+    (c.in_ok-write_header.ensures.durable observed)
 
 pub returns-in_err-journal-clause-any_moment : goal.returns-in_err-journal-clause-any_moment
-returns-in_err-journal-clause-any_moment g c told =
-    weaker g.D.Disk.moment g.D.Disk.left_since _ _ _ _ (c.format_after_gate.ensures.any_moment told)
+returns-in_err-journal-clause-any_moment g c observed =
+    weaker g.D.Disk.moment g.D.Disk.left_since _ _ _ _ (c.format_after_gate.ensures.any_moment observed)
     (left_by_clearing _ (g.D.Disk.size c.args.disk.now) c.args.said.slots c.args.said.fresh)
 
 pub returns-in_err-journal-clause-either : goal.returns-in_err-journal-clause-either
-returns-in_err-journal-clause-either g c told = left_by_clearing (λ (file : List ℕ). file ≡ g.D.Disk.seen c.args.disk.now)
-    (g.D.Disk.size c.args.disk.now) c.args.said.slots c.args.said.fresh _ (c.format_after_gate.ensures.either told)
+returns-in_err-journal-clause-either g c observed = left_by_clearing (λ (file : List ℕ). file ≡ g.D.Disk.seen c.args.disk.now)
+    (g.D.Disk.size c.args.disk.now) c.args.said.slots c.args.said.fresh _ (c.format_after_gate.ensures.either observed)
 
 pub returns-in_err-write_header-clause-any_moment : goal.returns-in_err-write_header-clause-any_moment
-returns-in_err-write_header-clause-any_moment g c told =
+returns-in_err-write_header-clause-any_moment g c observed =
     let j = c.in_ok-journal.journal in
     let at : IsPlaced j = record { base = ap (λ r. r.base) c.in_ok-journal.ensures.region; limit = ap (λ r. r.limit) c.in_ok-journal.ensures.region } in
-    let whole = (g.met.D.Disk g.world.𝓛 g.world.𝓜 g.world.𝓡 ((λ s x. x), (λ x. x), (λ x. x), λ x. x)).whole c.format_after_gate.new.disk told in
+    let whole = (g.met.D.Disk g.world.𝓛 g.world.𝓜 g.world.𝓡 ((λ s x. x), (λ x. x), (λ x. x), λ x. x)).whole c.format_after_gate.new.disk observed in
     let fits : 64 ≤ length (g.D.Disk.seen c.format_after_gate.new.disk) = omega (arith, whole, c.format_after_gate.ensures.size, c.requires) in
     formatting g.D.Disk.moment g.D.Disk.left_since _ _ _ _ (g.D.Disk.size c.args.disk.now) c.args.said.slots c.args.said.fresh j _
-    at fits (c.in_ok-journal.ensures.stored told).now
-    (c.format_after_gate.ensures.any_moment told)
-    ((rw c.spell.ensures at c.write_header.ensures.any_moment) told (c.in_ok-journal.ensures.durable told) (c.in_ok-journal.ensures.shut told))
+    at fits (c.in_ok-journal.ensures.stored observed).now
+    (c.format_after_gate.ensures.any_moment observed)
+    ((rw c.spell.ensures at c.write_header.ensures.any_moment) observed (c.in_ok-journal.ensures.durable observed) (c.in_ok-journal.ensures.shut observed))
 
 pub returns-in_err-write_header-clause-either : goal.returns-in_err-write_header-clause-either
-returns-in_err-write_header-clause-either g c told =
+returns-in_err-write_header-clause-either g c observed =
     let j = c.in_ok-journal.journal in
     let at : IsPlaced j = record { base = ap (λ r. r.base) c.in_ok-journal.ensures.region; limit = ap (λ r. r.limit) c.in_ok-journal.ensures.region } in
-    let whole = (g.met.D.Disk g.world.𝓛 g.world.𝓜 g.world.𝓡 ((λ s x. x), (λ x. x), (λ x. x), λ x. x)).whole c.format_after_gate.new.disk told in
+    let whole = (g.met.D.Disk g.world.𝓛 g.world.𝓜 g.world.𝓡 ((λ s x. x), (λ x. x), (λ x. x), λ x. x)).whole c.format_after_gate.new.disk observed in
     let fits : 64 ≤ length (g.D.Disk.seen c.format_after_gate.new.disk) = omega (arith, whole, c.format_after_gate.ensures.size, c.requires) in
     left_by_header (λ (file : List ℕ). file ≡ g.D.Disk.seen c.args.disk.now) (g.D.Disk.size c.args.disk.now) c.args.said.slots c.args.said.fresh j _ _
-    at fits (c.in_ok-journal.ensures.stored told).now ((rw c.spell.ensures at c.write_header.ensures.either) told (c.in_ok-journal.ensures.shut told))
+    at fits (c.in_ok-journal.ensures.stored observed).now ((rw c.spell.ensures at c.write_header.ensures.either) observed (c.in_ok-journal.ensures.shut observed))
 
 pub returns-clause-any_moment : goal.returns-clause-any_moment
-returns-clause-any_moment g c told =
+returns-clause-any_moment g c observed =
     let j = c.in_ok-journal.journal in
     let at : IsPlaced j = record { base = ap (λ r. r.base) c.in_ok-journal.ensures.region; limit = ap (λ r. r.limit) c.in_ok-journal.ensures.region } in
-    let whole = (g.met.D.Disk g.world.𝓛 g.world.𝓜 g.world.𝓡 ((λ s x. x), (λ x. x), (λ x. x), λ x. x)).whole c.format_after_gate.new.disk told in
+    let whole = (g.met.D.Disk g.world.𝓛 g.world.𝓜 g.world.𝓡 ((λ s x. x), (λ x. x), (λ x. x), λ x. x)).whole c.format_after_gate.new.disk observed in
     let fits : 64 ≤ length (g.D.Disk.seen c.format_after_gate.new.disk) = omega (arith, whole, c.format_after_gate.ensures.size, c.requires) in
     formatting g.D.Disk.moment g.D.Disk.left_since _ _ _ _ (g.D.Disk.size c.args.disk.now) c.args.said.slots c.args.said.fresh j _
-    at fits (c.in_ok-journal.ensures.stored told).now
-    (c.format_after_gate.ensures.any_moment told)
-    ((rw c.spell.ensures at c.write_header.ensures.any_moment) told (c.in_ok-journal.ensures.durable told) (c.in_ok-journal.ensures.shut told))
+    at fits (c.in_ok-journal.ensures.stored observed).now
+    (c.format_after_gate.ensures.any_moment observed)
+    ((rw c.spell.ensures at c.write_header.ensures.any_moment) observed (c.in_ok-journal.ensures.durable observed) (c.in_ok-journal.ensures.shut observed))
 
 pub returns-clause-either : goal.returns-clause-either
-returns-clause-either g c told =
+returns-clause-either g c observed =
     let j = c.in_ok-journal.journal in
     let at : IsPlaced j = record { base = ap (λ r. r.base) c.in_ok-journal.ensures.region; limit = ap (λ r. r.limit) c.in_ok-journal.ensures.region } in
-    let whole = (g.met.D.Disk g.world.𝓛 g.world.𝓜 g.world.𝓡 ((λ s x. x), (λ x. x), (λ x. x), λ x. x)).whole c.format_after_gate.new.disk told in
+    let whole = (g.met.D.Disk g.world.𝓛 g.world.𝓜 g.world.𝓡 ((λ s x. x), (λ x. x), (λ x. x), λ x. x)).whole c.format_after_gate.new.disk observed in
     let fits : 64 ≤ length (g.D.Disk.seen c.format_after_gate.new.disk) = omega (arith, whole, c.format_after_gate.ensures.size, c.requires) in
     left_by_header (λ (file : List ℕ). file ≡ g.D.Disk.seen c.args.disk.now) (g.D.Disk.size c.args.disk.now) c.args.said.slots c.args.said.fresh j _ _
-    at fits (c.in_ok-journal.ensures.stored told).now ((rw c.spell.ensures at c.write_header.ensures.either) told (c.in_ok-journal.ensures.shut told))
+    at fits (c.in_ok-journal.ensures.stored observed).now ((rw c.spell.ensures at c.write_header.ensures.either) observed (c.in_ok-journal.ensures.shut observed))

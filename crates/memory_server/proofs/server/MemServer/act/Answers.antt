@@ -35,7 +35,7 @@ returns-in_ok-glance-in-Glance-clause-plans c = rw c.in-Glance.is (uses_none (λ
 pub returns-in-Tick-clause-plans : goal.returns-in-Tick-clause-plans
 returns-in-Tick-clause-plans c =
     rw c.in-Tick.is
-    (IfOk-weaker c.tick.result _ _ (λ taken told. uses_none (λ armed left same. same) (are_left c.args.self.now c.tick.new.self c.tick.ensures.run))
+    (IfOk-weaker c.tick.result _ _ (λ taken observed. uses_none (λ armed left same. same) (are_left c.args.self.now c.tick.new.self c.tick.ensures.run))
     c.tick.ensures.taken)
 
 pub returns-in_ok-stop-in-Stop-clause-plans : goal.returns-in_ok-stop-in-Stop-clause-plans

@@ -19,9 +19,9 @@ returns-in-Ok g c =
     let done = c.in-Ok.ensures.done in
     let left = c.in-Ok.ensures.left in
     record {
-      work = λ told holds few. rw (← c.self.view_is)
+      work = λ observed holds few. rw (← c.self.view_is)
           (log_worked old new store c.args.state.now.records c.does_log.new.state.records job c.in-Ok.done first is done.done left refl done.voter
-          (rw c.make_room.ensures.same at c.enter.ensures.jobs) few (few_records g.E.Disk c.does_log.new.state (done.holds told holds)));
+          (rw c.make_room.ensures.same at c.enter.ensures.jobs) few (few_records g.E.Disk c.does_log.new.state (done.holds observed holds)));
       life = rw (← c.self.view_is) (refl, done.voter);
       side = rw (← c.self.view_is) left.1;
       holds = done.holds;

@@ -11,7 +11,7 @@ pub returns-then-not-has_key-clause-ok : goal.returns-then-not-has_key-clause-ok
 returns-then-not-has_key-clause-ok g c = sym (not_there (listed c.args.self.now.entries) c.args.key (none_is _ (sym c.has_key.ensures ∙ c.if-not-has_key.true)))
 
 pub returns-then-not-has_key-clause-content : goal.returns-then-not-has_key-clause-content
-returns-then-not-has_key-clause-content g c told = sym (not_held c.args.self.now.entries c.args.key (none_is _ (sym c.has_key.ensures ∙ c.if-not-has_key.true)))
+returns-then-not-has_key-clause-content g c observed = sym (not_held c.args.self.now.entries c.args.key (none_is _ (sym c.has_key.ensures ∙ c.if-not-has_key.true)))
 
 pub returns-in_err-commit-clause-listed : goal.returns-in_err-commit-clause-listed
 returns-in_err-commit-clause-listed g c = on_err c.from_residual.result
@@ -25,10 +25,10 @@ returns-clause-ok g c =
     rw (c.drop_key.ensures, ← c.self.view_is) (listed-held y (without_key es c.args.key) ∙ ap (λ (l : List Entry). without_key l c.args.key) (is_listed x es))
 
 pub returns-clause-content : goal.returns-clause-content
-returns-clause-content g c told =
+returns-clause-content g c observed =
     let x = g.D.Disk.seen c.self.inside.disk in
     let es = c.self.inside.ledger.entries in
-    rw (c.drop_key.ensures, c.commit.ensures.contents told (without_key es c.args.key), ← c.self.view_is) (map-without x es c.args.key)
+    rw (c.drop_key.ensures, c.commit.ensures.contents observed (without_key es c.args.key), ← c.self.view_is) (map-without x es c.args.key)
 
 pub returns-in_err-commit-clause-committed : goal.returns-in_err-commit-clause-committed
 returns-in_err-commit-clause-committed g c =
@@ -36,8 +36,8 @@ returns-in_err-commit-clause-committed g c =
       records = grind (arith, common_steps);
       unrecorded = grind (arith, common_steps);
       holds = grind (arith, common_steps);
-      either = λ told. rw (← c.self.view_is) (λ h. c.commit.ensures.either told c.self.inside.ledger.slots _ h);
-      any_moment = λ told. rw (← c.self.view_is) (λ h. c.commit.ensures.any_moment told c.self.inside.ledger.slots _ h);
+      either = λ observed. rw (← c.self.view_is) (λ h. c.commit.ensures.either observed c.self.inside.ledger.slots _ h);
+      any_moment = λ observed. rw (← c.self.view_is) (λ h. c.commit.ensures.any_moment observed c.self.inside.ledger.slots _ h);
       cause = grind (arith, common_steps);
       run = grind (arith, common_steps);
     }
@@ -49,10 +49,10 @@ returns-clause-committed g c =
     record {
       records = grind (arith, common_steps);
       unrecorded = grind (arith, common_steps);
-      holds = λ told. rw (← c.self.view_is, c.drop_key.ensures, c.commit.ensures.contents told (without_key es c.args.key) ∙ map-without x es c.args.key)
-          (λ h. c.in_ok-commit.ensures.keeps told c.self.inside.ledger.slots _ h);
-      either = λ told. rw (← c.self.view_is) (λ h. c.commit.ensures.either told c.self.inside.ledger.slots _ h);
-      any_moment = λ told. rw (← c.self.view_is) (λ h. c.commit.ensures.any_moment told c.self.inside.ledger.slots _ h);
+      holds = λ observed. rw (← c.self.view_is, c.drop_key.ensures, c.commit.ensures.contents observed (without_key es c.args.key) ∙ map-without x es c.args.key)
+          (λ h. c.in_ok-commit.ensures.keeps observed c.self.inside.ledger.slots _ h);
+      either = λ observed. rw (← c.self.view_is) (λ h. c.commit.ensures.either observed c.self.inside.ledger.slots _ h);
+      any_moment = λ observed. rw (← c.self.view_is) (λ h. c.commit.ensures.any_moment observed c.self.inside.ledger.slots _ h);
       cause = grind (arith, common_steps);
       run = grind (arith, common_steps);
     }

@@ -18,15 +18,15 @@ returns-in-Ok-clause-put g c =
     ∙ ap (λ (l : List Entry). placed key_of l e) (is_listed (g.D.Disk.seen c.self.inside.disk) es))
 
 pub returns-in-Ok-clause-content : goal.returns-in-Ok-clause-content
-returns-in-Ok-clause-content g c told =
+returns-in-Ok-clause-content g c observed =
     let own = c.self.inside in
     let es = own.ledger.entries in
     let slot = c.args.ticket in
     let e : Entry = record { key = c.args.key; slot = slot; version = c.args.version } in
     let has : Contains own.ledger.tickets slot = rw (← c.self.view_is) at c.requires in
     let apart = of-all (λ (s : ℕ). All (λ (e : Entry). e.slot ≢ s) es) own.ledger.tickets slot c.slots.ensures.apart has in
-    let contents = rw c.slot.ensures at c.commit_put.ensures.contents told es in
-    let content = rw c.slot.ensures at c.in-Ok.ensures.content told in
+    let contents = rw c.slot.ensures at c.commit_put.ensures.contents observed es in
+    let content = rw c.slot.ensures at c.in-Ok.ensures.content observed in
     rw (c.settle.ensures, ← c.self.view_is)
     (put_shown (g.D.Disk.seen own.disk) (g.D.Disk.seen c.commit_put.new.disk) es e c.args.block.now (contents apart) content)
 
@@ -45,13 +45,13 @@ returns-in-Ok-clause-committed g c =
     record {
       records = grind (arith, common_steps);
       unrecorded = grind (arith, common_steps);
-      holds = λ told.
-          let contents = rw c.slot.ensures at c.commit_put.ensures.contents told es in
-          let content = rw c.slot.ensures at c.in-Ok.ensures.content told in
+      holds = λ observed.
+          let contents = rw c.slot.ensures at c.commit_put.ensures.contents observed es in
+          let content = rw c.slot.ensures at c.in-Ok.ensures.content observed in
           let shown = put_shown (g.D.Disk.seen own.disk) (g.D.Disk.seen c.commit_put.new.disk) es e c.args.block.now (contents apart) content in
-          rw (c.settle.ensures, ← c.self.view_is, shown) (λ h. (rw (c.slot.ensures, c.slots.ensures.count) at c.in-Ok.ensures.keeps told) _ h free);
-      either = λ told. rw (← c.self.view_is) (λ h. (rw (c.slot.ensures, c.slots.ensures.count) at c.commit_put.ensures.either told) _ h free);
-      any_moment = λ told. rw (← c.self.view_is) (λ h. (rw (c.slot.ensures, c.slots.ensures.count) at c.commit_put.ensures.any_moment told) _ h free);
+          rw (c.settle.ensures, ← c.self.view_is, shown) (λ h. (rw (c.slot.ensures, c.slots.ensures.count) at c.in-Ok.ensures.keeps observed) _ h free);
+      either = λ observed. rw (← c.self.view_is) (λ h. (rw (c.slot.ensures, c.slots.ensures.count) at c.commit_put.ensures.either observed) _ h free);
+      any_moment = λ observed. rw (← c.self.view_is) (λ h. (rw (c.slot.ensures, c.slots.ensures.count) at c.commit_put.ensures.any_moment observed) _ h free);
       cause = grind (arith, common_steps);
       run = grind (arith, common_steps);
     }
@@ -68,8 +68,8 @@ returns-in-Err-clause-committed g c =
       records = grind (arith, common_steps);
       unrecorded = grind (arith, common_steps);
       holds = grind (arith, common_steps);
-      either = λ told. rw (← c.self.view_is) (λ h. (rw (c.slot.ensures, c.slots.ensures.count) at c.commit_put.ensures.either told) _ h free);
-      any_moment = λ told. rw (← c.self.view_is) (λ h. (rw (c.slot.ensures, c.slots.ensures.count) at c.commit_put.ensures.any_moment told) _ h free);
+      either = λ observed. rw (← c.self.view_is) (λ h. (rw (c.slot.ensures, c.slots.ensures.count) at c.commit_put.ensures.either observed) _ h free);
+      any_moment = λ observed. rw (← c.self.view_is) (λ h. (rw (c.slot.ensures, c.slots.ensures.count) at c.commit_put.ensures.any_moment observed) _ h free);
       cause = grind (arith, common_steps);
       run = grind (arith, common_steps);
     }

@@ -11,10 +11,10 @@ returns-in_ok-read-in-Some-clause-found g c =
     c.self.inside.ledger.entries (Some c.in-Some.entry) (sym c.in-Some.is ∙ c.lookup-found.ensures.found))
 
 pub returns-in_ok-read-in-Some-clause-content : goal.returns-in_ok-read-in-Some-clause-content
-returns-in_ok-read-in-Some-clause-content g c told =
+returns-in_ok-read-in-Some-clause-content g c observed =
     let file = g.D.Disk.seen c.self.inside.disk in
     let bytes : c.read.new.into ≡ part file (slot_start c.in-Some.entry.slot) block_bytes =
-    rw c.slots.ensures.base at c.in_ok-read-in-Some.ensures.bytes told in
+    rw c.slots.ensures.base at c.in_ok-read-in-Some.ensures.bytes observed in
     rw (← c.self.view_is) (bytes ∙ found-content file (record { map = c.args.map; block = c.args.block; epoch = c.args.epoch }) c.self.inside.ledger.entries
     (Some c.in-Some.entry) (sym c.in-Some.is ∙ c.lookup-found.ensures.found))
 
@@ -24,7 +24,7 @@ returns-in-None-clause-found g c =
     c.self.inside.ledger.entries c.lookup-found.result c.lookup-found.ensures.found)
 
 pub returns-in-None-clause-content : goal.returns-in-None-clause-content
-returns-in-None-clause-content g c told =
+returns-in-None-clause-content g c observed =
     let file = g.D.Disk.seen c.self.inside.disk in
     rw (← c.self.view_is) (c.write_zeros.ensures ∙ found-content file (record { map = c.args.map; block = c.args.block; epoch = c.args.epoch })
     c.self.inside.ledger.entries None (sym c.in-None.is ∙ c.lookup-found.ensures.found))

@@ -15,8 +15,8 @@ returns-in_err-commit-clause-committed g c =
       records = grind (arith, common_steps);
       unrecorded = grind (arith, common_steps);
       holds = grind (arith, common_steps);
-      either = λ told. rw (← c.self.view_is) (λ h. c.commit.ensures.either told c.self.inside.ledger.slots _ h);
-      any_moment = λ told. rw (← c.self.view_is) (λ h. c.commit.ensures.any_moment told c.self.inside.ledger.slots _ h);
+      either = λ observed. rw (← c.self.view_is) (λ h. c.commit.ensures.either observed c.self.inside.ledger.slots _ h);
+      any_moment = λ observed. rw (← c.self.view_is) (λ h. c.commit.ensures.any_moment observed c.self.inside.ledger.slots _ h);
       cause = grind (arith, common_steps);
       run = grind (arith, common_steps);
     }
@@ -26,10 +26,10 @@ returns-clause-committed g c =
     record {
       records = grind (arith, common_steps);
       unrecorded = grind (arith, common_steps);
-      holds = λ told. rw (← c.self.view_is, c.commit.ensures.contents told c.self.inside.ledger.entries)
-          (λ h. c.in_ok-commit.ensures.keeps told c.self.inside.ledger.slots _ h);
-      either = λ told. rw (← c.self.view_is) (λ h. c.commit.ensures.either told c.self.inside.ledger.slots _ h);
-      any_moment = λ told. rw (← c.self.view_is) (λ h. c.commit.ensures.any_moment told c.self.inside.ledger.slots _ h);
+      holds = λ observed. rw (← c.self.view_is, c.commit.ensures.contents observed c.self.inside.ledger.entries)
+          (λ h. c.in_ok-commit.ensures.keeps observed c.self.inside.ledger.slots _ h);
+      either = λ observed. rw (← c.self.view_is) (λ h. c.commit.ensures.either observed c.self.inside.ledger.slots _ h);
+      any_moment = λ observed. rw (← c.self.view_is) (λ h. c.commit.ensures.any_moment observed c.self.inside.ledger.slots _ h);
       cause = grind (arith, common_steps);
       run = grind (arith, common_steps);
     }

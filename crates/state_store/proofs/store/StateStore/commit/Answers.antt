@@ -36,11 +36,11 @@ returns-clause-full g c is_full =
     (full.0, adds_something c.args.self.now.records c.args.entry.now c.args.place _ is (c.keeps.ensures.apart c.if-keeps.false), full.1)
 
 pub returns-clause-any_moment : goal.returns-clause-any_moment
-returns-clause-any_moment g c told holds =
+returns-clause-any_moment g c observed holds =
     let is : row_at c.self.inside.places c.args.place ≡ row_of c.args.self.now.records c.args.place = c.self.invariant.0 c.args.place
     ∙ ap (λ (s : Keeping g.row.D.Denot). row_of s.records c.args.place) c.self.view_is in
     let changes = adds_something c.args.self.now.records c.args.entry.now c.args.place _ is (c.keeps.ensures.apart c.if-keeps.false) in
     subst (λ (after : List StateRecord). LeavesOnly g.D.Disk.moment g.D.Disk.left_since c.args.self.now.disk c.add.new.self.disk
     (StandsForEither c.args.self.now.records after))
     (commits_is c.args.self.now.records (c.args.self.now.records ++ c.args.entry.now ∷ []) c.args.entry.now (inr (changes, refl)))
-    (one_more g.D.Disk c.args.self.now.disk c.add.new.self.disk c.args.self.now.records c.args.entry.now (c.add.ensures.any_moment told holds))
+    (one_more g.D.Disk c.args.self.now.disk c.add.new.self.disk c.args.self.now.records c.args.entry.now (c.add.ensures.any_moment observed holds))
