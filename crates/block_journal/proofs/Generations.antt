@@ -17,7 +17,8 @@ head_once at one other file head head' =
     ∙ from_be_bytes-to_be_bytes_8 other head'.fits
 
 next_cases : (generation : ℕ)
-    → ((generation ≡ 18446744073709551615) × (next_generation generation ≡ 0)) ⊎ (¬ (generation ≡ 18446744073709551615) × (next_generation generation ≡ generation + 1))
+    → ((generation ≡ 18446744073709551615) × (next_generation generation ≡ 0))
+    ⊎ (¬ (generation ≡ 18446744073709551615) × (next_generation generation ≡ generation + 1))
 next_cases generation = elim (cases_eq generation 18446744073709551615) [
   | inl is ↦ inl (is, ap (λ (b : Bool). if b then 0 else generation + 1) (eq-eqb generation 18446744073709551615 is))
   | inr other ↦ inr (other, ap (λ (b : Bool). if b then 0 else generation + 1) (ne_eqb generation 18446744073709551615 other))

@@ -26,12 +26,13 @@ gate_written file at gate inside =
 pub moments_of_none : {D : Type 0} (moment : D → ℕ) (left_since : D → ℕ → List ℕ → Type 0) (state : HalvesState) (olds news : List (List ℕ)) (d0 : D)
     (leave0 : List ℕ → Type 0) → ((c : List ℕ) → leave0 c → Shows state c olds) → ((c : List ℕ) → left_since d0 (moment d0) c → leave0 c)
     → LeavesOnly moment left_since d0 d0 (LeftByChange state.base leave0 olds news)
-moments_of_none moment left_since state olds news d0 leave0 shows only_now = started moment left_since d0 (LeftByChange state.base leave0 olds news) (λ c left. record {
-  list = inl (state.active, (state.generation, (shows c (only_now c left)).list));
-  from = c;
-  from_left = only_now c left;
-  outside = torn_nothing state.base 4194304 c;
-})
+moments_of_none moment left_since state olds news d0 leave0 shows only_now =
+    started moment left_since d0 (LeftByChange state.base leave0 olds news) (λ c left. record {
+      list = inl (state.active, (state.generation, (shows c (only_now c left)).list));
+      from = c;
+      from_left = only_now c left;
+      outside = torn_nothing state.base 4194304 c;
+    })
 
 -- both writes stay in the halves
 pub group_torn : (base : ℕ) (active : Half) (count more : ℕ) → 0 < more → count + more ≤ 32767 → (x y : List ℕ)
@@ -105,7 +106,8 @@ module _ (state : HalvesState) (olds bodies : List (List ℕ)) (room : GroupRoom
       let torn : Torn gate 1 x file = torn_written x gate (165 ∷ []) inside in
       subst (λ (f : List ℕ). Shows after_group f (olds ++ bodies)) (sym is)
       (shows_within state (state.count + length bodies) gate 1 x file olds (olds ++ bodies) (omega arith) (omega (arith, room.fits, room.some)) torn shows
-      (group_opened list 32767 state.count x file olds bodies (sym room.count) shows.list.counts room.some room.fits torn laid (gate_written x gate 165 inside)))
+      (group_opened list 32767 state.count x file olds bodies (sym room.count) shows.list.counts room.some room.fits torn laid
+      (gate_written x gate 165 inside)))
 
   pub group_stored : (seen : List ℕ) (leave : List ℕ → Type 0) → Only seen leave → Shows after_group seen (olds ++ bodies)
       → Stored after_group seen leave (olds ++ bodies)

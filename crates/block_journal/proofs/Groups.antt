@@ -1,7 +1,8 @@
 -- What a group leaves where it is written.
 use Rattle.std.proofs.Common.{◌≡◌, ◌⊎◌, inl, inr, ℕ, ◌+◌, ◌-◌, ◌*◌, ◌<◌, ◌≤◌, List, [], ◌∷◌, ◌++◌, length, take, drop}
 use Rattle.std.proofs.Common.{get_or, sym, ◌∙◌, ap, subst, arith, length-append}
-use Rattle.std.proofs.lemmas.List.{get_or_append_left, get_or-append_right, get_or-take, length-take, take_at, drop_at, take-append-le, length-take-le, drop-take}
+use Rattle.std.proofs.lemmas.List.{get_or_append_left, get_or-append_right, get_or-take, length-take, take_at, drop_at}
+use Rattle.std.proofs.lemmas.List.{take-append-le, length-take-le, drop-take}
 use Rattle.std.proofs.lemmas.Bool.{cases_eq}
 use Rattle.petal_disk.specs.Disk.{Torn, written, part}
 use Rattle.petal_disk.proofs.Tearing.{torn_wider, torn_written, part_written}
@@ -250,7 +251,8 @@ laid_counts at limit file bodies few gate laid = record {
 }
 
 -- the first gate is none of what was laid
-pub laid_still : (at limit k : ℕ) (x y : List ℕ) (bodies : List (List ℕ)) → 0 < length bodies → Torn at 1 x y → Laid at limit k x bodies → Laid at limit k y bodies
+pub laid_still : (at limit k : ℕ) (x y : List ℕ) (bodies : List (List ℕ)) → 0 < length bodies → Torn at 1 x y → Laid at limit k x bodies
+    → Laid at limit k y bodies
 laid_still at limit k x y bodies some torn laid = record {
   few = laid.few;
   bodies_there = λ i lt. same_part at 1 (at + 64 * i + 1) 63 x y torn (inr (omega arith)) ∙ laid.bodies_there i lt;

@@ -32,7 +32,8 @@ head_torn p n at generation x y torn away head = record {
 }
 
 -- a range within a half
-module _ (base : ℕ) (half : Half) (p n : ℕ) (x y : List ℕ) (torn : Torn p n x y) (from : half_start base half ≤ p) (to : p + n ≤ half_start base half + 2097152) where
+module _ (base : ℕ) (half : Half) (p n : ℕ) (x y : List ℕ) (torn : Torn p n x y) (from : half_start base half ≤ p)
+    (to : p + n ≤ half_start base half + 2097152) where
   -- leaves the other half
   pub beside : (k m : ℕ) → k + m ≤ 2097152 → Outside p n (half_start base (other_half half) + k) m
   beside k m le = elim (halves_apart base half) [ inl before ↦ inr (omega (arith, before, to, le)) | inr following ↦ inl (omega (arith, following, from, le)) ]
@@ -41,7 +42,8 @@ module _ (base : ℕ) (half : Half) (p n : ℕ) (x y : List ℕ) (torn : Torn p 
   head_beside generation = head_torn p n (half_start base (other_half half)) generation x y torn
       (elim (halves_apart base half) [ inl before ↦ inr (omega (arith, before, to)) | inr following ↦ inl (omega (arith, following, from)) ])
 
-  pub head_beside_back : (generation : ℕ) → HeadCounts (half_start base (other_half half)) generation y → HeadCounts (half_start base (other_half half)) generation x
+  pub head_beside_back : (generation : ℕ) → HeadCounts (half_start base (other_half half)) generation y
+      → HeadCounts (half_start base (other_half half)) generation x
   head_beside_back generation = head_torn p n (half_start base (other_half half)) generation y x (torn_back p n x y torn)
       (elim (halves_apart base half) [ inl before ↦ inr (omega (arith, before, to)) | inr following ↦ inl (omega (arith, following, from)) ])
 

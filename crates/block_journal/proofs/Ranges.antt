@@ -5,7 +5,8 @@ use Rattle.petal_disk.proofs.Moments.{joined}
 use Rattle.petal_disk.proofs.Tearing.{torn_wider, torn_twice}
 
 -- what a write may leave is what any bytes in a wider range may leave
-pub left_wider : (at n low wide : ℕ) (leave : List ℕ → Type 0) → low ≤ at → at + n ≤ low + wide → (c : List ℕ) → LeftByWrite at n leave c → LeftByWrite low wide leave c
+pub left_wider : (at n low wide : ℕ) (leave : List ℕ → Type 0) → low ≤ at → at + n ≤ low + wide → (c : List ℕ) → LeftByWrite at n leave c
+    → LeftByWrite low wide leave c
 left_wider at n low wide leave le fits c left = (left.0, left.1, torn_wider at n low wide left.0 c le fits left.2)
 
 -- one write more within the range

@@ -19,7 +19,8 @@ use Rattle.block_journal.proofs.Halving.{half_from, half_to, halves_apart, head_
 use Rattle.block_journal.proofs.Slots.{Outside, same_byte, same_part}
 
 -- the records behind the first one count as a list of their own
-pub counts_tail : (at limit : ℕ) (file head : List ℕ) (bodies : List (List ℕ)) → Counts 64 at (limit + 1) file (head ∷ bodies) → Counts 64 (at + 64) limit file bodies
+pub counts_tail : (at limit : ℕ) (file head : List ℕ) (bodies : List (List ℕ)) → Counts 64 at (limit + 1) file (head ∷ bodies)
+    → Counts 64 (at + 64) limit file bodies
 counts_tail at limit file head bodies counts =
     let spot : (i : ℕ) → at + 64 + 64 * i ≡ at + 64 * suc i = λ i. omega arith in
     record {

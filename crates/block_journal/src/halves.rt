@@ -1,6 +1,7 @@
 //! A journal that turns: two halves, of which the later one counts.
 
-ghost use Rattle.std.specs.Prelude.{◌≡◌, ◌⊎◌, ◌≤◌, ◌<◌, ◌+◌, ◌-◌, ◌*◌, ◌++◌, ◌↔◌, [], ℕ, List, true, false, length, slice_index, OnOk, IfOk, IfSome, IfNone, IsErrOf};
+ghost use Rattle.std.specs.Prelude.{◌≡◌, ◌⊎◌, ◌≤◌, ◌<◌, ◌+◌, ◌-◌, ◌*◌, ◌++◌, ◌↔◌, [], ℕ, List, true, false, length};
+ghost use Rattle.std.specs.Prelude.{slice_index, OnOk, IfOk, IfSome, IfNone, IsErrOf};
 ghost use Rattle.petal_disk.specs.Disk.{Follows, LeavesOnly, LeftByWrite, Only, Torn, Within};
 ghost use Rattle.device_faults.specs.Faults.{HasCause};
 ghost use Rattle.block_journal.specs.Gate.{IsShut};
@@ -51,9 +52,11 @@ impl Model for Halves {
 
     ghost Value = { HalvesState };
 
-    ghost view = { λ halves. record { base = halves.base; active = halves.active; generation = halves.generation; count = halves.count; idle_open = halves.idle_open } };
+    ghost view = { λ halves.
+        record { base = halves.base; active = halves.active; generation = halves.generation; count = halves.count; idle_open = halves.idle_open } };
 
-    ghost invariant = { λ halves. ArePlaced (record { base = halves.base; active = halves.active; generation = halves.generation; count = halves.count; idle_open = halves.idle_open }) };
+    ghost invariant = { λ halves. ArePlaced
+        (record { base = halves.base; active = halves.active; generation = halves.generation; count = halves.count; idle_open = halves.idle_open }) };
 }
 
 // Closes the gate there where it is open, and syncs. A gate that is closed is not written: a crash may leave any byte of a write.

@@ -49,7 +49,8 @@ pub fn on_trimmed<D: Disk>(
     cell: Cell,
 ) -> Result<JobResult, WorkError>
     requires tickets { HasTicketsAt side.old store.old }
-    ensures { IsDone D.Disk here.now (held side.old store.old) (held side.new store.new) result (copies.on_trimmed here.now (own_of side.old store.old) op cell) }
+    ensures { IsDone D.Disk here.now (held side.old store.old) (held side.new store.new) result
+        (copies.on_trimmed here.now (own_of side.old store.old) op cell) }
 {
     match side.copies.copying_on(cell) {
         Some(copy) if copy.op == op && !copy.trimmed => {
@@ -103,7 +104,8 @@ pub fn on_synced<D: Disk>(
     index: u32,
 ) -> Result<JobResult, WorkError>
     requires tickets { HasTicketsAt side.old store.old }
-    ensures { IsDone D.Disk here.now (held side.old store.old) (held side.new store.new) result (copies.on_synced here.now (own_of side.old store.old) op cell index) }
+    ensures { IsDone D.Disk here.now (held side.old store.old) (held side.new store.new) result
+        (copies.on_synced here.now (own_of side.old store.old) op cell index) }
 {
     match side.copies.copying_on(cell) {
         Some(copy) if is_syncing(side, store, cell, copy, op) && copy.index == index => {

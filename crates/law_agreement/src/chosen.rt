@@ -20,7 +20,8 @@ pub fn log_is_the_longest_run()
     ensures ends { (n : ℕ) (devices : Devices) → chosen_at n devices (length (chosen_log n devices) + 1) ≡ None }
     ensures has { (n : ℕ) (devices : Devices) (i : ℕ) (c : Command) → i ≤ length (chosen_log n devices) → chosen_at n devices (i + 1) ≡ Some c
         → slice_get (chosen_log n devices) i ≡ Some c }
-    ensures prefix { (n : ℕ) (devices : Devices) (run : List Command) → ((i : ℕ) (c : Command) → slice_get run i ≡ Some c → chosen_at n devices (i + 1) ≡ Some c)
+    ensures prefix { (n : ℕ) (devices : Devices) (run : List Command)
+        → ((i : ℕ) (c : Command) → slice_get run i ≡ Some c → chosen_at n devices (i + 1) ≡ Some c)
         → (later : List Command) × (chosen_log n devices ≡ run ++ later) }
 {}
 

@@ -38,19 +38,19 @@ pub use Rattle.law_steps.proofs.Imports.{prefix_on, prefix_plain, settling, was_
 unfoldable pub use Rattle.law_steps.proofs.Imports.{put, without}
 pub use Rattle.law_jobs.specs.Imports.{Did, FoundNoSlot, IsBusy, IsHeldBack, IsNewFill, IsReadable, IsRefusal}
 pub use Rattle.law_jobs.proofs.Imports.{◌-◌, A_slot, An_entry_to_move, Asks, By_ballot, By_entry, By_job, By_read, Fails, Goes, Handled, IsMoment, Not_here}
-pub use Rattle.law_jobs.proofs.Imports.{Rests, Serving, Shows, Stays, Wakes, Was, Worked, always_firm, at_apart, at_same, is_aside, last_moment, moment_more}
-pub use Rattle.law_jobs.proofs.Imports.{own_place, prefix_legal, proposed_pairs, retired_second, was_same, with_answer, world_more}
-pub use Rattle.law_copies.specs.Imports.{IsRising, is_clients, no_pairs}
-pub use Rattle.law_copies.proofs.Imports.{Asks_slot, At, Effect, Ends_fill, For_a_fill, For_a_write, May, Moves, Moves_on, OneMore, Run, applied, at_row}
-pub use Rattle.law_copies.proofs.Imports.{before_part, both_row, by_run, cases_lt, did_count, firm_in, first_state, in_get, in_map, job_keeps, letters_of_job}
-pub use Rattle.law_copies.proofs.Imports.{longer, more_of, primary_is_one, put_rises, rests_in, run_of, said, served_so, setting_in, shown_so, since}
-pub use Rattle.law_copies.proofs.Imports.{stepped_in, stopped_so, turned_asks, without_rev}
+pub use Rattle.law_jobs.proofs.Imports.{Rests, Serving, Shows, Stays, Wakes, Was, Worked, always_firm, at_apart, at_same, is_aside, is_clients, last_moment}
+pub use Rattle.law_jobs.proofs.Imports.{moment_more, own_place, prefix_legal, proposed_pairs, retired_second, was_same, with_answer, world_more}
+pub use Rattle.law_copies.specs.Imports.{IsRising, no_pairs}
+pub use Rattle.law_copies.proofs.Imports.{Asks_slot, At, Effect, Ends_fill, For_a_fill, For_a_write, HasEnded, Is_declined, May, Moves, Moves_on, OneMore}
+pub use Rattle.law_copies.proofs.Imports.{Run, applied, at_row, before_part, both_row, by_run, cases_lt, did_count, firm_in, first_state, in_get, in_map}
+pub use Rattle.law_copies.proofs.Imports.{job_keeps, letters_of_job, longer, more_of, primary_is_one, put_rises, rests_in, run_of, said, served_so}
+pub use Rattle.law_copies.proofs.Imports.{setting_in, shown_so, since, stepped_in, stopped_so, turned_asks, without_rev}
 pub use Rattle.law_requests.specs.Imports.{line_by}
 pub use Rattle.law_requests.proofs.Imports.{A_read, A_write, Anew, Answered, As_it_was, Begins, Blanks_it, By_operation, By_verdict, By_witness, Fails_it}
-pub use Rattle.law_requests.proofs.Imports.{Goes_on, Had_no_slot, HasCome, HasEnded, Has_no_space, Heard, IsFinishedFor, IsJudged, IsReason, IsSame}
-pub use Rattle.law_requests.proofs.Imports.{IsSeatedOrMute, IsSeenAs, Is_declined, Is_new, Is_settled, Is_told, Judges, Of_the_log, Reads, Repeats, Says}
-pub use Rattle.law_requests.proofs.Imports.{Shown, Starts_it, StaysOpen, Stood, Stops_at, Stops_it, Turned, after, both_leads, did_come, did_finish}
-pub use Rattle.law_requests.proofs.Imports.{is_notice, is_refused, lead_is, names, own_steady, runs_now, serves_sent, write_refusal}
+pub use Rattle.law_requests.proofs.Imports.{Goes_on, Had_no_slot, HasCome, Has_no_space, Heard, IsFinishedFor, IsJudged, IsReason, IsSame, IsSeatedOrMute}
+pub use Rattle.law_requests.proofs.Imports.{IsSeenAs, Is_new, Is_settled, Is_told, Judges, Of_the_log, Reads, Repeats, Says, Shown, Starts_it, StaysOpen}
+pub use Rattle.law_requests.proofs.Imports.{Stood, Stops_at, Stops_it, Turned, after, both_leads, did_come, did_finish, is_notice, is_refused, lead_is, names}
+pub use Rattle.law_requests.proofs.Imports.{own_steady, runs_now, serves_sent, write_refusal}
 pub use Rattle.law_moves.specs.Imports.{IsServing}
 pub use Rattle.law_moves.proofs.Imports.{stage_facts}
 pub use Rattle.law_answers.specs.Imports.{Event, Look, Read, accepted, asked_by, asker, look_for, old_data, operator, reads_old}

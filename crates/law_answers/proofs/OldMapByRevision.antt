@@ -166,7 +166,8 @@ module _ (c : ℕ) where
 
       by : (o : Option Command) → J (judged_by c entry now asked o)
       by (Some command) = where_so (verdict_for asked.seq (latest now.state c))
-      by None = by_test J (is_witness c asked.seq entry) _ _ (λ t. witnessed_so (refusal now.state asked.saw_missing asked.request)) (λ f. so_itself now.client.asked)
+      by None = by_test J (is_witness c asked.seq entry) _ _ (λ t. witnessed_so (refusal now.state asked.saw_missing asked.request))
+          (λ f. so_itself now.client.asked)
 
   so_on : (one two three : Option Asked) → IsSo one two → IsSo two three → IsSo one three
   so_on one two three a b new e =

@@ -187,7 +187,8 @@ module _ (w : World) (state : State) (c : ℕ) (client : Client) where
       (verdict_for asked.seq (latest now.state c))
   judged_learnt entry now asked l is None own =
       by_test Learnt (is_witness c asked.seq entry) _ _
-      (λ t. witnessed_learnt now asked l is (refusal now.state asked.saw_missing asked.request) (never_refused now.state asked.saw_missing asked.request)) (λ t. l)
+      (λ t. witnessed_learnt now asked l is (refusal now.state asked.saw_missing asked.request) (never_refused now.state asked.saw_missing asked.request))
+      (λ t. l)
 
   one_learnt : (entry : Command) (now : Learning) → Learnt now → (o : Option Asked) → now.client.asked ≡ o → Learnt (judged c entry now o)
   one_learnt entry now l None none = l

@@ -1,10 +1,10 @@
 -- A server, and a cell whose link is in Both by its own state: what the server does of copies is of other cells.
-use Rattle.law_copies.proofs.Imports.{◌∙◌, ◌≡◌, ◌≢◌, Body, Both, Cell, JobContext, Key, LastCopy, LinkRow, PairState, Pending, Some, Stored, ap, at}
-use Rattle.law_copies.proofs.Imports.{cell_holder, cell_link, cell_of, chain_in, drop_apart, drop_none, first, follows, in_both, inl, inr, is_lead}
-use Rattle.law_copies.proofs.Imports.{is_second, is_the, is_the_one, key_at, lead_links, leads_link, option_and_then, option_map, other_of, pending_on}
-use Rattle.law_copies.proofs.Imports.{refl, row_lead, same_cell_or_apart, same_numbers, same_some, second_secondary, secondary, so_both, state_lead, subst}
-use Rattle.law_copies.proofs.Imports.{sym, true, without_entry, ℕ}
-use Rattle.law_jobs.specs.Effects.{A_copy, A_new_copy, A_sweep, An_operation, As_copy, As_operation, IsDroppedFor, IsPutFor, The_last_copy}
+use Rattle.law_copies.proofs.Imports.{◌∙◌, ◌≡◌, ◌≢◌, A_copy, A_new_copy, A_sweep, An_operation, As_copy, As_operation, Body, Both, Cell, IsDroppedFor}
+use Rattle.law_copies.proofs.Imports.{IsPutFor, JobContext, Key, LastCopy, LinkRow, PairState, Pending, Some, Stored, The_last_copy, ap, at, cell_holder}
+use Rattle.law_copies.proofs.Imports.{cell_link, cell_of, chain_in, drop_apart, drop_none, first, follows, in_both, inl, inr, is_lead, is_second, is_the}
+use Rattle.law_copies.proofs.Imports.{is_the_one, key_at, lead_links, leads_link, option_and_then, option_map, other_of, pending_on, refl, row_lead}
+use Rattle.law_copies.proofs.Imports.{same_cell_or_apart, same_numbers, same_some, second_secondary, secondary, so_both, state_lead, subst, sym, true}
+use Rattle.law_copies.proofs.Imports.{without_entry, ℕ}
 use Rattle.law_copies.specs.LoneSteps.{IsFit}
 use Rattle.law_copies.specs.Visits.{AliveIn}
 use Rattle.law_copies.proofs.OtherIsNotHolder.{held_by}

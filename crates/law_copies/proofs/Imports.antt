@@ -18,14 +18,12 @@ pub use Rattle.law_log.proofs.Imports.{blanked, cell_at, cell_holder, cell_of, c
 pub use Rattle.law_log.proofs.Imports.{fill_operation, gives_back, has_proposed, holds_link, id_of, is_eq, is_flagged, is_logged, is_second, is_under_way}
 pub use Rattle.law_log.proofs.Imports.{key_at, last_copy, last_on, link_named, log_plain, map, moved_as, nat_cmp, nat_cmp_total, no_progress, other_in}
 pub use Rattle.law_log.proofs.Imports.{pending_on, post_of, progress_on, proposed, put_apart, put_same, puts_entry, raised, ranked, reacts, same_block}
-pub use Rattle.law_log.proofs.Imports.{sender, server_state, setting_of, silent, stamped, start, state_in, stays, subject_of, tells, tied_itself, wakes}
-pub use Rattle.law_log.proofs.Imports.{with_copied, with_full, with_last_copy, with_opened, with_page, with_progress, without_copying, without_pending}
-pub use Rattle.law_log.proofs.Imports.{world_after}
+pub use Rattle.law_log.proofs.Imports.{sender, server_state, setting_of, silent, stamped, start, state_in, stays, subject_of, tied_itself, wakes, with_copied}
+pub use Rattle.law_log.proofs.Imports.{with_full, with_last_copy, with_opened, with_page, with_progress, without_copying, without_pending, world_after}
 unfoldable pub use Rattle.law_log.proofs.Imports.{next_copy, put_at}
 pub use Rattle.law_steps.specs.Imports.{Busy, IsBelow, MarkKind, Nothing, Paired, Sender, Stage, Stale, StaysSo, Subject, before_blanks, cell_cmp, crossed}
 pub use Rattle.law_steps.specs.Imports.{epochs_beyond, epochs_of, follows, holder_of, least, letters_of, live, marked_blocks, marks, operation, puts}
-pub use Rattle.law_steps.specs.Imports.{settled_by, stage_at, unmarks, with_copying, with_last, with_paired, with_pending, with_reserved, without_entry}
-pub use Rattle.law_steps.specs.Imports.{without_mark_on}
+pub use Rattle.law_steps.specs.Imports.{settled_by, stage_at, unmarks, with_copying, with_paired, with_pending, with_reserved, without_entry, without_mark_on}
 pub use Rattle.law_steps.proofs.Imports.{ByBoth, ByNone, ByOne, Chain, Copies, Greater, HasStarted, IsCaughtStill, IsRetired, IsSteady, Less, Logged, Mark}
 pub use Rattle.law_steps.proofs.Imports.{Ordering, Pairs, Read_asked, Store, Write_asked, alone_row, at-empty, at-where, blocks_left, cell_apart}
 pub use Rattle.law_steps.proofs.Imports.{cell_cmp_same, cell_cmp_total, cell_gone, cell_gone_apart, cell_same, dies, either_false, ends_cell, ends_link}
@@ -35,17 +33,17 @@ pub use Rattle.law_steps.proofs.Imports.{out_has_stopped, prefix_itself, prefix_
 pub use Rattle.law_steps.proofs.Imports.{row_in_both, same_caught, same_id, same_place, settling, so_both, stage_most, stored_blocks, touches_cell, up_some}
 pub use Rattle.law_steps.proofs.Imports.{version_of, was_true, who_is_in_has_begun, with_mark_at, with_mark_on}
 unfoldable pub use Rattle.law_steps.proofs.Imports.{put, without}
-pub use Rattle.law_jobs.specs.Imports.{Begins_copy, By_holder, By_lead, By_other, By_second, Closes, Closes_alone, Did, DidHolder, DidLead, DidOther}
-pub use Rattle.law_jobs.specs.Imports.{DidSecond, Finds_it_full, Follows, Gives_up, Goes_on_copying, Goes_on_retired, Goes_on_trimming, IsHeldWith, IsOfCopy}
-pub use Rattle.law_jobs.specs.Imports.{Is_copied_to, Marks, Marks_alone, Opens, Opens_alone, Opens_fill, Opens_fill_alone, Puts, Puts_alone, Puts_entry}
-pub use Rattle.law_jobs.specs.Imports.{Sets_apart, Taken, TakenCopy, Turns_page, Unmarks, Unmarks_alone, chains_with, first_copy, first_last, progress}
+pub use Rattle.law_jobs.specs.Imports.{Begins_copy, By_holder, By_lead, By_other, By_second, Closes_alone, Did, DidHolder, DidLead, DidOther, DidSecond}
+pub use Rattle.law_jobs.specs.Imports.{Finds_it_full, Follows, Gives_up, Goes_on_copying, Goes_on_retired, Goes_on_trimming, IsHeldWith, IsOfCopy}
+pub use Rattle.law_jobs.specs.Imports.{Is_copied_to, Marks, Marks_alone, Opens_alone, Opens_fill, Opens_fill_alone, Puts_alone, Puts_entry, Sets_apart, Taken}
+pub use Rattle.law_jobs.specs.Imports.{TakenCopy, Turns_page, Unmarks, Unmarks_alone, chains_with, first_copy, first_last, progress, putting}
 pub use Rattle.law_jobs.proofs.Imports.{As_it_is, As_told, Asks_page, Asks_to_trim, Blanks, By_ballot, By_entry, By_filler, By_job, By_read, By_sweep}
-pub use Rattle.law_jobs.proofs.Imports.{Closes_copy, CopyStep, Copy_as_is, Copy_synced, Copy_trimmed, Declines, Drops_entry, Ends, Fails, Goes, Handled}
-pub use Rattle.law_jobs.proofs.Imports.{Happens, Is_trimmed, Promises, Rests, Sends, Serves, Serving, Stays, Tidies, TrimStep, Turns, Unmarks_copied, Wakes}
-pub use Rattle.law_jobs.proofs.Imports.{Worked, always_firm, at_apart, at_same, chains_at, is_mark, is_marked, last_happens, mark_on, of_read, of_sweep}
+pub use Rattle.law_jobs.proofs.Imports.{Closes_copy, CopyStep, Copy_as_is, Copy_synced, Copy_trimmed, Drops_entry, Ends, Fails, Goes, Handled, Happens}
+pub use Rattle.law_jobs.proofs.Imports.{Is_trimmed, Rests, Sends, Serves, Serving, Stays, Tidies, TrimStep, Turns, Unmarks_copied, Wakes, Worked, always_firm}
+pub use Rattle.law_jobs.proofs.Imports.{at_apart, at_same, below_itself, chains_at, is_clients, is_mark, is_marked, last_happens, mark_on, of_read, of_sweep}
 pub use Rattle.law_jobs.proofs.Imports.{own_place, rests_after, row_named, same_cell_or_apart, same_mark, start_rests, taking}
-pub use Rattle.law_copies.specs.Imports.{AtRest, IsMarked, IsReady, IsRising, IsToBeCopied, WasStarted, blank_joins_in, is_between, is_clients, kept_store}
-pub use Rattle.law_copies.specs.Imports.{no_pairs, one_put_ahead, with_store}
+pub use Rattle.law_copies.specs.Imports.{AtRest, IsMarked, IsReady, IsRising, IsToBeCopied, WasStarted, blank_joins_in, is_between, kept_store, no_pairs}
+pub use Rattle.law_copies.specs.Imports.{one_put_ahead, with_store}
 pub use Rattle.std.proofs.lemmas.Bool.{cases_lt}
 pub use Rattle.std.specs.Ordering.{ordering_then}
 pub use Rattle.busy_marks.proofs.Orders.{same_itself}
@@ -60,8 +58,10 @@ pub use Rattle.law_jobs.proofs.JobsSay.{letters_of_job}
 pub use Rattle.law_jobs.proofs.MarksApart.{mark_beside, mark_kept, mark_there, stale_kept, unmark_beside, unmark_none}
 pub use Rattle.law_jobs.proofs.Runs.{At, OneMore, Run, before_part, by_run, firm_in, grown_in, happened_in, longer, more_of, rests_in, run_of, setting_in}
 pub use Rattle.law_jobs.proofs.Runs.{since, stepped_in}
-pub use Rattle.law_jobs.specs.Effects.{Counts, Drops, Effect, Ends_copy, For_a_fill, For_a_write, Idle, IsAt, IsIdle, IsOpening}
-pub use Rattle.law_jobs.specs.Effects.{Is_copied, May, Sets, applied}
+pub use Rattle.law_jobs.specs.Effects.{A_copy, A_lead, A_new_copy, A_sweep, Alone_has, An_operation, As_copy, As_operation, As_second, Both_have, Closes}
+pub use Rattle.law_jobs.specs.Effects.{Counts, Drops, Effect, Ends_copy, For_a_fill, For_a_write, HasEnded, Idle, IsApart, IsAt, IsClosedFor, IsDroppedFor}
+pub use Rattle.law_jobs.specs.Effects.{IsIdle, IsOpening, IsPaired, IsPutFor, IsReserved, IsSetFor, Is_apart, Is_copied, Is_declined, Is_over, Is_replicated}
+pub use Rattle.law_jobs.specs.Effects.{Is_retired, May, Opens, Puts, Reserves, Sets, The_last_copy, Was_paired, applied, entry_ahead}
 pub use Rattle.law_jobs.specs.Sayings.{Asks_copy, Asks_slot, Begins, Ends_fill, Goes_on, Has_copy, Has_slot, IsCopying, Is_sync_full, Is_synced, Moves}
 pub use Rattle.law_jobs.specs.Sayings.{Moves_on, Says, Syncs, Tells_page, Trims}
 pub use Rattle.law_jobs.specs.Worked.{holder_cell, lead_cell, other_cell, page_cell, second_cell, worked}
@@ -81,7 +81,7 @@ pub use Rattle.law_state.proofs.Leaves.{either_true, other_between}
 pub use Rattle.law_state.proofs.ListLookups.{get_in, in_get}
 pub use Rattle.law_state.proofs.LoneHolders.{IsBothRow, both_not_alone, both_row, second_secondary}
 pub use Rattle.law_state.proofs.NewMapLinks.{in_map}
-pub use Rattle.law_state.proofs.Prefixes.{below_itself, prefix_within}
+pub use Rattle.law_state.proofs.Prefixes.{prefix_within}
 pub use Rattle.law_state.proofs.Roles.{primary_is_one, secondary_is_one}
 pub use Rattle.law_state.proofs.Steady.{linked, log_grown, tuple_on}
 pub use Rattle.law_state.specs.Joins.{HasJoinedSince}
@@ -99,14 +99,12 @@ pub use Rattle.law_steps.proofs.LogHistories.{chosen_join_acts, join_has_begun, 
 pub use Rattle.law_steps.proofs.OneWorld.{proposed_as}
 pub use Rattle.law_steps.proofs.OperationsRest.{did_ready}
 pub use Rattle.law_steps.proofs.Records.{none_before_none, split_last}
-pub use Rattle.law_steps.proofs.Subjects.{of_ending, of_filler, of_lead, of_second, told_own}
+pub use Rattle.law_steps.proofs.Subjects.{of_ending, of_filler, of_lead, of_second}
 pub use Rattle.law_steps.proofs.TablesOfPuts.{at_row, put_rises, without_rises}
 pub use Rattle.law_steps.proofs.Ties.{running_prefixes, stays_alone, stays_both}
 pub use Rattle.law_steps.proofs.WakingGoesOn.{may_wake}
 pub use Rattle.law_steps.proofs.WhoLeads.{lead_links, led_by_link, live_stage, stage_live}
-pub use Rattle.law_steps.specs.DidSecond.{with_tickets}
 pub use Rattle.law_steps.specs.DidStep.{IsBallotFor, Starts, served_so, shown_so, stopped_so, without_rev}
-pub use Rattle.law_steps.specs.Operations.{putting}
 pub use Rattle.law_steps.specs.ProposedCommands.{WasReturning}
 pub use Rattle.law_steps.specs.WakingServers.{AllMayWake}
 pub use Rattle.petal_msg.specs.Kinds.{is_paired}

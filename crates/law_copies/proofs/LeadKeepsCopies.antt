@@ -1,12 +1,13 @@
 -- What a step of the first server of a cell in Both keeps of its two copies.
-use Rattle.law_copies.proofs.Imports.{◌+◌, ◌∙◌, ◌≡◌, ◌≢◌, ◌≤◌, ◌⊎◌, Body, Cell, Did, Ending, JobResult, Key, LastOp, None, PairState, Pairs, Pending, Some}
-use Rattle.law_copies.proofs.Imports.{Stage, Stored, about, ap, arith, at, both, both_not_alone, both_row, by_bool, cell_apart, cell_cmp, cell_gone}
-use Rattle.law_copies.proofs.Imports.{cell_gone_apart, cell_of, cell_same, chain_in, chain_put, chains_with, ended, false, fill_operation, first, follows}
-use Rattle.law_copies.proofs.Imports.{inl, inr, is_alone_on, job_keeps, live, nat_cmp, operation, pending_on, put, putting, refl, said, same_cell_or_apart}
-use Rattle.law_copies.proofs.Imports.{so_both, stage_live, subst, sym, taking, true, true_false, version_of, without}
-use Rattle.law_jobs.specs.Effects.{A_lead, Alone_has, An_operation, As_copy, As_operation, As_second, Both_have, Closes, Counts, Drops, Effect, For_a_fill}
-use Rattle.law_jobs.specs.Effects.{For_a_write, Goes_on, HasEnded, IsApart, IsClosedFor, IsOpening, IsPaired, IsPutFor, IsReserved, IsSetFor, Is_apart}
-use Rattle.law_jobs.specs.Effects.{Is_declined, Is_over, Is_replicated, Is_retired, May, Opens, Puts, Sets, Was_paired, applied, entry_ahead}
+use Rattle.law_copies.proofs.Imports.{◌+◌, ◌∙◌, ◌≡◌, ◌≢◌, ◌≤◌, ◌⊎◌, A_lead, Alone_has, An_operation, As_copy, As_operation, As_second, Body, Both_have, Cell}
+use Rattle.law_copies.proofs.Imports.{Closes, Counts, Did, Drops, Effect, Ending, For_a_fill, For_a_write, HasEnded, IsApart, IsClosedFor, IsOpening}
+use Rattle.law_copies.proofs.Imports.{IsPaired, IsPutFor, IsReserved, IsSetFor, Is_apart, Is_declined, Is_over, Is_replicated, Is_retired, JobResult, Key}
+use Rattle.law_copies.proofs.Imports.{LastOp, May, None, Opens, PairState, Pairs, Pending, Puts, Sets, Some, Stage, Stored, Was_paired, about, ap, applied}
+use Rattle.law_copies.proofs.Imports.{arith, at, both, both_not_alone, both_row, by_bool, cell_apart, cell_cmp, cell_gone, cell_gone_apart, cell_of}
+use Rattle.law_copies.proofs.Imports.{cell_same, chain_in, chain_put, chains_with, ended, entry_ahead, false, fill_operation, first, follows, inl, inr}
+use Rattle.law_copies.proofs.Imports.{is_alone_on, job_keeps, live, nat_cmp, operation, pending_on, put, putting, refl, said, same_cell_or_apart, so_both}
+use Rattle.law_copies.proofs.Imports.{stage_live, subst, sym, taking, true, true_false, version_of, without}
+use Rattle.law_jobs.specs.Effects.{Goes_on}
 use Rattle.law_copies.specs.Pair.{Keeps, Known, Pair, PairOk, far, pair_of}
 use Rattle.law_copies.specs.Visits.{AliveIn}
 use Rattle.law_copies.proofs.CellInBoth.{CellInBoth, copied_apart, drop_rests, second_apart}

@@ -1,15 +1,16 @@
 -- A lead puts only on a block that is marked on its device, and its operations find the marks that their stages tell of; what else its jobs leave of
 -- the cell on which they work.
 use Rattle.law_copies.proofs.Imports.{[], ◌+◌, ◌<◌, ◌||◌, ◌∙◌, ◌≡◌, ◌≢◌, ◌⊎◌, As_it_is, As_told, Begins_copy, Body, Busy, By_holder, By_lead, By_other}
-use Rattle.law_copies.proofs.Imports.{By_second, Cell, Closes, Closes_alone, Copying, Did, DidHolder, DidLead, Ending, Finds_it_full, For_a_fill, For_a_write}
+use Rattle.law_copies.proofs.Imports.{By_second, Cell, Closes_alone, Copying, Did, DidHolder, DidLead, Ending, Finds_it_full, For_a_fill, For_a_write}
 use Rattle.law_copies.proofs.Imports.{Gives_up, Goes_on_copying, Goes_on_retired, Idle, IsIdle, IsMarked, IsOpening, JobContext, JobResult, MarkKind, Marks}
-use Rattle.law_copies.proofs.Imports.{Marks_alone, None, Opens, Opens_alone, Opens_fill, Opens_fill_alone, PairState, Pending, Puts, Puts_alone, Some, Stage}
-use Rattle.law_copies.proofs.Imports.{Stale, Store, Taken, Turns_page, Unmarks, Unmarks_alone, among_least, ap, at, cell_at, cell_cmp, cell_gone, cell_of}
-use Rattle.law_copies.proofs.Imports.{cell_same, chain_in, chain_put, copying_on, did_ready, ends, false, fill_operation, gives_back, has_proposed}
-use Rattle.law_copies.proofs.Imports.{holder_cell, in_both, inl, inr, is_some, is_under_way, lead_cell, leads_link, led_by_link, live, live_stage, mark_kept}
-use Rattle.law_copies.proofs.Imports.{mark_there, marked_blocks, marks, nat_cmp, none_some, not, not_true, of_ending, of_holder, operation, pending_on, puts}
-use Rattle.law_copies.proofs.Imports.{refl, same_some, some_or_none, stage_at, stale_kept, subst, sym, taking, true, true_false, unmarks, version_of}
-use Rattle.law_copies.proofs.Imports.{with_mark_at, with_mark_on, with_opened, with_paired, with_pending, with_reserved, without_pending, worked}
+use Rattle.law_copies.proofs.Imports.{Marks_alone, None, Opens_alone, Opens_fill, Opens_fill_alone, PairState, Pending, Puts_alone, Some, Stage, Stale, Store}
+use Rattle.law_copies.proofs.Imports.{Taken, Turns_page, Unmarks, Unmarks_alone, among_least, ap, at, cell_at, cell_cmp, cell_gone, cell_of, cell_same}
+use Rattle.law_copies.proofs.Imports.{chain_in, chain_put, copying_on, did_ready, ends, false, fill_operation, gives_back, has_proposed, holder_cell, in_both}
+use Rattle.law_copies.proofs.Imports.{inl, inr, is_some, is_under_way, lead_cell, leads_link, led_by_link, live, live_stage, mark_kept, mark_there}
+use Rattle.law_copies.proofs.Imports.{marked_blocks, marks, nat_cmp, none_some, not, not_true, of_ending, of_holder, operation, pending_on, puts, refl}
+use Rattle.law_copies.proofs.Imports.{same_some, some_or_none, stage_at, stale_kept, subst, sym, taking, true, true_false, unmarks, version_of, with_mark_at}
+use Rattle.law_copies.proofs.Imports.{with_mark_on, with_opened, with_paired, with_pending, with_reserved, without_pending, worked}
+use Rattle.law_steps.specs.DidLead.{Closes, Opens, Puts}
 use Rattle.law_copies.specs.Pair.{HasMarks, HaveMarks}
 use Rattle.law_copies.specs.LoneSteps.{IsFit}
 use Rattle.law_copies.proofs.ChainsRise.{in_left}

@@ -1,11 +1,11 @@
 -- A server speaks of pairs and copies only of live cells whose link it is of.
-use Rattle.law_copies.proofs.Imports.{◌∙◌, ◌≡◌, ◌⊎◌, Asks_copy, Asks_slot, Begins, Body, Cell, Copying, Did, Effect, Ends_fill, Entry, Goes_on, Has_copy}
-use Rattle.law_copies.proofs.Imports.{Has_slot, In, IsCopying, IsOfCopy, Is_copied, Is_sync_full, Is_synced, JobContext, JobResult, Key, LastCopy, May}
-use Rattle.law_copies.proofs.Imports.{Moves, Moves_on, PairState, Pending, Post, Says, Some, Stored, Syncs, Tells_page, Trims, about, after, ap, applied}
-use Rattle.law_copies.proofs.Imports.{at, both, by_bool, cell_apart, cell_cmp, cell_holder, cell_of, ended, false, first_last, follows, inl, inr}
-use Rattle.law_copies.proofs.Imports.{is_between, is_lead, is_second, job_keeps, last_copy, lead_links, leads_link, letters_of_job, live, logged_apart}
-use Rattle.law_copies.proofs.Imports.{none_some, pending_on, put, refl, retired_second, said, same_cell_or_apart, same_some, second, subject_of, subst, sym}
-use Rattle.law_copies.proofs.Imports.{true, true_false, ℕ}
+use Rattle.law_copies.proofs.Imports.{◌∙◌, ◌≡◌, ◌⊎◌, A_copy, As_copy, Asks_copy, Asks_slot, Begins, Body, Cell, Copying, Did, Effect, Ends_fill, Entry}
+use Rattle.law_copies.proofs.Imports.{Goes_on, Has_copy, Has_slot, In, IsCopying, IsOfCopy, IsPutFor, Is_copied, Is_sync_full, Is_synced, JobContext}
+use Rattle.law_copies.proofs.Imports.{JobResult, Key, LastCopy, May, Moves, Moves_on, PairState, Pending, Post, Puts, Says, Some, Stored, Syncs, Tells_page}
+use Rattle.law_copies.proofs.Imports.{Trims, about, after, ap, applied, at, both, by_bool, cell_apart, cell_cmp, cell_holder, cell_of, ended, false}
+use Rattle.law_copies.proofs.Imports.{first_last, follows, inl, inr, is_between, is_lead, is_second, job_keeps, last_copy, lead_links, leads_link}
+use Rattle.law_copies.proofs.Imports.{letters_of_job, live, logged_apart, none_some, pending_on, put, refl, retired_second, said, same_cell_or_apart}
+use Rattle.law_copies.proofs.Imports.{same_some, second, subject_of, subst, sym, true, true_false, ℕ}
 use Rattle.law_jobs.specs.Sayings.{Ends}
 use Rattle.law_copies.specs.LoneSteps.{IsFit}
 use Rattle.law_copies.proofs.ForeignCellsStay.{IsIdleAt, second_live}
@@ -13,7 +13,6 @@ use Rattle.law_copies.proofs.MuteLettersTellNothing.{ended_mute, moved_mute}
 use Rattle.law_copies.proofs.RolesOfWorkers.{IsHeldBy, IsHeldHere, begun_held, entry_held, taken_held}
 use Rattle.petal_msg.specs.declared.body.Body.TheVariants as body
 use Rattle.law_jobs.specs.Sayings as says
-use Rattle.law_jobs.specs.Effects.{A_copy, As_copy, IsPutFor, Puts}
 
 module _ (heard : Body → Type 0) (here : JobContext) (own : PairState) where
   -- the cell is live, and the server has to do with it

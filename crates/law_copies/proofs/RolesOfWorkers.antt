@@ -1,17 +1,17 @@
 -- What a server is to a cell, which can't be what else it is not; and as what it works on one.
 use Rattle.law_copies.proofs.Imports.{◌&&◌, ◌<◌, ◌==◌, ◌∙◌, ◌≡◌, ◌≢◌, ◌≤◌, ◌⊎◌, Begins_copy, Block, Body, Both, Busy, By_holder, By_lead, By_other, By_second}
-use Rattle.law_copies.proofs.Imports.{Cell, Closes, Closes_alone, Closes_copy, CopyStep, Copy_as_is, Copy_synced, Copy_trimmed, Copying, Did, DidHolder}
-use Rattle.law_copies.proofs.Imports.{DidLead, DidOther, DidSecond, Entry, Finds_it_full, Follows, Gives_up, Goes_on_copying, Goes_on_retired}
-use Rattle.law_copies.proofs.Imports.{Goes_on_trimming, Idle, IsBothRow, IsHeldWith, IsIdle, IsOfCopy, IsSteady, Is_copied_to, JobContext, JobResult}
-use Rattle.law_copies.proofs.Imports.{LastCopy, LinkId, LinkRow, Marks, Marks_alone, None, Only, Opens, Opens_alone, Opens_fill, Opens_fill_alone, Option}
-use Rattle.law_copies.proofs.Imports.{PairState, Pending, Puts, Puts_alone, Puts_entry, Sets_apart, Some, Stale, State, Store, Taken, TakenCopy, Turns_page}
-use Rattle.law_copies.proofs.Imports.{Unmarks, Unmarks_alone, among_least, ap, both_row, both_true, by_test, cell_at, cell_holder, cell_link, cell_of}
-use Rattle.law_copies.proofs.Imports.{copied_chains, copying_on, filter, found_at, holder_cell, holder_of, id_of, in_both, inl, inr, is_alone, is_lead}
-use Rattle.law_copies.proofs.Imports.{is_link, is_second, is_the_one, is_under_way, is_up, lead_cell, lead_links, leads_link, link_led_by, link_named, live}
-use Rattle.law_copies.proofs.Imports.{live_stage, marked_blocks, next_copy, none_some, not, on_row, option_and_then, other_cell, other_in, other_of}
-use Rattle.law_copies.proofs.Imports.{page_cell, page_chains, pending_on, progress_on, refl, row_lead, row_named, same_cell_or_apart, same_numbers}
-use Rattle.law_copies.proofs.Imports.{same_or_apart, same_some, second, second_by, second_cell, stage_at, stage_live, subst, sym, taking, true, true_false}
-use Rattle.law_copies.proofs.Imports.{worked, ℕ}
+use Rattle.law_copies.proofs.Imports.{Cell, Closes_alone, Closes_copy, CopyStep, Copy_as_is, Copy_synced, Copy_trimmed, Copying, Did, DidHolder, DidLead}
+use Rattle.law_copies.proofs.Imports.{DidOther, DidSecond, Entry, Finds_it_full, Follows, Gives_up, Goes_on_copying, Goes_on_retired, Goes_on_trimming, Idle}
+use Rattle.law_copies.proofs.Imports.{IsBothRow, IsHeldWith, IsIdle, IsOfCopy, IsSteady, Is_copied_to, JobContext, JobResult, LastCopy, LinkId, LinkRow}
+use Rattle.law_copies.proofs.Imports.{Marks, Marks_alone, None, Only, Opens_alone, Opens_fill, Opens_fill_alone, Option, PairState, Pending, Puts_alone}
+use Rattle.law_copies.proofs.Imports.{Puts_entry, Sets_apart, Some, Stale, State, Store, Taken, TakenCopy, Turns_page, Unmarks, Unmarks_alone, among_least}
+use Rattle.law_copies.proofs.Imports.{ap, both_row, both_true, by_test, cell_at, cell_holder, cell_link, cell_of, copied_chains, copying_on, filter, found_at}
+use Rattle.law_copies.proofs.Imports.{holder_cell, holder_of, id_of, in_both, inl, inr, is_alone, is_lead, is_link, is_second, is_the_one, is_under_way}
+use Rattle.law_copies.proofs.Imports.{is_up, lead_cell, lead_links, leads_link, link_led_by, link_named, live, live_stage, marked_blocks, next_copy}
+use Rattle.law_copies.proofs.Imports.{none_some, not, on_row, option_and_then, other_cell, other_in, other_of, page_cell, page_chains, pending_on}
+use Rattle.law_copies.proofs.Imports.{progress_on, refl, row_lead, row_named, same_cell_or_apart, same_numbers, same_or_apart, same_some, second, second_by}
+use Rattle.law_copies.proofs.Imports.{second_cell, stage_at, stage_live, subst, sym, taking, true, true_false, worked, ℕ}
+use Rattle.law_steps.specs.DidLead.{Closes, Opens, Puts}
 use Rattle.law_copies.specs.LoneSteps.{IsFit, KeepsCell, KeepsRest}
 use Rattle.law_copies.proofs.LeftToCopy.{HasAny, marked_on, next_is, on_itself}
 use Rattle.law_copies.proofs.OtherIsNotHolder.{held_not_leading, other_apart}

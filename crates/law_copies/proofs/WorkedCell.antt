@@ -1,12 +1,13 @@
 -- A job leaves each cell as it is but the one that it works on.
-use Rattle.law_copies.proofs.Imports.{[], ◌<◌, ◌∙◌, ◌≡◌, ◌≢◌, ◌≤◌, Body, Cell, Chain, Copying, Did, Drops, Effect, Ends_copy, IsAt, IsIdle, IsReady}
-use Rattle.law_copies.proofs.Imports.{Is_copied, JobContext, JobResult, Key, LastCopy, LastOp, MarkKind, May, Option, PairState, Pending, Sets, Some}
-use Rattle.law_copies.proofs.Imports.{Stored, Table, ap, applied, arith, at, at_keeps, cell_apart, cell_gone_apart, cell_of, chain_apart, chain_in}
-use Rattle.law_copies.proofs.Imports.{chains_with, copying_on, drop_apart, drop_none, effects_at, false, first_last, has_proposed, inl, inr, is_marked}
-use Rattle.law_copies.proofs.Imports.{last_copy, last_on, live, mark_beside, marks, nat_cmp, nat_tests, pending_on, progress, put, refl, same_cell_or_apart}
-use Rattle.law_copies.proofs.Imports.{same_or_apart, stage_at, stage_live, subst, sym, true_false, unmark_beside, unmark_none, worked, ℕ}
+use Rattle.law_copies.proofs.Imports.{[], ◌<◌, ◌∙◌, ◌≡◌, ◌≢◌, ◌≤◌, An_operation, As_copy, As_operation, As_second, Body, Cell, Chain, Closes, Copying, Did}
+use Rattle.law_copies.proofs.Imports.{Drops, Effect, Ends_copy, IsAt, IsIdle, IsPutFor, IsReady, Is_copied, JobContext, JobResult, Key, LastCopy, LastOp}
+use Rattle.law_copies.proofs.Imports.{MarkKind, May, Opens, Option, PairState, Pending, Puts, Reserves, Sets, Some, Stored, Table, ap, applied, arith, at}
+use Rattle.law_copies.proofs.Imports.{at_keeps, cell_apart, cell_gone_apart, cell_of, chain_apart, chain_in, chains_with, copying_on, drop_apart, drop_none}
+use Rattle.law_copies.proofs.Imports.{effects_at, false, first_last, has_proposed, inl, inr, is_marked, last_copy, last_on, live, mark_beside, marks, nat_cmp}
+use Rattle.law_copies.proofs.Imports.{nat_tests, pending_on, progress, put, refl, same_cell_or_apart, same_or_apart, stage_at, stage_live, subst, sym}
+use Rattle.law_copies.proofs.Imports.{true_false, unmark_beside, unmark_none, worked, ℕ}
 use Rattle.law_copies.specs.LoneSteps.{IsBare, KeepsCell, KeepsRest}
-use Rattle.law_jobs.specs.Effects.{An_operation, As_copy, As_operation, As_second, Closes, Copies, IsPutFor, Marks, Opens, Puts, Reserves, Unmarks}
+use Rattle.law_jobs.specs.Effects.{Copies, Marks, Unmarks}
 use Rattle.petal_msg.specs.declared.operation.FollowProgress.TheVariants as follow_progress
 
 pub above_none : (n : ℕ) → n ≢ 0 → 1 ≤ n

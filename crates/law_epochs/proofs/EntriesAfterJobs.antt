@@ -1,7 +1,6 @@
 -- What is so of each entry of a server, of what it has pending and of what letters tell, is so of its entries after each job.
-use Rattle.law_epochs.proofs.Imports.{◌≡◌, A_copy, A_lead, An_operation, Becomes, Body, Cell, Did, IsPutFor, JobContext, JobResult, Key, PairState, Pending}
-use Rattle.law_epochs.proofs.Imports.{Some, Stored, at, becomes_keeps, cell_cmp, effects_of, ℕ}
-use Rattle.law_jobs.specs.Effects.{Noted}
+use Rattle.law_epochs.proofs.Imports.{◌≡◌, A_copy, A_lead, An_operation, Becomes, Body, Cell, Did, IsPutFor, JobContext, JobResult, Key, Noted, PairState}
+use Rattle.law_epochs.proofs.Imports.{Pending, Some, Stored, at, becomes_keeps, cell_cmp, effects_of, ℕ}
 use Rattle.law_epochs.proofs.EntryPredicates.{AreWithin, IsWithin, OfKey, drop_within, put_within}
 
 module _ (bound : Cell → ℕ → Type 0) (heard : Body → Type 0) (here : JobContext) (own : PairState) (all : AreWithin bound own.store.chains)

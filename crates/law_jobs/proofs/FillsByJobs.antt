@@ -1,12 +1,11 @@
 -- What each job says of entries that move, and which operations it opens for them.
-use Rattle.law_jobs.proofs.Imports.{◌≡◌, Body, Bool, Cell, Did, Ending, In, JobContext, JobResult, Key, Logged, PairState, Pending, Post, Some, Was, ap, at}
-use Rattle.law_jobs.proofs.Imports.{by_bool, cell_cmp, cell_of, false, refl, sym, true, true_false, ℕ}
+use Rattle.law_jobs.proofs.Imports.{◌≡◌, Body, Bool, Cell, Did, Ending, Filling, In, JobContext, JobResult, Key, Logged, PairState, Pending, Post, Some, Was}
+use Rattle.law_jobs.proofs.Imports.{ap, at, by_bool, cell_cmp, cell_of, false, refl, sym, true, true_false, ℕ}
 use Rattle.law_jobs.specs.Imports.{IsNewFill, IsNextFill, Moving, ended, is_logged, moved_as, subject_of}
 use Rattle.law_steps.specs.Imports.{Subject}
 use Rattle.law_jobs.specs.Effects.{For_a_fill, For_a_write}
 use Rattle.law_jobs.specs.Sayings.{Says}
 use Rattle.law_jobs.proofs.JobsSay.{letters_of_job}
-use Rattle.petal_msg.specs.Kinds.{Filling}
 use Rattle.petal_msg.specs.declared.body.Body.TheVariants as body
 use Rattle.petal_msg.specs.declared.operation.Ending.TheVariants as ending
 use Rattle.petal_msg.specs.declared.operation.OpKind.TheVariants as kind

@@ -1,34 +1,34 @@
 -- The names that this crate takes from others, in one place.
-pub use Rattle.law_state.specs.Imports.{Cell, LinkId, LinkRow, PairState, cell_link, link_cmp}
+pub use Rattle.law_state.specs.Imports.{Cell, Command, IsPrefix, LinkId, LinkRow, PairState, Record, Server, Setting, State, World, cell_link, chosen_log}
+pub use Rattle.law_state.specs.Imports.{chosen_state, link_cmp, state_after}
 unfoldable pub use Rattle.law_state.specs.Imports.{In, at}
 pub use Rattle.law_state.proofs.Imports.{[], ◌++◌, ◌∙◌, ◌∷◌, ◌≡◌, ◌≢◌, ◌≤◌, ◌⊎◌, Bool, List, None, Option, Some, ap, append-nil, append_assoc, arith, by_bool}
-pub use Rattle.law_state.proofs.Imports.{by_test, false, in-append, in_former, in_later, inl, inr, is_alone_on, refl, same_or_apart, same_some, subst, sym}
-pub use Rattle.law_state.proofs.Imports.{true, true_false, unwrap_or, ℕ}
-pub use Rattle.law_log.proofs.Imports.{Action, Actor, Body, Copying, Ending, FollowProgress, JobContext, JobResult, Key, LastCopy, OpKind, Pending, Post}
-pub use Rattle.law_log.proofs.Imports.{Stored, Table, above, begins_copy, cell_at, cell_holder, cell_of, chain_in, closes, ends, fill_operation, gives_back}
-pub use Rattle.law_log.proofs.Imports.{gives_up, id_of, is_second, is_some, key_at, last_copy, last_on, link_named, nat_cmp, pending_on, post_to, progress_on}
-pub use Rattle.law_log.proofs.Imports.{tells, with_copied, with_opened, with_page, with_progress, without_copying, without_pending}
+pub use Rattle.law_state.proofs.Imports.{by_test, false, in-append, in_former, in_later, inl, inr, length, none_some, refl, same_or_apart, same_some, subst}
+pub use Rattle.law_state.proofs.Imports.{sym, true, true_false, unwrap_or, ℕ}
+pub use Rattle.law_log.proofs.Imports.{Acted, Action, Actor, AreStepsFrom, Body, Copying, Ending, Firm, FollowProgress, JobContext, JobResult, Key, LastCopy}
+pub use Rattle.law_log.proofs.Imports.{LastOp, Letter, Log, OpKind, Pending, Post, Script, Step, Stored, Table, above, all_put, begins_copy, blanked, cell_at}
+pub use Rattle.law_log.proofs.Imports.{cell_holder, cell_of, chain_in, closes, ends, fill_operation, gives_back, gives_up, id_of, is_second, is_some, key_at}
+pub use Rattle.law_log.proofs.Imports.{last_copy, last_on, link_named, nat_cmp, pending_on, post_to, progress_on, stepped, subject_of, tells, with_copied}
+pub use Rattle.law_log.proofs.Imports.{with_opened, with_page, with_progress, without_copying, without_pending, world_after}
 unfoldable pub use Rattle.law_log.proofs.Imports.{step}
-pub use Rattle.law_steps.specs.Imports.{Busy, Finished, IsBelow, MarkKind, Stage, Stale, acts, cell_cmp, epochs_beyond, live, marks, next_stage, operation}
-pub use Rattle.law_steps.specs.Imports.{puts, with_paired, with_pending, with_reserved, without_entry, without_mark_on}
-pub use Rattle.law_steps.proofs.Imports.{Chain, Logged, Mark, Store, cell_apart, cell_gone, cell_gone_apart, cell_same, history_grows, history_is_firm}
-pub use Rattle.law_steps.proofs.Imports.{version_of, with_mark_at, with_mark_on}
+pub use Rattle.law_steps.specs.Imports.{Busy, Finished, IsBelow, MarkKind, Stage, Stale, Subject, acts, cell_cmp, coming, crossed, epochs_beyond, live, marks}
+pub use Rattle.law_steps.specs.Imports.{next_stage, operation, puts, with_paired, with_pending, with_reserved, without_entry, without_mark_on}
+pub use Rattle.law_steps.proofs.Imports.{Chain, Filling, Logged, Mark, Pairs, Store, at-empty, cell_apart, cell_gone, cell_gone_apart, cell_same}
+pub use Rattle.law_steps.proofs.Imports.{history_grows, history_is_firm, log_rev, prefix_on, settling, version_of, with_mark_at, with_mark_on}
 unfoldable pub use Rattle.law_steps.proofs.Imports.{put, without}
 pub use Rattle.law_jobs.specs.Imports.{AreSteps, Begins_copy, By_holder, By_lead, By_other, By_second, Closes, Closes_alone, Did, DidHolder, DidLead}
 pub use Rattle.law_jobs.specs.Imports.{DidOther, DidSecond, Finds_it_full, Follows, Gives_up, Goes_on_copying, Goes_on_retired, Goes_on_trimming, IsNextFill}
 pub use Rattle.law_jobs.specs.Imports.{IsNextKey, IsSound, Is_copied_to, Marks, Marks_alone, Opens, Opens_alone, Opens_fill, Opens_fill_alone, Puts}
-pub use Rattle.law_jobs.specs.Imports.{Puts_alone, Puts_entry, Sets_apart, Taken, TakenCopy, Turns_page, Unmarks, Unmarks_alone, chains_with, far_of}
-pub use Rattle.law_jobs.specs.Imports.{LastOp, first_last, progress, putting, setting_of, start}
+pub use Rattle.law_jobs.specs.Imports.{Puts_alone, Puts_entry, Sets_apart, Taken, TakenCopy, Turns_page, Unmarks, Unmarks_alone, chains_with, first_last}
+pub use Rattle.law_jobs.specs.Imports.{progress, putting, setting_of, start}
 pub use Rattle.std.specs.Prelude.{◌+◌, ◌-◌}
 pub use Rattle.busy_marks.proofs.Orders.{is_mark}
 pub use Rattle.busy_marks.proofs.Sets.{is_set, set_apart, set_keeps, unset_apart, unset_back}
 pub use Rattle.busy_marks.specs.Marks.{same_mark}
 pub use Rattle.law_state.proofs.Moments.{last_moment, moment_more}
+pub use Rattle.law_state.proofs.Prefixes.{below_itself}
 pub use Rattle.law_state.specs.Moments.{IsMoment}
 pub use Rattle.law_steps.proofs.CopiesRest.{row_named}
-pub use Rattle.law_steps.proofs.Imports.{Acted, AreStepsFrom, Command, Filling, Firm, IsPrefix, Letter, Log, Pairs, Record, Script, Server, Setting, State}
-pub use Rattle.law_steps.proofs.Imports.{Step, Subject, World, all_put, at-empty, blanked, chosen_log, chosen_state, coming, crossed}
-pub use Rattle.law_steps.proofs.Imports.{length, log_rev, none_some, prefix_on, settling, state_after, stepped, subject_of, world_after}
 pub use Rattle.law_steps.proofs.KindsInHistories.{firm_now, happens, last_happens, own_plain, prefix_legal, proposed_pairs, ready_after, rests_after}
 pub use Rattle.law_steps.proofs.KindsInHistories.{rests_next, start_rests, world_more}
 pub use Rattle.law_steps.proofs.LettersOfSteps.{Aside, IsOfJob, Of_job, Was_sent, happens_sent, is_aside}
@@ -51,10 +51,9 @@ pub use Rattle.law_steps.specs.DidSecond.{Declines, Promises}
 pub use Rattle.law_steps.specs.DidStep.{Blanks, By_ballot, By_entry, By_job, Ends, Fails, Goes, Handled, Happens, Serves, Serving, Stays, Turns, Wakes}
 pub use Rattle.law_steps.specs.DidStep.{Worked, own_place}
 pub use Rattle.law_steps.specs.DidSweep.{DidSweep, Sweeps}
+pub use Rattle.law_steps.specs.Operations.{far_of}
 pub use Rattle.law_steps.specs.Ready.{AreFirm, Ready, Rests}
 pub use Rattle.petal_table.proofs.Rows.{at_apart, at_same}
 pub use Rattle.spec_rules.specs.Store.{chains_at, is_marked, mark_on}
 pub use Rattle.spec_rules.specs.World.{with_answer}
-pub use Rattle.spec_rules.specs.Writes.{with_flag}
-pub use Rattle.law_state.proofs.Prefixes.{below_itself}
-pub use Rattle.spec_rules.specs.Writes.{is_clients}
+pub use Rattle.spec_rules.specs.Writes.{is_clients, with_flag}

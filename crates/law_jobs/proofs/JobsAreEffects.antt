@@ -5,12 +5,12 @@ use Rattle.law_jobs.proofs.Imports.{Copying, Did, DidFiller, DidHolder, DidLead,
 use Rattle.law_jobs.proofs.Imports.{FollowProgress, Follows, Gives_up, Goes_on_copying, Goes_on_retired, Goes_on_trimming, Ignores, Is_copied_to, Is_filled}
 use Rattle.law_jobs.proofs.Imports.{Is_full, Is_out_of_slots, Is_trimmed, JobContext, JobResult, Key, LastCopy, LinkId, LinkRow, List, MarkKind, Marks}
 use Rattle.law_jobs.proofs.Imports.{Marks_alone, None, OpKind, Opens, Opens_alone, Opens_fill, Opens_fill_alone, Option, PairState, Pending, Promises, Puts}
-use Rattle.law_jobs.proofs.Imports.{Puts_alone, Puts_entry, Refuses, Sets_apart, Some, Stage, Sweeps, Taken, TakenCopy, Tidies, TrimStep, Turns_page}
-use Rattle.law_jobs.proofs.Imports.{Unmarks, Unmarks_alone, Unmarks_copied, above, acts, ap, begins_copy, by_test, cell_at, cell_gone, cell_link, cell_of}
-use Rattle.law_jobs.proofs.Imports.{cell_same, chain_in, ends, epochs_beyond, false, fill_operation, gives_back, gives_up, id_of, inl, inr, key_at}
-use Rattle.law_jobs.proofs.Imports.{link_named, live, marks, next_stage, of_read, operation, pending_on, progress, progress_on, puts, putting, refl}
-use Rattle.law_jobs.proofs.Imports.{row_named, subst, sym, taking, tells, told, true, true_false, version_of, with_copied, with_flag, with_mark_at}
-use Rattle.law_jobs.proofs.Imports.{with_opened, with_page, with_paired, with_pending, with_progress, with_reserved, without_copying, without_pending, ℕ}
+use Rattle.law_jobs.proofs.Imports.{Puts_alone, Puts_entry, Refuses, Sets_apart, Some, Stage, Sweeps, Taken, TakenCopy, Tidies, TrimStep, Turns_page, Unmarks}
+use Rattle.law_jobs.proofs.Imports.{Unmarks_alone, Unmarks_copied, above, acts, ap, begins_copy, by_test, cell_at, cell_gone, cell_link, cell_of, cell_same}
+use Rattle.law_jobs.proofs.Imports.{chain_in, ends, epochs_beyond, false, fill_operation, gives_back, gives_up, id_of, inl, inr, key_at, link_named, live}
+use Rattle.law_jobs.proofs.Imports.{marks, next_stage, of_read, operation, pending_on, progress, progress_on, puts, putting, refl, row_named, subst, sym}
+use Rattle.law_jobs.proofs.Imports.{taking, tells, told, true, true_false, version_of, with_copied, with_flag, with_mark_at, with_opened, with_page}
+use Rattle.law_jobs.proofs.Imports.{with_paired, with_pending, with_progress, with_reserved, without_copying, without_pending, ℕ}
 use Rattle.law_jobs.specs.Effects.{A_copy, A_lead, A_new_copy, A_sweep, Alone_has, An_operation, As_copy, As_it_was, As_operation, As_second, Becomes}
 use Rattle.law_jobs.specs.Effects.{BecomesAt, Both_have, By_operation, Effect, For_a_fill, For_a_write, Goes_on, Had_no_slot, HasEnded, Idle, IsApart, IsAt}
 use Rattle.law_jobs.specs.Effects.{IsDroppedFor, IsFilledAs, IsOpening, IsPaired, IsReserved, IsSetFor, Is_apart, Is_declined, Is_over, Is_replicated}

@@ -7,9 +7,8 @@ use Rattle.law_jobs.proofs.Imports.{Has_entry, Has_fill, Has_no_room, Has_no_slo
 use Rattle.law_jobs.proofs.Imports.{JobContext, JobResult, LastCopy, List, None, Not_here, Of_the_log, OpKind, Opens, Opens_fill, Option, OtherReply}
 use Rattle.law_jobs.proofs.Imports.{PairState, Pending, Post, Promises, Puts_entry, Refuses, Repeats, Replies, Sends, Sets_apart, Shows, Some, Taken}
 use Rattle.law_jobs.proofs.Imports.{TrimStep, acts, ap, arith, cell_gone, cell_holder, cell_of, cell_same, ends, false, fill_operation, first_last}
-use Rattle.law_jobs.proofs.Imports.{gives_back, inl, inr, is_second, last_copy, last_on, live, nat_cmp, next_stage, of_sweep, operation, pending_on, post_to}
-use Rattle.law_jobs.proofs.Imports.{put, refl, retired_second, subst, sym, taking, tells, true, without_pending, ℕ}
-use Rattle.spec_rules.proofs.Tests.{none_some}
+use Rattle.law_jobs.proofs.Imports.{gives_back, inl, inr, is_second, last_copy, last_on, live, nat_cmp, next_stage, none_some, of_sweep, operation}
+use Rattle.law_jobs.proofs.Imports.{pending_on, post_to, put, refl, retired_second, subst, sym, taking, tells, true, without_pending, ℕ}
 use Rattle.law_jobs.specs.Effects.{Alone_has, Both_have, By_operation, Had_no_slot, HasEnded, Is_retired, Is_declined}
 use Rattle.law_jobs.specs.Sayings.{IsCopying, Says, SaysOf, to_server}
 use Rattle.petal_msg.specs.declared.operation.Action.TheVariants as action

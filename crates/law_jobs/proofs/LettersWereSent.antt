@@ -1,10 +1,6 @@
 -- Each letter was sent by one of a run's records, and what was sent stays so; so it is of answers.
-use Rattle.law_jobs.proofs.Imports.{[], ◌++◌, ◌∙◌, ◌∷◌, ◌≡◌, Actor, In, IsMoment, List, ap, append_assoc, in-append, in_former, in_later, inl, inr}
-use Rattle.law_jobs.proofs.Imports.{last_moment, moment_more, refl, step, subst, sym, with_answer, ℕ}
-use Rattle.petal_msg.specs.declared.letter.Letter.{Letter}
-use Rattle.spec_history.specs.declared.record.Record.{Record}
-use Rattle.spec_rules.specs.World.{Setting, World}
-use Rattle.spec_rules.specs.declared.step.Step.{Step}
+use Rattle.law_jobs.proofs.Imports.{[], ◌++◌, ◌∙◌, ◌∷◌, ◌≡◌, Actor, In, IsMoment, Letter, List, Record, Setting, Step, World, ap, append_assoc, in-append}
+use Rattle.law_jobs.proofs.Imports.{in_former, in_later, inl, inr, last_moment, moment_more, refl, step, subst, sym, with_answer, ℕ}
 use Rattle.law_jobs.proofs.Runs.{At, OneMore, Run, after, at_moment, by_run, follows_in, longer, setting_in, since, stepped_in}
 use Rattle.petal_msg.specs.declared.letter.Actor.TheVariants as actor
 

@@ -1,11 +1,9 @@
 -- What the first world has, and each record keeps, every run has; and what is known of a run and of its next record.
-use Rattle.law_jobs.proofs.Imports.{[], ◌++◌, ◌∙◌, ◌∷◌, ◌≡◌, AreSteps, Happens, IsBelow, IsMoment, IsSound, List, Ready, Rests, always_firm, append-nil}
-use Rattle.law_jobs.proofs.Imports.{append_assoc, history_grows, history_is_firm, last_happens, prefix_legal, ready_after, refl, rests_after, setting_of}
-use Rattle.law_jobs.proofs.Imports.{start, start_rests, subst, sym, world_more}
-use Rattle.law_state.specs.Firm.{Firm}
+use Rattle.law_jobs.proofs.Imports.{[], ◌++◌, ◌∙◌, ◌∷◌, ◌≡◌, AreSteps, Firm, Happens, IsBelow, IsMoment, IsSound, List, Ready, Rests, State, always_firm}
+use Rattle.law_jobs.proofs.Imports.{append-nil, append_assoc, history_grows, history_is_firm, last_happens, prefix_legal, ready_after, refl, rests_after}
+use Rattle.law_jobs.proofs.Imports.{setting_of, start, start_rests, stepped, subst, sym, world_more}
 use Rattle.law_state.specs.Histories.{IsPrefix, Script, chosen_log, chosen_state, Record}
-use Rattle.spec_rules.specs.State.{State}
-use Rattle.spec_history.specs.Steps.{stepped, Follows}
+use Rattle.spec_history.specs.Steps.{Follows}
 pub use Rattle.law_jobs.specs.Runs.{At, OneMore, Run, after, longer, run_of, setting_in}
 
 -- the part of a history before some of its records

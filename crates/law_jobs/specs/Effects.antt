@@ -1,13 +1,11 @@
 -- Of what a job is made: effects, each on one place of a server's own part, with what was so when it was had.
 use Rattle.law_jobs.specs.Imports.{Body, Both, Cell, Chain, Copying, Ending, Entry, Finished, Full, IsNew, IsNewFill, IsNextKey, IsOfCopy, JobContext, Key}
 use Rattle.law_jobs.specs.Imports.{LastCopy, LastOp, LinkId, LinkRow, MarkKind, Moving, PairState, Pending, Progress, Stage, Stored, Table, Taken, Wanted}
-use Rattle.law_jobs.specs.Imports.{Write, Written, answering, at, cell_at, cell_holder, chain_in, chains_with, copying_on, epochs_beyond, fill_operation}
-use Rattle.law_jobs.specs.Imports.{first_last, free_of, idle_mark, in_both, is_alone_on, is_second, key_at, last_copy, last_on, link_named, live, operation}
-use Rattle.law_jobs.specs.Imports.{pending_on, progress, put, putting, version_of, with_copying, with_entry, with_filled, with_full, with_last}
-use Rattle.law_jobs.specs.Imports.{with_last_copy, with_mark_on, with_pending, with_progress, without_copying, without_entry, without_mark_on}
+use Rattle.law_jobs.specs.Imports.{Write, Written, answering, at, cell_at, cell_cmp, cell_holder, cell_of, chain_in, chains_with, copying_on, epochs_beyond}
+use Rattle.law_jobs.specs.Imports.{fill_operation, first_last, free_of, idle_mark, in_both, is_alone_on, is_second, key_at, last_copy, last_on, link_named}
+use Rattle.law_jobs.specs.Imports.{live, operation, pending_on, progress, put, putting, version_of, with_copying, with_entry, with_filled, with_full}
+use Rattle.law_jobs.specs.Imports.{with_last, with_last_copy, with_mark_on, with_pending, with_progress, without_copying, without_entry, without_mark_on}
 use Rattle.law_jobs.specs.Imports.{without_pending}
-use Rattle.spec_rules.specs.Store.{cell_cmp}
-use Rattle.petal_base.specs.Cells.{cell_of}
 use Rattle.std.specs.Prelude.{◌+◌, ◌<◌, ◌∷◌, ◌≡◌, ◌≤◌, ◌⊎◌, Bool, List, None, Option, Some, false, length, true, ℕ}
 use Rattle.std.specs.Ordering.{nat_cmp}
 use Rattle.petal_msg.specs.declared.body.Body.TheVariants as body

@@ -1,6 +1,5 @@
 -- Runs: the lists of allowed steps of sound scripts.
-use Rattle.law_jobs.specs.Imports.{AreSteps, IsSound, Record, Script, setting_of, start, world_after}
-use Rattle.spec_rules.specs.World.{Setting, World}
+use Rattle.law_jobs.specs.Imports.{AreSteps, IsSound, Record, Script, Setting, World, setting_of, start, world_after}
 use Rattle.std.specs.Prelude.{[], ◌++◌, ◌∷◌, List}
 
 -- the world after these records

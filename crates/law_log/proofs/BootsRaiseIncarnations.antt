@@ -1,7 +1,7 @@
 -- A server that boots, in the schedule: its incarnation is raised, and it begins with what its device knows.
 use Rattle.law_log.proofs.Imports.{[], ◌+◌, ◌∙◌, ◌∷◌, ◌≡◌, Accepted, Ballot, Bool, Boots, Command, Goes, Idle, Inc, IsProposer, List, Log, None, Option}
 use Rattle.law_log.proofs.Imports.{Phase, Some, StateRecord, StopsAfter, World, acceptor_inc, ap, arith, commits, committed, false, inc_committed, inc_of}
-use Rattle.law_log.proofs.Imports.{known_at, known_prefix, known_inc, raise, read_log, refl, subst, sym, true, turn, ℕ}
+use Rattle.law_log.proofs.Imports.{known_at, known_inc, known_prefix, raise, read_log, refl, subst, sym, true, turn, ℕ}
 use Rattle.law_log.specs.AgreedLog.{AreLow, IsBusyAs, IsSeenAt}
 use Rattle.law_log.proofs.LogJobsInSchedule.{run_known}
 use Rattle.law_log.proofs.VotesAfterCommits.{same_votes}

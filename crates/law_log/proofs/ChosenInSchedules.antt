@@ -1,8 +1,8 @@
 -- The chosen log of a world whose steps are those of a schedule.
 use Rattle.law_log.proofs.Imports.{[], ◌++◌, ◌+◌, ◌<◌, ◌∙◌, ◌∷◌, ◌≡◌, ◌≤◌, ◌⊎◌, Agrees, Among, Bool, Caught, Command, Drained, Firm, HasProperTuples}
-use Rattle.law_log.proofs.Imports.{HasSchedule, IsChosen, IsChosenBy, IsPrefix, IsSingle, IsAnnounced, Join, Leave, Letter, List, Moved, None, Setting, Some, ap}
-use Rattle.law_log.proofs.Imports.{append_assoc, arith, begin, by_bool, chosen_at, chosen_is_told, chosen_log, chosen_state, devices, false, prefix_of_log}
-use Rattle.law_log.proofs.Imports.{inl, inr, is_in, length, log_ends, log_has, log_tells, nat_tests, none_some, run, slice_get, state_after, subst, sym}
+use Rattle.law_log.proofs.Imports.{HasSchedule, IsAnnounced, IsChosen, IsChosenBy, IsPrefix, IsSingle, Join, Leave, Letter, List, Moved, None, Setting, Some}
+use Rattle.law_log.proofs.Imports.{ap, append_assoc, arith, begin, by_bool, chosen_at, chosen_is_told, chosen_log, chosen_state, devices, false, inl, inr}
+use Rattle.law_log.proofs.Imports.{is_in, length, log_ends, log_has, log_tells, nat_tests, none_some, prefix_of_log, run, slice_get, state_after, subst, sym}
 use Rattle.law_log.proofs.Imports.{told_is_chosen, true, true_false, who_is_in, who_is_out, ℕ}
 use Rattle.spec_rules.specs.World.{World}
 use Rattle.law_log.specs.AgreedLog.{Catches, Drains, IsBacked, IsCalledAnywhere, IsJoinAt, IsSaidBy, Logged, Minded, Moves, Returns, Waits, WasMinded}

@@ -22,7 +22,7 @@ pub use Rattle.std.specs.Ordering.{eq_by_cmp, is_eq, nat_cmp}
 pub use Rattle.std.specs.Prelude.{◌↔◌, is_some}
 pub use Rattle.std.specs.declared.cmp.Ordering.TheVariants.{Equal}
 pub use Rattle.busy_marks.specs.Marks.{above}
-pub use Rattle.law_agreement.proofs.ChosenLogGrows.{prefix_of_log, log_ends, log_has, log_tells}
+pub use Rattle.law_agreement.proofs.ChosenLogGrows.{log_ends, log_has, log_tells, prefix_of_log}
 pub use Rattle.law_agreement.proofs.ChosenWasWanted.{run-append}
 pub use Rattle.law_agreement.proofs.MajoritiesChoose.{chosen_is_told, told_is_chosen}
 pub use Rattle.law_agreement.proofs.MovesKeepFacts.{not_in_nobody}
@@ -78,7 +78,7 @@ pub use Rattle.spec_paxos.specs.declared.phase.Heard.TheVariants.{Chosen as Deci
 pub use Rattle.spec_paxos.specs.declared.record.StateRecord.TheVariants.{Accepted, Chosen, Inc, Promise}
 pub use Rattle.spec_rules.proofs.ListLemmas.{put_apart, put_same}
 pub use Rattle.spec_rules.proofs.Tests.{all_put, all_put_apart, only}
-pub use Rattle.spec_rules.specs.Agreement.{HasSchedule, IsAbout, IsAskedFor, IsProposer, IsAnnounced}
+pub use Rattle.spec_rules.specs.Agreement.{HasSchedule, IsAbout, IsAnnounced, IsAskedFor, IsProposer}
 pub use Rattle.spec_rules.specs.Ballots.{ask_posts, ballot_posts, comes_out, first_wanted, gives_way, greatest_place, hears_of_ballot, is_due, leave_before}
 pub use Rattle.spec_rules.specs.Ballots.{next_round, on_accept, on_prepare, own_leave, post_of, proposes, round_of, start_jobs, starts_ballot, starts_for}
 pub use Rattle.spec_rules.specs.Ballots.{wanted, with_leave}

@@ -1,12 +1,12 @@
 -- Each job of the log, as the schedule has it.
 use Rattle.law_log.proofs.Imports.{[], if◌then◌else◌, ◌++◌, ◌+◌, ◌<◌, ◌||◌, ◌∙◌, ◌∷◌, ◌≡◌, ◌⊎◌, Actor, Among, Body, Bool, Command, Heard, Idle, In}
-use Rattle.law_log.proofs.Imports.{IsProposer, IsAnnounced, Job, Leave, Letter, List, Log, LogDone, None, Nothing, Option, Pax, Phase, Post, Some, Voter, World}
-use Rattle.law_log.proofs.Imports.{acceptor_of, ap, applies, applies_known, applies_then, arith, before_known, by_test, false, first_wanted, fold, get_last}
-use Rattle.law_log.proofs.Imports.{has_command, hear, hears_log, hears_of_ballot, in-append, inc_accepted, inc_chosen, inc_promise, inl, inr, is_due, is_open}
-use Rattle.law_log.proofs.Imports.{is_some, keeps, known, known_at, known_run, learns, learns_first, leave_before, length, length-append, less_by, log_does}
-use Rattle.law_log.proofs.Imports.{nat_lt, next_place, none_some, not, on_ask, on_down, on_news, on_pax, on_propose, only, own_leave, proposes, refl, rev_of}
-use Rattle.law_log.proofs.Imports.{same_command, sent, slice_get, starts, starts_for, state_in, subst, suc, sym, told_inc, true, unknown_from, wanted}
-use Rattle.law_log.proofs.Imports.{with_entry, with_leave, zero, ℕ}
+use Rattle.law_log.proofs.Imports.{IsAnnounced, IsProposer, Job, Leave, Letter, List, Log, LogDone, None, Nothing, Option, Pax, Phase, Post, Some, Voter}
+use Rattle.law_log.proofs.Imports.{World, acceptor_of, ap, applies, applies_known, applies_then, arith, before_known, by_test, false, first_wanted, fold}
+use Rattle.law_log.proofs.Imports.{get_last, has_command, hear, hears_log, hears_of_ballot, in-append, inc_accepted, inc_chosen, inc_promise, inl, inr}
+use Rattle.law_log.proofs.Imports.{is_due, is_open, is_some, keeps, known, known_at, known_run, learns, learns_first, leave_before, length, length-append}
+use Rattle.law_log.proofs.Imports.{less_by, log_does, nat_lt, next_place, none_some, not, on_ask, on_down, on_news, on_pax, on_propose, only, own_leave}
+use Rattle.law_log.proofs.Imports.{proposes, refl, rev_of, same_command, sent, slice_get, starts, starts_for, state_in, subst, suc, sym, told_inc, true}
+use Rattle.law_log.proofs.Imports.{unknown_from, wanted, with_entry, with_leave, zero, ℕ}
 use Rattle.spec_paxos.specs.Proposer.{Step}
 use Rattle.spec_state.specs.State.{inc_of}
 use Rattle.law_log.specs.AgreedLog.{IsBacked, IsSaidBy}
@@ -251,7 +251,8 @@ module _ (it : JobLog) where
       wants_as_before own _ (learn_wants log place c) (λ letter h. learn_follows log place c letter h)
       (record { events = h.events; wanted = h.wanted; turns = h.turns })
 
-  told_first : (letter : Letter) (after : ℕ) (commands : List Command) → ((i : ℕ) (c : Command) → slice_get commands i ≡ Some c → IsAnnounced p (after + i + 1) c)
+  told_first : (letter : Letter) (after : ℕ) (commands : List Command)
+      → ((i : ℕ) (c : Command) → slice_get commands i ≡ Some c → IsAnnounced p (after + i + 1) c)
       → (first : ℕ × Command) (rest : List (ℕ × Command)) → unknown_from log (after + 1) commands ≡ first ∷ rest → IsAnnounced p first.0 first.1
   told_first letter after commands told first rest e =
       let at = is_listed log (after + 1) commands first rest e in
@@ -259,7 +260,8 @@ module _ (it : JobLog) where
       let same : after + at.0 + 1 ≡ first.0 = omega arith in
       subst (λ place. IsAnnounced p place first.1) same (told at.0 first.1 at.2)
 
-  heard_news : (letter : Letter) (after : ℕ) (commands : List Command) → ((i : ℕ) (c : Command) → slice_get commands i ≡ Some c → IsAnnounced p (after + i + 1) c)
+  heard_news : (letter : Letter) (after : ℕ) (commands : List Command)
+      → ((i : ℕ) (c : Command) → slice_get commands i ≡ Some c → IsAnnounced p (after + i + 1) c)
       → (listed : List (ℕ × Command)) → unknown_from log (after + 1) commands ≡ listed → Left (job.Letter letter) (learns_first log letter listed)
   heard_news letter after commands told [] e = kept (job.Letter letter)
   heard_news letter after commands told (first ∷ []) e = learnt (job.Letter letter) first.0 first.1 (told_first letter after commands told first [] e)

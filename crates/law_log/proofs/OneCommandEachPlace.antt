@@ -1,7 +1,7 @@
 -- What follows from what is kept: one command a place is told, those that are told were asked for, and logs are plain.
-use Rattle.law_log.proofs.Imports.{◌+◌, ◌==◌, ◌≡◌, ◌≤◌, Among, Bool, Caught, Command, Drained, HasProperTuple, HasProperTuples, IsChosen, IsAnnounced, Join, Leave}
-use Rattle.law_log.proofs.Imports.{Line, List, MakeDisk, Moved, Request, Server, Setting, Snap, Some, StartMove, Witness, ap, begin, begin_holds, command_of}
-use Rattle.law_log.proofs.Imports.{false, inl, inr, is_caught, is_tuple, lines_of, log_in, none_some, one_chosen, refl, run, run_holds, same_some}
+use Rattle.law_log.proofs.Imports.{◌+◌, ◌==◌, ◌≡◌, ◌≤◌, Among, Bool, Caught, Command, Drained, HasProperTuple, HasProperTuples, IsAnnounced, IsChosen, Join}
+use Rattle.law_log.proofs.Imports.{Leave, Line, List, MakeDisk, Moved, Request, Server, Setting, Snap, Some, StartMove, Witness, ap, begin, begin_holds}
+use Rattle.law_log.proofs.Imports.{command_of, false, inl, inr, is_caught, is_tuple, lines_of, log_in, none_some, one_chosen, refl, run, run_holds, same_some}
 use Rattle.law_log.proofs.Imports.{server_state, servers_of, slice_get, subst, sym, true, true_false, ℕ}
 use Rattle.petal_command.specs.declared.pax.Pax.TheVariants.{Chosen}
 use Rattle.spec_rules.specs.World.{World}

@@ -1,12 +1,12 @@
 -- A proposer: the ballot that it starts, and what it makes of the letters that answer it.
 use Rattle.law_log.proofs.Imports.{[], if◌then◌else◌, ◌&&◌, ◌+◌, ◌<◌, ◌∙◌, ◌∷◌, ◌≡◌, ◌≤◌, Acceptor, Among, Ballot, Body, Bool, Collecting, Command, Decided}
-use Rattle.law_log.proofs.Imports.{Goes, Heard, Idle, In, IsAbout, IsAskedFor, IsProposer, IsAnnounced, IsWanted, List, Log, None, Nothing, Option, Pax, Phase}
-use Rattle.law_log.proofs.Imports.{Post, Promise, Refused, Send, Some, Starts, Voter, Voting, World, acceptor_of, ap, arith, by_test, collected, collecting}
-use Rattle.law_log.proofs.Imports.{comes_out, committed, count_below, counted, counts, false, first_wanted, gives_way, greatest_place, has_majority, hear}
-use Rattle.law_log.proofs.Imports.{hears_of_ballot, higher, in_here, in_there, inl, inr, is_for, is_open, is_unpromised, keep, learns, less_test, map, nat_le}
-use Rattle.law_log.proofs.Imports.{nat_lt, nat_tests, next_place, next_round, nobody, none_some, not, not_in_nobody, number, post_of, promise, proposes}
-use Rattle.law_log.proofs.Imports.{range_with_len, rank, refl, rev_of, round_of, same_some, send, sent, set, started, starts, starts_ballot, starts_for}
-use Rattle.law_log.proofs.Imports.{subst, suc, sym, true, true_false, turn, with_phase, zero, ℕ, ⊤}
+use Rattle.law_log.proofs.Imports.{Goes, Heard, Idle, In, IsAbout, IsAnnounced, IsAskedFor, IsProposer, IsWanted, List, Log, None, Nothing, Option, Pax}
+use Rattle.law_log.proofs.Imports.{Phase, Post, Promise, Refused, Send, Some, Starts, Voter, Voting, World, acceptor_of, ap, arith, by_test, collected}
+use Rattle.law_log.proofs.Imports.{collecting, comes_out, committed, count_below, counted, counts, false, first_wanted, gives_way, greatest_place}
+use Rattle.law_log.proofs.Imports.{has_majority, hear, hears_of_ballot, higher, in_here, in_there, inl, inr, is_for, is_open, is_unpromised, keep, learns}
+use Rattle.law_log.proofs.Imports.{less_test, map, nat_le, nat_lt, nat_tests, next_place, next_round, nobody, none_some, not, not_in_nobody, number, post_of}
+use Rattle.law_log.proofs.Imports.{promise, proposes, range_with_len, rank, refl, rev_of, round_of, same_some, send, sent, set, started, starts}
+use Rattle.law_log.proofs.Imports.{starts_ballot, starts_for, subst, suc, sym, true, true_false, turn, with_phase, zero, ℕ, ⊤}
 use Rattle.spec_paxos.specs.Proposer.{Step, is_in}
 use Rattle.law_log.specs.AgreedLog.{IsSeenAt, AreLow, IsLow, IsBacked}
 use Rattle.law_log.proofs.RunningLog.{VotingLog, voter_at}

@@ -1,7 +1,7 @@
 -- What changes in a schedule when one server does something.
 use Rattle.law_log.proofs.Imports.{[], ◌++◌, ◌+◌, ◌<◌, ◌↔◌, ◌∙◌, ◌∷◌, ◌≡◌, ◌≢◌, ◌⊎◌, Acceptor, Actor, Among, Ballot, Body, Bool, Collecting, Command, Event}
-use Rattle.law_log.proofs.Imports.{Goes, Handed, Idle, In, IsAbout, IsAskedFor, IsProposer, IsAnnounced, IsWanted, Leave, Letter, List, Log, None, Option, Pax}
-use Rattle.law_log.proofs.Imports.{Phase, Post, Sent, Some, Starts, StateRecord, Stops, Vote, Voting, World, ap, cast, false, handed, in_cons, in_here}
+use Rattle.law_log.proofs.Imports.{Goes, Handed, Idle, In, IsAbout, IsAnnounced, IsAskedFor, IsProposer, IsWanted, Leave, Letter, List, Log, None, Option}
+use Rattle.law_log.proofs.Imports.{Pax, Phase, Post, Sent, Some, Starts, StateRecord, Stops, Vote, Voting, World, ap, cast, false, handed, in_cons, in_here}
 use Rattle.law_log.proofs.Imports.{in_there, inl, inr, keep, learn, only, put_at_cases, refl, run, run-append, send, sent, subst, sym, true, turn, vote, ℕ}
 use Rattle.law_log.specs.AgreedLog.{IsReached, IsLow, AreLow, IsSeenAt, IsBusyAs, IsBacked}
 use Rattle.law_log.proofs.ListPlaces.{placed, put_here, put_away, put_at_away}

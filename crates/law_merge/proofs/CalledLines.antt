@@ -40,7 +40,8 @@ module _ (heard : ℕ → Body → Type 0) (servers : ℕ) (lines : List Line) (
       inl (open_on _ client.asked reacted.client number was.asked was.is was.line_is reacted.client.asked refl stays)
   open_kept client _ _ (happens.Is_told reacted asked h is reads seq stays only) number was =
       let line : asked.line ≡ number = ap (λ (a : Asked). a.line) (same_some (sym is ∙ was.is)) ∙ was.line_is in
-      inl (open_on _ (Some (record asked { saw_missing = true; old_way = true })) reacted.client number (record asked { saw_missing = true; old_way = true }) refl line
+      inl (open_on _ (Some (record asked { saw_missing = true; old_way = true })) reacted.client number
+      (record asked { saw_missing = true; old_way = true }) refl line
       reacted.client.asked refl stays)
   open_kept client _ _ (happens.Begins reacted line asked next free seq there called only) number was = none_some free was.is
   open_kept client _ _ (happens.Reads asked bytes h is reads) number was =

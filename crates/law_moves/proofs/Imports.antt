@@ -29,21 +29,23 @@ pub use Rattle.law_steps.proofs.Imports.{so_both, stage_by, stage_most, up_some,
 unfoldable pub use Rattle.law_steps.proofs.Imports.{put}
 pub use Rattle.law_jobs.specs.Imports.{Did, IsFilled, IsNextFill, IsNextKey, Taken, chains_with, progress}
 pub use Rattle.law_jobs.proofs.Imports.{As_it_is, As_told, Aside, Blanks, By_ballot, By_entry, By_job, Ends, Fails, Goes, Handled, Happens, IsSame, Of_job}
-pub use Rattle.law_jobs.proofs.Imports.{Rests, Serves, Serving, Stays, Turns, Wakes, Was_sent, Worked, always_firm, at_apart, at_same, happens_sent}
-pub use Rattle.law_jobs.proofs.Imports.{last_happens, next_comes, own_place, own_plain, proposed_pairs, rests_after, row_named, same_cell_or_apart}
-pub use Rattle.law_jobs.proofs.Imports.{same_itself, same_on, start_rests, stood, taking}
-pub use Rattle.law_copies.specs.Imports.{WasStarted, blank_joins_in, is_between, is_clients, kept_store, one_put_ahead}
-pub use Rattle.law_copies.proofs.Imports.{At, BeforeBlank, By_caught, By_join, By_leave, Drops, Effect, Fills, For_a_fill, For_a_write, HasJoinedSince}
-pub use Rattle.law_copies.proofs.Imports.{IsCaughtBy, IsInBoth, May, Says, Sets, Stood, Writes, applied, before_part, below_itself, by_run, chain_apart}
-pub use Rattle.law_copies.proofs.Imports.{chain_put, chosen_caught_was, counted, counted_by, did_come, drop_apart, drop_none, either_true, first_by}
+pub use Rattle.law_jobs.proofs.Imports.{Rests, Serves, Serving, Stays, Turns, Wakes, Was_sent, Worked, always_firm, at_apart, at_same, below_itself}
+pub use Rattle.law_jobs.proofs.Imports.{happens_sent, is_clients, last_happens, next_comes, own_place, own_plain, proposed_pairs, rests_after, row_named}
+pub use Rattle.law_jobs.proofs.Imports.{same_cell_or_apart, same_itself, same_on, start_rests, stood, taking}
+pub use Rattle.law_copies.specs.Imports.{WasStarted, blank_joins_in, is_between, kept_store, one_put_ahead}
+pub use Rattle.law_copies.proofs.Imports.{A_lead, A_new_copy, A_sweep, Alone_has, An_operation, As_operation, At, BeforeBlank, Both_have, By_caught, By_join}
+pub use Rattle.law_copies.proofs.Imports.{By_leave, Closes, Drops, Effect, Fills, For_a_fill, For_a_write, HasEnded, HasJoinedSince, IsCaughtBy, IsDroppedFor}
+pub use Rattle.law_copies.proofs.Imports.{IsInBoth, IsOpening, IsPaired, IsPutFor, IsSetFor, Is_apart, Is_replicated, Is_retired, May, Opens, Puts, Says}
+pub use Rattle.law_copies.proofs.Imports.{Sets, Stood, The_last_copy, Was_paired, Writes, applied, before_part, by_run, chain_apart, chain_put}
+pub use Rattle.law_copies.proofs.Imports.{chosen_caught_was, counted, counted_by, did_come, drop_apart, drop_none, either_true, entry_ahead, first_by}
 pub use Rattle.law_copies.proofs.Imports.{first_state, happened_in, in_none, job_keeps, joined_counts, joined_since, kept, kept_by, letters_of_job}
 pub use Rattle.law_copies.proofs.Imports.{link_led_by, live_stage, log_both_place, log_grown, log_lost, log_touched, longer, lost_not_both, none_before_none}
 pub use Rattle.law_copies.proofs.Imports.{on_row, one_before, past_link, places_grow, prefix_within, primary_is_one, row_joined, run_of, running_prefixes}
 pub use Rattle.law_copies.proofs.Imports.{second_by, secondary_is_one, setting_in, since, split_last, stage_live, start_plain, stays_alone, stays_both}
 pub use Rattle.law_copies.proofs.Imports.{tuple_on}
-pub use Rattle.law_epochs.proofs.Imports.{A_lead, AliveIn, An_operation, IsAt, IsLinked, IsPutFor, IsTouchedBy, WasThere, at_by, at_most_or_above}
-pub use Rattle.law_epochs.proofs.Imports.{ballot_store, epoch_at, is_at, is_at_so, log_retired, place_by, place_of_later, place_touched, proper, runs_at}
-pub use Rattle.law_epochs.proofs.Imports.{split_prefixes, stage_facts, stands_in}
+pub use Rattle.law_epochs.proofs.Imports.{AliveIn, IsAt, IsLinked, IsTouchedBy, Noted, WasThere, at_by, at_most_or_above, ballot_store, epoch_at, is_at}
+pub use Rattle.law_epochs.proofs.Imports.{is_at_so, log_retired, place_by, place_of_later, place_touched, proper, runs_at, split_prefixes, stage_facts}
+pub use Rattle.law_epochs.proofs.Imports.{stands_in}
 pub use Rattle.law_moves.specs.Imports.{HasNewer, IsFilledFrom, IsServing}
 pub use Rattle.law_copies.proofs.ChainsRise.{in_kept, in_left, in_mapped}
 pub use Rattle.law_copies.proofs.CopiesInHistories.{good_after, start_good, step_goes}
@@ -75,8 +77,7 @@ pub use Rattle.law_jobs.proofs.FillsByJobs.{IsOpenedFill, Is_next, Is_other, did
 pub use Rattle.law_jobs.proofs.OperationsCome.{restaged}
 pub use Rattle.law_jobs.proofs.Runs.{after}
 pub use Rattle.law_jobs.specs.ComingCells.{WasComing}
-pub use Rattle.law_jobs.specs.Effects.{A_new_copy, A_sweep, Alone_has, Both_have, Closes, Goes_on, HasEnded, IsDroppedFor, IsPaired, IsSetFor}
-pub use Rattle.law_jobs.specs.Effects.{Is_apart, Is_replicated, Is_retired, Puts, The_last_copy, Was_paired, chains_ahead}
+pub use Rattle.law_jobs.specs.Effects.{Goes_on, chains_ahead}
 pub use Rattle.law_log.proofs.FillJobsLeaveLog.{filled_beside, filled_here}
 pub use Rattle.law_log.proofs.LogInHistories.{first_incs, join_was_wanted, moved_was_wanted}
 pub use Rattle.law_log.specs.ProposedCommands.{WasMoving}

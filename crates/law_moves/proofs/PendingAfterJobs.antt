@@ -1,12 +1,11 @@
 -- What is pending after a job was so before: with the same number, and put only if it was, or the job put it, and its copy told only for a reason; or
 -- it is new, under the next number, and neither put nor copied.
-use Rattle.law_moves.proofs.Imports.{◌∙◌, ◌≡◌, ◌⊎◌, Body, Cell, Chain, Closes, Did, Drops, Effect, For_a_fill, For_a_write, Goes_on, IsPaired, IsSame}
-use Rattle.law_moves.proofs.Imports.{IsSetFor, Is_apart, Is_replicated, JobContext, JobResult, Key, May, None, PairState, Pending, Puts, Sets, Some, Stored}
-use Rattle.law_moves.proofs.Imports.{Table, Was_paired, ap, applied, at, by_bool, cell_apart, cell_cmp, cell_of, cell_same, chain_in, chains_ahead}
-use Rattle.law_moves.proofs.Imports.{chains_with, false, inl, inr, job_keeps, none_some, put, refl, restaged, same_cell_or_apart, same_itself, same_on}
-use Rattle.law_moves.proofs.Imports.{same_some, stood, subst, sym, true, true_false}
+use Rattle.law_moves.proofs.Imports.{◌∙◌, ◌≡◌, ◌⊎◌, An_operation, As_operation, Body, Cell, Chain, Closes, Did, Drops, Effect, For_a_fill, For_a_write}
+use Rattle.law_moves.proofs.Imports.{Goes_on, IsOpening, IsPaired, IsPutFor, IsSame, IsSetFor, Is_apart, Is_replicated, JobContext, JobResult, Key, May, None}
+use Rattle.law_moves.proofs.Imports.{Opens, PairState, Pending, Puts, Sets, Some, Stored, Table, Was_paired, ap, applied, at, by_bool, cell_apart, cell_cmp}
+use Rattle.law_moves.proofs.Imports.{cell_of, cell_same, chain_in, chains_ahead, chains_with, entry_ahead, false, inl, inr, job_keeps, none_some, put, refl}
+use Rattle.law_moves.proofs.Imports.{restaged, same_cell_or_apart, same_itself, same_on, same_some, stood, subst, sym, true, true_false}
 use Rattle.law_moves.proofs.JobsChangeOneChain.{not_ahead}
-use Rattle.law_jobs.specs.Effects.{An_operation, As_operation, IsOpening, IsPutFor, Opens, entry_ahead}
 
 -- the operation was pending, or is new
 pub data WasSo (heard : Body → Type 0) (here : JobContext) (own : PairState) (chains : Table Cell Chain) (q : Cell) (op : Pending) : Type 0 where

@@ -23,8 +23,8 @@ pub use Rattle.law_steps.proofs.Imports.{prefix_same, report_among, same_caught,
 unfoldable pub use Rattle.law_steps.proofs.Imports.{put}
 pub use Rattle.law_jobs.specs.Imports.{Did, IsNew}
 pub use Rattle.law_jobs.proofs.Imports.{Blanks, By_ballot, By_entry, By_job, Ends, Fails, Goes, Handled, Happens, Ready, Rests, Serves, Serving, Stays, Turns}
-pub use Rattle.law_jobs.proofs.Imports.{Wakes, Was, Worked, at_apart, at_same, own_place, own_plain, proposed_pairs, was_same}
-pub use Rattle.law_requests.specs.Imports.{done_to, is_clients, line_by}
+pub use Rattle.law_jobs.proofs.Imports.{Wakes, Was, Worked, at_apart, at_same, below_itself, is_clients, own_place, own_plain, proposed_pairs, was_same}
+pub use Rattle.law_requests.specs.Imports.{done_to, line_by}
 pub use Rattle.std.proofs.lemmas.Bool.{cases_lt}
 pub use Rattle.law_jobs.proofs.JobsSay.{letters_of_job}
 pub use Rattle.law_jobs.proofs.OperationsCome.{HasCome, HasFinished, Is_done, Is_new, None_new, Stood, did_come, did_finish}
@@ -45,7 +45,7 @@ pub use Rattle.law_state.proofs.Leaves.{both_up, either_true}
 pub use Rattle.law_state.proofs.LoneHolders.{alone_left, both_not_alone, both_row, lead_alone}
 pub use Rattle.law_state.proofs.NamedCells.{asked_only, found_epoch, made_for, told_settled_at}
 pub use Rattle.law_state.proofs.Owners.{disk_on}
-pub use Rattle.law_state.proofs.Prefixes.{below_itself, prefix_within}
+pub use Rattle.law_state.proofs.Prefixes.{prefix_within}
 pub use Rattle.law_state.proofs.Roles.{primary_is_one, secondary_is_one}
 pub use Rattle.law_state.proofs.Steady.{log_grown}
 pub use Rattle.law_state.specs.Homes.{epoch_at, era_at}

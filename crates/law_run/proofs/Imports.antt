@@ -19,7 +19,7 @@ pub use Rattle.law_state.proofs.Imports.{option_map, option_map_or, range_with_l
 pub use Rattle.law_state.proofs.Imports.{second, slice_get, slice_get_within, some_or_none, source_in, touches, true_false, unwrap_or, view_of}
 pub use Rattle.law_log.proofs.Imports.{Acted, Actor, After, Answer, AreSteps, AreStepsFrom, Asked, Before, Blank, Body, Boot, Call, Client, Deliver, Ending}
 pub use Rattle.law_log.proofs.Imports.{Equal, Firm, HasProperTuples, IsSettledState, IsSound, Job, JobContext, JobResult, Key, LastCopy, Letter, Log, LogDone}
-pub use Rattle.law_log.proofs.Imports.{MayActor, OpKind, Pending, Post, Reaction, Sight, Step, StopIn, Stored, Table, Work, WorkEnd, about, acts, all_put}
+pub use Rattle.law_log.proofs.Imports.{MayActor, Pending, Post, Reaction, Sight, Step, StopIn, Stored, Table, Work, WorkEnd, about, acts, all_put}
 pub use Rattle.law_log.proofs.Imports.{all_put_apart, answers, awake, blanked, boots, cell_of, chain_in, client_sender, client_state, client_step, command_of}
 pub use Rattle.law_log.proofs.Imports.{copying_on, crossing, down_posts, ended, entered, epoch_for, first_wanted, get_within, has_proposed, hears, hears_any}
 pub use Rattle.law_log.proofs.Imports.{hears_of, here_of, id_of, is_eq, is_flagged, is_log_job, is_logged, is_overfull, is_read, is_second, is_under_way}
@@ -36,33 +36,34 @@ pub use Rattle.law_steps.proofs.Imports.{match_ordering, new_stage, old_stage, o
 pub use Rattle.law_steps.proofs.Imports.{prefix_on, prefix_plain, said_to_all, same_only, same_place, settling, so_alone, so_both, stage_by, version_of}
 pub use Rattle.law_steps.proofs.Imports.{was_true}
 unfoldable pub use Rattle.law_steps.proofs.Imports.{put}
-pub use Rattle.law_jobs.specs.Imports.{Did, IsReadable, IsRefusal, Taken, answering, chains_with, progress}
+pub use Rattle.law_jobs.specs.Imports.{Did, IsReadable, IsRefusal, Taken, answering, chains_with, progress, putting}
 pub use Rattle.law_jobs.proofs.Imports.{As_it_is, As_told, Blanks, By_ballot, By_entry, By_job, By_read, Ends, Fails, Goes, Handled, Happens, IsMoment}
 pub use Rattle.law_jobs.proofs.Imports.{IsSame, Not_here, Of_the_log, Ready, Refuses, Repeats, Rests, Serves, Serving, Shows, Stays, Turns, Wakes, Worked}
-pub use Rattle.law_jobs.proofs.Imports.{always_firm, at_apart, at_same, happens, own_place, own_plain, prefix_legal, rests_after, rests_next, retired_second}
-pub use Rattle.law_jobs.proofs.Imports.{same_cell_or_apart, start_rests, taking, world_more}
-pub use Rattle.law_copies.specs.Imports.{IsRising, blank_joins_in, is_clients, kept_store, no_pairs, one_put_ahead}
-pub use Rattle.law_copies.proofs.Imports.{AllMayWake, At, BeforeBlank, By_caught, By_join, By_leave, Ends_fill, HasJoinedSince, IsLater, Moves, Moves_on}
-pub use Rattle.law_copies.proofs.Imports.{OneMore, Run, Says, alone_by, at_row, before_part, both_row, by_run, cases_lt, chain_apart, chain_put}
-pub use Rattle.law_copies.proofs.Imports.{chosen_caught_was, counted, counted_by, either_true, firm_in, get_in, grown_in, held_as_flag, in_get, in_map}
-pub use Rattle.law_copies.proofs.Imports.{in_none, is_at_work, kept, kept_by, lead_links, letters_of_job, live_stage, log_grown, log_lost, log_touched}
-pub use Rattle.law_copies.proofs.Imports.{longer, may_wake, none_before_none, one_before, other_between, places_grow, primary_is_one, put_rises, putting}
-pub use Rattle.law_copies.proofs.Imports.{rests_in, row_joined, run_of, said, second_by, secondary_is_one, served_so, setting_in, shown_so, stepped_in}
-pub use Rattle.law_copies.proofs.Imports.{stopped_so, turned_asks, without_rev}
+pub use Rattle.law_jobs.proofs.Imports.{always_firm, at_apart, at_same, happens, is_clients, own_place, own_plain, prefix_legal, rests_after, rests_next}
+pub use Rattle.law_jobs.proofs.Imports.{retired_second, same_cell_or_apart, start_rests, taking, world_more}
+pub use Rattle.law_copies.specs.Imports.{IsRising, blank_joins_in, kept_store, no_pairs, one_put_ahead}
+pub use Rattle.law_copies.proofs.Imports.{AllMayWake, Alone_has, At, BeforeBlank, Both_have, By_caught, By_join, By_leave, Ends_fill, HasJoinedSince, IsLater}
+pub use Rattle.law_copies.proofs.Imports.{IsPaired, Is_apart, Is_declined, Is_replicated, Is_retired, Moves, Moves_on, OneMore, Run, Says, Was_paired}
+pub use Rattle.law_copies.proofs.Imports.{alone_by, at_row, before_part, both_row, by_run, cases_lt, chain_apart, chain_put, chosen_caught_was, counted}
+pub use Rattle.law_copies.proofs.Imports.{counted_by, either_true, firm_in, get_in, grown_in, held_as_flag, in_get, in_map, in_none, is_at_work, kept}
+pub use Rattle.law_copies.proofs.Imports.{kept_by, lead_links, letters_of_job, live_stage, log_grown, log_lost, log_touched, longer, may_wake}
+pub use Rattle.law_copies.proofs.Imports.{none_before_none, one_before, other_between, places_grow, primary_is_one, put_rises, rests_in, row_joined, run_of}
+pub use Rattle.law_copies.proofs.Imports.{said, second_by, secondary_is_one, served_so, setting_in, shown_so, stepped_in, stopped_so, turned_asks}
+pub use Rattle.law_copies.proofs.Imports.{without_rev}
 pub use Rattle.law_requests.specs.Imports.{done_to, line_by}
-pub use Rattle.law_requests.proofs.Imports.{Alone_has, Answered, Begins, Blanks_it, Both_have, By_operation, By_verdict, By_witness, Fails_it, Goes_on}
-pub use Rattle.law_requests.proofs.Imports.{Had_no_slot, Has_no_space, Heard, IsCalled, IsFinishedFor, IsJudged, IsReason, IsSeatedOrMute, IsSeenAs}
-pub use Rattle.law_requests.proofs.Imports.{Is_declined, Is_retired, Is_settled, Is_told, Judges, OnlySays, Reads, Shown, Starts_it, StaysOpen, Stops_at}
-pub use Rattle.law_requests.proofs.Imports.{Stops_it, Turned, both_leads, chosen_steady, did_finish, disk_on, epoch_at, is_notice, is_refused, leaving}
-pub use Rattle.law_requests.proofs.Imports.{led_by, own_below, own_steady, runs_now, serves_sent, write_refusal}
+pub use Rattle.law_requests.proofs.Imports.{Answered, Begins, Blanks_it, By_operation, By_verdict, By_witness, Fails_it, Goes_on, Had_no_slot, Has_no_space}
+pub use Rattle.law_requests.proofs.Imports.{Heard, IsCalled, IsFinishedFor, IsJudged, IsReason, IsSeatedOrMute, IsSeenAs, Is_settled, Is_told, Judges}
+pub use Rattle.law_requests.proofs.Imports.{OnlySays, Reads, Shown, Starts_it, StaysOpen, Stops_at, Stops_it, Turned, both_leads, chosen_steady, did_finish}
+pub use Rattle.law_requests.proofs.Imports.{disk_on, epoch_at, is_notice, is_refused, leaving, led_by, own_below, own_steady, runs_now, serves_sent}
+pub use Rattle.law_requests.proofs.Imports.{write_refusal}
 pub use Rattle.law_moves.specs.Imports.{HasNewer, IsFilledFrom, IsServing}
 pub use Rattle.law_moves.proofs.Imports.{AliveIn, AreCopies, AreCopying, AreTwins, Good, HasSent, IsAt, IsCaught, IsLast, IsLeft, IsLinked, IsOther, IsOwn}
-pub use Rattle.law_moves.proofs.Imports.{IsPaired, IsStaged, IsTold, Is_apart, Is_replicated, PairOk, WasThere, Was_paired, Working, alive_on}
-pub use Rattle.law_moves.proofs.Imports.{alone_authority, alone_or_flagged, at_by, ballot_store, begins_to_leave, both_authority, both_last, both_since}
-pub use Rattle.law_moves.proofs.Imports.{chain_that_counts, chains_ahead, far, frozen_by, good_after, half, half_store, held_by, in_counts, in_kept, in_left}
-pub use Rattle.law_moves.proofs.Imports.{in_mapped, in_own, is_at, joined_where, lead, linked_between, no_home, one_place, one_row, other_apart, other_than}
-pub use Rattle.law_moves.proofs.Imports.{pair_at, pair_of, place_by, place_of_later, place_touched, places_up, prefixes_meet, rows_later, source_same}
-pub use Rattle.law_moves.proofs.Imports.{split_prefixes, stage_facts, stage_in, stage_is, start_good, step_goes, store_by, unseen_beyond}
+pub use Rattle.law_moves.proofs.Imports.{IsStaged, IsTold, PairOk, WasThere, Working, alive_on, alone_authority, alone_or_flagged, at_by, ballot_store}
+pub use Rattle.law_moves.proofs.Imports.{begins_to_leave, both_authority, both_last, both_since, chain_that_counts, chains_ahead, far, frozen_by, good_after}
+pub use Rattle.law_moves.proofs.Imports.{half, half_store, held_by, in_counts, in_kept, in_left, in_mapped, in_own, is_at, joined_where, lead, linked_between}
+pub use Rattle.law_moves.proofs.Imports.{no_home, one_place, one_row, other_apart, other_than, pair_at, pair_of, place_by, place_of_later, place_touched}
+pub use Rattle.law_moves.proofs.Imports.{places_up, prefixes_meet, rows_later, source_same, split_prefixes, stage_facts, stage_in, stage_is, start_good}
+pub use Rattle.law_moves.proofs.Imports.{step_goes, store_by, unseen_beyond}
 pub use Rattle.std.proofs.Math.Seq.{drop-append_seam}
 pub use Rattle.std.proofs.lemmas.Cmp.{nat_list_eq_equiv}
 pub use Rattle.std.proofs.lemmas.List.{length-append}

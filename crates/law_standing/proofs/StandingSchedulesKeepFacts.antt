@@ -4,13 +4,13 @@ use Rattle.law_standing.proofs.Imports.{Chosen, Command, End, Event, Fits, Goes,
 use Rattle.law_standing.proofs.Imports.{None, Option, Phase, Prepare, Promise, PromiseFrom, Proposes, Refuse, Report, Sent, Setting, Some, Standing, Started}
 use Rattle.law_standing.proofs.Imports.{Starts, StateRecord, Stops, StopsAfter, StopsBefore, Told, Vote, World, accepted_at, accepted_in, accepted_stands}
 use Rattle.law_standing.proofs.Imports.{and_parts, ap, arith, arrives, at_true, begin, boots, cases_lt, collected, comes_out, commit, committed, committed_in}
-use Rattle.law_standing.proofs.Imports.{counted, counts, either, ended, false, for_them, handed, happens, has_majority, hear, in_committed, in_cons, in_prefix}
-use Rattle.law_standing.proofs.Imports.{in_got, in_here, in_nil, in_reported, in_there, inc_of, inl, inr, is_behind, is_for, is_in, is_open_at, is_open_from}
-use Rattle.law_standing.proofs.Imports.{is_unpromised_from, is_within, joined, keep, least, length, listed, listing, majorities_meet, may_propose, min}
-use Rattle.law_standing.proofs.Imports.{nat_le, nat_lt, nat_tests, not, not_in_nobody, number, one_server, promise_covers, promise_of, promise_pledges}
-use Rattle.law_standing.proofs.Imports.{promised_at, promised_from, proposes, put, put_cases, rank, rank_of, refl, reported_at, reported_in, reported_rises}
-use Rattle.law_standing.proofs.Imports.{run, same, send, sent, set, started, starting, starts, subst, sym, tells, to_propose, true, turn, until_of, unwrap_or}
-use Rattle.law_standing.proofs.Imports.{ℕ}
+use Rattle.law_standing.proofs.Imports.{counted, counts, either, ended, false, for_them, handed, happens, has_majority, hear, in_committed, in_cons, in_got}
+use Rattle.law_standing.proofs.Imports.{in_here, in_nil, in_prefix, in_reported, in_there, inc_of, inl, inr, is_behind, is_for, is_in, is_open_at}
+use Rattle.law_standing.proofs.Imports.{is_open_from, is_unpromised_from, is_within, joined, keep, least, length, listed, listing, majorities_meet}
+use Rattle.law_standing.proofs.Imports.{may_propose, min, nat_le, nat_lt, nat_tests, not, not_in_nobody, number, one_server, promise_covers, promise_of}
+use Rattle.law_standing.proofs.Imports.{promise_pledges, promised_at, promised_from, proposes, put, put_cases, rank, rank_of, refl, reported_at, reported_in}
+use Rattle.law_standing.proofs.Imports.{reported_rises, run, same, send, sent, set, started, starting, starts, subst, sym, tells, to_propose, true, turn}
+use Rattle.law_standing.proofs.Imports.{until_of, unwrap_or, ℕ}
 use Rattle.law_standing.proofs.StandingFacts.{HasPromised, HasPledged, HasVoted, IsGreatestBelow, AreCast, Asked, Prepared, IsSafe, IsPromise, IsBacked}
 use Rattle.law_standing.proofs.StandingFacts.{HasHeard, IsSafeInRange, Knows, AsksOnly, Sound}
 use Rattle.law_standing.proofs.LaterStandingWorlds.{later_pledged}

@@ -30,13 +30,13 @@ pub use Rattle.law_log.proofs.Imports.{hears_hello, hears_of, hears_of_ballot, h
 pub use Rattle.law_log.proofs.Imports.{hears_reserved, hears_sync, hears_sync_full, hears_synced, hears_trim, hears_trim_of, hears_trimmed, holds_link, id_of}
 pub use Rattle.law_log.proofs.Imports.{idle_mark, is_caught, is_due, is_eq, is_flagged, is_from_in, is_kept_back, is_log_job, is_logged, is_next, is_nothing}
 pub use Rattle.law_log.proofs.Imports.{is_open, is_overfull, is_pending_for, is_read, is_replicating, is_reserving, is_second, is_settled, is_some}
-pub use Rattle.law_log.proofs.Imports.{is_syncing, is_under_way, is_witness, is_write, job_done, judged, judged_by, keeps, key_at, known, known_at}
-pub use Rattle.law_log.proofs.Imports.{known_prefix, known_inc, known_run, last_copy, last_on, learns_first, less_by, link_before, link_jobs, link_named}
-pub use Rattle.law_log.proofs.Imports.{log_plain, mends_found, moving, nat_cmp, next_entries, next_line, next_place, no_progress, only, opened, opens}
-pub use Rattle.law_log.proofs.Imports.{opens_fill, other_in, own_join, own_leave, own_wants, page_asked, page_for, page_posts, page_wanted, pending_on}
-pub use Rattle.law_log.proofs.Imports.{post_in_turn, post_of, post_to, posts_for, progress_on, proposed, proposes, put_apart, put_same, puts_entry, raised}
-pub use Rattle.law_log.proofs.Imports.{reacts, read_posts, read_posts_at, region_to_move, repairs_row, replies, reserves, rests, returning, rev_of, rounds}
-pub use Rattle.law_log.proofs.Imports.{said, same_block, says, sees, sees_for, sees_from, sender, sends_entry, sends_key, sends_moving, sends_or_proposes}
+pub use Rattle.law_log.proofs.Imports.{is_syncing, is_under_way, is_witness, is_write, job_done, judged, judged_by, keeps, key_at, known, known_at, known_inc}
+pub use Rattle.law_log.proofs.Imports.{known_prefix, known_run, last_copy, last_on, learns_first, less_by, link_before, link_jobs, link_named, log_plain}
+pub use Rattle.law_log.proofs.Imports.{mends_found, moving, nat_cmp, next_entries, next_line, next_place, no_progress, only, opened, opens, opens_fill}
+pub use Rattle.law_log.proofs.Imports.{other_in, own_join, own_leave, own_wants, page_asked, page_for, page_posts, page_wanted, pending_on, post_in_turn}
+pub use Rattle.law_log.proofs.Imports.{post_of, post_to, posts_for, progress_on, proposed, proposes, put_apart, put_same, puts_entry, raised, reacts}
+pub use Rattle.law_log.proofs.Imports.{read_posts, read_posts_at, region_to_move, repairs_row, replies, reserves, rests, returning, rev_of, rounds, said}
+pub use Rattle.law_log.proofs.Imports.{same_block, says, sees, sees_for, sees_from, sender, sends_entry, sends_key, sends_moving, sends_or_proposes}
 pub use Rattle.law_log.proofs.Imports.{sent_again, server_state, server_step, setting_of, settles, silent, stage_jobs, stamped, start, starts_for, state_in}
 pub use Rattle.law_log.proofs.Imports.{stays, stays_open, stepped, steps_begin, stops, subject_of, sweeps_with, takes, takes_all, takes_entries, takes_entry}
 pub use Rattle.law_log.proofs.Imports.{takes_mark, takes_newer, tells, then_goes_out, tick_jobs, tick_posts, tied_itself, to_propose, trims_again}

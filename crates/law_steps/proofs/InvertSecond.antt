@@ -61,7 +61,8 @@ module _ (heard : Body → Type 0) (here : JobContext) (own : PairState) where
       (subst (λ o. progress o ≤ number + number) (sym e) (omega arith)) refl
   did_reserve number cell (Some last) h s e = by_test D (nat_lt number last.op) _ _ (λ t. Ignores)
       (λ older. by_test D (number == last.op) _ _
-      (λ same. By_second _ (Promises number cell last.progress s (e ∙ λ i. Some (record { op = sym (same_numbers number last.op same) i; progress = last.progress }))))
+      (λ same. By_second
+      _ (Promises number cell last.progress s (e ∙ λ i. Some (record { op = sym (same_numbers number last.op same) i; progress = last.progress }))))
       (λ apart. did_reserves number cell (has_slot last.progress) (nat_lt 0 (free_of own.store)) h s
       (past_is cell number last e (newer_op last number older apart))
       (subst (λ o. progress o ≤ number + number) (sym e) (later_op last number older apart)) refl))
@@ -76,5 +77,6 @@ module _ (heard : Body → Type 0) (here : JobContext) (own : PairState) where
       → is_second here.state here.me (cell_of key) ≡ true → last_on own (cell_of key) ≡ o → D (hears_replicate here own number key bytes o)
   did_replicate number key version bytes None h s e = Ignores
   did_replicate number key version bytes (Some last) h s e = by_test D (number == last.op) _ _
-      (λ same. did_once number key version bytes last.progress h s (e ∙ λ i. Some (record { op = sym (same_numbers number last.op same) i; progress = last.progress })))
+      (λ same. did_once number key version bytes last.progress h s
+      (e ∙ λ i. Some (record { op = sym (same_numbers number last.op same) i; progress = last.progress })))
       (λ t. Ignores)

@@ -2,8 +2,8 @@
 -- records. And it is not yet In as its next incarnation, of which no Join can be chosen before.
 use Rattle.law_steps.proofs.Imports.{[], ◌+◌, ◌<◌, ◌==◌, ◌∙◌, ◌∷◌, ◌≡◌, ◌≢◌, ◌≤◌, ◌⊎◌, Accepted, AreSteps, Bool, Command, Inc, IsPrefix, IsSound, List, Log}
 use Rattle.law_steps.proofs.Imports.{Promise, Record, Row, Script, Some, StateRecord, accept_row, ap, arith, before_known, by_bool, by_test, choose_row}
-use Rattle.law_steps.proofs.Imports.{chosen_log, chosen_state, empty_row, false, fold, history_agrees, inl, inr, is_in, known, known_at, known_prefix}
-use Rattle.law_steps.proofs.Imports.{known_inc, known_run, length, logged, none_some, out_has_stopped, promise_row, raised, refl, row_after, run_known}
+use Rattle.law_steps.proofs.Imports.{chosen_log, chosen_state, empty_row, false, fold, history_agrees, inl, inr, is_in, known, known_at, known_inc}
+use Rattle.law_steps.proofs.Imports.{known_prefix, known_run, length, logged, none_some, out_has_stopped, promise_row, raised, refl, row_after, run_known}
 use Rattle.law_steps.proofs.Imports.{same_numbers, same_some, setting_of, slice_get, start, state_after, suc, sym, true, true_false, who_is_in_has_begun}
 use Rattle.law_steps.proofs.Imports.{world_after, zero, ℕ}
 use Rattle.spec_paxos.specs.declared.record.StateRecord.TheVariants.{Chosen}

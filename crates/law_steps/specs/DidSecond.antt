@@ -22,7 +22,8 @@ pub data DidSecond (heard : Body → Type 0) (here : JobContext) (own : PairStat
   Sets_apart : (number : ℕ) (cell : Cell) (tickets : ℕ) → heard (body.Reserve number cell) → is_second here.state here.me cell ≡ true
       → progress (last_on own cell) ≤ number + number
       → DidSecond heard here own (tells here (with_last (with_tickets own tickets) cell number follow_progress.Reserved) cell number follow_progress.Reserved)
-  Promises : (number : ℕ) (cell : Cell) (how : FollowProgress) → is_second here.state here.me cell ≡ true → last_on own cell ≡ Some (record { op = number; progress = how })
+  Promises : (number : ℕ) (cell : Cell) (how : FollowProgress) → is_second here.state here.me cell ≡ true
+      → last_on own cell ≡ Some (record { op = number; progress = how })
       → DidSecond heard here own (tells here own cell number how)
   Declines : (number : ℕ) (cell : Cell) → heard (body.Reserve number cell) → is_second here.state here.me cell ≡ true → FoundNoSlot own cell number
       → DidSecond heard here own (says_to own (first here.state cell) (body.PairFull number cell))

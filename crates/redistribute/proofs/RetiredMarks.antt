@@ -121,9 +121,11 @@ module _ (alive : Cell → Bool) where
       | inl here ↦
           let dies_too : alive m.cell ≡ false = ap alive (same_cell m.cell map block own here) ∙ dies in
           rw (dies_too, own, here) refl
-      | inr there ↦ rw there (later (gone m && m.cell.map == map) (hits block_of (retired_on map) block ms) (hit_retired map block ms dies (rw (own, there) at hit)))
+      | inr there ↦
+          rw there (later (gone m && m.cell.map == map) (hits block_of (retired_on map) block ms) (hit_retired map block ms dies (rw (own, there) at hit)))
     ]
-    | inr other ↦ rw other (later_on (gone m) (m.cell.block == block) (hits block_of (retired_on map) block ms) (hit_retired map block ms dies (rw other at hit)))
+    | inr other ↦
+        rw other (later_on (gone m) (m.cell.block == block) (hits block_of (retired_on map) block ms) (hit_retired map block ms dies (rw other at hit)))
   ]
 
   miss_retired : (map block : ℕ) (ms : List Mark) → alive (record { map = map; block = block }) ≡ true → hits block_of (retired_on map) block ms ≡ false

@@ -94,7 +94,8 @@ module _ {D : Type 0} (op : Pending) (side : PairMemory) (store : Holdings D) (h
     -- what its first stage leaves, as seen from before it was opened; unless that was refused, as it is taken back then
     pub opened_done : (here : JobContext) (device : Ghosts D) (last : PairMemory) (left : Holdings D) (result : Result JobResult WorkError) (room : Bool)
         → room ≡ true
-        → ¬ (result ≡ Err NoMemory) → ¬ (result ≡ Err JournalFull) → IsDone device here (held new after) (held last left) result (goes_on here (own_of new after) op.cell)
+        → ¬ (result ≡ Err NoMemory) → ¬ (result ≡ Err JournalFull)
+        → IsDone device here (held new after) (held last left) result (goes_on here (own_of new after) op.cell)
         → IsDone device here (held side store) (held last left) result (begun here (own_of side store) op room)
     opened_done here device last left result room is memory full stage =
         rw is (subst (λ (rule : Rule). IsDone device here (held side store) (held last left) result rule)

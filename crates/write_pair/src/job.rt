@@ -28,7 +28,8 @@ pub fn on_letter<D: Disk>(
 ) -> Result<JobResult, WorkError>
     requires letter { is_of_write (subject_of letter.now.body) ≡ true }
     requires ready { IsReady side.old store.old }
-    ensures job { IsDone D.Disk here.now (held side.old store.old) (held side.new store.new) result (handles here.now (own_of side.old store.old) letter.now.body) }
+    ensures job { IsDone D.Disk here.now (held side.old store.old) (held side.new store.new) result
+        (handles here.now (own_of side.old store.old) letter.now.body) }
     ensures same { result ≡ Err error.NoMemory → store.new ≡ store.old }
 {
     match &letter.body {

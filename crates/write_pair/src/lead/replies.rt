@@ -44,7 +44,8 @@ pub fn on_reserved<D: Disk>(
     cell: Cell,
 ) -> Result<JobResult, WorkError>
     requires ready { IsReady side.old store.old }
-    ensures job { IsDone D.Disk here.now (held side.old store.old) (held side.new store.new) result (writes.on_reserved here.now (own_of side.old store.old) op cell) }
+    ensures job { IsDone D.Disk here.now (held side.old store.old) (held side.new store.new) result
+        (writes.on_reserved here.now (own_of side.old store.old) op cell) }
     ensures same { result ≡ Err error.NoMemory → store.new ≡ store.old }
 {
     match side.pending_on(cell)? {
@@ -110,7 +111,8 @@ pub fn on_replicated<D: Disk>(
     cell: Cell,
 ) -> Result<JobResult, WorkError>
     requires ready { IsReady side.old store.old }
-    ensures job { IsDone D.Disk here.now (held side.old store.old) (held side.new store.new) result (writes.on_replicated here.now (own_of side.old store.old) op cell) }
+    ensures job { IsDone D.Disk here.now (held side.old store.old) (held side.new store.new) result
+        (writes.on_replicated here.now (own_of side.old store.old) op cell) }
     ensures same { result ≡ Err error.NoMemory → store.new ≡ store.old }
 {
     match side.pending_on(cell)? {

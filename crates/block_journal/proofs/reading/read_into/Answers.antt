@@ -32,7 +32,8 @@ pub returns-then-not-branch-clause-counts : goal.returns-then-not-branch-clause-
 returns-then-not-branch-clause-counts g c observed =
     let inv = c.loop-first.invariant in
     let stopped : c.in_ok-read_piece.field-0 ≡ false = search rules in
-    let here = piece_more _ _ _ _ _ _ _ _ _ c.requires.wide inv.device.same_seen (inv.all observed) (inv.counts observed) (c.in_ok-read_piece.ensures.took observed) in
+    let here = piece_more _ _ _ _ _ _ _ _ _ c.requires.wide inv.device.same_seen (inv.all observed) (inv.counts observed)
+    (c.in_ok-read_piece.ensures.took observed) in
     counts_stopped g.row.R c.args.base (c.loop-first.first + c.min-records.result) c.args.limit (g.D.Disk.seen c.args.disk.now) _ (here.2 stopped)
     (search rules) here.0
 

@@ -15,7 +15,8 @@ returns-in-Some g c = λ last there place.
     let entry = entry_of c.args.entry.now in
     let is : last.index ≡ entry.index = omega (arith, place, c.if-place-index-2.false) in
     let moved = next_of entry.index c.in-Some.next last _
-    (sym c.in-Some.is ∙ c.in_ok-next.ensures ∙ ap (λ (cell : Cell). option_map (put_at entry.index) (at cell_cmp c.args.side.now.copies.last cell)) c.cell.ensures)
+    (sym c.in-Some.is ∙ c.in_ok-next.ensures
+    ∙ ap (λ (cell : Cell). option_map (put_at entry.index) (at cell_cmp c.args.side.now.copies.last cell)) c.cell.ensures)
     there is in
     let older : nat_lt entry.index last.index ≡ false = grind (arith, nat_tests, place, c.if-place-index.false) in
     let same : (entry.index == last.index) ≡ true = grind (arith, nat_tests, is) in

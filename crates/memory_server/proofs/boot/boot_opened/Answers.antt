@@ -48,7 +48,8 @@ returns-in_ok-end-in-Err-Failed g c = λ observed holds kept opened.
     let reopened = c.in_ok-end-in-Err-Failed.ensures in
     let later = reopened.later in
     rw (c.failed.ensures, c.new-in-Err-Failed.ensures)
-    (boot_failed g.D.Disk observed old c.requires.stopped holds kept opened c.in_ok-end-in-Err-Failed.end c.raise_at.new.core c.reopen.new.store c.reopen.new.state
+    (boot_failed g.D.Disk observed old c.requires.stopped holds kept opened c.in_ok-end-in-Err-Failed.end c.raise_at.new.core
+    c.reopen.new.store c.reopen.new.state
     (c.raise_at.ensures ∙ ap (core_at c.in_ok-end-in-Err-Failed.end) booted.same) c.requires.known
     (reopened.ends was will observed small stored recorded (ap (λ (counts : Counts). counts.stored) c.of-before.ensures ∙ holds.count)
     (ap (λ (counts : Counts). counts.kept) c.of-before.ensures ∙ kept.count) (inr refl))

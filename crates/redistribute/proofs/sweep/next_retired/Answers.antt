@@ -10,7 +10,8 @@ use Rattle.redistribute.proofs.Rests.{order_listed}
 use Rattle.redistribute.proofs.sweep.next_retired.Goals as goal
 
 pub retired_entry-requires : goal.retired_entry-requires
-retired_entry-requires g c = subst (λ (es : List Entry). IsInOrder key_of es) (sym c.entries.ensures) (order_listed c.args.store.now.entries c.free.ensures.order)
+retired_entry-requires g c =
+    subst (λ (es : List Entry). IsInOrder key_of es) (sym c.entries.ensures) (order_listed c.args.store.now.entries c.free.ensures.order)
 
 pub returns-in-Some : goal.returns-in-Some
 returns-in-Some g c =

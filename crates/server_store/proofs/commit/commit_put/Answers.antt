@@ -130,5 +130,6 @@ returns-clause-any_moment g c observed picture h free =
     (LeftByWrite (slot_start slot) block_bytes (g.D.Disk.may_leave c.args.disk.now)) = rw c.requires.base at c.write.ensures.any_moment in
     let first = weaker g.D.Disk.moment g.D.Disk.left_since _ _ _ (λ f. ShowsEither f n log picture r block) moments
     (λ f l. inl (shows-still n log.fresh log.records picture slot l.0 f free l.2 (h.left l.0 l.1))) in
-    joined g.D.Disk.moment g.D.Disk.left_since _ _ _ _ _ first (c.append.ensures.any_moment observed n (logs_of n log picture _ _ still) (c.requires.slot, free))
+    joined g.D.Disk.moment g.D.Disk.left_since _ _ _ _ _ first
+    (c.append.ensures.any_moment observed n (logs_of n log picture _ _ still) (c.requires.slot, free))
     (λ f l. committed n log picture r block l.0 f (still.left l.0 l.1) l.2 (subst (λ d. ShowsChange d kept r block) (sym (only l.0 l.1)) change) l.3)

@@ -18,7 +18,8 @@ module _ (here : JobContext) (own : PairState) (number : ℕ) (key : Key) (bytes
   abbrev by_last : Option LastOp → JobResult
   by_last o = if is_second here.state here.me (cell_of key) then hears_replicate here own number key bytes o else silent own
 
-  kept : (second same : Bool) → (if second then (if same then follows_once here own number key bytes follow_progress.Replicated else silent own) else silent own).own ≡ own
+  kept : (second same : Bool)
+      → (if second then (if same then follows_once here own number key bytes follow_progress.Replicated else silent own) else silent own).own ≡ own
   kept false same = refl
   kept true false = refl
   kept true true = refl

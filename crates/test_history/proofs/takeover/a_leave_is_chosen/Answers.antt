@@ -13,5 +13,6 @@ use Rattle.spec_rules.specs.World.{step}
 use Rattle.test_history.proofs.takeover.a_leave_is_chosen.Goals as goal
 
 pub returns : goal.returns
-unfolding number nobody at put put_at on_down on_pax starts goes_on on_write on_reserve on_reserved handles hears_log does log_does heard refusal next_retired step
+unfolding number nobody
+    at put put_at on_down on_pax starts goes_on on_write on_reserve on_reserved handles hears_log does log_does heard refusal next_retired step
 returns c = record { before = refl; old = refl; chosen = refl; new = refl }

@@ -29,6 +29,8 @@ returns-clause-only g c observed bodies list =
     let counts : Counts 64 (half_start c.args.base later.half + 64) 32767 (d.seen c.args.disk.now) all =
     subst (λ (file : List ℕ). Counts 64 (half_start c.args.base later.half + 64) 32767 file all) c.find_later.ensures.device.same_seen
     ((rw c.start.ensures at c.in_ok-bodies.ensures.counts) observed) in
-    list_once c.args.base (d.seen c.args.disk.now) all bodies
-    (later.half, (later.generation, found_list c.args.base later (d.seen c.args.disk.now) all ((rw c.in-Some.is at c.in_ok-later.ensures.found) observed) counts))
+    list_once c.args.base (d.seen c.args.disk.now) all bodies (
+      later.half,
+      (later.generation, found_list c.args.base later (d.seen c.args.disk.now) all ((rw c.in-Some.is at c.in_ok-later.ensures.found) observed) counts),
+    )
     list

@@ -43,7 +43,8 @@ returns-in_err-write_header-clause-either g c observed =
     let whole = (g.met.D.Disk g.world.𝓛 g.world.𝓜 g.world.𝓡 ((λ s x. x), (λ x. x), (λ x. x), λ x. x)).whole c.format_after_gate.new.disk observed in
     let fits : 64 ≤ length (g.D.Disk.seen c.format_after_gate.new.disk) = omega (arith, whole, c.format_after_gate.ensures.size, c.requires) in
     left_by_header (λ (file : List ℕ). file ≡ g.D.Disk.seen c.args.disk.now) (g.D.Disk.size c.args.disk.now) c.args.said.slots c.args.said.fresh j _ _
-    at fits (c.in_ok-journal.ensures.stored observed).now ((rw c.spell.ensures at c.write_header.ensures.either) observed (c.in_ok-journal.ensures.shut observed))
+    at fits (c.in_ok-journal.ensures.stored observed).now
+    ((rw c.spell.ensures at c.write_header.ensures.either) observed (c.in_ok-journal.ensures.shut observed))
 
 pub returns-clause-any_moment : goal.returns-clause-any_moment
 returns-clause-any_moment g c observed =
@@ -63,4 +64,5 @@ returns-clause-either g c observed =
     let whole = (g.met.D.Disk g.world.𝓛 g.world.𝓜 g.world.𝓡 ((λ s x. x), (λ x. x), (λ x. x), λ x. x)).whole c.format_after_gate.new.disk observed in
     let fits : 64 ≤ length (g.D.Disk.seen c.format_after_gate.new.disk) = omega (arith, whole, c.format_after_gate.ensures.size, c.requires) in
     left_by_header (λ (file : List ℕ). file ≡ g.D.Disk.seen c.args.disk.now) (g.D.Disk.size c.args.disk.now) c.args.said.slots c.args.said.fresh j _ _
-    at fits (c.in_ok-journal.ensures.stored observed).now ((rw c.spell.ensures at c.write_header.ensures.either) observed (c.in_ok-journal.ensures.shut observed))
+    at fits (c.in_ok-journal.ensures.stored observed).now
+    ((rw c.spell.ensures at c.write_header.ensures.either) observed (c.in_ok-journal.ensures.shut observed))

@@ -11,7 +11,8 @@ pub returns-then-not-has_key-clause-ok : goal.returns-then-not-has_key-clause-ok
 returns-then-not-has_key-clause-ok g c = sym (not_there (listed c.args.self.now.entries) c.args.key (none_is _ (sym c.has_key.ensures ∙ c.if-not-has_key.true)))
 
 pub returns-then-not-has_key-clause-content : goal.returns-then-not-has_key-clause-content
-returns-then-not-has_key-clause-content g c observed = sym (not_held c.args.self.now.entries c.args.key (none_is _ (sym c.has_key.ensures ∙ c.if-not-has_key.true)))
+returns-then-not-has_key-clause-content g c observed =
+    sym (not_held c.args.self.now.entries c.args.key (none_is _ (sym c.has_key.ensures ∙ c.if-not-has_key.true)))
 
 pub returns-in_err-commit-clause-listed : goal.returns-in_err-commit-clause-listed
 returns-in_err-commit-clause-listed g c = on_err c.from_residual.result
@@ -49,7 +50,8 @@ returns-clause-committed g c =
     record {
       records = grind (arith, common_steps);
       unrecorded = grind (arith, common_steps);
-      holds = λ observed. rw (← c.self.view_is, c.drop_key.ensures, c.commit.ensures.contents observed (without_key es c.args.key) ∙ map-without x es c.args.key)
+      holds = λ observed.
+          rw (← c.self.view_is, c.drop_key.ensures, c.commit.ensures.contents observed (without_key es c.args.key) ∙ map-without x es c.args.key)
           (λ h. c.in_ok-commit.ensures.keeps observed c.self.inside.ledger.slots _ h);
       either = λ observed. rw (← c.self.view_is) (λ h. c.commit.ensures.either observed c.self.inside.ledger.slots _ h);
       any_moment = λ observed. rw (← c.self.view_is) (λ h. c.commit.ensures.any_moment observed c.self.inside.ledger.slots _ h);

@@ -14,7 +14,8 @@ invariant_of-self-in-Err g c =
     let m : Mark = record { kind = c.args.kind; cell = c.args.cell } in
     let marks = c.self.inside.marks.marks in
     let none : has_mark m marks ≡ false = sym c.has.ensures ∙ c.if-has.false in
-    let back : c.clear.new.self.marks ≡ marks = c.clear.ensures.marks ∙ ap (λ (ms : List Mark). without_mark ms m) c.in_ok-set.ensures.ok ∙ taken_back m marks none in
+    let back : c.clear.new.self.marks ≡ marks = c.clear.ensures.marks ∙ ap (λ (ms : List Mark). without_mark ms m) c.in_ok-set.ensures.ok
+    ∙ taken_back m marks none in
     rw (back, c.commit.ensures.size, c.commit.ensures.fresh, c.in-Err.ensures.err) c.self.invariant
 
 pub returns-in-Ok-clause-listed : goal.returns-in-Ok-clause-listed
@@ -35,7 +36,8 @@ returns-in-Err-clause-full g c is =
     let m : Mark = record { kind = c.args.kind; cell = c.args.cell } in
     let marks = c.self.inside.marks.marks in
     let none : has_mark m marks ≡ false = sym c.has.ensures ∙ c.if-has.false in
-    let back : c.clear.new.self.marks ≡ marks = c.clear.ensures.marks ∙ ap (λ (ms : List Mark). without_mark ms m) c.in_ok-set.ensures.ok ∙ taken_back m marks none in
+    let back : c.clear.new.self.marks ≡ marks = c.clear.ensures.marks ∙ ap (λ (ms : List Mark). without_mark ms m) c.in_ok-set.ensures.ok
+    ∙ taken_back m marks none in
     let same = c.in-Err.ensures.unchanged is in
     rw (← c.self.view_is) (c.in-Err.ensures.full.0 is, ap not none, rw (back, same.0, same.1) refl)
 

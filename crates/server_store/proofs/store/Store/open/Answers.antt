@@ -7,7 +7,8 @@ returns-in-Ok-Some-clause-same g c slots fresh recorded picture observed lt room
     let read = c.read_device in
     reopened (g.D.Disk.seen c.args.disk) (g.D.Disk.seen read.new.disk)
     (g.D.Disk.may_leave read.new.disk) c.in-Ok-Some.found read.new.disk slots fresh recorded picture
-    (rw c.in-Ok-Some.field-0-is at c.in-Ok-Some.ensures.found) read.ensures.device.same_seen ((rw c.in-Ok-Some.field-0-is at c.in-Ok-Some.ensures.durable) observed)
+    (rw c.in-Ok-Some.field-0-is at c.in-Ok-Some.ensures.found) read.ensures.device.same_seen
+    ((rw c.in-Ok-Some.field-0-is at c.in-Ok-Some.ensures.durable) observed)
     ((rw c.in-Ok-Some.field-0-is at c.in-Ok-Some.ensures.same slots fresh recorded) observed lt shows.stands) shows
 
 pub returns-in-Ok-None-clause-same : goal.returns-in-Ok-None-clause-same
