@@ -7,7 +7,7 @@ use petal_base::{MapId, ServerId};
 pub enum LinkState {
     /// Both copies are kept up to date; the primary leads.
     Both,
-    /// The holder alone is up to date. `whole`: it has to copy every block it has to the other server, which lost its own.
+    /// The holder alone is up to date. `full_copy_needed`: it has to copy every block it has to the other server, which lost its own.
     Only {
         holder: ServerId,
         full_copy_needed: bool,

@@ -11,7 +11,7 @@ loop-i-preserved c =
     let room = c.requires in
     let same : 0 + i ≡ i = omega arith in
     filled_more c.args.bodies.now 0 i c.loop-i.piece c.put_next.new.piece (get_or c.args.bodies.now i []) c.gate_behind-gate.result
-    (omega (arith, c.loop-i.auto.piece, c.loop-i-test.true)) (c.observed-bodies i c.loop-i-test.true) c.put_next.ensures
+    (omega (arith, c.loop-i.auto.piece, c.loop-i-test.true)) (c.told-bodies i c.loop-i-test.true) c.put_next.ensures
     (ap (λ (k : ℕ). get_or c.args.bodies.now k []) (let e : i ≡ 0 + i = omega arith in e))
     (λ more. c.gate_behind-gate.ensures.opened (omega (arith, more)))
     (λ last. c.gate_behind-gate.ensures.shut (omega (arith, last)))
