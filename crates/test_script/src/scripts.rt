@@ -25,7 +25,7 @@ fn is_told(alloc: Global, text: &[u8], want: &str) -> Result<bool, Fail> {
 }
 
 /// Whole scripts: lines, ends of lines, words, and the first line that counts.
-/// In each row stand a script, with `/` for LF and `~` for CR, and what becomes of it.
+/// Each case is a script, with `/` for LF and `~` for CR, and what becomes of it.
 const SCRIPTS: &str = "\
 \x20| 1: no servers line\n\
 //# x/ | 1: no servers line\n\
@@ -153,7 +153,7 @@ op blank 1/op stop 2 | accepted";
 const BEFORE: &str =
     "servers 3 slots 4/net lose 2/net twice 3/a disk v on 0 1 2/op stop 1 at 1/wait/";
 
-/// The byte for which a row's byte stands.
+/// The byte for which a case's byte stands.
 fn byte_of(byte: u8) -> u8 {
     match byte {
         b'/' => b'\n',
@@ -176,29 +176,29 @@ fn spelled(alloc: Global, before: &str, text: &str) -> Result<Vec<u8>, AllocErro
     Ok(bytes)
 }
 
-fn row_is_told(alloc: Global, before: &str, text: &str, want: &str) -> Result<bool, Fail> {
+fn case_holds(alloc: Global, before: &str, text: &str, want: &str) -> Result<bool, Fail> {
     let bytes = spelled(alloc, before, text)?;
     is_told(alloc, &bytes, want)
 }
 
-fn check_row(rt: &impl Abort, alloc: Global, before: &str, row: &str) -> Result<(), Fail> {
-    let (text, want) = row.split_once(" | ").ok_or("a row")?;
-    assert!(rt; row_is_told(alloc, before, text, want)?, "at {text}");
+fn check_case(rt: &impl Abort, alloc: Global, before: &str, case: &str) -> Result<(), Fail> {
+    let (text, want) = case.split_once(" | ").ok_or("a case")?;
+    assert!(rt; case_holds(alloc, before, text, want)?, "at {text}");
     Ok(())
 }
 
-fn check_rows(rt: &impl Abort, alloc: Global, before: &str, rows: &str) -> Result<(), Fail> {
-    for row in rows.split('\n') {
-        check_row(rt, alloc, before, row)?;
+fn check_cases(rt: &impl Abort, alloc: Global, before: &str, cases: &str) -> Result<(), Fail> {
+    for case in cases.split('\n') {
+        check_case(rt, alloc, before, case)?;
     }
     Ok(())
 }
 
 #[test]
 fn scripts_are_accepted_or_refused(rt: HostRuntime) -> Result<(), Fail> {
-    check_rows(&rt, rt.alloc(), "", SCRIPTS)?;
-    check_rows(&rt, rt.alloc(), "servers 2 slots 4/", SECOND_LINES)?;
-    check_rows(&rt, rt.alloc(), BEFORE, LAST_LINES)
+    check_cases(&rt, rt.alloc(), "", SCRIPTS)?;
+    check_cases(&rt, rt.alloc(), "servers 2 slots 4/", SECOND_LINES)?;
+    check_cases(&rt, rt.alloc(), BEFORE, LAST_LINES)
 }
 
 /// Whether this becomes of a servers line and then so many lines.
