@@ -1,6 +1,8 @@
 """Scripts that the table of cases names. Each function makes one; its arguments are the words after its name."""
 import random
 
+import drill
+
 CLIENTS = "abcdefgh"
 
 FIVE = "servers_5_slots_16;a_disk_vol_on_0_1_2_3_4;wait;"
@@ -56,6 +58,11 @@ def all_servers():
     for turn in (1, 2):
         lines += [f"{CLIENTS[(block + turn) % 8]} read vol {block}" for block in range(32)]
     return joined(lines)
+
+def faulted_drill(seed, count, plan):
+    """The script of a drill, in which a call of a device is to fail: the plan's words after `op fault` have `_` between them."""
+    lines = drill.script_of(int(seed), int(count)).split(b"\n")
+    return b"\n".join([*lines[:3], b"op fault " + plan.replace("_", " ").encode(), *lines[3:]])
 
 def patterns():
     """Each pattern, at the first and the last block and across the run counts that are printed."""
@@ -510,7 +517,7 @@ MAKERS = {
     "all_servers": all_servers, "patterns": patterns, "sized": sized, "requests": requests, "phases": phases, "large": large,
     "most_disks": most_disks, "most_moves": most_moves, "most_boots": most_boots, "full_server": full_server, "ramps": ramps,
     "empty_lines": empty_lines, "empty_phases": empty_phases, "snaps_at_once": snaps_at_once, "many_contents": many_contents,
-    "many_copies": many_copies,
+    "many_copies": many_copies, "faulted_drill": faulted_drill,
 }
 
 def made(words):
