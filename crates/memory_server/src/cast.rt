@@ -32,7 +32,7 @@ fn started(alloc: Global, servers: u8, slots: u32) -> Result<Sequence<MemServer>
 /// with a state device of its own.
 ///
 /// # Errors
-/// Out of memory; `Unexpected` where a device fails.
+/// Out of memory; `Unexpected` where a device fails, or where the script has a single server.
 pub fn members(alloc: Global, script: &Script) -> Result<Sequence<MemServer>, HostError>
     ensures sites { IfOk result (λ members. map site_of members ≡ first_sites script.now) }
     ensures devices { IfOk result (λ members. All (λ server. ⟦<Planned<MemDisk> as Disk>⟧.size server.store.disk ≡ slot_start script.now.slots) members) }

@@ -23,7 +23,7 @@ use petal_base::{Inc, NoMemory, Rev, Sequence, ServerId};
 use petal_command::ServerNumber;
 use petal_disk::{Disk, MemDisk, Plan, Planned, Which};
 use petal_msg::Letter;
-use server_core::ServerCore;
+use server_core::{ServerCore, ServerCount};
 use server_host::{Host, HostError, HostResult};
 use server_store::{DATA_START, SLOT_BYTES, Store};
 use spec_rules::Step;
@@ -116,7 +116,7 @@ impl MemServer {
     /// and a state device of its own.
     ///
     /// # Errors
-    /// Out of memory; `Unexpected` where a device fails, or where there is no such server.
+    /// Out of memory; `Unexpected` where a device fails, where there is no such server, or where it is the only one.
     pub fn start(
         alloc: Global,
         me: ServerId,
@@ -128,6 +128,9 @@ impl MemServer {
         ensures plans { IfOk result (λ server. armed_of server ≡ unarmed) }
     {
         let Some(me) = ServerNumber::checked(me) else {
+            return Err(HostError::Unexpected);
+        };
+        let Some(servers) = ServerCount::checked(servers) else {
             return Err(HostError::Unexpected);
         };
         let state = first_state(alloc)?;

@@ -7,10 +7,12 @@
 #![tactic(auto)]
 
 mod acceptor;
+mod count;
 pub mod laws;
 mod proposer;
 
 pub use acceptor::{on_accept, on_prepare};
+pub use count::ServerCount;
 pub use proposer::{Proposer, has_majority};
 pub use spec_paxos::{Heard, Phase};
 pub use state_store::{StateError, StateStore};

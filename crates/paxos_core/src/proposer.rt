@@ -5,6 +5,7 @@ ghost use Rattle.petal_command.specs.declared.pax.Pax.TheVariants.{Prepare};
 ghost use Rattle.spec_paxos.specs.declared.phase.Phase.TheVariants.{Idle};
 ghost use Rattle.spec_paxos.specs.Proposer.{collecting, has_majority, higher, rank_of, to_propose, is_for, counts, collected, counted, hear};
 
+use crate::count::ServerCount;
 use petal_base::ServerId;
 use petal_command::{Ballot, Command, Pax, ServerNumber};
 use spec_paxos::{Heard, Phase};
@@ -13,13 +14,13 @@ use spec_paxos::{Heard, Phase};
 #[derive(Drop)]
 pub struct Proposer {
     pub me: ServerNumber,
-    pub servers: u8,
+    pub servers: ServerCount,
     pub phase: Phase,
 }
 
 impl Proposer {
     /// A proposer that started nothing.
-    pub fn new(me: ServerNumber, servers: u8) -> Proposer
+    pub fn new(me: ServerNumber, servers: ServerCount) -> Proposer
         ensures { result ≡ record { me = me; servers = servers; phase = Idle } }
     {
         Proposer {
@@ -56,7 +57,7 @@ impl Proposer {
         ensures heard { result ≡ (hear self.old.servers self.old.phase from letter.now).heard }
     {
         let phase = std::mem::replace(&mut self.phase, Phase::Idle);
-        let (phase, heard) = hear(self.servers, phase, from, letter);
+        let (phase, heard) = hear(self.servers.get(), phase, from, letter);
         self.phase = phase;
         heard
     }

@@ -17,7 +17,7 @@ use petal_base::{Inc, NoMemory, Sequence};
 use petal_command::ServerNumber;
 use petal_disk::Disk;
 use petal_msg::Letter;
-use server_log::{LogSide, farewell};
+use server_log::{LogSide, ServerCount, farewell};
 use state_store::StateStore;
 use std::alloc::Global;
 
@@ -27,7 +27,7 @@ fn next_log<E: Disk>(
     alloc: Global,
     me: ServerNumber,
     before: Inc,
-    servers: u8,
+    servers: ServerCount,
     state: &StateStore<E>,
 ) -> Result<(LogSide, Sequence<Letter>), NoMemory>
     requires { before < greatest_u32 }
@@ -37,7 +37,9 @@ fn next_log<E: Disk>(
     ensures letters { IfOk result (λ out. out.1 ≡ letters_of (sender_of out.0) 0 (down_posts me before servers)) }
 {
     let log = LogSide::boot(alloc, me, before + 1, servers, state)?;
-    let letters = log.envelope().down_letters(alloc, me, before, servers)?;
+    let letters = log
+        .envelope()
+        .down_letters(alloc, me, before, servers.get())?;
     Ok((log, letters))
 }
 
@@ -81,7 +83,7 @@ impl ServerCore {
         ensures err { OnErr result (self.new ≡ self.old) }
     {
         let (number, before, servers) = (self.parts.log.number(), self.inc(), self.servers());
-        let farewell = farewell(alloc, number, before + 1, servers)?;
+        let farewell = farewell(alloc, number, before + 1, servers.get())?;
         let (log, letters) = next_log(alloc, number, before, servers, state)?;
         self.parts.restart(alloc, log);
         self.farewell = farewell;

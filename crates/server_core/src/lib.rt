@@ -16,3 +16,4 @@ mod work;
 
 pub use pair_memory::WorkError;
 pub use server::ServerCore;
+pub use server_log::ServerCount;

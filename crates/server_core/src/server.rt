@@ -20,7 +20,7 @@ use petal_base::{Inc, NoMemory, OPERATOR, Rev, Sequence, ServerId};
 use petal_command::ServerNumber;
 use petal_disk::{DeviceError, Disk};
 use petal_msg::{Actor, Body, Letter, SharedLetter};
-use server_log::{Envelope, LogSide, farewell};
+use server_log::{Envelope, LogSide, ServerCount, farewell};
 use server_store::Store;
 use spec_rules::Job;
 use std::alloc::Global;
@@ -52,11 +52,15 @@ impl ServerCore {
     ///
     /// # Errors
     /// Out of memory.
-    pub fn start(alloc: Global, me: ServerNumber, servers: u8) -> Result<ServerCore, NoMemory>
+    pub fn start(
+        alloc: Global,
+        me: ServerNumber,
+        servers: ServerCount,
+    ) -> Result<ServerCore, NoMemory>
         ensures { IfOk result (λ core. core
             ≡ record { running = true; log = new_part (record { me = me; inc = 1; servers = servers }); side = new_side; queue = [] }) }
     {
-        let farewell = farewell(alloc, me, 1, servers)?;
+        let farewell = farewell(alloc, me, 1, servers.get())?;
         let log = LogSide::start(alloc, me, 1, servers)?;
         Ok(ServerCore {
             parts: ServerMemory::new(alloc, log),
@@ -128,7 +132,7 @@ impl ServerCore {
     }
 
     /// How many servers there are.
-    pub(crate) fn servers(&self) -> u8
+    pub(crate) fn servers(&self) -> ServerCount
         ensures { result ≡ self.now.log.voter.servers }
     {
         self.parts.log.servers()

@@ -163,7 +163,7 @@ pub fn move_on(parts: &mut ServerMemory, jobs: Vec<Job>) -> Result<(), NoMemory>
     }) }
     ensures err { OnErr result (parts.new ≡ parts.old) }
 {
-    let asks = parts.log.ask_next()?;
+    let asks = parts.log.ask_next();
     parts.queue_all(jobs)?;
     parts.log.ask_at(asks);
     Ok(())

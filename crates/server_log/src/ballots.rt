@@ -139,7 +139,7 @@ pub fn start_ballot<D: Disk>(
     let Some(want) = found else {
         return quiet(alloc, log, state);
     };
-    let servers = log.servers();
+    let servers = log.servers().get();
     let room = room_for(alloc, servers)?;
     let envelope = log.envelope();
     let place = log.ballot_place()?;

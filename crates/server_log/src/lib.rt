@@ -15,3 +15,4 @@ mod news;
 pub use ballots::start_ballot;
 pub use jobs::does;
 pub use memory::{Entered, Envelope, LogDone, LogSide, Next, farewell};
+pub use paxos_core::ServerCount;

@@ -1,6 +1,6 @@
 //! A proposer among three servers, and who is counted.
 
-use paxos_core::{Heard, Proposer, on_accept, on_prepare};
+use paxos_core::{Heard, Proposer, ServerCount, on_accept, on_prepare};
 use petal_command::{Ballot, Command, Pax, ServerNumber};
 use petal_disk::{Disk, MemDisk};
 use state_store::StateStore;
@@ -88,7 +88,7 @@ fn hear_acceptances(rt: &impl Abort, proposer: &mut Proposer) {
 
 #[test]
 fn reported_value_is_proposed_again(rt: HostRuntime) {
-    let mut proposer = Proposer::new(ServerNumber::new(1), 3);
+    let mut proposer = Proposer::new(ServerNumber::new(1), ServerCount::new(3));
     start(&rt, &mut proposer);
     hear_reports(&rt, &mut proposer);
     hear_promises(&rt, &mut proposer);
@@ -97,7 +97,7 @@ fn reported_value_is_proposed_again(rt: HostRuntime) {
 
 #[test]
 fn refusal_is_told(rt: HostRuntime) {
-    let mut proposer = Proposer::new(ServerNumber::new(0), 3);
+    let mut proposer = Proposer::new(ServerNumber::new(0), ServerCount::new(3));
     let _ = proposer.start(1, 1, leave(1));
     let refuse = Pax::Refuse {
         place: 1,
@@ -169,7 +169,7 @@ fn second_ballot<D: Disk>(
     one: &mut StateStore<D>,
 ) -> Result<(), Fail> {
     one.promise(1, SECOND)?;
-    let mut proposer = Proposer::new(ServerNumber::new(1), 3);
+    let mut proposer = Proposer::new(ServerNumber::new(1), ServerCount::new(3));
     let _ = proposer.start(1, 1, leave(2));
     report(rt, zero, &mut proposer)?;
     own_promise(rt, one, &mut proposer)

@@ -9,7 +9,7 @@ ghost use Rattle.server_log.specs.Part.{new_part};
 use crate::memory::entries::known_run;
 use crate::memory::side::LogSide;
 use global_state::GlobalState;
-use paxos_core::{Proposer, StateStore};
+use paxos_core::{Proposer, ServerCount, StateStore};
 use petal_base::{Inc, NoMemory, Sequence};
 use petal_command::{Command, ServerNumber};
 use petal_disk::Disk;
@@ -37,7 +37,7 @@ impl LogSide {
         alloc: Global,
         me: ServerNumber,
         inc: Inc,
-        servers: u8,
+        servers: ServerCount,
         state: &StateStore<D>,
     ) -> Result<LogSide, NoMemory>
         ensures { (log : Log) → log.records ≡ state.now.records → IfOk result (λ side. side
@@ -46,7 +46,7 @@ impl LogSide {
         let applied = known_run(alloc, state, 0, state.records())?;
         Ok(LogSide {
             inc,
-            state: state_after(alloc, servers, applied.as_slice())?,
+            state: state_after(alloc, servers.get(), applied.as_slice())?,
             applied,
             proposer: Proposer::new(me, servers),
             refused: 0,

@@ -41,7 +41,7 @@ impl LogSide {
         ensures { (records : List StateRecord) → IsLogSaid self.old self.new records result
             (rules.comes_out self.old.voter (log_of self.old records) (proposers.hear self.old.voter.servers self.old.phase from said.now)) }
     {
-        let servers = self.proposer.servers;
+        let servers = self.proposer.servers.get();
         let room = room_for(alloc, servers)?;
         let envelope = self.envelope();
         let letters = match self.proposer.hear(from, said) {

@@ -6,7 +6,7 @@ ghost use Rattle.server_log.specs.Part.{new_part, sender_of, state_of};
 
 use crate::memory::envelope::Envelope;
 use global_state::GlobalState;
-use paxos_core::Proposer;
+use paxos_core::{Proposer, ServerCount};
 use petal_base::{Inc, NoMemory, Rev, Sequence, ServerId};
 use petal_command::{Command, ServerNumber};
 use std::alloc::Global;
@@ -56,13 +56,13 @@ impl LogSide {
         alloc: Global,
         me: ServerNumber,
         inc: Inc,
-        servers: u8,
+        servers: ServerCount,
     ) -> Result<LogSide, NoMemory>
         ensures { IfOk result (λ side. side ≡ new_part (record { me = me; inc = inc; servers = servers })) }
     {
         Ok(LogSide {
             inc,
-            state: GlobalState::new(alloc, servers)?,
+            state: GlobalState::new(alloc, servers.get())?,
             applied: Sequence::new(alloc),
             proposer: Proposer::new(me, servers),
             refused: 0,
@@ -94,7 +94,7 @@ impl LogSide {
     }
 
     /// How many servers there are.
-    pub fn servers(&self) -> u8
+    pub fn servers(&self) -> ServerCount
         ensures { result ≡ self.now.voter.servers }
     {
         self.proposer.servers

@@ -24,7 +24,7 @@ impl LogSide {
     pub fn ballot_letters(&self, alloc: Global) -> Result<Sequence<Letter>, NoMemory>
         ensures { IfOk result (λ letters. letters ≡ letters_of (sender_of self.now) 0 (rules.ballot_posts self.now.voter self.now.phase)) }
     {
-        let servers = self.proposer.servers;
+        let servers = self.proposer.servers.get();
         let envelope = self.envelope();
         match &self.proposer.phase {
             Phase::Idle => Ok(Sequence::new(alloc)),
@@ -87,17 +87,11 @@ impl LogSide {
     }
 
     /// Which of the other servers it asks after the next tick.
-    ///
-    /// # Errors
-    /// Where that has no number.
-    pub fn ask_next(&self) -> Result<u8, NoMemory>
-        ensures { IfOk result (λ asks. asks ≡ (self.now.asks + 1) % (self.now.voter.servers - 1)) }
+    pub fn ask_next(&self) -> u8
+        ensures { result ≡ (self.now.asks + 1) % (self.now.voter.servers - 1) }
     {
-        let others = self.proposer.servers.saturating_sub(1);
-        if others == 0 {
-            return Err(NoMemory);
-        }
-        Ok(((self.asks as u16 + 1) % others as u16) as u8)
+        let others = self.proposer.servers.get() - 1;
+        ((self.asks as u16 + 1) % others as u16) as u8
     }
 
     /// It asks this one after the next tick.
@@ -110,15 +104,12 @@ impl LogSide {
     /// These letters, and after them the one that asks one of the other servers, in turn, what follows.
     ///
     /// # Errors
-    /// Out of memory, or where there is no server to ask.
+    /// Out of memory.
     pub fn with_ask(&self, letters: Sequence<Letter>) -> Result<Sequence<Letter>, NoMemory>
         ensures { (records : List StateRecord) → IfOk result (λ all. all
             ≡ letters ++ letters_of (sender_of self.now) (length letters) (rules.ask_posts self.now.voter (log_of self.now records))) }
     {
-        let servers = self.proposer.servers as u16;
-        if servers == 0 {
-            return Err(NoMemory);
-        }
+        let servers = self.proposer.servers.get() as u16;
         let to = ((self.proposer.me.get() as u16 + 1 + self.asks as u16) % servers) as u8;
         let nth = letters.len() as u64;
         let ask = Body::Ask { rev: self.rev() };

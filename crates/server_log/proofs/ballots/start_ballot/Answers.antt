@@ -22,7 +22,7 @@ returns-in-Ok g c =
         log = log_is part old.records place round want c.begin-prepare.new.self new.records next
             (commits_is old.records new.records entry (rw c.me.ensures at c.in-Ok.ensures.ok)) c.begin-prepare.ensures.begun;
         letters = letters_are part old.records place round want (sender_of part) c.begin-prepare.result c.to_all.result next c.begin-prepare.ensures.letter
-            (rw (c.envelope-envelope.ensures, c.servers-servers.ensures) at c.to_all.ensures);
+            (rw (c.envelope-envelope.ensures, c.get-servers.ensures.value, c.servers.ensures) at c.to_all.ensures);
         jobs = refl;
       });
       voter = rw c.begin-prepare.ensures.begun refl;
