@@ -7,8 +7,8 @@ use Rattle.law_copies.proofs.Imports.{Is_over, Is_whole, JobContext, JobResult, 
 use Rattle.law_copies.proofs.Imports.{PairState, Pending, Puts, Reserved, Reserves, Sets, Some, Stale, Stored, Table, The_last_copy, Turns_page, ap}
 use Rattle.law_copies.proofs.Imports.{applied, arith, at, cell_apart, cell_at, cell_gone_apart, cell_holder, cell_of, chain_apart, chain_in, chains_with}
 use Rattle.law_copies.proofs.Imports.{copying_on, drop_apart, drop_none, ended, false, first, first_copy, first_last, follows, inl, inr, is_marked}
-use Rattle.law_copies.proofs.Imports.{is_second, job_keeps, kept, key_at, last_copy, last_on, live, live_stage, mark_beside, marks, nat_cmp, pending_on}
-use Rattle.law_copies.proofs.Imports.{put, refl, same_cell_or_apart, same_or_apart, stage_at, stage_live, subst, sym, true, true_false, unmark_beside}
+use Rattle.law_copies.proofs.Imports.{is_second, job_keeps, key_at, last_copy, last_on, live, live_stage, mark_beside, marks, nat_cmp, pending_on, put}
+use Rattle.law_copies.proofs.Imports.{refl, same_cell_or_apart, same_or_apart, stage_at, stage_live, subst, sym, true, true_false, unmark_beside}
 use Rattle.law_copies.proofs.Imports.{unmark_none, was_same, ℕ}
 use Rattle.law_jobs.specs.Effects.{Copies, Goes_on, Marks, Unmarks}
 use Rattle.law_jobs.proofs.OperationsCome.{HasCome, HaveCome, Is_new, Stood, each_come}

@@ -7,7 +7,7 @@ use Rattle.law_copies.proofs.Imports.{JobResult, Key, LinkId, LinkRow, MarkKind,
 use Rattle.law_copies.proofs.Imports.{Reserves, Says, Sets, Some, Store, Stored, Table, Turns_page, Unmarks, about, above, ap, applied, arith, at}
 use Rattle.law_copies.proofs.Imports.{begins_copy, by_bool, cell_at, cell_cmp, cell_gone, cell_gone_apart, cell_holder, cell_link, cell_of, cell_same}
 use Rattle.law_copies.proofs.Imports.{chain_in, chain_put, chains_with, copying_on, ended, ended_copy, entry_ahead, eq_by_cmp, false, first_copy}
-use Rattle.law_copies.proofs.Imports.{has_proposed, held_as_flag, id_of, in_both, inl, inr, is_alone, is_flagged, is_second, kept, length, letters_of_job}
+use Rattle.law_copies.proofs.Imports.{has_proposed, held_as_flag, id_of, in_both, inl, inr, is_alone, is_flagged, is_second, length, letters_of_job}
 use Rattle.law_copies.proofs.Imports.{link_cmp, link_of, live, marks, nat_cmp, no_progress, none_some, pending_on, progress_on, put, refl}
 use Rattle.law_copies.proofs.Imports.{same_cell_or_apart, same_id, same_some, some_or_none, stale_kept, subst, sym, true, true_false, turned_page}
 use Rattle.law_copies.proofs.Imports.{under_way, unwrap_or, with_copying, with_page, without_copying, ℕ}

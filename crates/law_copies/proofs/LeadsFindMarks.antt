@@ -5,9 +5,9 @@ use Rattle.law_copies.proofs.Imports.{IsOpening, IsPutFor, IsSetFor, IsUnmarkedF
 use Rattle.law_copies.proofs.Imports.{May, None, Opens, PairState, Pairs, Pending, Puts, Sets, Some, Stale, Store, Stored, Turns_page, Unmarks}
 use Rattle.law_copies.proofs.Imports.{among_least, ap, applied, at, both, cell_apart, cell_at, cell_cmp, cell_holder, cell_of, cell_same, chain_in}
 use Rattle.law_copies.proofs.Imports.{copying_on, did_ready, drop_apart, entry_ahead, false, follows, inl, inr, is_marked, is_second, is_some}
-use Rattle.law_copies.proofs.Imports.{is_under_way, job_keeps, leads_link, led_by_link, live, live_stage, mark_kept, marked_blocks, marks, nat_cmp}
-use Rattle.law_copies.proofs.Imports.{none_some, not, not_true, pending_on, put, put_with, refl, same_cell_or_apart, same_some, some_or_none, stale_kept}
-use Rattle.law_copies.proofs.Imports.{stood, subst, sym, true, true_false, unmark_beside, version_of, ℕ}
+use Rattle.law_copies.proofs.Imports.{is_under_way, job_keeps, leads_link, led_by_link, live, live_stage, mark_kept, marked_blocks, nat_cmp, none_some}
+use Rattle.law_copies.proofs.Imports.{not, not_true, pending_on, put, put_with, refl, same_cell_or_apart, same_some, some_or_none, stale_kept, stood}
+use Rattle.law_copies.proofs.Imports.{subst, sym, true, true_false, unmark_beside, version_of, ℕ}
 use Rattle.law_jobs.specs.Effects.{Goes_on}
 use Rattle.law_copies.specs.LoneSteps.{IsFit}
 use Rattle.law_copies.specs.Pair.{HasMarks, HaveMarks}

@@ -11,7 +11,6 @@ use Rattle.law_copies.specs.LoneSteps.{IsFit}
 use Rattle.law_copies.proofs.ForeignCellsStay.{IsIdleAt}
 use Rattle.law_copies.proofs.MuteLettersTellNothing.{ended_mute, moved_mute}
 use Rattle.law_copies.proofs.RolesOfWorkers.{IsHeldBy, IsHeldHere, begun_held, entry_held, second_live, taken_held}
-use Rattle.law_copies.proofs.VisitsAfterSteps.{later}
 use Rattle.petal_msg.specs.declared.body.Body.TheVariants as body
 use Rattle.law_jobs.specs.Sayings as says
 
