@@ -1,18 +1,17 @@
 -- What a step of the first server of a cell in Both keeps of its two copies.
-use Rattle.law_copies.proofs.Imports.{◌+◌, ◌∙◌, ◌≡◌, ◌≢◌, ◌≤◌, ◌⊎◌, A_lead, Alone_has, An_operation, As_copy, As_operation, As_second, Body}
-use Rattle.law_copies.proofs.Imports.{Bool, Both_have, Cell, Closes, Did, Drops, Effect, Ending, For_a_fill, For_a_write, HasEnded, IsApart, IsClosedFor}
+use Rattle.law_copies.proofs.Imports.{◌+◌, ◌∙◌, ◌≡◌, ◌≢◌, ◌≤◌, ◌⊎◌, A_lead, Alone_has, An_operation, As_copy, As_operation, As_second, Body, Bool}
+use Rattle.law_copies.proofs.Imports.{Both_have, Cell, Closes, Did, Drops, Effect, Ending, For_a_fill, For_a_write, HasEnded, IsApart, IsClosedFor}
 use Rattle.law_copies.proofs.Imports.{IsOpening, IsPaired, IsPutFor, IsReserved, IsSetFor, Is_apart, Is_declined, Is_over, Is_replicated, Is_retired}
-use Rattle.law_copies.proofs.Imports.{JobResult, Key, LastOp, May, None, Opens, PairState, Pairs, Pending, Puts, Sets, Some, Stage}
-use Rattle.law_copies.proofs.Imports.{Stored, Was_paired, about, ap, applied, arith, at, both, both_not_alone, by_bool, cell_cmp}
-use Rattle.law_copies.proofs.Imports.{cell_gone, cell_of, cell_same, chain_in, chain_put, chains_with, ended, entry_ahead, false}
-use Rattle.law_copies.proofs.Imports.{fill_operation, follows, inl, inr, is_alone_on, live, nat_cmp, operation, pending_on, put}
-use Rattle.law_copies.proofs.Imports.{putting, refl, same_some, so_both, stage_live, subst, sym, taking, true, true_false}
+use Rattle.law_copies.proofs.Imports.{JobResult, Key, LastOp, May, None, Opens, PairState, Pairs, Pending, Puts, Sets, Some, Stage, Stored, Was_paired}
+use Rattle.law_copies.proofs.Imports.{about, ap, applied, arith, at, both, both_not_alone, by_bool, cell_cmp, cell_gone, cell_of, cell_same, chain_in}
+use Rattle.law_copies.proofs.Imports.{chain_put, chains_with, ended, entry_ahead, false, fill_operation, follows, inl, inr, is_alone_on, live, nat_cmp}
+use Rattle.law_copies.proofs.Imports.{operation, pending_on, put, putting, refl, same_some, so_both, stage_live, subst, sym, taking, true, true_false}
 use Rattle.law_copies.proofs.Imports.{version_of, without}
 use Rattle.law_jobs.specs.Effects.{Goes_on}
 use Rattle.law_copies.specs.Pair.{Keeps, Known, Pair, PairOk, far, pair_of}
 use Rattle.law_copies.specs.Visits.{AliveIn}
-use Rattle.law_copies.proofs.CellInBoth.{CellInBoth, copied_apart, dropped_apart, second_apart}
-use Rattle.law_copies.proofs.EffectsOnCells.{Changes, cell_keeps}
+use Rattle.law_copies.proofs.CellInBoth.{CellInBoth, no_other, second_apart}
+use Rattle.law_copies.proofs.EffectsOnCells.{Changes, cell_keeps, copied_apart, dropped_apart}
 use Rattle.petal_msg.specs.declared.body.Body.TheVariants as body
 use Rattle.law_copies.proofs.CellChangesKeepCopies as moves
 
@@ -146,8 +145,9 @@ module _ (it : CellInBoth) (leads : it.row.primary ≡ it.here.me) (second_own :
       moves.keeps_then k (subst (Keeps (pair now)) (λ i. record (pair now) { pending = sym gone i }) (closed_so now q may k.ok e))
   each now (Puts key stored (As_operation op)) may (inl on) k = put_so now key stored op may.0 may.1 may.2.1 (sym (same_some on.at))
   each now (Puts key stored (As_second last)) may (inl on) k = absurd (second_put key stored last may.0 (sym (same_some on.at)))
-  each now (Puts key stored (As_copy last)) may (inl on) k = absurd (copied_apart it key stored last may.0 (sym (same_some on.at)))
-  each now (Drops key) may (inl on) k = absurd (dropped_apart it now key may.2 on.lives (sym (same_some on.at)))
+  each now (Puts key stored (As_copy last)) may (inl on) k =
+      absurd (copied_apart heard here own cell (no_other it) key stored last may.0 (sym (same_some on.at)))
+  each now (Drops key) may (inl on) k = absurd (dropped_apart heard here own cell (no_other it) now key may.2 on.lives (sym (same_some on.at)))
   each now e may (inl on) k = after now (applied now e) k refl refl (omega arith)
   each now e may (inr kept) k = after now (applied now e) k kept.rest.chain kept.rest.pending (counted now e)
 
