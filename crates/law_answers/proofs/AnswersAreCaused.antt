@@ -20,8 +20,6 @@ use Rattle.law_answers.proofs.OldNumbersStayOld.{judged_low}
 use Rattle.law_answers.proofs.Verdicts.{has_at, judged_at_once, judged_first, judged_made, placed_before, placed_first}
 use Rattle.law_answers.proofs.RequestsStayDone.{plain_prefix}
 use Rattle.law_answers.proofs.KnownDisksAreServed.{never_unavailable}
-use Rattle.global_tables.specs.declared.disk.Verdict.TheVariants as verdict
-use Rattle.petal_msg.specs.declared.body.Body.TheVariants as body
 use Rattle.petal_msg.specs.declared.letter.Actor.TheVariants as actor
 use Rattle.petal_msg.specs.declared.operation.Ending.TheVariants as ending
 use Rattle.script_lines.specs.declared.answer.Answer.TheVariants as answer

@@ -7,11 +7,9 @@ use Rattle.law_answers.proofs.Imports.{length, next_line, none_some, refl, same_
 use Rattle.law_answers.proofs.AnswersFitRequests.{is_of_entry, reason_told}
 use Rattle.law_steps.specs.DidClient.{WasSent}
 use Rattle.law_answers.proofs.OldMapByRevision.{Stays}
-use Rattle.global_tables.specs.declared.disk.Verdict.TheVariants as verdict
 use Rattle.petal_msg.specs.declared.body.Body.TheVariants as body
 use Rattle.petal_msg.specs.declared.operation.Ending.TheVariants as ending
 use Rattle.script_lines.specs.declared.answer.Answer.TheVariants as answer
-use Rattle.script_lines.specs.declared.request.Request.TheVariants as request
 
 -- ### The way of an open request
 

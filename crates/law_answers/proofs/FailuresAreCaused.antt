@@ -8,7 +8,6 @@ use Rattle.law_answers.proofs.AnswersFitRequests.{is_of_entry, reason_told}
 use Rattle.law_answers.specs.FailureCauses.{IsReasonToFail, Device_failed, Journal_full}
 use Rattle.law_answers.specs.Glances.{Tells}
 use Rattle.law_answers.specs.Lines.{AsksToBoot}
-use Rattle.global_tables.specs.declared.disk.Verdict.TheVariants as verdict
 use Rattle.petal_msg.specs.declared.operation.Ending.TheVariants as ending
 use Rattle.script_lines.specs.declared.answer.Answer.TheVariants as answer
 use Rattle.script_lines.specs.declared.request.Request.TheVariants as request

@@ -12,7 +12,6 @@ use Rattle.law_answers.specs.Refusals.{HadNoSlot, WasRefused, HasReason, Refusal
 use Rattle.law_answers.specs.FullCauses.{HasFullServer}
 use Rattle.law_answers.proofs.NoSlotWasReported.{found_none}
 use Rattle.law_answers.proofs.StepRefusals.{step_kept}
-use Rattle.global_tables.specs.declared.disk.Verdict.TheVariants as verdict
 use Rattle.petal_msg.specs.declared.body.Body.TheVariants as body
 use Rattle.petal_msg.specs.declared.letter.Actor.TheVariants as actor
 use Rattle.petal_msg.specs.declared.operation.Ending.TheVariants as ending

@@ -104,9 +104,6 @@ module _ (R S : ℕ → ℕ → Type 0) (it : WereRefused R S) (n stamp : ℕ) (
   abbrev later : World
   later = (acts setting w n what stamp acted).world
 
-  server_now : later.servers n ≡ acted.server
-  server_now = put_same w.servers n acted.server
-
   on : (i : ℕ) → GoesOn (w.servers i) (later.servers i)
   on = all_put w.servers n acted.server (λ i (x : Server). GoesOn (w.servers i) x) (still_on R setting w refusals) step.onward
 
@@ -123,7 +120,7 @@ module _ (R S : ℕ → ℕ → Type 0) (it : WereRefused R S) (n stamp : ℕ) (
         seated = a.seated;
         leads = a.leads;
         begun = (on n).life;
-        given = λ e. subst (λ (x : Server). number < x.own.pairs.next) (sym server_now) a.given;
+        given = λ e. subst (λ (x : Server). number < x.own.pairs.next) (sym (put_same w.servers n acted.server)) a.given;
       }
 
   due : (letter : Letter) → In letter (stamped stamp acted.letters) → (said : Body) → letter.body ≡ said → IsDue S setting w n acted letter said

@@ -222,9 +222,6 @@ module _ (servers : ℕ) (log : List Command) (plain : HasProperTuples servers l
       still : (t : State) → IsRequeued s.view.queue t.view.queue → latest t c ≡ latest s c → To t
       still t queue same acted = has_next s t p h acted (silent s t same) (old_queue s t queue)
 
-      unmoved : Goes s s
-      unmoved = (h, λ given e. inl e)
-
       new_at : (d q : ℕ) → d ≡ c → q ≡ seq → is_new q (latest s d) ≡ true → is_new seq (latest s c) ≡ true
       new_at d q one two new = (λ i. is_new (sym two i) (latest s (sym one i))) ∙ new
 
@@ -387,7 +384,7 @@ module _ (servers : ℕ) (log : List Command) (plain : HasProperTuples servers l
           (ap (is_moving s) a ∙ ap (λ o. option_map_or (λ (r : DiskRow). is_some r.moving) o false) found ∙ busy, tt))
 
       acts : (e : Command) (t : State) → entries.Outcome servers s (plain_at servers log plain k) e t → slice_get log k ≡ Some e → To t
-      acts _ _ (entries.Unchanged entry old) there = λ acted. unmoved
+      acts _ _ (entries.Unchanged entry old) there = λ acted. (h, λ given e. inl e)
       acts _ _ (entries.Tells entry client number v asks new why) there = refuses entry v why client number asks there new
       acts _ _ (entries.Makes client number name tuple new none proper) there = makes client number name tuple there new none
       acts _ _ (entries.Queues client number of name new row found free) there = queues client number of name there new row found free

@@ -25,9 +25,6 @@ module _ (it : OneMore) (old : AllEarly (ends_of it).setting (ends_of it).w) whe
   knows : Firm setting w
   knows = firm script sound prefix prior.legal
 
-  knows_now : Firm setting v
-  knows_now = firm script sound records legal
-
   abbrev Own_log : ℕ → List Command
   Own_log n = (w.servers n).log.applied
 
@@ -76,7 +73,7 @@ module _ (it : OneMore) (old : AllEarly (ends_of it).setting (ends_of it).w) whe
   -- ### The world after the step
 
   grown : (n : ℕ) (cell : Cell) (epoch : ℕ) → bound n cell epoch → IsKnownBy setting.servers (v.servers n).log.applied cell epoch
-  grown n = known_more script.servers (Own_log n) (v.servers n).log.applied (own_plain setting v knows_now n)
+  grown n = known_more script.servers (Own_log n) (v.servers n).log.applied (own_plain setting v (firm script sound records legal) n)
       (grows script sound records legal prefix (own ∷ []) refl n)
 
   -- also by what the server had applied before the step

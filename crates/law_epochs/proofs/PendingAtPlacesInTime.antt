@@ -67,9 +67,6 @@ module _ (it : Run) (had : HadWrite (end_of it).setting it.records) where
   seated : is_in (state_after servers entries) n inc ≡ true
   seated = seated_now script sound was.before legal_then n cell op pending_then clients
 
-  opened_chosen : IsPrefix o.opened chosen
-  opened_chosen = prefix_on o.opened _ chosen o.lies chosen_on
-
   opened_first : IsPrefix o.opened entries
   unfolding o
   opened_first = opened_by script sound was.before legal_then n cell op pending_then clients
@@ -81,7 +78,7 @@ module _ (it : Run) (had : HadWrite (end_of it).setting it.records) where
   module _ (prefix : List Command) (lies : IsPrefix prefix chosen) (at_place : IsThere prefix)
       (alive : AliveIn (state_after servers prefix) cell) (le : op.rev ≤ length prefix) where
     more : IsPrefix o.opened prefix
-    more = let long = o.long in prefix_within o.opened prefix chosen opened_chosen lies (omega arith)
+    more = let long = o.long in prefix_within o.opened prefix chosen (prefix_on o.opened _ chosen o.lies chosen_on) lies (omega arith)
 
     -- the server is In at each prefix at the place
     seat : is_in (state_after servers prefix) n inc ≡ true

@@ -2,7 +2,7 @@
 -- which the era rises only once the second server has reported; and it has applied no more than its own entries.
 use Rattle.law_epochs.proofs.Imports.{[], ◌++◌, ◌∙◌, ◌∷◌, ◌≡◌, ◌≤◌, At, Both, By_caught, By_join, By_leave, Cell, Command, Firm, IsLinked, IsPrefix}
 use Rattle.law_epochs.proofs.Imports.{IsTouchedBy, Leave, LinkRow, List, Pending, Record, Setting, World, after, alone_not_both, ap, append_assoc, arith}
-use Rattle.law_epochs.proofs.Imports.{at_most_or_above, chosen_log, era_at, fold, fold-append, inl, inr, is_in, is_up_as, length, length-append, log_epochs}
+use Rattle.law_epochs.proofs.Imports.{at_most_or_above, chosen_log, era_at, fold-append, inl, inr, is_in, is_up_as, length, length-append, log_epochs}
 use Rattle.law_epochs.proofs.Imports.{log_left, log_touched, place_by, place_of_later, place_touched, places_from, places_grow, places_of_both, places_on}
 use Rattle.law_epochs.proofs.Imports.{prefix_itself, prefix_long, prefix_more, prefix_on, prefix_within, refl, report_was_made, runs_at, runs_now}
 use Rattle.law_epochs.proofs.Imports.{same_or_apart, same_place, server_state, stands_in, subst, sym, touches, true, ℕ}
@@ -103,14 +103,11 @@ module _ (it : Run) (m : ℕ) where
       mid_chosen : IsPrefix mid chosen
       mid_chosen = prefix_on mid (mid ++ first.entry ∷ []) chosen (prefix_more mid first.entry) stands
 
-      mid_is : By mid ≡ fold after (By own) first.before
-      mid_is = fold-append after (start script.servers) own first.before
-
       same_mid : place_by setting mid row ≡ place_by setting own row
       same_mid = let e = places_on row (start script.servers) own first.before in let none = first.quiet in omega arith
 
       on_mid : touches (By mid) first.entry row ≡ true
-      on_mid = ap (λ s. touches s first.entry row) mid_is ∙ first.on
+      on_mid = ap (λ s. touches s first.entry row) (fold-append after (start script.servers) own first.before) ∙ first.on
 
       -- the prefix that is given is at the place, and so it is no longer
       not_longer : length prefix ≤ length mid

@@ -49,9 +49,6 @@ module _ (script : Script) (records : List Record) (sound : IsSound script) (leg
     pending_then : at cell_cmp ((At script there.before).servers n).own.pairs.pending cell ≡ Some op
     pending_then = ap (λ (p : Pairs). at cell_cmp p.pending cell) there.had ∙ is
 
-    whole : AreSteps script (there.before ++ there.later)
-    whole = subst (AreSteps script) there.is legal
-
     abbrev then : Run
     then = cut h there.before there.later there.is
 
@@ -59,7 +56,7 @@ module _ (script : Script) (records : List Record) (sound : IsSound script) (leg
     pub filling_after : IsFrozen setting w op.rev op.key op.bytes
     filling_after =
         subst (λ rs. IsFrozen setting (At script rs) op.rev op.key op.bytes) (sym there.is)
-        (frozen_on script sound there.before there.later whole op.rev op.key op.bytes
+        (frozen_on script sound there.before there.later (subst (AreSteps script) there.is legal) op.rev op.key op.bytes
         ((all_known script sound records legal there.before there.later there.is).filled.asked n cell op pending_then fills))
 
     pub keyed : cell_of op.key ≡ cell

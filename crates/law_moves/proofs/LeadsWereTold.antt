@@ -65,7 +65,6 @@ module _ (it : OneMore) (known : WasKnown it) (y : ℕ) where
   one_link : (a b : List Command) → IsPrefix a (chosen_log setting v) → IsPrefix b (chosen_log setting v) → (old : Cell) (one other : LinkRow)
       → cell_link (By a) old ≡ Some one → cell_link (By b) old ≡ Some other → id_of one ≡ id_of other
   one_link a b la lb old one other is two =
-      let all = prefix ++ it.own ∷ [] in
       let map_of_a = map_of script.servers (By a) (log_plain script.servers a (plain_at present a la)) old one is in
       let map_of_b = map_of script.servers (By b) (log_plain script.servers b (plain_at present b lb)) old other two in
       ids_same (id_of one) (id_of other) (map_of_a ∙ sym map_of_b)
@@ -75,7 +74,6 @@ module _ (it : OneMore) (known : WasKnown it) (y : ℕ) where
   same_goal : (a b : List Command) → IsPrefix a (chosen_log setting v) → IsPrefix b (chosen_log setting v) → (old one other : Cell)
       → target (By a) old ≡ Some one → target (By b) old ≡ Some other → other ≡ one
   same_goal a b la lb old one other is two =
-      let all = prefix ++ it.own ∷ [] in
       one_goal present a b la lb old one other (log_goes script.servers a (plain_at present a la) old one is)
       (log_goes script.servers b (plain_at present b lb) old other two)
 
@@ -148,7 +146,6 @@ module _ (it : OneMore) (known : WasKnown it) (y : ℕ) where
           (id : id_of at_row ≡ id_of row) (region : region_of old.block ≡ region_of key.block) where
         map_is : old.map ≡ row.map
         map_is =
-            let all = prefix ++ it.own ∷ [] in
             sym (map_of script.servers (By f) (log_plain script.servers f (plain_at present f lies_f)) old at_row way.linked)
             ∙ ap (λ (i : LinkId). i.map) id
 

@@ -1,6 +1,6 @@
 -- A Moved that is chosen was wanted by a server that had nothing left of its link: what the server had is what was frozen, and of all of it the
 -- server was told that the new map has it.
-use Rattle.law_moves.proofs.Imports.{[], ◌&&◌, ◌++◌, ◌∙◌, ◌∷◌, ◌≡◌, AreSteps, At, Blanks, Cell, Chain, Command, Firm, Happens, In, IsPrefix, IsServing}
+use Rattle.law_moves.proofs.Imports.{[], ◌&&◌, ◌++◌, ◌∙◌, ◌∷◌, ◌≡◌, AreSteps, At, Blanks, Cell, Chain, Command, Happens, In, IsPrefix, IsServing}
 use Rattle.law_moves.proofs.Imports.{IsSound, Key, Letter, LinkRow, List, Moved, None, Option, PairState, Record, Run, Script, Serves, Setting, Some, State}
 use Rattle.law_moves.proofs.Imports.{Turns, WasMoving, World, after, ap, at, before_part, below_itself, by_test, chain_in, chosen_log, chosen_state, end_of}
 use Rattle.law_moves.proofs.Imports.{false, happened_in, history_is_firm, in_later, is_in, is_link, is_some, is_the, is_the_one, key_at, link_named}
@@ -63,20 +63,15 @@ module _ (it : Run)
     whole : AreSteps script (before ++ later)
     whole = subst (AreSteps script) was.is legal
 
-    then_legal : AreSteps script before
-    then_legal = before_part script before later whole
-
     abbrev past : World
     past = At script before
 
     abbrev own : PairState
     own = (past.servers was.server).own
 
-    then_firm : Firm setting past
-    then_firm = history_is_firm script before sound then_legal
-
     prefix_chosen : IsPrefix prefix (chosen_log setting past)
-    prefix_chosen = subst (λ log. IsPrefix log (chosen_log setting past)) was.at (then_firm.servers was.server)
+    prefix_chosen = subst (λ log. IsPrefix log (chosen_log setting past)) was.at
+        ((history_is_firm script before sound (before_part script before later whole)).servers was.server)
 
     -- the row is the cell's
     one_row : was.row ≡ row

@@ -206,7 +206,6 @@ module _ (it : OneMore) (all : WereKnown it) where
       by_other (Is_there moving filled of same_own) =
           let to = cell_is moving.key of in
           let facts = (facts_at prior (mine k) (mine_top it k) (cell_of moving.key)).leads k filled.lead in
-          let at_top = one in
           let lacks = other_lacks prior (two_leads filled.seated
           (subst (λ (q : Cell). leads_link (server_state setting w k) k q ≡ true) to facts.0)
           (subst (λ (q : Cell). 1 ≤ stage_at (server_state setting w k) q) to facts.1)) fills in

@@ -97,9 +97,6 @@ module _ (it : OneMore) (all : WereKnown it) where
         abbrev k : ℕ
         k = p.n
 
-        abbrev SaysIt : Type 0
-        SaysIt = HasFilled (Handled w k) (own_place setting w k) (w.servers k).own p.job.done.own op.key
-
         cell_is : (key : Key) → key ≡ op.key → cell_of key ≡ cell
         cell_is key e = ap cell_of e ∙ staged.keyed
 
@@ -134,7 +131,7 @@ module _ (it : OneMore) (all : WereKnown it) where
               so = Had_it o at_cell;
             }
 
-        leading_by : SaysIt → IsLeading
+        leading_by : HasFilled (Handled w k) (own_place setting w k) (w.servers k).own p.job.done.own op.key → IsLeading
         leading_by (Is_there moving filled of same) =
             let to = cell_is moving.key of in
             let facts = (facts_at prior (mine k) (mine_top it k) (cell_of moving.key)).leads k filled.lead in

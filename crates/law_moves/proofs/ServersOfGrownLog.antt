@@ -89,14 +89,11 @@ module _ (it : OneMore) where
       abbrev joined : List Command
       joined = j.until ++ Join n inc true ∷ []
 
-      until_joined : IsPrefix j.until joined
-      until_joined = prefix_more j.until (Join n inc true)
-
       joined_whole : IsPrefix joined whole
       joined_whole = prefix_on joined f whole j.stands lies
 
       until_f : IsPrefix j.until f
-      until_f = prefix_on j.until joined f until_joined j.stands
+      until_f = prefix_on j.until joined f (prefix_more j.until (Join n inc true)) j.stands
 
       until_whole : IsPrefix j.until whole
       until_whole = prefix_on j.until f whole until_f lies

@@ -102,9 +102,6 @@ module _ (it : OneMore) (all : WereKnown it) where
     IsPast = (place_by setting (v.servers m).log.applied row ≡ place_by setting f row)
         × (number + number + 1 ≤ far_of_last (v.servers m).own cell)
 
-    paired : is_of_entries (subject_of letter.body) ≡ true
-    paired = ap (λ (b : Body). is_of_entries (subject_of b)) is
-
     past_before : 3 ≤ stage_at (By top) cell → In letter w.sent → IsPast
     past_before high i =
         let h = here it m runs f lies seat in
@@ -150,5 +147,5 @@ module _ (it : OneMore) (all : WereKnown it) where
     past_so high i = elim (sent it letter i) [
       | Before j ↦ past_before high j
       | Posted p ↦ absurd (not_sent high p)
-      | Other e ↦ true_false paired e
+      | Other e ↦ true_false (ap (λ (b : Body). is_of_entries (subject_of b)) is) e
     ]

@@ -1,7 +1,7 @@
 -- A step of a client keeps what is known of requests.
 use Rattle.law_requests.proofs.Imports.{◌∙◌, ◌≡◌, ◌≤◌, ◌⊎◌, Actor, Asked, Body, Cell, Client, In, IsOnward, IsPrefix, Letter, List, Pending, Post, Reaction}
 use Rattle.law_requests.proofs.Imports.{Setting, Some, Wanted, World, all_put, ap, arith, at, cell_cmp, client_sender, in-append, in_later, inl, inr}
-use Rattle.law_requests.proofs.Imports.{is_clients, is_in, length, letters_of, own_plain, prefix_itself, prefix_long, prefix_on, prefix_same, put_at, reacts}
+use Rattle.law_requests.proofs.Imports.{is_clients, is_in, length, letters_of, prefix_itself, prefix_long, prefix_on, prefix_same, put_at, reacts}
 use Rattle.law_requests.proofs.Imports.{said, server_state, stamped, subst, sym, true, ℕ}
 use Rattle.law_requests.specs.AskedRequests.{HasItsWay, IsAsked, IsOpenFrom}
 use Rattle.law_requests.specs.KnownRequests.{Lives, Seen, lives_after, seen, done_by, AreLate, IsSent, Known, PendingFor, asked_for, AskingBy}
@@ -54,7 +54,6 @@ module _ (scene : Scene) (c stamp : ℕ) (reacted : Reaction)
     clients = all_put w.clients c reacted.client (λ j (x : Client). IsPrefix (w.clients j).applied x.applied)
         (λ j. prefix_itself (w.clients j).applied) onward.grows;
     logs = λ n. prefix_itself (w.servers n).log.applied;
-    logs_plain = own_plain setting w scene.firm;
     dones = dones_rise lives w later asking.lived steps;
     closes = λ want rev sent is. closed want.client want.seq rev (prefix_at want rev sent) is want.cell want.epoch want.bytes sent;
   }

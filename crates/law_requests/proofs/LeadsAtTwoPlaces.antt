@@ -182,9 +182,6 @@ module _ (servers : ℕ) (prefix whole : List Command) (plain : HasProperTuples 
   was_steady : IsSteady earlier
   was_steady = log_steady servers prefix (prefix_plain servers prefix whole plain is_prefix)
 
-  now_steady : IsSteady later
-  now_steady = log_steady servers whole plain
-
   below : IsBelow earlier later
   below = log_below servers prefix whole plain is_prefix
 
@@ -214,7 +211,7 @@ module _ (servers : ℕ) (prefix whole : List Command) (plain : HasProperTuples 
       → places_from (start servers) whole row ≡ places_from (start servers) prefix row → stage_at later cell ≤ 2 → LedBy earlier n inc cell
       → LedBy later n inc cell
   led_at_place n inc cell row is place most led = elim (same_place servers prefix whole cell row plain is_prefix is place) [
-    | inl stays ↦ led_while earlier later was_steady now_steady cell row is stays (takes_later n cell led.leads most) n inc led
+    | inl stays ↦ led_while earlier later was_steady (log_steady servers whole plain) cell row is stays (takes_later n cell led.leads most) n inc led
     | inr died ↦ let e = died.1 in absurd (omega arith)
   ]
 

@@ -293,7 +293,6 @@ module _ (setting : Setting) (w : World) (firm : Firm setting w) where
   pending_here lives rests asking reports n cell op is clients =
       let p = asking.pending n cell op is clients in
       let here = asking.come n cell op is clients in
-      let own = (w.servers n).log.applied in
       let led = subst (λ log. LedBy (state_after setting.servers log) n (lives.ran n) cell) here (p.along p.upto p.opened (prefix_itself p.upto)) in
       let lives_now = lead_links (server_state setting w n) n cell led.leads in
       record {

@@ -1,5 +1,5 @@
 -- What was known of requests is known later.
-use Rattle.law_requests.proofs.Imports.{◌∙◌, ◌≡◌, ◌≤◌, ◌⊎◌, Actor, Answered, Asked, Body, Bool, Cell, Client, Command, HasProperTuples, In, IsPrefix, Letter}
+use Rattle.law_requests.proofs.Imports.{◌∙◌, ◌≡◌, ◌≤◌, ◌⊎◌, Actor, Answered, Asked, Body, Bool, Cell, Client, Command, In, IsPrefix, Letter}
 use Rattle.law_requests.proofs.Imports.{Line, List, Logged, Option, Read_asked, Refused, Request, Setting, State, Subject, Wanted, Write_asked, ap, arith}
 use Rattle.law_requests.proofs.Imports.{cases_lt, cell_asked, false, find, inl, inr, is_logged, length, names, one_prefix, prefix_itself, prefix_long}
 use Rattle.law_requests.proofs.Imports.{prefix_on, prefix_within, refl, same_some, subject_of, sym, true, true_false, ℕ}
@@ -76,7 +76,6 @@ pub record Later (setting : Setting) (v u : Seen) : Type 0 where
   pub seqs : (c : ℕ) → (v.clients c).seq ≤ (u.clients c).seq
   pub clients : (c : ℕ) → IsPrefix (v.clients c).applied (u.clients c).applied
   pub logs : (n : ℕ) → IsPrefix (v.logs n) (u.logs n)
-  pub logs_plain : (n : ℕ) → HasProperTuples setting.servers (u.logs n)
   pub dones : (n inc c : ℕ) → v.done n inc c ≤ u.done n inc c
   pub closes : (want : Wanted) (rev : ℕ) → (sent : IsSent setting v want rev) → IsOpenFrom (v.clients want.client) want.seq rev
       → IsOpenFrom (u.clients want.client) want.seq rev ⊎ AreLate setting.servers u want sent.at.prefix

@@ -1,7 +1,7 @@
 -- A step of a server keeps what is known of requests.
-use Rattle.law_requests.proofs.Imports.{◌+◌, ◌<◌, ◌∙◌, ◌≡◌, ◌≢◌, ◌≤◌, ◌⊎◌, Acted, Actor, Body, Cell, Firm, HasProperTuples, In, IsPrefix, Letter, List, None}
+use Rattle.law_requests.proofs.Imports.{◌+◌, ◌<◌, ◌∙◌, ◌≡◌, ◌≢◌, ◌≤◌, ◌⊎◌, Acted, Actor, Body, Cell, Firm, In, IsPrefix, Letter, List, None}
 use Rattle.law_requests.proofs.Imports.{PairState, Pending, Rests, Server, Setting, Some, State, Step, Was, World, acts, all_put, all_put_apart, ap, arith}
-use Rattle.law_requests.proofs.Imports.{at, cell_cmp, in-append, in_later, inl, inr, is_clients, is_in, length, own_plain, prefix_itself, prefix_on}
+use Rattle.law_requests.proofs.Imports.{at, cell_cmp, in-append, in_later, inl, inr, is_clients, is_in, length, prefix_itself, prefix_on}
 use Rattle.law_requests.proofs.Imports.{prefix_same, put_apart, put_same, server_state, stamped, state_in, subst, sym, true, was_same, ℕ}
 use Rattle.law_steps.proofs.Restages.{IsSame}
 use Rattle.law_requests.specs.AskedRequests.{IsWrite, IsOpen}
@@ -91,7 +91,6 @@ pub record StepPending (scene : Scene) (n : ℕ) (new : Server) (cell : Cell) (o
 pub record IsStepped (scene : Scene) (n : ℕ) (new : Server) : Type 0 where
   pub life : Lived scene.lives n (scene.w.servers n) new
   pub more : IsPrefix (scene.w.servers n).log.applied new.log.applied
-  pub plain : HasProperTuples scene.setting.servers new.log.applied
   pub bound : (c : ℕ) → done_by new.own c ≤ (scene.w.clients c).seq + 1
   pub used : IsUsed new.own → IsSettled scene n new
   pub pending : (cell : Cell) (op : Pending) → at cell_cmp new.own.pairs.pending cell ≡ Some op → is_clients op.kind ≡ true
@@ -122,7 +121,6 @@ module _ (scene : Scene) (n stamp : ℕ) (what : Step) (acted : Acted) (step : I
     clients = λ c. prefix_itself (w.clients c).applied;
     logs = all_put w.servers n acted.server (λ m (x : Server). IsPrefix (w.servers m).log.applied x.log.applied)
         (λ m. prefix_itself (w.servers m).log.applied) step.more;
-    logs_plain = all_put w.servers n acted.server (λ m (x : Server). HasProperTuples setting.servers x.log.applied) (own_plain setting w scene.firm) step.plain;
     dones = dones_rise lives w later asking.lived steps;
     closes = λ want rev sent is. inl is;
   }

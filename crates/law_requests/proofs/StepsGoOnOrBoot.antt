@@ -1,9 +1,9 @@
 -- What a step leaves of the server that takes it, as requests need it: it goes on as it was, or boots, and what it has pending is known of.
 use Rattle.law_requests.proofs.Imports.{[], ◌+◌, ◌<◌, ◌∙◌, ◌∷◌, ◌≡◌, ◌≤◌, Acted, AllMayWake, By_ballot, By_entry, By_job, Cell, Command, Copies, Ends, Fails}
-use Rattle.law_requests.proofs.Imports.{Firm, Goes, HasProperTuples, In, IsPrefix, JobResult, Log, PairState, Pairs, Pending, Progress, Ready, Server}
+use Rattle.law_requests.proofs.Imports.{Firm, Goes, In, IsPrefix, JobResult, Log, PairState, Pairs, Pending, Progress, Ready, Server}
 use Rattle.law_requests.proofs.Imports.{Serving, Setting, Some, Stays, Step, Wakes, Wanted, Worked, World, ap, arith, at, at-empty, awake, blanked, cell_cmp}
 use Rattle.law_requests.proofs.Imports.{chosen_log, crossed, done_to, false, id_of, inl, inr, is_flagged, is_in, link_cmp, nat_cmp, no_pairs, none_some}
-use Rattle.law_requests.proofs.Imports.{option_map_or, own_place, own_plain, prefix_itself, prefix_on, prefix_plain, prefix_same, proposed_pairs, raised}
+use Rattle.law_requests.proofs.Imports.{option_map_or, own_place, prefix_itself, prefix_on, prefix_same, proposed_pairs, raised}
 use Rattle.law_requests.proofs.Imports.{refl, runs_at, served_so, server_state, settled_by, settling, state_after, state_in, stopped_so, subst, sym, true}
 use Rattle.law_requests.proofs.Imports.{true_false, was_same, ℕ}
 use Rattle.law_requests.specs.KnownRequests.{LedBy, done_by, IsLedAlong, asked_for, IsUsed, Has_pending, Has_finished}
@@ -53,9 +53,6 @@ module _ (scene : Scene) (ready : Ready scene.setting scene.state scene.w) (n st
       let pairs = entry_pairs entry in
       kept_tells scene n runs _ [] (ap (λ (p : Pairs). p.pending) pairs)
       (ap (λ (p : Pairs). p.finished) pairs) (λ post i. absurd i)
-
-  worked_plain : (log : Log) → IsPrefix log.applied (chosen_log setting w) → HasProperTuples setting.servers log.applied
-  worked_plain log chosen = prefix_plain setting.servers log.applied _ scene.firm.plain chosen
 
   -- what is used stands where the server is In as itself
   used_by : (new old : PairState) → new.pairs.pending ≡ old.pairs.pending → new.pairs.finished ≡ old.pairs.finished → IsUsed new → IsUsed old
@@ -115,7 +112,6 @@ module _ (scene : Scene) (ready : Ready scene.setting scene.state scene.w) (n st
             subst (λ (o : PairState). is_flagged o (id_of row) ≡ true) (sym owns)
             (worked_flags setting w n log done worked (same ∙ ap (λ (l : Log). l.applied) logs) row flag));
         more = subst (λ (l : Log). IsPrefix (w.servers n).log.applied l.applied) (sym logs) grows.0;
-        plain = subst (λ (l : Log). HasProperTuples setting.servers l.applied) (sym logs) (worked_plain log grows.1);
         bound = λ c. subst (λ (o : PairState). done_by o c ≤ (w.clients c).seq + 1) (sym owns) (bound_now scene n done.own shows.tells c);
         used = λ u. record {
           same = λ on. ran;
@@ -144,7 +140,6 @@ module _ (scene : Scene) (ready : Ready scene.setting scene.state scene.w) (n st
         life = Goes_on same later (λ c. let e = done c in omega arith)
             (λ all row flag. ap (λ (c : Copies). option_map_or (λ (p : Progress). p.caught) (at link_cmp c.progress (id_of row)) false) copies ∙ flag);
         more = subst (IsPrefix (w.servers n).log.applied) (sym logs) (prefix_itself (w.servers n).log.applied);
-        plain = subst (HasProperTuples setting.servers) (sym logs) (own_plain setting w scene.firm n);
         bound = λ c. let e = done c in let le = asking.finished n c in omega arith;
         used = λ u. record {
           same = same;
@@ -177,11 +172,10 @@ module _ (scene : Scene) (ready : Ready scene.setting scene.state scene.w) (n st
       none_some (ap (λ (p : Pairs). at cell_cmp p.pending cell) empty ∙ at-empty cell_cmp cell) is
 
   boot_stepped : (new : Server) → new.own.pairs ≡ no_pairs → new.life.running ≡ true → (w.servers n).life.inc < new.life.inc
-      → IsPrefix (w.servers n).log.applied new.log.applied → HasProperTuples setting.servers new.log.applied → IsStepped scene n new
-  boot_stepped new empty on later more plain = record {
+      → IsPrefix (w.servers n).log.applied new.log.applied → IsStepped scene n new
+  boot_stepped new empty on later more = record {
     life = Begins on later (none_done new empty);
     more = more;
-    plain = plain;
     bound = λ c. let e = none_done new empty c in omega arith;
     used = unused;
     pending = λ cell op is clients. none_pending new empty cell op is;
@@ -198,7 +192,6 @@ module _ (scene : Scene) (ready : Ready scene.setting scene.state scene.w) (n st
   serves_step wake _ (Stays who posts from shown) = still_stepped (w.servers n) refl refl refl (λ on. sym (asking.lived.ran n on)) (omega arith)
   serves_step wake _ (Wakes booted asleep) =
       boot_stepped (awake (raised (w.servers n))) refl refl (omega arith) (wake n).onward
-      (prefix_plain setting.servers _ _ scene.firm.plain (wake n).chosen)
   serves_step wake _ (Fails booted asleep) = still_stepped (raised (w.servers n)) refl refl refl (λ on. true_false on asleep) (omega arith)
 
   -- a stopped server keeps what it had in memory, whatever becomes of its data device

@@ -114,11 +114,8 @@ module _ (this : ServerStep) where
     disk_named : HasDisk this.setting.servers after plain_after disks_after named
     disk_named = disk_here this.setting.servers after plain_after disks_after named low_after high_after
 
-    later_is : disk_named.row ≡ later.now
-    later_is = one_disk named named_has disk_named
-
     later_has : has_map named.map later.now ≡ true
-    later_has = ap (λ (r : DiskRow). has_map named.map r) (sym later_is) ∙ disk_named.has
+    later_has = ap (λ (r : DiskRow). has_map named.map r) (sym (one_disk named named_has disk_named)) ∙ disk_named.has
 
     -- the entry of that cell after the step
     abbrev pub entry_now : ℕ → Option Stored

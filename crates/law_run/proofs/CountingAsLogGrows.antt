@@ -43,10 +43,7 @@ module _ (this : ServerStep) (same_store : (new this).store.chains ≡ (owns_of 
 
   -- ### By what was chosen before the step
 
-  abbrev Middle : Type 0
-  Middle = Good this.setting this.onward.records top (counted_by this.setting top v)
-
-  abbrev middle : Middle
+  abbrev middle : Good this.setting this.onward.records top (counted_by this.setting top v)
   middle = this.middle.good
 
   -- nobody who serves the link has been further
@@ -162,15 +159,12 @@ module _ (this : ServerStep) (same_store : (new this).store.chains ≡ (owns_of 
         abbrev found : LinkRow
         found = record link { state = Only a c.later }
 
-        holder_is : c.found.acts.holder ≡ a
-        holder_is = sym (same_only c.found.acts.alone)
-
         caught_equal : chain_in (kept this.setting this.w a).chains cell ≡ chain_in (kept this.setting this.w (other_of a link)).chains cell
         caught_equal =
             let f = c.found in
             let visit = caught_visit this top cell link a whole c alive in
             let seen : visits this a (place_by this.setting f.until found) cell ≡ Some visit.0 =
-            subst (λ k. visits this k (place_by this.setting f.until found) cell ≡ Some visit.0) holder_is visit.1 in
+            subst (λ k. visits this k (place_by this.setting f.until found) cell ≡ Some visit.0) (sym (same_only c.found.acts.alone)) visit.1 in
             let le = been_within this a (place_by this.setting f.until found) cell visit.0 link seen is in
             let until_end = prefix_on f.until (f.until ++ f.entry ∷ []) end (prefix_more f.until f.entry) f.stands in
             let up = places_up this.setting end plain_end top f.until cell link found f.following until_end is f.was in

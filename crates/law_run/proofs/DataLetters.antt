@@ -1,7 +1,7 @@
 -- What a server's step sends: which letters have data, and that one ends a write as written only where that has had its bytes.
 use Rattle.law_run.proofs.Imports.{◌==◌, ◌∙◌, ◌≡◌, ◌⊎◌, Answered, Body, Bool, Did, Ending, Ends_fill, Finished, Glanced, In, IsOfRead, IsOpen, IsRefusal}
-use Rattle.law_run.proofs.Imports.{JobContext, JobResult, Letter, List, Moves, Moves_on, NeverRetired, Of_the_log, PairState, Plain, Post, Refused, Refuses}
-use Rattle.law_run.proofs.Imports.{Repeats, Says, SaysOf, Sender, Subject, about, ap, down_posts, ended, false, filter, inl, inr, is_logged, is_notice}
+use Rattle.law_run.proofs.Imports.{JobContext, JobResult, Letter, List, Moves, Moves_on, NeverRetired, PairState, Plain, Post, Refused}
+use Rattle.law_run.proofs.Imports.{Says, SaysOf, Sender, Subject, about, ap, down_posts, ended, false, filter, inl, inr, is_logged, is_notice}
 use Rattle.law_run.proofs.Imports.{is_refused, letters_by, letters_of, letters_of_job, logged_notice, not, own_place, owns_of, range_with_len, refl, said}
 use Rattle.law_run.proofs.Imports.{said_to_all, same_some, stamped, subject_of, subst, sym, to_client, true, true_false, ℕ}
 use Rattle.law_run.specs.WritesGoOn.{is_held, Onward}
@@ -12,7 +12,6 @@ use Rattle.law_run.proofs.EventsOfServerSteps.{ServerStep, ends_of}
 use Rattle.petal_msg.specs.declared.body.Body.TheVariants as body
 use Rattle.petal_msg.specs.declared.letter.Actor.TheVariants as actor
 use Rattle.petal_msg.specs.declared.operation.Ending.TheVariants as ending
-use Rattle.petal_msg.specs.declared.operation.OpKind.TheVariants as kind
 use Rattle.law_jobs.specs.Sayings as says
 
 -- a letter ends a write as written

@@ -5,7 +5,7 @@ use Rattle.law_run.proofs.Imports.{Is_apart, Is_declined, Is_new, Is_replicated,
 use Rattle.law_run.proofs.Imports.{Of_the_retired, Only, Option, PairOk, PairState, Pending, Plain, Some, Stage, Store, StoresSo, Table, Taken, Was_paired}
 use Rattle.law_run.proofs.Imports.{Working, alone_not_both, answering, ap, at, authority, cell_cmp, cell_of, chain_apart, chain_in, chains_ahead}
 use Rattle.law_run.proofs.Imports.{chosen_state, copied_apart, did_was, false, far, half, held_not_lead, in_both, inl, inr, is_alone_on, is_clients, is_lead}
-use Rattle.law_run.proofs.Imports.{is_second, is_the_one, kept, lead_links, led_by, live, nat_cmp, not_ahead, own_steady, pair_of, put, putting, refl}
+use Rattle.law_run.proofs.Imports.{is_second, is_the_one, kept, lead_links, led_by, live, nat_cmp, not_ahead, own_steady, pair_of, put, refl}
 use Rattle.law_run.proofs.Imports.{same_cell_or_apart, same_some, second_by, secondary_is_one, so_both, subst, sym, true, true_false, ℕ}
 use Rattle.law_run.specs.WritesGoOn.{is_held, Onward}
 use Rattle.law_run.specs.MachineTies.{HasCounted, Is_told, Is_followed, Is_counted}

@@ -72,9 +72,6 @@ module _ (this : ServerStep) where
     facts : HasStage own_state cell
     facts = stage_facts this.setting.servers prefix (own_plain this.setting this.w this.along.firm this.n) cell
 
-    one_own : stage_at own_state cell ≡ 1
-    one_own = facts.comes comes
-
     -- whoever answered had come as far
     prefix_is : (f.u.servers f.old.y).log.applied ≡ prefix
     prefix_is = one_prefix (f.u.servers f.old.y).log.applied prefix (chosen_log this.setting f.u) (f.firm.servers f.old.y)
@@ -125,7 +122,7 @@ module _ (this : ServerStep) where
 
     from_old : source own_state cell ≡ Some old
     from_old =
-        source_here this.setting.servers own_state plain_own disks_own cell o.was o.was_there o.has one_own
+        source_here this.setting.servers own_state plain_own disks_own cell o.was o.was_there o.has (facts.comes comes)
         ∙ ap Some (ap (old_cell o.was) (o.block_is ∙ sym (ap (λ (c : Cell). c.block) twin.cell_is))
         ∙ sym (cell_old this.setting.servers own_state plain_own disks_own o.was o.was_there old old_has old_leaves))
 
