@@ -36,23 +36,23 @@ pub use Rattle.law_steps.proofs.Imports.{clock_of, either_of, found_at, has_stag
 pub use Rattle.law_steps.proofs.Imports.{log_rev, log_roles, log_steady, logged, lookup, match_ordering, one_prefix, or_true, prefix_itself, prefix_long}
 pub use Rattle.law_steps.proofs.Imports.{prefix_on, prefix_plain, settling, was_true}
 unfoldable pub use Rattle.law_steps.proofs.Imports.{put, without}
-pub use Rattle.law_jobs.specs.Imports.{Did, FoundNoSlot, IsBusy, IsHeldBack, IsNewFill, IsReadable, IsRefusal}
-pub use Rattle.law_jobs.proofs.Imports.{◌-◌, A_slot, An_entry_to_move, Asks, By_ballot, By_entry, By_job, By_read, Fails, Goes, Handled, IsMoment, Not_here}
-pub use Rattle.law_jobs.proofs.Imports.{Rests, Serving, Shows, Stays, Wakes, Was, Worked, always_firm, at_apart, at_same, is_aside, is_clients, last_moment}
-pub use Rattle.law_jobs.proofs.Imports.{moment_more, own_place, prefix_legal, proposed_pairs, retired_second, was_same, with_answer, world_more}
+pub use Rattle.law_jobs.specs.Imports.{FoundNoSlot, IsBusy, IsHeldBack, IsNewFill, IsReadable, IsRefusal}
+pub use Rattle.law_jobs.proofs.Imports.{◌-◌, A_slot, An_entry_to_move, Asks, By_ballot, By_entry, By_job, By_read, Did, Fails, Goes, Handled, IsMoment}
+pub use Rattle.law_jobs.proofs.Imports.{Not_here, Rests, Serving, Shows, Stays, Wakes, Was, Worked, always_firm, at_apart, at_same, is_aside, is_clients}
+pub use Rattle.law_jobs.proofs.Imports.{last_moment, moment_more, own_place, prefix_legal, proposed_pairs, retired_second, was_same, with_answer, world_more}
 pub use Rattle.law_copies.specs.Imports.{IsRising, no_pairs}
-pub use Rattle.law_copies.proofs.Imports.{Asks_slot, At, Effect, Ends_fill, For_a_fill, For_a_write, HasEnded, Is_declined, May, Moves, Moves_on, OneMore}
-pub use Rattle.law_copies.proofs.Imports.{Run, applied, at_row, before_part, both_row, by_run, cases_lt, did_count, firm_in, first_state, in_get, in_map}
-pub use Rattle.law_copies.proofs.Imports.{job_keeps, letters_of_job, longer, more_of, primary_is_one, put_rises, rests_in, run_of, said, served_so}
-pub use Rattle.law_copies.proofs.Imports.{setting_in, shown_so, since, stepped_in, stopped_so, turned_asks, without_rev}
+pub use Rattle.law_copies.proofs.Imports.{Asks_slot, At, Effect, Ends_fill, For_a_fill, For_a_write, HasCome, HasEnded, Is_declined, Is_new, May, Moves}
+pub use Rattle.law_copies.proofs.Imports.{Moves_on, OneMore, Run, Stood, applied, at_row, before_part, both_row, by_run, cases_lt, did_count, firm_in}
+pub use Rattle.law_copies.proofs.Imports.{first_state, in_get, in_map, job_keeps, letters_of_job, longer, more_of, primary_is_one, put_rises, rests_in}
+pub use Rattle.law_copies.proofs.Imports.{run_of, said, served_so, setting_in, shown_so, since, stepped_in, stopped_so, turned_asks, without_rev}
 pub use Rattle.law_requests.specs.Imports.{line_by}
 pub use Rattle.law_requests.proofs.Imports.{A_read, A_write, Anew, Answered, As_it_was, Begins, Blanks_it, By_operation, By_verdict, By_witness, Fails_it}
-pub use Rattle.law_requests.proofs.Imports.{Goes_on, Had_no_slot, HasCome, Has_no_space, Heard, IsFinishedFor, IsJudged, IsReason, IsSame, IsSeatedOrMute}
-pub use Rattle.law_requests.proofs.Imports.{IsSeenAs, Is_new, Is_settled, Is_told, Judges, Of_the_log, Reads, Repeats, Says, Shown, Starts_it, StaysOpen}
-pub use Rattle.law_requests.proofs.Imports.{Stood, Stops_at, Stops_it, Turned, after, both_leads, did_come, did_finish, is_notice, is_refused, lead_is, names}
-pub use Rattle.law_requests.proofs.Imports.{own_steady, runs_now, serves_sent, write_refusal}
+pub use Rattle.law_requests.proofs.Imports.{Goes_on, Had_no_slot, Has_no_space, Heard, IsFinishedFor, IsJudged, IsReason, IsSame, IsSeatedOrMute, IsSeenAs}
+pub use Rattle.law_requests.proofs.Imports.{Is_settled, Is_told, Judges, Of_the_log, Reads, Repeats, Says, Shown, Starts_it, StaysOpen, Stops_at, Stops_it}
+pub use Rattle.law_requests.proofs.Imports.{Turned, after, both_leads, did_come, did_finish, is_notice, is_refused, lead_is, names, own_steady, runs_now}
+pub use Rattle.law_requests.proofs.Imports.{serves_sent, write_refusal}
 pub use Rattle.law_moves.specs.Imports.{IsServing}
-pub use Rattle.law_moves.proofs.Imports.{stage_facts}
+pub use Rattle.law_moves.proofs.Imports.{stage_facts, tails}
 pub use Rattle.law_answers.specs.Imports.{Event, Look, Read, accepted, asked_by, asker, look_for, old_data, operator, reads_old}
 pub use Rattle.std.proofs.Common.{take}
 pub use Rattle.std.proofs.Math.Seq.{take-append_seam}
@@ -110,7 +110,7 @@ pub use Rattle.law_steps.proofs.KindsInHistories.{firm_after}
 pub use Rattle.law_steps.proofs.Letters.{Said, one_post, said as said_in}
 pub use Rattle.law_steps.proofs.LettersOfSteps.{asked_aside, logged_notice, notice_aside}
 pub use Rattle.law_steps.proofs.LogJobs.{LogFrame, applied_entry, applied_none, ask_logged, ballot_logged, letter_frame_of, start_frame_of}
-pub use Rattle.law_steps.proofs.Records.{heads, tails}
+pub use Rattle.law_steps.proofs.Records.{heads}
 pub use Rattle.law_steps.proofs.ServerStepKinds.{server_serves}
 pub use Rattle.law_steps.specs.DidClient.{Ends, answer_of}
 pub use Rattle.law_steps.specs.DidStep.{IsIdle, Goes as Serves_on, Ends as Stops_so, served}

@@ -42,13 +42,12 @@ further x y = record {
 pub record AreOne {records : List Record} (x y : IsMoment records) : Type 0 where
   pub prefix_is : x.prefix ≡ y.prefix
   pub own_is : x.own ≡ y.own
-  pub following_is : x.following ≡ y.following
 
 -- two are one, where neither stands before the other
 pub one_moment : {records : List Record} (x y : IsMoment records) → ((between : List Record) → y.prefix ≡ x.prefix ++ x.own ∷ between → ⊥)
     → ((between : List Record) → x.prefix ≡ y.prefix ++ y.own ∷ between → ⊥) → AreOne x y
 one_moment x y former latter = elim (ordered x.prefix x.own x.following y.prefix y.own y.following (sym x.is ∙ y.is)) [
-  | Are_one same is rest ↦ record { prefix_is = same; own_is = is; following_is = rest }
+  | Are_one same is rest ↦ record { prefix_is = same; own_is = is }
   | Is_former between same rest ↦ absurd (former between same)
   | Is_latter between same rest ↦ absurd (latter between same)
 ]

@@ -109,19 +109,17 @@ module _ (R S : ℕ → ℕ → Type 0) (it : WereRefused R S) (n stamp : ℕ) (
 
   asked_now : (letter : Letter) (number : ℕ) (cell : Cell) → AsksSlot setting w n acted letter number cell
       → IsNumbered setting later letter number cell
-  asked_now letter number cell a =
-      let same = a.same in
-      record {
-        server = n;
-        inc = (w.servers n).life.inc;
-        prefix = (w.servers n).log.applied;
-        stands = prefix_on (w.servers n).log.applied _ _ (firm.servers n) grows;
-        long = a.long;
-        seated = a.seated;
-        leads = a.leads;
-        begun = (on n).life;
-        given = λ e. subst (λ (x : Server). number < x.own.pairs.next) (sym (put_same w.servers n acted.server)) a.given;
-      }
+  asked_now letter number cell a = record {
+    server = n;
+    inc = (w.servers n).life.inc;
+    prefix = (w.servers n).log.applied;
+    stands = prefix_on (w.servers n).log.applied _ _ (firm.servers n) grows;
+    long = a.long;
+    seated = a.seated;
+    leads = a.leads;
+    begun = (on n).life;
+    given = λ e. subst (λ (x : Server). number < x.own.pairs.next) (sym (put_same w.servers n acted.server)) a.given;
+  }
 
   due : (letter : Letter) → In letter (stamped stamp acted.letters) → (said : Body) → letter.body ≡ said → IsDue S setting w n acted letter said
   due letter new said is = subst (IsDue S setting w n acted letter) is (step.says letter new)

@@ -14,13 +14,10 @@ module _ (state : State) (cell : Cell) (row : LinkRow) (is : cell_link state cel
   abbrev links : ℕ
   links = links_of state cell.map
 
-  links_are : length tuple_there.0 ≡ links
-  links_are = ap (λ o. option_map_or length o 0) (sym tuple_there.1)
-
   -- a cell of the map is looked up by its block
   found_by : (block : ℕ) → cell_link state (record { map = cell.map; block = block }) ≡ link_at state.links cell.map (link_of links block)
   found_by block = ap (option_and_then (λ tuple. link_at state.links cell.map (link_of (length tuple) block))) tuple_there.1
-      ∙ ap (λ n. link_at state.links cell.map (link_of n block)) links_are
+      ∙ ap (λ o. link_at state.links cell.map (link_of (option_map_or length o 0) block)) (sym tuple_there.1)
 
   both : (row.map ≡ cell.map) × (row.link ≡ link_of links cell.block)
   both =

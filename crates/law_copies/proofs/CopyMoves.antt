@@ -157,9 +157,6 @@ module _ (heard : Body → Type 0) {links : ℕ} {row : LinkRow} {cell : Cell} {
       all_trimmed : epochs_beyond said.past.own cell said_last.epochs ≡ []
       all_trimmed = said.trimmed same_op
 
-      beside_trimmed : epochs_beyond c.beside cell said_last.epochs ≡ []
-      beside_trimmed = ap (λ x. epochs_beyond x cell said_last.epochs) (same_some (sym c.met ∙ said.past.met)) ∙ all_trimmed
-
       trimmed_followed : IsFollowed to_trimmed c.beside cell trimmed
       trimmed_followed =
           let h = c.heard said_last fresh there_last (sym same_op) in
@@ -171,7 +168,7 @@ module _ (heard : Body → Type 0) {links : ℕ} {row : LinkRow} {cell : Cell} {
             op_is = sym same_op;
             epochs_are = h.0;
             past = omega arith;
-            trimmed = beside_trimmed;
+            trimmed = ap (λ x. epochs_beyond x cell said_last.epochs) (same_some (sym c.met ∙ said.past.met)) ∙ all_trimmed;
             put = λ i r lt there. absurd (omega arith);
           }
 

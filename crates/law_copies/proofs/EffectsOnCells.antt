@@ -1,20 +1,19 @@
 -- An effect leaves each cell as it is but the one that it is on, and that by what the server is to it.
 use Rattle.law_copies.proofs.Imports.{◌<◌, ◌∙◌, ◌≡◌, ◌≢◌, ◌⊎◌, A_copy, A_lead, A_new_copy, A_sweep, An_operation, As_copy, As_operation, As_second}
 use Rattle.law_copies.proofs.Imports.{Begins_copy, Body, Busy, By_a_copy, By_its_operation, Cell, Chain, Closes, CopyGoes, Copying, Did, Drops, Effect}
-use Rattle.law_copies.proofs.Imports.{Ends_copy, For_a_fill, For_a_write, Found_no_slot, Has_put, Has_trimmed, IsClosedFor, IsDroppedFor, IsIdle}
-use Rattle.law_copies.proofs.Imports.{IsNewCopy, IsNextPage, IsOpening, IsPutFor, IsSetFor, IsToEnd, IsUnderWay, IsUnmarkedFor, Is_copied, Is_off, Is_old}
-use Rattle.law_copies.proofs.Imports.{Is_over, Is_whole, JobContext, JobResult, Key, LastCopy, LastOp, LinkRow, List, MarkKind, May, None, Opens, Option}
-use Rattle.law_copies.proofs.Imports.{PairState, Pending, Puts, Reserved, Reserves, Sets, Some, Stale, Stored, Table, The_last_copy, Turns_page, ap}
-use Rattle.law_copies.proofs.Imports.{applied, arith, at, cell_apart, cell_at, cell_gone_apart, cell_holder, cell_of, chain_apart, chain_in, chains_with}
-use Rattle.law_copies.proofs.Imports.{copying_on, drop_apart, drop_none, ended, false, first, first_copy, first_last, follows, inl, inr, is_marked}
-use Rattle.law_copies.proofs.Imports.{is_second, job_keeps, key_at, last_copy, last_on, live, live_stage, mark_beside, marks, nat_cmp, pending_on, put}
-use Rattle.law_copies.proofs.Imports.{refl, same_cell_or_apart, same_or_apart, stage_at, stage_live, subst, sym, true, true_false, unmark_beside}
-use Rattle.law_copies.proofs.Imports.{unmark_none, was_same, ℕ}
-use Rattle.law_jobs.specs.Effects.{Copies, Goes_on, Marks, Unmarks}
-use Rattle.law_jobs.proofs.OperationsCome.{HasCome, HaveCome, Is_new, Stood, each_come}
+use Rattle.law_copies.proofs.Imports.{Ends_copy, For_a_fill, For_a_write, Found_no_slot, Goes_on, HasCome, Has_put, Has_trimmed, HaveCome, IsClosedFor}
+use Rattle.law_copies.proofs.Imports.{IsDroppedFor, IsIdle, IsNewCopy, IsNextPage, IsOpening, IsPutFor, IsSetFor, IsToEnd, IsUnderWay, IsUnmarkedFor}
+use Rattle.law_copies.proofs.Imports.{Is_copied, Is_new, Is_off, Is_old, Is_over, Is_whole, JobContext, JobResult, Key, LastCopy, LastOp, LinkRow, List}
+use Rattle.law_copies.proofs.Imports.{MarkKind, Marks, May, None, Opens, Option, PairState, Pending, Puts, Reserved, Reserves, Sets, Some, Stale, Stood}
+use Rattle.law_copies.proofs.Imports.{Stored, Table, The_last_copy, Turns_page, Unmarks, ap, applied, arith, at, cell_apart, cell_at, cell_gone_apart}
+use Rattle.law_copies.proofs.Imports.{cell_holder, cell_of, chain_apart, chain_in, chains_with, copying_on, drop_apart, drop_none, each_come, ended, false}
+use Rattle.law_copies.proofs.Imports.{first, first_copy, first_last, follows, inl, inr, is_marked, is_second, job_keeps, key_at, last_copy, last_on, live}
+use Rattle.law_copies.proofs.Imports.{live_stage, mark_beside, marks, nat_cmp, pending_on, put, refl, same_cell_or_apart, same_or_apart, stage_at, stage_live}
+use Rattle.law_copies.proofs.Imports.{subst, sym, true, true_false, unmark_beside, unmark_none, was_same, ℕ}
+use Rattle.law_jobs.specs.Effects.{Copies}
 use Rattle.law_copies.specs.LoneSteps.{IsBare, IsFit, KeepsCell}
-use Rattle.law_copies.proofs.RolesOfWorkers.{IsHeldBy, IsHeldHere, IsLedHere, above_none, begun_held, copying_held, entry_held, idle_both, led_here}
-use Rattle.law_copies.proofs.RolesOfWorkers.{op_leads, page_on, second_live}
+use Rattle.law_copies.proofs.RolesOfWorkers.{IsHeldBy, IsHeldHere, IsLedHere, above_none, begun_held, copying_held, entry_held, idle_both, led_here, op_leads}
+use Rattle.law_copies.proofs.RolesOfWorkers.{page_on, second_live}
 use Rattle.petal_msg.specs.declared.body.Body.TheVariants as body
 use Rattle.petal_msg.specs.declared.operation.FollowProgress.TheVariants as follow_progress
 

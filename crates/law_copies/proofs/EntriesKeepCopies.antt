@@ -1,5 +1,5 @@
 -- What is kept after an entry that a server applies.
-use Rattle.law_copies.proofs.Imports.{[], ◌++◌, ◌<◌, ◌==◌, ◌∙◌, ◌∷◌, ◌≡◌, ◌≢◌, ◌≤◌, ◌⊎◌, Body, Bool, Both, Cell, Command, In, IsMarked, IsPrefix, IsRising}
+use Rattle.law_copies.proofs.Imports.{[], ◌++◌, ◌<◌, ◌==◌, ◌∙◌, ◌∷◌, ◌≡◌, ◌≤◌, ◌⊎◌, Body, Bool, Both, Cell, Command, In, IsMarked, IsPrefix, IsRising}
 use Rattle.law_copies.proofs.Imports.{IsToBeCopied, Letter, LinkRow, List, None, Only, Option, PairState, Pairs, Pending, Progress, Record, Some, StaysSo}
 use Rattle.law_copies.proofs.Imports.{Store, World, about, ap, arith, at, cell_cmp, chain_in, chosen_log, false, has_mark, has_server, id_of, inc_of, inl}
 use Rattle.law_copies.proofs.Imports.{inr, is_flagged, is_in, is_some, length, log_steady, mark_on, nat_cmp, none_some, option_map_or, other_between}
@@ -58,9 +58,6 @@ module _ (it : AtEntry) where
 
   leaves : (prefix : List Command) (n : ℕ) (cell : Cell) → LeavesStore (olds prefix n) (news prefix n) cell
   leaves prefix n cell = stores_leave (step_of it) cell (leaves_own cell) prefix n
-
-  apart_visit : (n place : ℕ) (cell : Cell) → n ≢ k → visits n place cell ≡ good.visits n place cell
-  apart_visit = visited_apart (step_of it)
 
   -- ### The server's visit of a place
 
@@ -136,7 +133,7 @@ module _ (it : AtEntry) where
   arriving prefix cell row is_prefix is n has = elim (same_or_apart n k) [
     | inl e ↦ subst (λ m. Arrives m (place_by setting prefix row) cell row) (sym e)
         (arriving_here prefix cell row is_prefix is (subst (λ m. has_server m row ≡ true) e has))
-    | inr ne ↦ stands_there n (place_by setting prefix row) cell row (apart_visit n (place_by setting prefix row) cell ne)
+    | inr ne ↦ stands_there n (place_by setting prefix row) cell row (visited_apart (step_of it) n (place_by setting prefix row) cell ne)
   ]
 
   -- ### In Both

@@ -1,9 +1,9 @@
 -- How far a holder is with a link: what stays so, and what a page changes.
-use Rattle.law_copies.proofs.Imports.{◌∙◌, ◌≡◌, Busy, Cell, IsMarked, LinkId, LinkRow, MarkKind, None, Option, PairState, Progress, Some, Stale, Store}
-use Rattle.law_copies.proofs.Imports.{Table, above, ap, at, by_bool, by_test, cell_at, eq_by_cmp, false, id_of, inl, inr, is_eq, is_flagged, link_cmp}
-use Rattle.law_copies.proofs.Imports.{mark_kept, nat_cmp, nat_cmp_total, no_progress, option_map_or, ordering_then, progress_beside, progress_here}
-use Rattle.law_copies.proofs.Imports.{progress_on, refl, same_block, same_caught, same_id, same_numbers, sym, tied_itself, true, true_false, turned_page}
-use Rattle.law_copies.proofs.Imports.{unwrap_or, with_copied, with_mark_on, with_page, with_progress, ℕ}
+use Rattle.law_copies.proofs.Imports.{◌∙◌, ◌≡◌, Busy, Cell, IsMarked, LinkId, LinkRow, MarkKind, None, Option, PairState, Progress, Some, Stale, Store, Table}
+use Rattle.law_copies.proofs.Imports.{above, ap, at, by_bool, by_test, cell_at, eq_by_cmp, false, id_of, inl, inr, is_eq, is_flagged, link_cmp, mark_kept}
+use Rattle.law_copies.proofs.Imports.{nat_cmp, nat_cmp_total, no_progress, option_map_or, ordering_then, progress_beside, progress_here, progress_on, refl}
+use Rattle.law_copies.proofs.Imports.{same_block, same_caught, same_id, same_numbers, sym, tied_itself, true, true_false, turned_page, unwrap_or, with_copied}
+use Rattle.law_copies.proofs.Imports.{with_mark_on, with_page, with_progress, ℕ}
 
 -- pages and the ballot are as they were
 pub record IsPaced (row : LinkRow) (own to : PairState) : Type 0 where

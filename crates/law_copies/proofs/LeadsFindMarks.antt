@@ -1,17 +1,15 @@
 -- A lead puts only on a block that is marked on its device, and its operations find the marks that their stages tell of.
 use Rattle.law_copies.proofs.Imports.{◌+◌, ◌||◌, ◌∙◌, ◌≡◌, ◌≢◌, ◌⊎◌, A_lead, An_operation, As_copy, As_operation, As_second, Body, Busy, By_a_copy}
-use Rattle.law_copies.proofs.Imports.{By_its_operation, Cell, Closes, Copying, Did, Drops, Effect, For_a_fill, For_a_write, Idle, IsIdle, IsMarked}
-use Rattle.law_copies.proofs.Imports.{IsOpening, IsPutFor, IsSetFor, IsUnmarkedFor, Is_off, Is_old, JobContext, JobResult, Key, LastOp, MarkKind, Marks}
-use Rattle.law_copies.proofs.Imports.{May, None, Opens, PairState, Pairs, Pending, Puts, Sets, Some, Stale, Store, Stored, Turns_page, Unmarks}
-use Rattle.law_copies.proofs.Imports.{among_least, ap, applied, at, both, cell_apart, cell_at, cell_cmp, cell_holder, cell_of, cell_same, chain_in}
-use Rattle.law_copies.proofs.Imports.{copying_on, did_ready, drop_apart, entry_ahead, false, follows, inl, inr, is_marked, is_second, is_some}
-use Rattle.law_copies.proofs.Imports.{is_under_way, job_keeps, leads_link, led_by_link, live, live_stage, mark_kept, marked_blocks, nat_cmp, none_some}
-use Rattle.law_copies.proofs.Imports.{not, not_true, pending_on, put, put_with, refl, same_cell_or_apart, same_some, some_or_none, stale_kept, stood}
-use Rattle.law_copies.proofs.Imports.{subst, sym, true, true_false, unmark_beside, version_of, ℕ}
-use Rattle.law_jobs.specs.Effects.{Goes_on}
+use Rattle.law_copies.proofs.Imports.{By_its_operation, Cell, Closes, Copying, Did, Drops, Effect, For_a_fill, For_a_write, Goes_on, Idle, IsIdle, IsMarked}
+use Rattle.law_copies.proofs.Imports.{IsOpening, IsPutFor, IsSetFor, IsUnmarkedFor, Is_off, Is_old, JobContext, JobResult, Key, LastOp, MarkKind, Marks, May}
+use Rattle.law_copies.proofs.Imports.{None, Opens, PairState, Pairs, Pending, Puts, Sets, Some, Stale, Store, Stored, Turns_page, Unmarks, among_least, ap}
+use Rattle.law_copies.proofs.Imports.{applied, at, both, cell_apart, cell_at, cell_cmp, cell_holder, cell_of, cell_same, chain_in, copying_on, did_ready}
+use Rattle.law_copies.proofs.Imports.{drop_apart, entry_ahead, false, follows, in_filter, inl, inr, is_marked, is_second, is_some, is_under_way, job_keeps}
+use Rattle.law_copies.proofs.Imports.{leads_link, led_by_link, live, live_stage, mark_kept, marked_blocks, nat_cmp, none_some, not, not_true, pending_on, put}
+use Rattle.law_copies.proofs.Imports.{put_with, refl, same_cell_or_apart, same_some, some_or_none, stale_kept, stood, subst, sym, true, true_false}
+use Rattle.law_copies.proofs.Imports.{unmark_beside, version_of, ℕ}
 use Rattle.law_copies.specs.LoneSteps.{IsFit}
 use Rattle.law_copies.specs.Pair.{HasMarks, HaveMarks}
-use Rattle.law_state.proofs.ListLookups.{in_filter}
 use Rattle.law_copies.proofs.EffectsOnCells.{copied_apart, dropped_apart, own_apart, put_apart}
 use Rattle.law_copies.proofs.OtherIsNotHolder.{held_not_leading}
 use Rattle.law_copies.proofs.RolesOfWorkers.{leads_not_second}

@@ -1,10 +1,10 @@
 -- Each job of the other server of a link that one server holds alone keeps a cell of it.
 use Rattle.law_copies.proofs.Imports.{◌+◌, ◌<◌, ◌∙◌, ◌≡◌, A_copy, A_new_copy, A_sweep, As_copy, Begins, Body, Cell, Copying, Did, Drops, Effect, Entry}
-use Rattle.law_copies.proofs.Imports.{Goes_on, Holds_slots, In, IsCopying, IsDroppedFor, IsMarked, IsNewCopy, IsNotHeld, IsOfCopy, IsPutFor, Is_copied}
-use Rattle.law_copies.proofs.Imports.{JobContext, JobResult, Key, LastCopy, LinkRow, List, May, Option, PairState, Post, Puts, Says, Some, Stored}
-use Rattle.law_copies.proofs.Imports.{The_last_copy, about, above, after, ap, applied, arith, at, cell_of, filter, first_last, inl, inr, is_alone, is_on}
-use Rattle.law_copies.proofs.Imports.{key_at, letters_of_job, live, marked_blocks, other_of, puts_entry, refl, same_some, subst, sym, true, true_false}
-use Rattle.law_copies.proofs.Imports.{with_last_copy, ℕ}
+use Rattle.law_copies.proofs.Imports.{Holds_slots, In, IsCopying, IsDroppedFor, IsMarked, IsNewCopy, IsNotHeld, IsOfCopy, IsPutFor, Is_copied, JobContext}
+use Rattle.law_copies.proofs.Imports.{JobResult, Key, LastCopy, LinkRow, List, May, Option, PairState, Post, Puts, Says, Some, Stored, The_last_copy, about}
+use Rattle.law_copies.proofs.Imports.{above, after, ap, applied, arith, at, cell_of, filter, first_last, inl, inr, is_alone, is_on, key_at, letters_of_job}
+use Rattle.law_copies.proofs.Imports.{live, marked_blocks, other_of, puts_entry, refl, same_some, subst, sym, true, true_false, with_last_copy, ℕ}
+use Rattle.law_jobs.specs.Sayings.{Goes_on}
 use Rattle.law_copies.specs.CopyProgress.{IsPage, IsTold, IsUpTo}
 use Rattle.law_copies.specs.LoneSteps.{IsFollowing, OtherKeeps, StaysHere}
 use Rattle.law_copies.proofs.ChainsRise.{in_kept}
@@ -14,8 +14,8 @@ use Rattle.law_copies.proofs.EpochsRise.{did_rising}
 use Rattle.law_copies.proofs.LastCopies.{past_last, past_of, stays_told, to_put, to_trimmed}
 use Rattle.law_copies.proofs.LeftToCopy.{among_marked, least_below, on_itself}
 use Rattle.law_copies.proofs.OtherIsNotHolder.{IsOtherOf, other_row}
-use Rattle.law_copies.proofs.RolesOfWorkers.{IsHeldHere, alone_not_row, alone_not_second, begun_held, idle_both, kept_lives, led_alive, named_id}
-use Rattle.law_copies.proofs.RolesOfWorkers.{one_named, other_alone, other_not_alone, other_not_leading, taken_held}
+use Rattle.law_copies.proofs.RolesOfWorkers.{IsHeldHere, alone_not_row, alone_not_second, begun_held, idle_both, kept_lives, led_alive, named_id, one_named}
+use Rattle.law_copies.proofs.RolesOfWorkers.{other_alone, other_not_alone, other_not_leading, taken_held}
 use Rattle.petal_msg.specs.declared.body.Body.TheVariants as body
 use Rattle.law_copies.proofs.OtherServerChanges as following
 

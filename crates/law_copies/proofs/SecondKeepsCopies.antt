@@ -1,8 +1,8 @@
 -- What a step of the second server of a cell in Both keeps of its two copies.
-use Rattle.law_copies.proofs.Imports.{◌+◌, ◌∙◌, ◌≡◌, ◌≤◌, ◌⊎◌, A_lead, As_copy, As_operation, As_second, Body, Cell, Did, Drops, Effect, IsPutFor}
-use Rattle.law_copies.proofs.Imports.{JobResult, Key, LastOp, List, May, PairState, Pending, Puts, Replicated, Reserved, Reserves, Some, Stored, about, ap}
-use Rattle.law_copies.proofs.Imports.{applied, arith, at, cell_cmp, cell_of, cell_same, chain_in, chain_put, chains_with, inl, inr, nat_cmp, progress, put}
-use Rattle.law_copies.proofs.Imports.{putting, refl, same_some, subst, sym, version_of, ℕ}
+use Rattle.law_copies.proofs.Imports.{◌+◌, ◌∙◌, ◌≡◌, ◌≤◌, ◌⊎◌, A_lead, As_copy, As_operation, As_second, Body, Cell, Did, Drops, Effect, IsPutFor, JobResult}
+use Rattle.law_copies.proofs.Imports.{Key, LastOp, List, May, PairState, Pending, Puts, Replicated, Reserved, Reserves, Some, Stored, about, ap, applied}
+use Rattle.law_copies.proofs.Imports.{arith, at, cell_cmp, cell_of, cell_same, chain_in, chain_put, chains_with, inl, inr, nat_cmp, progress, put, putting}
+use Rattle.law_copies.proofs.Imports.{refl, same_some, subst, sym, version_of, ℕ}
 use Rattle.law_copies.specs.BothSteps.{LacksFill}
 use Rattle.law_copies.specs.Pair.{IsPutting, Keeps, Known, Pair, PairOk, far, pair_of}
 use Rattle.law_copies.proofs.CellInBoth.{CellInBoth, no_other, own_put_apart}

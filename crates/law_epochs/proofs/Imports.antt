@@ -15,14 +15,14 @@ pub use Rattle.law_steps.proofs.Imports.{Chain, Filling, Logged, Pairs, Store, a
 pub use Rattle.law_steps.proofs.Imports.{log_steady, lookup, one_prefix, prefix_itself, prefix_long, prefix_more, prefix_on, prefix_plain, same_place}
 pub use Rattle.law_steps.proofs.Imports.{settling, stage_most}
 unfoldable pub use Rattle.law_steps.proofs.Imports.{put, without}
-pub use Rattle.law_jobs.specs.Imports.{Did, IsNextFill, IsNextKey, chains_with, filled_to}
-pub use Rattle.law_jobs.proofs.Imports.{Aside, Blanks, By_ballot, By_entry, By_job, Fails, Goes, Handled, Happens, IsOfJob, Of_job, Rests, Serves, Serving}
-pub use Rattle.law_jobs.proofs.Imports.{Stays, Turns, Wakes, Was_sent, Worked, always_firm, at_apart, below_itself, chains_at, happens_sent, is_aside}
-pub use Rattle.law_jobs.proofs.Imports.{is_clients, last_happens, next_comes, own_place, own_plain, proposed_pairs, rests_after, same_cell_or_apart}
+pub use Rattle.law_jobs.specs.Imports.{IsNextFill, IsNextKey, chains_with, filled_to}
+pub use Rattle.law_jobs.proofs.Imports.{Aside, Blanks, By_ballot, By_entry, By_job, Did, Fails, Goes, Handled, Happens, IsOfJob, Of_job, Rests, Serves}
+pub use Rattle.law_jobs.proofs.Imports.{Serving, Stays, Turns, Wakes, Was_sent, Worked, always_firm, at_apart, below_itself, chains_at, happens_sent}
+pub use Rattle.law_jobs.proofs.Imports.{is_aside, is_clients, last_happens, next_comes, own_place, own_plain, proposed_pairs, rests_after, same_cell_or_apart}
 pub use Rattle.law_jobs.proofs.Imports.{start_rests}
 pub use Rattle.law_copies.specs.Imports.{blank_joins_in, kept_store}
 pub use Rattle.law_copies.proofs.Imports.{A_copy, A_lead, An_operation, Asks_copy, At, BeforeBlank, By_caught, By_join, By_leave, Ends_fill, Fills, IsPutFor}
-pub use Rattle.law_copies.proofs.Imports.{Moves, Moves_on, Says, Stood, Syncs, Writes, alone_not_both, before_part, by_run, chain_apart, chain_put, did_come}
+pub use Rattle.law_copies.proofs.Imports.{Moves, Moves_on, Says, Syncs, Writes, alone_not_both, before_part, by_run, chain_apart, chain_put, did_come}
 pub use Rattle.law_copies.proofs.Imports.{drop_apart, gone_chain, kept, letters_of_job, link_led_by, log_grown, log_touched, places_grow, places_of_both}
 pub use Rattle.law_copies.proofs.Imports.{places_on, prefix_within, primary_is_one, run_of, tuple_on}
 pub use Rattle.law_requests.proofs.Imports.{Repeats, WasDraining, epoch_at, era_low, log_unheld, report_was_made, runs_at, runs_now}
@@ -31,6 +31,7 @@ pub use Rattle.law_copies.proofs.PlacesByPrefixes.{at_most_or_above, place_of_la
 pub use Rattle.law_copies.proofs.StoreJobs.{ballot_store}
 pub use Rattle.law_copies.proofs.VisitsAfterSteps.{IsAt, at_by, is_at_so}
 pub use Rattle.law_copies.specs.Visits.{AliveIn, IsLinked, WasThere, is_at, place_by}
+pub use Rattle.law_jobs.proofs.FillsByJobs.{Stood}
 pub use Rattle.law_jobs.proofs.JobsAreEffects.{effects_of}
 pub use Rattle.law_jobs.proofs.JobsKeepChains.{becomes_keeps}
 pub use Rattle.law_jobs.specs.Effects.{Becomes, Noted}

@@ -1,12 +1,12 @@
 -- A Moved that is chosen was wanted by a server that had nothing left of its link: what the server had is what was frozen, and of all of it the
 -- server was told that the new map has it.
-use Rattle.law_moves.proofs.Imports.{[], ◌&&◌, ◌++◌, ◌∙◌, ◌∷◌, ◌≡◌, AreSteps, At, Blanks, Cell, Chain, Command, Happens, In, IsPrefix, IsServing}
-use Rattle.law_moves.proofs.Imports.{IsSound, Key, Letter, LinkRow, List, Moved, None, Option, PairState, Record, Run, Script, Serves, Setting, Some, State}
-use Rattle.law_moves.proofs.Imports.{Turns, WasMoving, World, after, ap, at, before_part, below_itself, by_test, chain_in, chosen_log, chosen_state, end_of}
-use Rattle.law_moves.proofs.Imports.{false, happened_in, history_is_firm, in_later, is_in, is_link, is_some, is_the, is_the_one, key_at, link_named}
-use Rattle.law_moves.proofs.Imports.{log_plain, log_steady, longer, map_of, moved_was_wanted, nat_cmp, next_fill, none_some, not_noted, number_itself}
-use Rattle.law_moves.proofs.Imports.{option_and_then, option_map_or, prefix_itself, refl, region_leaving, region_of, region_to_move, row_lead, row_named}
-use Rattle.law_moves.proofs.Imports.{run_of, same_some, setting_in, since, subst, sym, true, ℕ}
+use Rattle.law_moves.proofs.Imports.{[], ◌&&◌, ◌++◌, ◌∙◌, ◌∷◌, ◌≡◌, AreSteps, At, Blanks, Cell, Chain, Command, Happens, In, IsPrefix, IsServing, IsSound}
+use Rattle.law_moves.proofs.Imports.{Key, Letter, LinkRow, List, Moved, None, Option, PairState, Record, Run, Script, Serves, Setting, Some, State, Turns}
+use Rattle.law_moves.proofs.Imports.{WasMoving, World, after, ap, at, before_part, below_itself, by_test, chain_in, chosen_log, chosen_state, end_of, false}
+use Rattle.law_moves.proofs.Imports.{happened_in, history_is_firm, in_later, is_in, is_link, is_some, is_the, is_the_one, key_at, link_named, log_plain}
+use Rattle.law_moves.proofs.Imports.{log_steady, longer, map_of, moved_was_wanted, nat_cmp, next_fill, none_some, not_noted, number_itself, option_and_then}
+use Rattle.law_moves.proofs.Imports.{option_map_or, prefix_itself, refl, region_leaving, region_of, region_to_move, row_lead, row_named, run_of, same_some}
+use Rattle.law_moves.proofs.Imports.{setting_in, since, subst, sym, true, ℕ}
 use Rattle.law_moves.specs.Fills.{AllFilled, IsOnWay, WasFilled}
 use Rattle.law_moves.specs.LeftToMove.{IsKept, IsKnown, IsOurs}
 use Rattle.law_moves.proofs.FrozenIsWhatCounted.{frozen_stays}

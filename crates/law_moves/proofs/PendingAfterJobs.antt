@@ -1,11 +1,10 @@
 -- What is pending after a job was so before: with the same number, and put only if it was, or the job put it, and its copy told only for a reason; or
 -- it is new, under the next number, and neither put nor copied.
 use Rattle.law_moves.proofs.Imports.{◌∙◌, ◌≡◌, ◌⊎◌, An_operation, As_operation, Body, Cell, Chain, Closes, Did, Drops, Effect, For_a_fill, For_a_write}
-use Rattle.law_moves.proofs.Imports.{Goes_on, IsOpening, IsPaired, IsPutFor, IsSame, IsSetFor, Is_apart, Is_replicated, JobContext, JobResult, Key, May}
-use Rattle.law_moves.proofs.Imports.{None, Opens, PairState, Pending, Puts, Sets, Some, Stored, Table, Was_paired, ap, applied, at, by_bool, cell_cmp}
-use Rattle.law_moves.proofs.Imports.{cell_of, chain_in, chains_ahead, chains_with, entry_ahead, false, inl, inr, job_keeps, none_some, put, refl, restaged}
+use Rattle.law_moves.proofs.Imports.{Goes_on, IsOpening, IsPaired, IsPutFor, IsSame, IsSetFor, Is_apart, Is_replicated, JobContext, JobResult, Key, May, None}
+use Rattle.law_moves.proofs.Imports.{Opens, PairState, Pending, Puts, Sets, Some, Stored, Table, Was_paired, ap, applied, at, by_bool, cell_cmp, cell_of}
+use Rattle.law_moves.proofs.Imports.{chain_in, chains_ahead, chains_with, entry_ahead, false, inl, inr, job_keeps, none_some, put, put_with, refl, restaged}
 use Rattle.law_moves.proofs.Imports.{same_itself, same_on, same_some, stood, subst, sym, true, true_false}
-use Rattle.law_jobs.proofs.OperationsCome.{put_with}
 use Rattle.law_moves.proofs.JobsChangeOneChain.{not_ahead}
 
 -- the operation was pending, or is new

@@ -89,14 +89,8 @@ module _ (it : OneMore) where
       abbrev joined : List Command
       joined = j.until ++ Join n inc true ∷ []
 
-      joined_whole : IsPrefix joined whole
-      joined_whole = prefix_on joined f whole j.stands lies
-
       until_f : IsPrefix j.until f
       until_f = prefix_on j.until joined f (prefix_more j.until (Join n inc true)) j.stands
-
-      until_whole : IsPrefix j.until whole
-      until_whole = prefix_on j.until f whole until_f lies
 
       abbrev there : (r : LinkRow) × IsLinked setting j.until cell r
       there = linked_between setting whole plain top j.until f cell row serving.row j.following until_f lies is serving.is
@@ -139,8 +133,8 @@ module _ (it : OneMore) where
           by_row (row_blanked n there.0) link (blanked (has_server n there.0) there.0.state apart)
 
       never_joined : ⊥
-      never_joined = by_touch (log_touched script.servers j.until (Join n inc true) cell there.0 (plain_at j.until until_whole)
-          (plain (Join n inc true) (stands_in j.until whole (Join n inc true) joined_whole)) there.1 (λ i. j.may i && has i))
+      never_joined = by_touch (log_touched script.servers j.until (Join n inc true) cell there.0 (plain_at j.until (prefix_on j.until f whole until_f lies))
+          (plain (Join n inc true) (stands_in j.until whole (Join n inc true) (prefix_on joined f whole j.stands lies))) there.1 (λ i. j.may i && has i))
 
     -- so the same store counts
     pub same_joins : blank_joins_in setting f n ≡ blank_joins_in setting top n

@@ -1,8 +1,8 @@
 -- A step of a client keeps what is known of requests.
 use Rattle.law_requests.proofs.Imports.{◌∙◌, ◌≡◌, ◌≤◌, ◌⊎◌, Actor, Asked, Body, Cell, Client, In, IsOnward, IsPrefix, Letter, List, Pending, Post, Reaction}
 use Rattle.law_requests.proofs.Imports.{Setting, Some, Wanted, World, all_put, ap, arith, at, cell_cmp, client_sender, in-append, in_later, inl, inr}
-use Rattle.law_requests.proofs.Imports.{is_clients, is_in, length, letters_of, prefix_itself, prefix_long, prefix_on, prefix_same, put_at, reacts}
-use Rattle.law_requests.proofs.Imports.{said, server_state, stamped, subst, sym, true, ℕ}
+use Rattle.law_requests.proofs.Imports.{is_clients, is_in, length, letters_of, prefix_itself, prefix_long, prefix_on, prefix_same, put_at, reacts, said}
+use Rattle.law_requests.proofs.Imports.{server_state, stamped, subst, sym, true, ℕ}
 use Rattle.law_requests.specs.AskedRequests.{HasItsWay, IsAsked, IsOpenFrom}
 use Rattle.law_requests.specs.KnownRequests.{Lives, Seen, lives_after, seen, done_by, AreLate, IsSent, Known, PendingFor, asked_for, AskingBy}
 use Rattle.law_requests.proofs.ServerStepsKeepRequests.{Scene}

@@ -21,9 +21,10 @@ pub use Rattle.law_steps.proofs.Imports.{alone_row, at-empty, between, cell_cmp_
 pub use Rattle.law_steps.proofs.Imports.{log_rev, log_roles, log_steady, one_prefix, prefix_itself, prefix_long, prefix_more, prefix_on, prefix_plain}
 pub use Rattle.law_steps.proofs.Imports.{prefix_same, report_among, same_caught, same_only, same_place, settling, so_alone, so_both, up_some}
 unfoldable pub use Rattle.law_steps.proofs.Imports.{put}
-pub use Rattle.law_jobs.specs.Imports.{Did, IsNew}
-pub use Rattle.law_jobs.proofs.Imports.{Blanks, By_ballot, By_entry, By_job, Ends, Fails, Goes, Handled, Happens, Ready, Rests, Serves, Serving, Stays, Turns}
-pub use Rattle.law_jobs.proofs.Imports.{Wakes, Was, Worked, at_apart, at_same, below_itself, is_clients, own_place, own_plain, proposed_pairs, was_same}
+pub use Rattle.law_jobs.specs.Imports.{IsNew}
+pub use Rattle.law_jobs.proofs.Imports.{Blanks, By_ballot, By_entry, By_job, Did, Ends, Fails, Goes, Handled, Happens, Ready, Rests, Serves, Serving, Stays}
+pub use Rattle.law_jobs.proofs.Imports.{Turns, Wakes, Was, Worked, at_apart, at_same, below_itself, is_clients, own_place, own_plain, proposed_pairs}
+pub use Rattle.law_jobs.proofs.Imports.{was_same}
 pub use Rattle.law_requests.specs.Imports.{done_to, line_by}
 pub use Rattle.std.proofs.lemmas.Bool.{cases_lt}
 pub use Rattle.law_jobs.proofs.JobsSay.{letters_of_job}

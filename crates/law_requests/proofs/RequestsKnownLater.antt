@@ -1,8 +1,8 @@
 -- What was known of requests is known later.
-use Rattle.law_requests.proofs.Imports.{◌∙◌, ◌≡◌, ◌≤◌, ◌⊎◌, Actor, Answered, Asked, Body, Bool, Cell, Client, Command, In, IsPrefix, Letter}
-use Rattle.law_requests.proofs.Imports.{Line, List, Logged, Option, Read_asked, Refused, Request, Setting, State, Subject, Wanted, Write_asked, ap, arith}
-use Rattle.law_requests.proofs.Imports.{cases_lt, cell_asked, false, find, inl, inr, is_logged, length, names, one_prefix, prefix_itself, prefix_long}
-use Rattle.law_requests.proofs.Imports.{prefix_on, prefix_within, refl, same_some, subject_of, sym, true, true_false, ℕ}
+use Rattle.law_requests.proofs.Imports.{◌∙◌, ◌≡◌, ◌≤◌, ◌⊎◌, Actor, Answered, Asked, Body, Bool, Cell, Client, Command, In, IsPrefix, Letter, Line, List}
+use Rattle.law_requests.proofs.Imports.{Logged, Option, Read_asked, Refused, Request, Setting, State, Subject, Wanted, Write_asked, ap, arith, cases_lt}
+use Rattle.law_requests.proofs.Imports.{cell_asked, false, find, inl, inr, is_logged, length, names, one_prefix, prefix_itself, prefix_long, prefix_on}
+use Rattle.law_requests.proofs.Imports.{prefix_within, refl, same_some, subject_of, sym, true, true_false, ℕ}
 use Rattle.law_requests.specs.AskedRequests.{IsWrite, IsOpen, IsOpenFrom, HasItsWay, WasToldAt}
 use Rattle.law_requests.specs.KnownRequests.{Seen, IsLate, Is_past, Had_no_lead, Had_another, IsLedAlong, AreLate, IsSent, WriteKnown, EndKnownAt}
 use Rattle.law_requests.specs.KnownRequests.{NothingKnownAt, Known, PendingFor}

@@ -1,8 +1,8 @@
 -- A step of a server keeps what is known of requests.
-use Rattle.law_requests.proofs.Imports.{◌+◌, ◌<◌, ◌∙◌, ◌≡◌, ◌≢◌, ◌≤◌, ◌⊎◌, Acted, Actor, Body, Cell, Firm, In, IsPrefix, Letter, List, None}
-use Rattle.law_requests.proofs.Imports.{PairState, Pending, Rests, Server, Setting, Some, State, Step, Was, World, acts, all_put, all_put_apart, ap, arith}
-use Rattle.law_requests.proofs.Imports.{at, cell_cmp, in-append, in_later, inl, inr, is_clients, is_in, length, prefix_itself, prefix_on}
-use Rattle.law_requests.proofs.Imports.{prefix_same, put_apart, put_same, server_state, stamped, state_in, subst, sym, true, was_same, ℕ}
+use Rattle.law_requests.proofs.Imports.{◌+◌, ◌<◌, ◌∙◌, ◌≡◌, ◌≢◌, ◌≤◌, ◌⊎◌, Acted, Actor, Body, Cell, Firm, In, IsPrefix, Letter, List, None, PairState}
+use Rattle.law_requests.proofs.Imports.{Pending, Rests, Server, Setting, Some, State, Step, Was, World, acts, all_put, all_put_apart, ap, arith, at, cell_cmp}
+use Rattle.law_requests.proofs.Imports.{in-append, in_later, inl, inr, is_clients, is_in, length, prefix_itself, prefix_on, prefix_same, put_apart, put_same}
+use Rattle.law_requests.proofs.Imports.{server_state, stamped, state_in, subst, sym, true, was_same, ℕ}
 use Rattle.law_steps.proofs.Restages.{IsSame}
 use Rattle.law_requests.specs.AskedRequests.{IsWrite, IsOpen}
 use Rattle.law_requests.specs.KnownRequests.{Lives, LedBy, lives_after, seen, done_by, EndKnownAt, NothingKnownAt, Known, KnownLetter, asked_for, IsLedAlong}

@@ -1,11 +1,10 @@
 -- What a step leaves of the server that takes it, as requests need it: it goes on as it was, or boots, and what it has pending is known of.
 use Rattle.law_requests.proofs.Imports.{[], ◌+◌, ◌<◌, ◌∙◌, ◌∷◌, ◌≡◌, ◌≤◌, Acted, AllMayWake, By_ballot, By_entry, By_job, Cell, Command, Copies, Ends, Fails}
-use Rattle.law_requests.proofs.Imports.{Firm, Goes, In, IsPrefix, JobResult, Log, PairState, Pairs, Pending, Progress, Ready, Server}
-use Rattle.law_requests.proofs.Imports.{Serving, Setting, Some, Stays, Step, Wakes, Wanted, Worked, World, ap, arith, at, at-empty, awake, blanked, cell_cmp}
-use Rattle.law_requests.proofs.Imports.{chosen_log, crossed, done_to, false, id_of, inl, inr, is_flagged, is_in, link_cmp, nat_cmp, no_pairs, none_some}
-use Rattle.law_requests.proofs.Imports.{option_map_or, own_place, prefix_itself, prefix_on, prefix_same, proposed_pairs, raised}
-use Rattle.law_requests.proofs.Imports.{refl, runs_at, served_so, server_state, settled_by, settling, state_after, state_in, stopped_so, subst, sym, true}
-use Rattle.law_requests.proofs.Imports.{true_false, was_same, ℕ}
+use Rattle.law_requests.proofs.Imports.{Firm, Goes, In, IsPrefix, JobResult, Log, PairState, Pairs, Pending, Progress, Ready, Server, Serving, Setting, Some}
+use Rattle.law_requests.proofs.Imports.{Stays, Step, Wakes, Wanted, Worked, World, ap, arith, at, at-empty, awake, blanked, cell_cmp, chosen_log, crossed}
+use Rattle.law_requests.proofs.Imports.{done_to, false, id_of, inl, inr, is_flagged, is_in, link_cmp, nat_cmp, no_pairs, none_some, option_map_or, own_place}
+use Rattle.law_requests.proofs.Imports.{prefix_itself, prefix_on, prefix_same, proposed_pairs, raised, refl, runs_at, served_so, server_state, settled_by}
+use Rattle.law_requests.proofs.Imports.{settling, state_after, state_in, stopped_so, subst, sym, true, true_false, was_same, ℕ}
 use Rattle.law_requests.specs.KnownRequests.{LedBy, done_by, IsLedAlong, asked_for, IsUsed, Has_pending, Has_finished}
 use Rattle.law_requests.proofs.EndedRequestsLeaveNothing.{bound_now, pending_new, rises}
 use Rattle.law_requests.proofs.ServerStepsKeepRequests.{Scene, IsSettled, IsStepped}

@@ -2,7 +2,7 @@
 use Rattle.law_run.proofs.Imports.{[], ◌&&◌, ◌<◌, ◌==◌, ◌||◌, ◌∙◌, ◌∷◌, ◌≡◌, ◌⊎◌, Asked, Bool, Cell, Chain, Change, DiskRow, Event, In, List, None, Option}
 use Rattle.law_run.proofs.Imports.{Request, Some, Take, World, Write, after_step, all_left, all_there, ap, arith, at, before_step, blocks_in, blocks_of}
 use Rattle.law_run.proofs.Imports.{both_true, by_bool, cell_cmp, cell_cmp_same, changed_blocks, false, filter_map, flat_map, had_content, has_content_next}
-use Rattle.law_run.proofs.Imports.{in_flat, in_flat_map, in_kept, in_filter, in_map, in_mapped, inl, inr, is_changed, map, nat_list_eq_equiv, nat_lists_same}
+use Rattle.law_run.proofs.Imports.{in_filter, in_flat, in_flat_map, in_kept, in_map, in_mapped, inl, inr, is_changed, map, nat_list_eq_equiv, nat_lists_same}
 use Rattle.law_run.proofs.Imports.{none_some, not, number_itself, open_write, range_with_len, refl, same_bytes, same_numbers, same_some, subst, sym, taken}
 use Rattle.law_run.proofs.Imports.{taker, takes, takes_on, true, true_false, was_true, with_first, write_asked, write_by, writes_so, ℕ}
 use Rattle.law_run.proofs.ListMembers.{all_empty, into_range, into_filter_map, of_filter_map, found_one, row_at, key_at, put_key}

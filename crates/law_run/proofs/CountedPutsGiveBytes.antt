@@ -174,7 +174,6 @@ module _ (this : ServerStep) (same : chosen_log this.setting (later_world this) 
         write_told : (a : PutsAsked hears here own (new this).store.chains) → AliveIn chosen (cell_of a.key) → (f : FollowedHere a)
             → is_clients f.putting.op.kind ≡ true → Jobs (An_asked a) → TakesTold this
         write_told a alive f clients job =
-            let firm = this.along.firm in
             let timely = followed_timely (grounded this) this.along.steady this.n a.number a.key a.bytes f clients in
             let recalled = followed_recalled (grounded this) this.along.steady this.n a.number a.key
             a.bytes f clients in
@@ -196,7 +195,6 @@ module _ (this : ServerStep) (same : chosen_log this.setting (later_world this) 
             → is_clients f.putting.op.kind ≡ false → Jobs (An_asked a) → TakesTold this
         fill_told a alive f fill job =
             let own_counts = this.ground.own this.n runs a.seat in
-            let firm = this.along.firm in
             let one = followed_comes (grounded this) this.along.steady this.n a.number a.key a.bytes f fill in
             let frozen = followed_frozen (grounded this) this.along.steady this.n a.number a.key a.bytes f fill in
             let lacks = followed_lacks (grounded this) this.along.steady this.n a.number a.key a.bytes f fill in

@@ -1,9 +1,9 @@
 -- What a server's step sends: which letters have data, and that one ends a write as written only where that has had its bytes.
 use Rattle.law_run.proofs.Imports.{◌==◌, ◌∙◌, ◌≡◌, ◌⊎◌, Answered, Body, Bool, Did, Ending, Ends_fill, Finished, Glanced, In, IsOfRead, IsOpen, IsRefusal}
-use Rattle.law_run.proofs.Imports.{JobContext, JobResult, Letter, List, Moves, Moves_on, NeverRetired, PairState, Plain, Post, Refused}
-use Rattle.law_run.proofs.Imports.{Says, SaysOf, Sender, Subject, about, ap, down_posts, ended, false, filter, inl, inr, is_logged, is_notice}
-use Rattle.law_run.proofs.Imports.{is_refused, letters_by, letters_of, letters_of_job, logged_notice, not, own_place, owns_of, range_with_len, refl, said}
-use Rattle.law_run.proofs.Imports.{said_to_all, same_some, stamped, subject_of, subst, sym, to_client, true, true_false, ℕ}
+use Rattle.law_run.proofs.Imports.{JobContext, JobResult, Letter, List, Moves, Moves_on, NeverRetired, PairState, Plain, Post, Refused, Says, SaysOf, Sender}
+use Rattle.law_run.proofs.Imports.{Subject, about, ap, down_posts, ended, false, filter, inl, inr, is_logged, is_notice, is_refused, letters_by, letters_of}
+use Rattle.law_run.proofs.Imports.{letters_of_job, logged_notice, not, own_place, owns_of, range_with_len, refl, said, said_to_all, same_some, stamped}
+use Rattle.law_run.proofs.Imports.{subject_of, subst, sym, to_client, true, true_false, ℕ}
 use Rattle.law_run.specs.WritesGoOn.{is_held, Onward}
 use Rattle.law_run.proofs.ReadsLookWhereSent.{is_looked, one_client}
 use Rattle.law_run.proofs.Machine.{held_onward}

@@ -125,11 +125,6 @@ acts_frame here own op action.Drop = record {
   no_letters = λ letter i. i;
 }
 
--- what a second server tells of an operation leaves its own part
-pub told_own : (here : JobContext) (new : PairState) (cell : Cell) (number : ℕ) (how : FollowProgress) → (tells here new cell number how).own ≡ new
-told_own here new cell number follow_progress.Reserved = refl
-told_own here new cell number follow_progress.Replicated = refl
-
 module _ (heard : Body → Type 0) (here : JobContext) (own : PairState) where
   pub of_read : (done : JobResult) → DidRead heard here own done → ReadFrame own done
   of_read _ (Shows client seq cell epoch may there) = record {
