@@ -1,7 +1,7 @@
 -- A server, and a cell whose link is in Both by its own state: what the server does of copies is of other cells.
 use Rattle.law_copies.proofs.Imports.{◌∙◌, ◌≡◌, ◌≢◌, A_copy, A_new_copy, A_sweep, An_operation, As_copy, As_operation, Body, Both, Cell, IsDroppedFor}
 use Rattle.law_copies.proofs.Imports.{IsPutFor, JobContext, Key, LastCopy, LinkRow, PairState, Pending, Some, Stored, The_last_copy, ap, at, cell_holder}
-use Rattle.law_copies.proofs.Imports.{cell_link, cell_of, chain_in, drop_apart, drop_none, first, follows, in_both, inl, inr, is_lead, is_second, is_the}
+use Rattle.law_copies.proofs.Imports.{cell_link, cell_of, chain_in, drop_apart, drop_none, in_both, inl, inr, is_lead, is_second, is_the}
 use Rattle.law_copies.proofs.Imports.{is_the_one, key_at, lead_links, leads_link, option_and_then, option_map, other_of, pending_on, refl, row_lead}
 use Rattle.law_copies.proofs.Imports.{same_cell_or_apart, same_numbers, same_some, second_secondary, secondary, so_both, state_lead, subst, sym, true}
 use Rattle.law_copies.proofs.Imports.{without_entry, ℕ}
@@ -91,4 +91,4 @@ module _ (it : CellInBoth) where
         leads_not (led_alive here cell alive (subst (IsLedHere here) (sym e) (record { born = staged.born; leads = staged.leads })))
 
     pub own_put_apart : (key : Key) (stored : Stored) (op : Pending) → IsPutFor heard here own key stored (As_operation op) → cell ≢ cell_of key
-    own_put_apart _ _ _ (An_operation op stage is fresh why paired) e = op_apart op is (e ∙ (fit.ready.staged op.cell op is).keyed)
+    own_put_apart _ _ _ (An_operation op stage is fresh why) e = op_apart op is (e ∙ (fit.ready.staged op.cell op is).keyed)

@@ -36,7 +36,7 @@ unfoldable pub use Rattle.law_steps.proofs.Imports.{put, without}
 pub use Rattle.law_jobs.specs.Imports.{Begins_copy, By_holder, By_lead, By_other, By_second, Closes_alone, Did, DidHolder, DidLead, DidOther, DidSecond}
 pub use Rattle.law_jobs.specs.Imports.{Finds_it_full, Follows, Gives_up, Goes_on_copying, Goes_on_retired, Goes_on_trimming, IsHeldWith, IsOfCopy}
 pub use Rattle.law_jobs.specs.Imports.{Is_copied_to, Marks, Marks_alone, Opens_alone, Opens_fill, Opens_fill_alone, Puts_alone, Puts_entry, Sets_apart, Taken}
-pub use Rattle.law_jobs.specs.Imports.{TakenCopy, Turns_page, Unmarks, Unmarks_alone, chains_with, first_copy, first_last, progress, putting}
+pub use Rattle.law_jobs.specs.Imports.{TakenCopy, Turns_page, Unmarks_alone, chains_with, first_copy, first_last, progress, putting}
 pub use Rattle.law_jobs.proofs.Imports.{As_it_is, As_told, Asks_page, Asks_to_trim, Blanks, By_ballot, By_entry, By_filler, By_job, By_read, By_sweep}
 pub use Rattle.law_jobs.proofs.Imports.{Closes_copy, CopyStep, Copy_as_is, Copy_synced, Copy_trimmed, Drops_entry, Ends, Fails, Goes, Handled, Happens}
 pub use Rattle.law_jobs.proofs.Imports.{Is_trimmed, Rests, Sends, Serves, Serving, Stays, Tidies, TrimStep, Turns, Unmarks_copied, Wakes, Worked, always_firm}
@@ -60,8 +60,8 @@ pub use Rattle.law_jobs.proofs.Runs.{At, OneMore, Run, before_part, by_run, firm
 pub use Rattle.law_jobs.proofs.Runs.{since, stepped_in}
 pub use Rattle.law_jobs.specs.Effects.{A_copy, A_lead, A_new_copy, A_sweep, Alone_has, An_operation, As_copy, As_operation, As_second, Both_have, Closes}
 pub use Rattle.law_jobs.specs.Effects.{Counts, Drops, Effect, Ends_copy, For_a_fill, For_a_write, HasEnded, Idle, IsApart, IsAt, IsClosedFor, IsDroppedFor}
-pub use Rattle.law_jobs.specs.Effects.{IsIdle, IsOpening, IsPaired, IsPutFor, IsReserved, IsSetFor, Is_apart, Is_copied, Is_declined, Is_over, Is_replicated}
-pub use Rattle.law_jobs.specs.Effects.{Is_retired, May, Opens, Puts, Reserves, Sets, The_last_copy, Was_paired, applied, entry_ahead}
+pub use Rattle.law_jobs.specs.Effects.{IsIdle, IsOpening, IsPutFor, IsReserved, IsSetFor, Is_copied, Is_declined, Is_over}
+pub use Rattle.law_jobs.specs.Effects.{Is_retired, May, Opens, Puts, Reserves, Sets, The_last_copy, applied, entry_ahead}
 pub use Rattle.law_jobs.specs.Sayings.{Asks_copy, Asks_slot, Begins, Ends_fill, Goes_on, Has_copy, Has_slot, IsCopying, Is_sync_full, Is_synced, Moves}
 pub use Rattle.law_jobs.specs.Sayings.{Moves_on, Says, Syncs, Tells_page, Trims}
 pub use Rattle.law_jobs.specs.Worked.{holder_cell, lead_cell, other_cell, page_cell, second_cell, worked}

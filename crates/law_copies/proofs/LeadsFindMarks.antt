@@ -4,12 +4,12 @@ use Rattle.law_copies.proofs.Imports.{[], ◌+◌, ◌<◌, ◌||◌, ◌∙◌,
 use Rattle.law_copies.proofs.Imports.{By_second, Cell, Closes_alone, Copying, Did, DidHolder, DidLead, Ending, Finds_it_full, For_a_fill, For_a_write}
 use Rattle.law_copies.proofs.Imports.{Gives_up, Goes_on_copying, Goes_on_retired, Idle, IsIdle, IsMarked, IsOpening, JobContext, JobResult, MarkKind, Marks}
 use Rattle.law_copies.proofs.Imports.{Marks_alone, None, Opens_alone, Opens_fill, Opens_fill_alone, PairState, Pending, Puts_alone, Some, Stage, Stale, Store}
-use Rattle.law_copies.proofs.Imports.{Taken, Turns_page, Unmarks, Unmarks_alone, among_least, ap, at, cell_at, cell_cmp, cell_gone, cell_of, cell_same}
+use Rattle.law_copies.proofs.Imports.{Taken, Turns_page, Unmarks_alone, among_least, ap, at, cell_at, cell_cmp, cell_gone, cell_of, cell_same}
 use Rattle.law_copies.proofs.Imports.{chain_in, chain_put, copying_on, did_ready, ends, false, fill_operation, gives_back, has_proposed, holder_cell, in_both}
 use Rattle.law_copies.proofs.Imports.{inl, inr, is_some, is_under_way, lead_cell, leads_link, led_by_link, live, live_stage, mark_kept, mark_there}
 use Rattle.law_copies.proofs.Imports.{marked_blocks, marks, nat_cmp, none_some, not, not_true, of_ending, of_holder, operation, pending_on, puts, refl}
 use Rattle.law_copies.proofs.Imports.{same_some, some_or_none, stage_at, stale_kept, subst, sym, taking, true, true_false, unmarks, version_of, with_mark_at}
-use Rattle.law_copies.proofs.Imports.{with_mark_on, with_opened, with_paired, with_pending, with_reserved, without_pending, worked}
+use Rattle.law_copies.proofs.Imports.{with_mark_on, with_opened, with_pending, with_reserved, without_pending, worked}
 use Rattle.law_steps.specs.DidLead.{Closes, Opens, Puts}
 use Rattle.law_copies.specs.Pair.{HasMarks, HaveMarks}
 use Rattle.law_copies.specs.LoneSteps.{IsFit}
@@ -121,14 +121,13 @@ module _ (heard : Body → Type 0) (here : JobContext) (own : PairState) (fit : 
       (λ alone marked. still_marked now.store which op.cell op.cell (f.kept marked)) f.before
 
   -- the busy mark goes, and the operation's stage says so
-  unmarking : (now : PairState) (op : Pending) → Finds now op → (in_both here.state op.cell ≡ false → op.stage.stale ≡ true)
-      → LeadLeaves (unmarks now op Busy).own op.cell
+  unmarking : (now : PairState) (op : Pending) → Finds now op → op.stage.stale ≡ true → LeadLeaves (unmarks now op Busy).own op.cell
   unmarking now op f stale =
       let has = f.has in
       let there = cell_same now.pairs.pending op.cell (with_mark_at op Busy false) in
       stays (unmarks now op Busy).own op.cell (one (unmarks now op Busy).own op.cell (with_mark_at op Busy false) there
       (record { busy = λ e. true_false e refl; stale = λ e. stale_kept now.store op.cell op.cell ∙ has.stale e; lacks = has.lacks })) f.same
-      (λ alone marked. inr (stale_kept now.store op.cell op.cell ∙ has.stale (stale alone))) f.before
+      (λ alone marked. inr (stale_kept now.store op.cell op.cell ∙ has.stale stale)) f.before
 
   -- the entry is put on a marked block
   putting : (now : PairState) (op : Pending) → Taken own now op → live here.state op.cell ≡ true
@@ -176,16 +175,12 @@ module _ (heard : Body → Type 0) (here : JobContext) (own : PairState) (fit : 
       let now = with_pending own told in
       λ on. marking now told (taken_finds now told (As_told op true op.stage.paired is) on) Busy
   lead_marked _ (Puts op is both stage) = λ on. putting own op (As_it_is op is) on (inl (ap (λ (s : Stage). s.busy) stage))
-  lead_marked _ (Unmarks op h is both stage) =
-      let told = with_paired op in
-      let now = with_pending own told in
-      λ on. unmarking now told (taken_finds now told (As_told op op.stage.reserved true is) on) (λ alone. true_false both alone)
-  lead_marked _ (Closes op is both stage) = λ on. closing own op (As_it_is op is) on
+  lead_marked _ (Closes op h is both stage) = λ on. closing own op (As_it_is op is) on
   lead_marked _ (Opens_alone want new alone) =
       let op = operation here own.pairs.next want in λ on. marking (with_opened own op) op (opened_finds op (For_a_write want new)) Stale
   lead_marked _ (Marks_alone now op taken alone fresh) = λ on. marking now op (taken_finds now op taken on) Stale
   lead_marked _ (Puts_alone now op taken alone stale put) = λ on. putting now op taken on (inr stale)
-  lead_marked _ (Unmarks_alone now op taken alone stale put busy) = λ on. unmarking now op (taken_finds now op taken on) (λ alone. stale)
+  lead_marked _ (Unmarks_alone now op taken alone stale put busy) = λ on. unmarking now op (taken_finds now op taken on) stale
   lead_marked _ (Closes_alone now op taken alone stale put free) = λ on. closing now op taken on
   lead_marked _ (Opens_fill moving new room both) = λ on. opens (fill_operation here own.pairs.next moving) (For_a_fill moving new)
   lead_marked _ (Opens_fill_alone moving new room alone) =

@@ -4,7 +4,7 @@ use Rattle.law_copies.proofs.Imports.{Cell, Closes_alone, Closes_copy, CopyStep,
 use Rattle.law_copies.proofs.Imports.{DidOther, DidSecond, Entry, Finds_it_full, Follows, Gives_up, Goes_on_copying, Goes_on_retired, Goes_on_trimming, Idle}
 use Rattle.law_copies.proofs.Imports.{IsBothRow, IsHeldWith, IsIdle, IsOfCopy, IsSteady, Is_copied_to, JobContext, JobResult, LastCopy, LinkId, LinkRow}
 use Rattle.law_copies.proofs.Imports.{Marks, Marks_alone, None, Only, Opens_alone, Opens_fill, Opens_fill_alone, Option, PairState, Pending, Puts_alone}
-use Rattle.law_copies.proofs.Imports.{Puts_entry, Sets_apart, Some, Stale, State, Store, Taken, TakenCopy, Turns_page, Unmarks, Unmarks_alone, among_least}
+use Rattle.law_copies.proofs.Imports.{Puts_entry, Sets_apart, Some, Stale, State, Store, Taken, TakenCopy, Turns_page, Unmarks_alone, among_least}
 use Rattle.law_copies.proofs.Imports.{ap, both_row, both_true, by_test, cell_at, cell_holder, cell_link, cell_of, copied_chains, copying_on, filter, found_at}
 use Rattle.law_copies.proofs.Imports.{holder_cell, holder_of, id_of, in_both, inl, inr, is_alone, is_lead, is_link, is_second, is_the_one, is_under_way}
 use Rattle.law_copies.proofs.Imports.{is_up, lead_cell, lead_links, leads_link, link_led_by, link_named, live, live_stage, marked_blocks, next_copy}
@@ -195,8 +195,7 @@ module _ (heard : Body → Type 0) (here : JobContext) (own : PairState) (fit : 
   lead_leads _ (Opens want new both) = led_here here want.cell new.lead
   lead_leads _ (Marks op h is both stage) = op_leads op.cell op is
   lead_leads _ (Puts op is both stage) = op_leads op.cell op is
-  lead_leads _ (Unmarks op h is both stage) = op_leads op.cell op is
-  lead_leads _ (Closes op is both stage) = op_leads op.cell op is
+  lead_leads _ (Closes op h is both stage) = op_leads op.cell op is
   lead_leads _ (Opens_alone want new alone) = led_here here want.cell new.lead
   lead_leads _ (Marks_alone now op taken alone fresh) = taken_leads now op taken
   lead_leads _ (Puts_alone now op taken alone stale put) = taken_leads now op taken

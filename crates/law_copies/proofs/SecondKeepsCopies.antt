@@ -1,8 +1,8 @@
 -- What a step of the second server of a cell in Both keeps of its two copies.
 use Rattle.law_copies.proofs.Imports.{◌+◌, ◌∙◌, ◌≡◌, ◌≤◌, ◌⊎◌, A_lead, As_copy, As_operation, As_second, Body, Cell, Did, Drops, Effect, IsPutFor, JobResult}
 use Rattle.law_copies.proofs.Imports.{Key, LastOp, List, May, PairState, Pending, Puts, Reserves, Some, Stored, about, ap, applied, arith, at, cell_apart}
-use Rattle.law_copies.proofs.Imports.{cell_cmp, cell_of, cell_same, chain_in, chain_put, chains_with, first, follows, inl, inr, job_keeps, nat_cmp, progress}
-use Rattle.law_copies.proofs.Imports.{put, putting, refl, said, same_cell_or_apart, same_some, second, subst, sym, version_of, ℕ}
+use Rattle.law_copies.proofs.Imports.{cell_cmp, cell_of, cell_same, chain_in, chain_put, chains_with, inl, inr, job_keeps, nat_cmp, progress}
+use Rattle.law_copies.proofs.Imports.{put, putting, refl, same_cell_or_apart, same_some, subst, sym, version_of, ℕ}
 use Rattle.law_copies.specs.BothSteps.{LacksFill}
 use Rattle.law_copies.specs.Pair.{IsPutting, Keeps, Known, Pair, PairOk, far, pair_of}
 use Rattle.law_copies.proofs.CellInBoth.{CellInBoth, copied_apart, drop_rests, own_put_apart}

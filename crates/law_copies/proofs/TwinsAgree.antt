@@ -10,7 +10,6 @@ use Rattle.law_copies.proofs.MuteLettersTellNothing.{ended_mute, known_mute, log
 use Rattle.law_copies.proofs.LeadsFindMarks.{job_marked}
 use Rattle.law_copies.proofs.EpochsRise.{did_rising}
 use Rattle.petal_msg.specs.declared.body.Body.TheVariants as body
-use Rattle.petal_msg.specs.declared.operation.FollowProgress.TheVariants as follow_progress
 use Rattle.law_copies.specs.Pair as pair
 use Rattle.law_jobs.specs.Sayings as says
 use Rattle.law_copies.proofs.LeadKeepsCopies as lead

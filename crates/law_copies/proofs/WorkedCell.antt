@@ -1,10 +1,10 @@
 -- A job leaves each cell as it is but the one that it works on.
 use Rattle.law_copies.proofs.Imports.{[], ◌<◌, ◌∙◌, ◌≡◌, ◌≢◌, ◌≤◌, An_operation, As_copy, As_operation, As_second, Body, Cell, Chain, Closes, Copying, Did}
 use Rattle.law_copies.proofs.Imports.{Drops, Effect, Ends_copy, IsAt, IsIdle, IsPutFor, IsReady, Is_copied, JobContext, JobResult, Key, LastCopy, LastOp}
-use Rattle.law_copies.proofs.Imports.{MarkKind, May, Opens, Option, PairState, Pending, Puts, Reserves, Sets, Some, Stored, Table, ap, applied, arith, at}
+use Rattle.law_copies.proofs.Imports.{MarkKind, May, Opens, Option, PairState, Pending, Puts, Reserves, Sets, Some, Stored, Table, ap, applied, arith}
 use Rattle.law_copies.proofs.Imports.{at_keeps, cell_apart, cell_gone_apart, cell_of, chain_apart, chain_in, chains_with, copying_on, drop_apart, drop_none}
-use Rattle.law_copies.proofs.Imports.{effects_at, false, first_last, has_proposed, inl, inr, is_marked, last_copy, last_on, live, mark_beside, marks, nat_cmp}
-use Rattle.law_copies.proofs.Imports.{nat_tests, pending_on, progress, put, refl, same_cell_or_apart, same_or_apart, stage_at, stage_live, subst, sym}
+use Rattle.law_copies.proofs.Imports.{effects_at, false, first_last, has_proposed, inl, inr, is_marked, last_copy, last_on, live, mark_beside, nat_cmp}
+use Rattle.law_copies.proofs.Imports.{nat_tests, pending_on, put, refl, same_cell_or_apart, same_or_apart, stage_at, stage_live, subst, sym}
 use Rattle.law_copies.proofs.Imports.{true_false, unmark_beside, unmark_none, worked, ℕ}
 use Rattle.law_copies.specs.LoneSteps.{IsBare, KeepsCell, KeepsRest}
 use Rattle.law_jobs.specs.Effects.{Copies, Marks, Unmarks}
@@ -46,7 +46,7 @@ module _ (heard : Body → Type 0) (here : JobContext) (own : PairState)
 
   -- an operation's entry is of its own cell
   pub own_apart : (key : Key) (stored : Stored) (op : Pending) → IsPutFor heard here own key stored (As_operation op) → q ≢ op.cell → q ≢ cell_of key
-  own_apart _ _ _ (An_operation op stage is fresh why paired) ne e = ne (e ∙ (ready.staged op.cell op is).keyed)
+  own_apart _ _ _ (An_operation op stage is fresh why) ne e = ne (e ∙ (ready.staged op.cell op is).keyed)
 
   module _ (at : Option Cell) (ne : at ≢ Some q) where
     apart : (cell : Cell) → at ≡ Some cell → q ≢ cell

@@ -19,7 +19,7 @@ unfoldable pub use Rattle.law_steps.proofs.Imports.{put, without}
 pub use Rattle.law_jobs.specs.Imports.{AreSteps, Begins_copy, By_holder, By_lead, By_other, By_second, Closes, Closes_alone, Did, DidHolder, DidLead}
 pub use Rattle.law_jobs.specs.Imports.{DidOther, DidSecond, Finds_it_full, Follows, Gives_up, Goes_on_copying, Goes_on_retired, Goes_on_trimming, IsNextFill}
 pub use Rattle.law_jobs.specs.Imports.{IsNextKey, IsSound, Is_copied_to, Marks, Marks_alone, Opens, Opens_alone, Opens_fill, Opens_fill_alone, Puts}
-pub use Rattle.law_jobs.specs.Imports.{Puts_alone, Puts_entry, Sets_apart, Taken, TakenCopy, Turns_page, Unmarks, Unmarks_alone, chains_with, first_last}
+pub use Rattle.law_jobs.specs.Imports.{Puts_alone, Puts_entry, Sets_apart, Taken, TakenCopy, Turns_page, Unmarks_alone, chains_with, first_last}
 pub use Rattle.law_jobs.specs.Imports.{progress, putting, setting_of, start}
 pub use Rattle.std.specs.Prelude.{◌+◌, ◌-◌}
 pub use Rattle.busy_marks.proofs.Orders.{is_mark}

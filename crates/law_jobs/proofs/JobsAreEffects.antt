@@ -5,16 +5,16 @@ use Rattle.law_jobs.proofs.Imports.{Copying, Did, DidFiller, DidHolder, DidLead,
 use Rattle.law_jobs.proofs.Imports.{FollowProgress, Follows, Gives_up, Goes_on_copying, Goes_on_retired, Goes_on_trimming, Ignores, Is_copied_to, Is_filled}
 use Rattle.law_jobs.proofs.Imports.{Is_full, Is_out_of_slots, Is_trimmed, JobContext, JobResult, Key, LastCopy, LinkId, LinkRow, List, MarkKind, Marks}
 use Rattle.law_jobs.proofs.Imports.{Marks_alone, None, OpKind, Opens, Opens_alone, Opens_fill, Opens_fill_alone, Option, PairState, Pending, Promises, Puts}
-use Rattle.law_jobs.proofs.Imports.{Puts_alone, Puts_entry, Refuses, Sets_apart, Some, Stage, Sweeps, Taken, TakenCopy, Tidies, TrimStep, Turns_page, Unmarks}
+use Rattle.law_jobs.proofs.Imports.{Puts_alone, Puts_entry, Refuses, Sets_apart, Some, Stage, Sweeps, Taken, TakenCopy, Tidies, TrimStep, Turns_page}
 use Rattle.law_jobs.proofs.Imports.{Unmarks_alone, Unmarks_copied, above, acts, ap, begins_copy, by_test, cell_at, cell_gone, cell_link, cell_of, cell_same}
 use Rattle.law_jobs.proofs.Imports.{chain_in, ends, epochs_beyond, false, fill_operation, gives_back, gives_up, id_of, inl, inr, key_at, link_named, live}
-use Rattle.law_jobs.proofs.Imports.{marks, next_stage, of_read, operation, pending_on, progress, progress_on, puts, putting, refl, row_named, subst, sym}
+use Rattle.law_jobs.proofs.Imports.{marks, next_stage, of_read, operation, pending_on, progress_on, puts, putting, refl, row_named, subst, sym}
 use Rattle.law_jobs.proofs.Imports.{taking, tells, told, true, true_false, version_of, with_copied, with_flag, with_mark_at, with_opened, with_page}
-use Rattle.law_jobs.proofs.Imports.{with_paired, with_pending, with_progress, with_reserved, without_copying, without_pending, ℕ}
+use Rattle.law_jobs.proofs.Imports.{with_pending, with_progress, with_reserved, without_copying, without_pending, ℕ}
 use Rattle.law_jobs.specs.Effects.{A_copy, A_lead, A_new_copy, A_sweep, Alone_has, An_operation, As_copy, As_it_was, As_operation, As_second, Becomes}
 use Rattle.law_jobs.specs.Effects.{BecomesAt, Both_have, By_operation, Effect, For_a_fill, For_a_write, Goes_on, Had_no_slot, HasEnded, Idle, IsApart, IsAt}
-use Rattle.law_jobs.specs.Effects.{IsDroppedFor, IsFilledAs, IsOpening, IsPaired, IsReserved, IsSetFor, Is_apart, Is_declined, Is_over, Is_replicated}
-use Rattle.law_jobs.specs.Effects.{Is_retired, May, The_last_copy, Then, Was_paired, applied, entry_ahead}
+use Rattle.law_jobs.specs.Effects.{IsDroppedFor, IsFilledAs, IsOpening, IsReserved, IsSetFor, Is_declined, Is_over}
+use Rattle.law_jobs.specs.Effects.{Is_retired, May, The_last_copy, Then, applied, entry_ahead}
 use Rattle.law_jobs.specs.Worked.{holder_cell, lead_cell, other_cell, page_cell, second_cell, worked}
 use Rattle.busy_marks.specs.declared.marks.MarkKind.TheVariants as mark
 use Rattle.petal_msg.specs.declared.retired.Retired.TheVariants as retired
@@ -36,8 +36,7 @@ module _ (heard : Body → Type 0) (here : JobContext) (own : PairState) where
   taken_to : (now : PairState) (op : Pending) → Taken own now op → IsApart here op.cell → At op now
   taken_to _ _ (As_it_is op is) apart = As_it_was
   taken_to _ _ (As_told op reserved paired is) apart = Then own (effect.Sets (told op reserved paired)) As_it_was
-      (Goes_on op (record op.stage { reserved = reserved; paired = paired }) is refl (λ e. inr (inr (is, apart))) (λ e. Is_apart is apart), refl)
-      refl
+      (Goes_on op (record op.stage { reserved = reserved; paired = paired }) is refl (λ e. inr (inr (is, apart))), refl) refl
 
   ends_to : (now : PairState) (op : Pending) (how : Ending) → HasEnded heard here own op how → pending_on now op.cell ≡ None
       → now.pairs.finished ≡ own.pairs.finished → At op now → At op (ends here now op op.kind how).own
@@ -62,14 +61,10 @@ module _ (heard : Body → Type 0) (here : JobContext) (own : PairState) where
   flag_reserved op mark.Busy is e = inl e
   flag_reserved op mark.Stale is e = inl e
 
-  flag_paired : (op : Pending) (which : MarkKind) (is : Bool) → (with_flag op.stage which is).paired ≡ true → IsPaired heard here own op.cell op
-  flag_paired op mark.Busy is e = Was_paired e
-  flag_paired op mark.Stale is e = Was_paired e
-
   flags : (now : PairState) (op : Pending) (which : MarkKind) (is : Bool) → pending_on now op.cell ≡ Some op
       → IsSetFor heard here own now (with_mark_at op which is)
   flags now op which is there =
-      Goes_on op (with_flag op.stage which is) there (flag_put op.stage which is) (flag_reserved op which is) (flag_paired op which is)
+      Goes_on op (with_flag op.stage which is) there (flag_put op.stage which is) (flag_reserved op which is)
 
   marks_to : (now : PairState) (op : Pending) (which : MarkKind) → pending_on now op.cell ≡ Some op → now.pairs.finished ≡ own.pairs.finished
       → At op now → At op (with_pending (applied now (effect.Marks which op.cell)) (with_mark_at op which true))
@@ -91,7 +86,7 @@ module _ (heard : Body → Type 0) (here : JobContext) (own : PairState) where
       → (op.stage ≡ putting) ⊎ IsApart here op.cell → At op (puts own op).own
   puts_as_is op is fresh why =
       Then own (effect.Puts op.key (entry_ahead own op.cell op) (As_operation _)) As_it_was
-      (An_operation op op.stage is fresh why (λ e. Was_paired e), refl, (refl, inl refl)) refl
+      (An_operation op op.stage is fresh why, refl, (refl, inl refl)) refl
 
   puts_taken : (now : PairState) (op : Pending) → Taken own now op → (live here.state op.cell ≡ true → op.stage.put ≡ false) → IsApart here op.cell
       → At op (puts now op).own
@@ -99,7 +94,7 @@ module _ (heard : Body → Type 0) (here : JobContext) (own : PairState) where
   puts_taken _ _ (As_told op reserved paired is) fresh apart =
       let new = told op reserved paired in
       Then (with_pending own new) (effect.Puts op.key (entry_ahead own op.cell op) (As_operation _)) (taken_to _ _ (As_told op reserved paired is) apart)
-      (An_operation op new.stage is fresh (inr apart) (λ e. Is_apart is apart), refl, (refl, inr apart)) refl
+      (An_operation op new.stage is fresh (inr apart), refl, (refl, inr apart)) refl
 
   drops_to : (now : PairState) (op : Pending) → Taken own now op → live here.state op.cell ≡ false → At op (gives_up now op)
   drops_to now op taken off =
@@ -146,13 +141,9 @@ module _ (heard : Body → Type 0) (here : JobContext) (own : PairState) where
   lead_to _ (Marks op h is both stage) =
       marks_to (with_pending own (with_reserved op)) (with_reserved op) mark.Busy (cell_same own.pairs.pending op.cell (with_reserved op)) refl
       (Then own (effect.Sets (with_reserved op)) As_it_was
-      (Goes_on op (record op.stage { reserved = true }) is refl (λ e. inr (inl h)) (λ e. Was_paired e), refl) refl)
+      (Goes_on op (record op.stage { reserved = true }) is refl (λ e. inr (inl h)), refl) refl)
   lead_to _ (Puts op is both stage) = puts_as_is op is (λ on. ap (λ (s : Stage). s.put) stage) (inl stage)
-  lead_to _ (Unmarks op h is both stage) =
-      unmarks_to (with_pending own (with_paired op)) (with_paired op) mark.Busy (cell_same own.pairs.pending op.cell (with_paired op)) refl
-      (Then own (effect.Sets (with_paired op)) As_it_was
-      (Goes_on op (record op.stage { paired = true }) is refl (λ e. inl e) (λ e. Is_replicated h is both (ap (λ (s : Stage). s.put) stage)), refl) refl)
-  lead_to _ (Closes op is both stage) = closes_to own op (Both_have op is both stage) is refl As_it_was
+  lead_to _ (Closes op h is both stage) = closes_to own op (Both_have op h is both stage) is refl As_it_was
   lead_to _ (Opens_alone want new alone) = opens_alone_to (operation here own.pairs.next want) (For_a_write want new)
   lead_to _ (Marks_alone now op taken alone fresh) = marks_taken now op taken (inl alone) mark.Stale
   lead_to _ (Puts_alone now op taken alone stale put) = puts_taken now op taken (λ on. put) (inl alone)

@@ -1,7 +1,7 @@
 -- Of what a job is made: effects, each on one place of a server's own part, with what was so when it was had.
 use Rattle.law_jobs.specs.Imports.{Body, Both, Cell, Chain, Copying, Ending, Entry, Finished, Full, IsNew, IsNewFill, IsNextKey, IsOfCopy, JobContext, Key}
 use Rattle.law_jobs.specs.Imports.{LastCopy, LastOp, LinkId, LinkRow, MarkKind, Moving, PairState, Pending, Progress, Stage, Stored, Table, Taken, Wanted}
-use Rattle.law_jobs.specs.Imports.{Write, Written, answering, at, cell_at, cell_cmp, cell_holder, cell_of, chain_in, chains_with, copying_on, epochs_beyond}
+use Rattle.law_jobs.specs.Imports.{Write, Written, at, cell_at, cell_cmp, cell_holder, cell_of, chain_in, chains_with, copying, copying_on, epochs_beyond}
 use Rattle.law_jobs.specs.Imports.{fill_operation, first_last, free_of, idle_mark, in_both, is_alone_on, is_second, key_at, last_copy, last_on, link_named}
 use Rattle.law_jobs.specs.Imports.{live, operation, pending_on, progress, put, putting, version_of, with_copying, with_entry, with_filled, with_full}
 use Rattle.law_jobs.specs.Imports.{with_last, with_last_copy, with_mark_on, with_pending, with_progress, without_copying, without_entry, without_mark_on}
@@ -88,13 +88,6 @@ abbrev pub IsReserved : (heard : Body → Type 0) → JobContext → PairState �
 IsReserved heard here own op =
     (op.stage.reserved ≡ true) ⊎ heard (body.Reserved op.op op.cell) ⊎ ((pending_on own op.cell ≡ Some op) × IsApart here op.cell)
 
--- or that it has put: that server told so after the lead put
-pub data IsPaired (heard : Body → Type 0) (here : JobContext) (own : PairState) (cell : Cell) (op : Pending) : Type 0 where
-  Was_paired : op.stage.paired ≡ true → IsPaired heard here own cell op
-  Is_replicated : heard (body.Replicated op.op cell) → pending_on own cell ≡ Some op → in_both here.state cell ≡ true → op.stage.put ≡ true
-      → IsPaired heard here own cell op
-  Is_apart : pending_on own cell ≡ Some op → IsApart here cell → IsPaired heard here own cell op
-
 -- the entry of an operation, of the version after that of its cell's chain
 abbrev pub entry_ahead : PairState → Cell → Pending → Stored
 entry_ahead own cell op = record { version = version_of (chain_in own.store.chains cell) + 1; bytes = op.bytes }
@@ -106,8 +99,7 @@ chains_ahead own cell op = chains_with own.store.chains op.key (entry_ahead own 
 -- has set a slot apart; or of a holder, as the next one of its copy
 pub data IsPutFor (heard : Body → Type 0) (here : JobContext) (own : PairState) : Key → Stored → Noted → Type 0 where
   An_operation : (op : Pending) (stage : Stage) → pending_on own op.cell ≡ Some op → (live here.state op.cell ≡ true → op.stage.put ≡ false)
-      → (op.stage ≡ putting) ⊎ IsApart here op.cell → (stage.paired ≡ true → IsPaired heard here own op.cell op)
-      → IsPutFor heard here own op.key (entry_ahead own op.cell op)
+      → (op.stage ≡ putting) ⊎ IsApart here op.cell → IsPutFor heard here own op.key (entry_ahead own op.cell op)
       (As_operation (record op { version = version_of (chain_in own.store.chains op.cell) + 1; stage = record stage { put = true } }))
   A_lead : (number : ℕ) (key : Key) (told version : ℕ) (bytes : List ℕ) → heard (body.Replicate number key told bytes)
       → is_second here.state here.me (cell_of key) ≡ true → last_on own (cell_of key) ≡ Some (record { op = number; progress = follow_progress.Reserved })
@@ -138,16 +130,15 @@ pub data IsOpening (heard : Body → Type 0) (here : JobContext) (own : PairStat
 -- an operation goes on at another stage, put or not as it was
 pub data IsSetFor (heard : Body → Type 0) (here : JobContext) (own now : PairState) : Pending → Type 0 where
   Goes_on : (op : Pending) (stage : Stage) → pending_on now op.cell ≡ Some op → stage.put ≡ op.stage.put
-      → (stage.reserved ≡ true → IsReserved heard here own op) → (stage.paired ≡ true → IsPaired heard here own op.cell op)
-      → IsSetFor heard here own now (record op { stage = stage })
+      → (stage.reserved ≡ true → IsReserved heard here own op) → IsSetFor heard here own now (record op { stage = stage })
 
--- how an operation that was pending at its lead has ended: its second server has no slot for it, or it has been put where its copies are, or it
--- is of a cell that is no longer live
+-- how an operation that was pending at its lead has ended: its second server has no slot for it, or told that it has put, too, or it has been put
+-- where the lead is alone, or it is of a cell that is no longer live
 pub data HasEnded (heard : Body → Type 0) (here : JobContext) (own : PairState) : Pending → Ending → Type 0 where
   Is_declined : (op : Pending) → heard (body.PairFull op.op op.cell) → pending_on own op.cell ≡ Some op → op.stage.reserved ≡ false
       → op.stage.put ≡ false → HasEnded heard here own op Full
-  Both_have : (op : Pending) → pending_on own op.cell ≡ Some op → in_both here.state op.cell ≡ true → op.stage ≡ answering
-      → HasEnded heard here own op Written
+  Both_have : (op : Pending) → heard (body.Replicated op.op op.cell) → pending_on own op.cell ≡ Some op → in_both here.state op.cell ≡ true
+      → op.stage ≡ copying → HasEnded heard here own op Written
   Alone_has : (now : PairState) (op : Pending) → Taken own now op → is_alone_on here.state here.me op.cell ≡ true → op.stage.stale ≡ true
       → op.stage.put ≡ true → op.stage.busy ≡ false → HasEnded heard here own op Written
   Is_retired : (now : PairState) (op : Pending) → Taken own now op → live here.state op.cell ≡ false → HasEnded heard here own op Written

@@ -14,11 +14,11 @@ pub use Rattle.law_steps.specs.Did.{By_holder, By_lead, By_other, By_second, Did
 pub use Rattle.law_steps.specs.DidFiller.{IsNextKey, filled_to}
 pub use Rattle.law_steps.specs.DidHolder.{Begins_copy, DidHolder, Finds_it_full, Goes_on_copying, IsHeldWith, TakenCopy, Turns_page, first_copy}
 pub use Rattle.law_steps.specs.DidLead.{Closes, Closes_alone, DidLead, Gives_up, Goes_on_retired, IsFilled, IsNew, IsNewFill, IsNextFill, Marks, Marks_alone}
-pub use Rattle.law_steps.specs.DidLead.{Opens, Opens_alone, Opens_fill, Opens_fill_alone, Puts, Puts_alone, Taken, Unmarks, Unmarks_alone, other_on}
+pub use Rattle.law_steps.specs.DidLead.{Opens, Opens_alone, Opens_fill, Opens_fill_alone, Puts, Puts_alone, Taken, Unmarks_alone, other_on}
 pub use Rattle.law_steps.specs.DidOther.{DidOther, Goes_on_trimming, IsOfCopy, Is_copied_to, Puts_entry, first_last}
 pub use Rattle.law_steps.specs.DidRead.{IsReadable}
 pub use Rattle.law_steps.specs.DidSecond.{DidSecond, Follows, FoundNoSlot, Sets_apart}
-pub use Rattle.law_steps.specs.Operations.{answering, copying, progress, putting, waiting}
+pub use Rattle.law_steps.specs.Operations.{copying, progress, putting, waiting}
 pub use Rattle.petal_msg.specs.declared.operation.Ending.TheVariants.{Full, Written}
 pub use Rattle.petal_msg.specs.declared.operation.OpKind.TheVariants.{Fill, Write}
 unfoldable pub use Rattle.petal_table.specs.Table.{put}

@@ -2,7 +2,7 @@
 use Rattle.law_jobs.specs.Imports.{Begins_copy, Body, By_holder, By_lead, By_other, By_second, Cell, Closes, Closes_alone, Did, DidHolder, DidLead, DidOther}
 use Rattle.law_jobs.specs.Imports.{DidSecond, Finds_it_full, Follows, Gives_up, Goes_on_copying, Goes_on_retired, Goes_on_trimming, Is_copied_to, JobContext}
 use Rattle.law_jobs.specs.Imports.{JobResult, LinkRow, Marks, Marks_alone, Opens, Opens_alone, Opens_fill, Opens_fill_alone, PairState, Puts, Puts_alone}
-use Rattle.law_jobs.specs.Imports.{Puts_entry, Sets_apart, Turns_page, Unmarks, Unmarks_alone, cell_at, cell_of}
+use Rattle.law_jobs.specs.Imports.{Puts_entry, Sets_apart, Turns_page, Unmarks_alone, cell_at, cell_of}
 use Rattle.std.specs.Prelude.{None, Option, Some, ℕ}
 
 -- the cell of a page's block
@@ -16,8 +16,7 @@ module _ (heard : Body → Type 0) (here : JobContext) (own : PairState) where
   lead_cell _ (Opens want new both) = Some want.cell
   lead_cell _ (Marks op h is both stage) = Some op.cell
   lead_cell _ (Puts op is both stage) = Some op.cell
-  lead_cell _ (Unmarks op h is both stage) = Some op.cell
-  lead_cell _ (Closes op is both stage) = Some op.cell
+  lead_cell _ (Closes op h is both stage) = Some op.cell
   lead_cell _ (Opens_alone want new alone) = Some want.cell
   lead_cell _ (Marks_alone now op taken alone fresh) = Some op.cell
   lead_cell _ (Puts_alone now op taken alone stale put) = Some op.cell
