@@ -36,14 +36,14 @@ pub use Rattle.law_steps.proofs.Imports.{match_ordering, new_stage, old_stage, o
 pub use Rattle.law_steps.proofs.Imports.{prefix_on, prefix_plain, said_to_all, same_only, same_place, settling, so_alone, so_both, stage_by, version_of}
 pub use Rattle.law_steps.proofs.Imports.{was_true}
 unfoldable pub use Rattle.law_steps.proofs.Imports.{put}
-pub use Rattle.law_jobs.specs.Imports.{Did, IsReadable, IsRefusal, Taken, answering, chains_with, progress, putting}
+pub use Rattle.law_jobs.specs.Imports.{Did, IsReadable, IsRefusal, Taken, chains_with, progress, putting}
 pub use Rattle.law_jobs.proofs.Imports.{As_it_is, As_told, Blanks, By_ballot, By_entry, By_job, By_read, Ends, Fails, Goes, Handled, Happens, IsMoment}
 pub use Rattle.law_jobs.proofs.Imports.{IsSame, Not_here, Of_the_log, Ready, Refuses, Repeats, Rests, Serves, Serving, Shows, Stays, Turns, Wakes, Worked}
 pub use Rattle.law_jobs.proofs.Imports.{always_firm, at_apart, at_same, happens, is_clients, own_place, own_plain, prefix_legal, rests_after, rests_next}
 pub use Rattle.law_jobs.proofs.Imports.{retired_second, same_cell_or_apart, start_rests, taking, world_more}
 pub use Rattle.law_copies.specs.Imports.{IsRising, blank_joins_in, kept_store, no_pairs, one_put_ahead}
 pub use Rattle.law_copies.proofs.Imports.{AllMayWake, Alone_has, At, BeforeBlank, Both_have, By_caught, By_join, By_leave, Ends_fill, HasJoinedSince, IsLater}
-pub use Rattle.law_copies.proofs.Imports.{IsPaired, Is_apart, Is_declined, Is_replicated, Is_retired, Moves, Moves_on, OneMore, Run, Says, Was_paired}
+pub use Rattle.law_copies.proofs.Imports.{Is_declined, Is_retired, Moves, Moves_on, OneMore, Run, Says}
 pub use Rattle.law_copies.proofs.Imports.{alone_by, at_row, before_part, both_row, by_run, cases_lt, chain_apart, chain_put, chosen_caught_was, counted}
 pub use Rattle.law_copies.proofs.Imports.{counted_by, either_true, firm_in, get_in, grown_in, held_as_flag, in_get, in_map, in_none, is_at_work, kept}
 pub use Rattle.law_copies.proofs.Imports.{kept_by, lead_links, letters_of_job, live_stage, log_grown, log_lost, log_touched, longer, may_wake}

@@ -207,12 +207,8 @@ module _ (g : Grounded) where
   pub heard_shared : (n : ℕ) (cell : Cell) (row : LinkRow) → IsSharing n cell row → (said : Body) → Handled w n said
       → (about said).cell ≡ Some cell
       → Known (pair_at (store_there n) ground.good.visits (place_of n row) cell row.primary row.secondary) said
-  heard_shared n cell row s said h of =
-      let own_alive = alive_here n cell s.alive in
-      subst (λ (b : Body). (about b).cell ≡ Some cell
-      → Known (pair_at (store_there n) ground.good.visits (place_of n row) cell row.primary row.secondary) b) h.is
-      ((ground.good.letters h.letter h.sent (own_prefix n) cell row (firm.servers n) (sym h.at) s.linked own_alive).both s.alive s.both
-      (sharing_last n cell row s)) of
+  heard_shared n cell row s =
+      heard_there setting ground.records w stores firm ground.good n s.runs s.seat cell row s.linked s.both s.has s.alive
 
   -- the second server
   pub record IsSharedSecond (n : ℕ) (cell : Cell) : Type 0 where
