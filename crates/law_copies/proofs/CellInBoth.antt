@@ -1,15 +1,14 @@
 -- A server, and a cell whose link is in Both by its own state: what the server does of copies is of other cells.
 use Rattle.law_copies.proofs.Imports.{◌∙◌, ◌≡◌, ◌≢◌, A_copy, A_new_copy, A_sweep, An_operation, As_copy, As_operation, Body, Both, Cell, IsDroppedFor}
 use Rattle.law_copies.proofs.Imports.{IsPutFor, JobContext, Key, LastCopy, LinkRow, PairState, Pending, Some, Stored, The_last_copy, ap, at, cell_holder}
-use Rattle.law_copies.proofs.Imports.{cell_link, cell_of, chain_in, drop_apart, drop_none, in_both, inl, inr, is_lead, is_second, is_the}
-use Rattle.law_copies.proofs.Imports.{is_the_one, key_at, lead_links, leads_link, option_and_then, option_map, other_of, pending_on, refl, row_lead}
-use Rattle.law_copies.proofs.Imports.{same_cell_or_apart, same_numbers, same_some, second_secondary, secondary, so_both, state_lead, subst, sym, true}
-use Rattle.law_copies.proofs.Imports.{without_entry, ℕ}
+use Rattle.law_copies.proofs.Imports.{cell_link, cell_of, in_both, is_lead, is_second, is_the}
+use Rattle.law_copies.proofs.Imports.{is_the_one, kept, lead_links, leads_link, live, option_and_then, option_map, other_of, pending_on}
+use Rattle.law_copies.proofs.Imports.{refl, row_lead, same_numbers, same_some, second_secondary, secondary, so_both, state_lead, subst}
+use Rattle.law_copies.proofs.Imports.{sym, true, true_false, ℕ}
 use Rattle.law_copies.specs.LoneSteps.{IsFit}
 use Rattle.law_copies.specs.Visits.{AliveIn}
 use Rattle.law_copies.proofs.OtherIsNotHolder.{held_by}
 use Rattle.law_copies.proofs.RolesOfWorkers.{IsHeldBy, IsHeldHere, IsLedHere, led_alive, not_both, other_alone}
-use Rattle.law_copies.proofs.WorkedCell.{unborn}
 
 -- what it handles, where it is and what it has, and the cell's row
 pub record CellInBoth : Type 1 where
@@ -47,17 +46,10 @@ module _ (it : CellInBoth) where
   pub copied_apart : (key : Key) (stored : Stored) (last : LastCopy) → IsPutFor heard here own key stored (As_copy last) → cell ≢ cell_of key
   copied_apart _ _ _ (A_copy entry holder last of at) = held_apart (cell_of entry.key) holder of.held
 
-  pub drop_rests : (now : PairState) (key : Key) → now.store.chains ≡ own.store.chains → IsDroppedFor heard here own key
-      → chain_in (without_entry now.store key).chains cell ≡ chain_in now.store.chains cell
-  drop_rests now _ same (A_new_copy number q epochs holder epoch h held newer) = drop_apart now.store (key_at q epoch) cell (held_apart q holder held)
-  drop_rests now _ same (The_last_copy q holder last epoch epochs held is beyond) = drop_apart now.store (key_at q epoch) cell (held_apart q holder held)
-  drop_rests now _ same (A_sweep key off) = elim (same_cell_or_apart cell (cell_of key)) [
-    | inl e ↦
-        let bare = unborn heard here own fit.ready cell alive (fit.bare cell) (cell_of key) e off in
-        let none = ap (λ t. chain_in t cell) same ∙ bare.chain in
-        drop_none now.store key cell none ∙ sym none
-    | inr ne ↦ drop_apart now.store key cell ne
-  ]
+  pub dropped_apart : (now : PairState) (key : Key) → IsDroppedFor heard here own now key → live here.state cell ≡ true → cell ≢ cell_of key
+  dropped_apart now _ (A_new_copy number q epochs epoch new left) on e = held_apart q new.holder new.held e
+  dropped_apart now _ (The_last_copy q holder last epoch held is kept left) on e = held_apart q holder held e
+  dropped_apart now _ (A_sweep key off) on e = true_false on (ap (live here.state) e ∙ off)
 
   -- ### The first server
 
@@ -66,7 +58,8 @@ module _ (it : CellInBoth) where
     pub second_apart : (q : Cell) → is_second here.state here.me q ≡ true → cell ≢ q
     second_apart q s e =
         let two = second_secondary here.state fit.steady q here.me (is_the_one _ here.me s) in
-        let there : secondary here.state q ≡ Some row.secondary = ap (option_map (λ (r : LinkRow). r.secondary)) (ap (cell_link here.state) (sym e) ∙ is_row) in
+        let there : secondary here.state q ≡ Some row.secondary =
+        ap (option_map (λ (r : LinkRow). r.secondary)) (ap (cell_link here.state) (sym e) ∙ is_row) in
         (fit.steady.linked cell row is_row).apart (leads ∙ same_some (sym two ∙ there))
 
   -- ### The second server
@@ -90,5 +83,5 @@ module _ (it : CellInBoth) where
         let staged = fit.ready.staged op.cell op is in
         leads_not (led_alive here cell alive (subst (IsLedHere here) (sym e) (record { born = staged.born; leads = staged.leads })))
 
-    pub own_put_apart : (key : Key) (stored : Stored) (op : Pending) → IsPutFor heard here own key stored (As_operation op) → cell ≢ cell_of key
-    own_put_apart _ _ _ (An_operation op stage is fresh why) e = op_apart op is (e ∙ (fit.ready.staged op.cell op is).keyed)
+    pub own_put_apart : (key : Key) (stored : Stored) (op : Pending) → IsPutFor heard here own key stored (As_operation op) → cell ≢ op.cell
+    own_put_apart _ _ _ (An_operation op reserved paired is fresh why) = op_apart op is

@@ -1,8 +1,11 @@
 -- What a job leaves of a cell without a link.
-use Rattle.law_copies.proofs.Imports.{◌∙◌, ◌≡◌, Body, Cell, Did, Effect, IsSettledState, JobContext, JobResult, LinkId, LinkRow, May, None, PairState, Some}
-use Rattle.law_copies.proofs.Imports.{State, ap, applied, by_bool, cell_link, eq_by_cmp, false, id_of, inl, inr, job_keeps, link_at, link_cmp, link_named}
-use Rattle.law_copies.proofs.Imports.{linked, none_some, owner, progress_beside, progress_on, refl, same_id, some_or_none, sym, ℕ}
-use Rattle.law_jobs.specs.Effects.{Moves_on}
+use Rattle.law_copies.proofs.Imports.{◌∙◌, ◌≡◌, Body, Cell, Did, Effect, Ends_copy, Found_no_slot, IsSettledState, IsToEnd, Is_whole, JobContext}
+use Rattle.law_copies.proofs.Imports.{JobResult, LinkId, LinkRow, May, None, Option, PairState, Some, State, Turns_page, ap, applied, by_bool}
+use Rattle.law_copies.proofs.Imports.{cell_link, ended_copy, eq_by_cmp, false, id_of, inl, inr, job_keeps, link_at, link_cmp, link_named, linked}
+use Rattle.law_copies.proofs.Imports.{none_some, owner, progress_on, refl, row_named, same_id, some_or_none, sym}
+use Rattle.law_copies.proofs.Imports.{without_copying, ℕ}
+use Rattle.law_copies.proofs.CopiesGoOn.{copied_apart}
+use Rattle.law_copies.proofs.HolderPace.{page_beside}
 use Rattle.law_copies.proofs.RolesOfWorkers.{named_id}
 
 -- ### Links
@@ -30,7 +33,16 @@ unlinked_apart servers state plain cell none row map_is id of named = by_bool (e
 module _ (heard : Body → Type 0) (here : JobContext) (own : PairState) (row : LinkRow)
     (apart : (id : LinkId) (of : LinkRow) → link_named here.state id ≡ Some of → eq_by_cmp link_cmp (id_of row) (id_of of) ≡ false) where
   each_pages : (now : PairState) (e : Effect) → May heard here own now e → progress_on (applied now e) row ≡ progress_on now row
-  each_pages now (Moves_on of progress) named = progress_beside now of progress row (apart named.0 of named.1)
+  each_pages now (Ends_copy cell of) may = ended cell of may
+    where
+      by_link : (cell : Cell) (of : Option LinkRow) → cell_link here.state cell ≡ of → progress_on (ended_copy of now cell) row ≡ progress_on now row
+      by_link cell None is = refl
+      by_link cell (Some of) is = copied_apart (without_copying now cell) of cell.block row (apart (id_of of) of (row_named here.state cell of is))
+
+      ended : (cell : Cell) (of : Option LinkRow) → IsToEnd here own now cell of → progress_on (ended_copy of now cell) row ≡ progress_on now row
+      ended cell _ (Found_no_slot copy under trimmed lt) = refl
+      ended cell _ (Is_whole copy under synced) = by_link cell (cell_link here.state cell) refl
+  each_pages now (Turns_page of block) may = page_beside now of row block (apart may.0.id of may.0.held.is)
   each_pages now _ may = refl
 
   pub did_pages : (done : JobResult) → Did heard here own done → progress_on done.own row ≡ progress_on own row

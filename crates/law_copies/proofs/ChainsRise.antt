@@ -105,14 +105,3 @@ in_kept {A} p (y ∷ ys) x (inl e) t = subst (λ (zs : List A). In x zs)
 in_kept {A} p (y ∷ ys) x (inr i) t = by_bool (p y)
     (λ u. subst (λ (zs : List A). In x zs) (sym (ap (λ b. cond b (y ∷ filter p ys) (filter p ys)) u)) (inr (in_kept p ys x i t)))
     (λ u. subst (λ (zs : List A). In x zs) (sym (ap (λ b. cond b (y ∷ filter p ys) (filter p ys)) u)) (in_kept p ys x i t))
-
-pub in_left : {A : Type 0} (p : A → Bool) (xs : List A) (x : A) → In x (filter p xs) → In x xs × (p x ≡ true)
-unfolding In
-in_left p [] x i = absurd i
-in_left {A} p (y ∷ ys) x i = by_bool (p y)
-    (λ t. elim (subst (λ (zs : List A). In x zs) (ap (λ b. cond b (y ∷ filter p ys) (filter p ys)) t) i) [
-      | inl e ↦ (inl e, ap p e ∙ t)
-      | inr j ↦ (let rest = in_left p ys x j in (inr rest.0, rest.1))
-    ])
-    (λ f. let rest = in_left p ys x (subst (λ (zs : List A). In x zs) (ap (λ b. cond b (y ∷ filter p ys) (filter p ys)) f) i)
-    in (inr rest.0, rest.1))

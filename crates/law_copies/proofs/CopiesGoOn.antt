@@ -1,16 +1,15 @@
 -- How the copies of a link go on at its holder, for a cell of it on which the job is not at work: the greatest copied block, and the
 -- copies of later blocks.
-use Rattle.law_copies.proofs.Imports.{◌<◌, ◌∙◌, ◌≡◌, ◌≢◌, ◌⊎◌, Cell, Copying, IsMarked, IsToBeCopied, LinkId, LinkRow, None, Option, PairState, Progress}
-use Rattle.law_copies.proofs.Imports.{Some, State, Table, above, ap, arith, at, begins_copy, by_bool, by_test, cell_apart, cell_at, cell_cmp, cell_gone}
-use Rattle.law_copies.proofs.Imports.{cell_gone_apart, cell_link, copying_on, eq_by_cmp, false, first_copy, id_of, inl, inr, is_some, link_cmp, link_of, live}
-use Rattle.law_copies.proofs.Imports.{nat_lt, nat_tests, no_progress, none_some, progress_beside, progress_here, progress_on, refl, row_named}
-use Rattle.law_copies.proofs.Imports.{same_cell_or_apart, same_id, same_or_apart, same_some, subst, sym, true, unwrap_or, with_copied, with_copying}
-use Rattle.law_copies.proofs.Imports.{with_progress, without_copying, ℕ}
+use Rattle.law_copies.proofs.Imports.{◌<◌, ◌∙◌, ◌≡◌, ◌≢◌, ◌⊎◌, Cell, Copying, IsMarked, IsToBeCopied, LinkId, LinkRow, None, Option, PairState}
+use Rattle.law_copies.proofs.Imports.{Progress, Some, State, Table, above, ap, arith, at, begins_copy, by_bool, by_test, cell_apart, cell_at}
+use Rattle.law_copies.proofs.Imports.{cell_cmp, cell_gone, cell_gone_apart, cell_link, copying_on, ended_copy, eq_by_cmp, false, first_copy, id_of, inl}
+use Rattle.law_copies.proofs.Imports.{inr, is_some, least, link_cmp, link_of, live, nat_lt, nat_tests, no_progress, none_some, progress}
+use Rattle.law_copies.proofs.Imports.{progress_beside, progress_here, progress_on, refl, row_named, same_cell_or_apart, same_id, same_or_apart}
+use Rattle.law_copies.proofs.Imports.{same_some, subst, sym, true, unwrap_or, with_copied, with_copying, with_progress, without_copying, ℕ}
 use Rattle.law_copies.specs.CopyProgress.{AreInOrder, HasPage, IsCopied, NotCopied, links_of}
 use Rattle.law_copies.proofs.BlocksOnLinks.{block_on, on_block}
-use Rattle.law_copies.proofs.OwnPartFrames.{copied_alike}
-use Rattle.law_copies.proofs.LeftToCopy.{HasAny, IsNext, to_be_copied_left}
 use Rattle.law_copies.proofs.HolderPace.{IsPaced, paced_copied}
+use Rattle.law_copies.proofs.LeftToCopy.{HasAny, IsNext, to_be_copied_left}
 use Rattle.law_copies.proofs.RolesOfWorkers.{cell_map, one_named}
 
 -- the greatest copied block only rises; with a later block that is copied, this one was to be copied only if it is marked or the
@@ -62,10 +61,10 @@ module _ (own : PairState) (of : LinkRow) (block : ℕ) (row : LinkRow) where
   to = with_copied (Some of) own block
 
   -- of another link
-  pub copied_apart : eq_by_cmp link_cmp (id_of row) (id_of of) ≡ false → (progress_on to row).copied ≡ (progress_on own row).copied
-  copied_apart other = by_test (λ (x : PairState). (progress_on x row).copied ≡ (progress_on own row).copied) (above (progress_on own of).copied block)
+  pub copied_apart : eq_by_cmp link_cmp (id_of row) (id_of of) ≡ false → progress_on to row ≡ progress_on own row
+  copied_apart other = by_test (λ (x : PairState). progress_on x row ≡ progress_on own row) (above (progress_on own of).copied block)
       (with_progress own of (record (progress_on own of) { copied = Some block })) own
-      (λ t. ap (λ (p : Progress). p.copied) (progress_beside own of (record (progress_on own of) { copied = Some block }) row other)) (λ f. refl)
+      (λ t. progress_beside own of (record (progress_on own of) { copied = Some block }) row other) (λ f. refl)
 
   -- of this one
   module _ (same : eq_by_cmp link_cmp (id_of row) (id_of of) ≡ true) where
@@ -103,16 +102,17 @@ pub copied_late : (o : Option LinkRow) (own : PairState) (block : ℕ) (row : Li
 copied_late None own block row other past = past
 copied_late (Some of) own block row other past = by_bool (eq_by_cmp link_cmp (id_of row) (id_of of))
     (λ t. late_here own of block row t other past)
-    (λ no. ap (λ o. above o other) (sym (copied_apart own of block row no)) ∙ past)
+    (λ no. ap (λ (p : Progress). above p.copied other) (sym (copied_apart own of block row no)) ∙ past)
 
 -- what is above the block that was copied is not copied yet; and of another link nothing is
 pub copied_yet : (of : LinkRow) (own : PairState) (block : ℕ) (row : LinkRow) (other : ℕ)
     → (eq_by_cmp link_cmp (id_of row) (id_of of) ≡ false) ⊎ (nat_lt block other ≡ true)
     → above (progress_on own row).copied other ≡ true → above (progress_on (with_copied (Some of) own block) row).copied other ≡ true
-copied_yet of own block row other (inl beside) past = ap (λ o. above o other) (copied_apart own of block row beside) ∙ past
+copied_yet of own block row other (inl beside) past =
+    ap (λ (p : Progress). above p.copied other) (copied_apart own of block row beside) ∙ past
 copied_yet of own block row other (inr lt) past = by_bool (eq_by_cmp link_cmp (id_of row) (id_of of))
     (λ t. yet_here own of block row t other lt past)
-    (λ no. ap (λ o. above o other) (copied_apart own of block row no) ∙ past)
+    (λ no. ap (λ (p : Progress). above p.copied other) (copied_apart own of block row no) ∙ past)
 
 -- ### A copy of another cell
 
@@ -159,7 +159,7 @@ module _ (state : State) (links : ℕ) (row : LinkRow) (cell : Cell) (is : cell_
     module _ (ordered : AreInOrder links row cell own) (copy : Copying) (there : copying_on own c ≡ Some copy) (of : LinkRow)
         (of_is : cell_link state c ≡ Some of) (paged : (progress_on own of).paged ≡ true) where
       abbrev closed : Option LinkRow → PairState
-      closed o = with_copied o (without_copying own c) c.block
+      closed o = ended_copy o own c
 
       -- on the link's name, it is of the link
       one_link : eq_by_cmp link_cmp (id_of row) (id_of of) ≡ true → row ≡ of
@@ -204,10 +204,7 @@ module _ (state : State) (links : ℕ) (row : LinkRow) (cell : Cell) (is : cell_
         yet = λ all ahead. by_bool (eq_by_cmp link_cmp (id_of row) (id_of of))
             (λ t. yet_same (one_link t) all ahead)
             (λ no. inl (copied_yet of (without_copying own c) c.block row cell.block (inl no) ahead));
-        others = λ later other lt on at_later.
-            ended_onward.others later other lt on
-            (ap (λ (t : Table Cell Copying). at cell_cmp t (cell_at row later))
-            (sym (copied_alike (Some of) (without_copying own c) c.block).copying) ∙ at_later);
+        others = ended_onward.others;
         page = λ page. by_bool (eq_by_cmp link_cmp (id_of row) (id_of of))
             (λ t. inl (paged_here (one_link t)))
             (λ no.
@@ -216,7 +213,7 @@ module _ (state : State) (links : ℕ) (row : LinkRow) (cell : Cell) (is : cell_
             elim page [
               | inl p ↦ inl (sym paced.paged ∙ p)
               | inr (inl a) ↦ inr (inl (ap is_some (sym paced.after) ∙ a))
-              | inr (inr x) ↦ inr (inr (ap is_some (sym copied) ∙ x))
+              | inr (inr x) ↦ inr (inr (ap (λ (p : Progress). is_some p.copied) (sym copied) ∙ x))
             ]);
       }
 

@@ -7,7 +7,7 @@ use Rattle.law_copies.proofs.Imports.{subject_of, subst, sym, true, true_false, 
 use Rattle.law_jobs.specs.Sayings.{Ends}
 use Rattle.law_copies.specs.CopyProgress.{IsOfLink, IsTold, HasTrimmed, HasSent, HasPut}
 use Rattle.law_copies.proofs.LeftToCopy.{marked_on}
-use Rattle.law_copies.proofs.ChainsRise.{in_left}
+use Rattle.law_state.proofs.ListLookups.{in_filter}
 use Rattle.law_copies.proofs.MuteLettersTellNothing.{told_mute, ended_mute, moved_mute}
 use Rattle.petal_msg.specs.declared.body.Body.TheVariants as body
 use Rattle.law_jobs.specs.Sayings as says
@@ -117,7 +117,7 @@ module _ (heard : Body → Type 0) (here : JobContext) (own : PairState) where
       let block_is : least (filter (above p.after) (marked_blocks here.state p.row own)) ≡ Some block = ap page_block same in
       let among = among_least (filter (above p.after) (marked_blocks here.state p.row own)) block block_is in
       let on = marked_on here.state p.id p.row own block p.named
-      (in_left (above p.after) (marked_blocks here.state p.row own) block among).0 in
+      (in_filter (above p.after) (marked_blocks here.state p.row own) block among).0 in
       record {
         lives = (λ j. live here.state (record { map = sym map_is j; block = block })) ∙ on.lives;
         row = p.row;

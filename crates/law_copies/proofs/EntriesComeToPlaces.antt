@@ -14,8 +14,7 @@ use Rattle.law_copies.proofs.AtEntry.{AtEntry}
 use Rattle.law_copies.proofs.NewcomersRememberNothing.{IsFresh}
 use Rattle.law_copies.proofs.ServedAtLaterPrefixes.{same_only}
 use Rattle.law_copies.proofs.PlacesByPrefixes.{below_at, linked_alive, place_of_later, place_touched, place_untouched, places_up, rows_later, state_next}
-use Rattle.law_copies.proofs.RolesOfWorkers.{cell_map}
-use Rattle.law_copies.proofs.WorkedCell.{above_none}
+use Rattle.law_copies.proofs.RolesOfWorkers.{above_none, cell_map}
 use Rattle.law_copies.proofs.LeftByEntry.{KeepsAll, lives_on, cell_never, link_never, touched_fresh, untouched_keeps, left_fresh, left_keeps, left_copied}
 use Rattle.law_copies.proofs.LeftByEntry.{left_unheard}
 

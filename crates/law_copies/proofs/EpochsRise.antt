@@ -13,7 +13,7 @@ put_chain chains cell chain all rises q = elim (same_cell_or_apart q cell) [
   | inr ne ↦ subst (IsRising nat_cmp) (sym (chain_apart chains cell chain q ne)) (all q)
 ]
 
-put_entry : (chains : Table Cell Chain) (cell : Cell) (epoch : ℕ) (stored : Stored) → AreRising chains
+pub put_entry : (chains : Table Cell Chain) (cell : Cell) (epoch : ℕ) (stored : Stored) → AreRising chains
     → AreRising (put cell_cmp chains cell (put nat_cmp (chain_in chains cell) epoch stored))
 put_entry chains cell epoch stored all = put_chain chains cell _ all (put_rises nat_cmp_total (chain_in chains cell) epoch stored (all cell))
 

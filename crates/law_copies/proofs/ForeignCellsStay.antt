@@ -1,17 +1,14 @@
 -- A job leaves a cell whose link the server is not of, or that has no link.
-use Rattle.law_copies.proofs.Imports.{◌<◌, ◌∙◌, ◌≡◌, ◌≢◌, Body, Both, ByBoth, ByNone, ByOne, By_holder, By_lead, By_other, By_second, Cell, Did, IsBothRow}
-use Rattle.law_copies.proofs.Imports.{IsInBoth, IsSteady, JobContext, JobResult, LinkRow, Lost, None, PairState, Some, ap, arith, by_bool, cell_holder}
-use Rattle.law_copies.proofs.Imports.{cell_link, has_server, inl, inr, is_alone, is_second, is_the_one, leads_link, link_led_by, live, live_stage, none_some}
-use Rattle.law_copies.proofs.Imports.{option_and_then, other_of, primary_is_one, retired_second, row_lead, same_some, second, second_by, secondary_is_one}
-use Rattle.law_copies.proofs.Imports.{stage_at, sym, true, true_false, ℕ}
+use Rattle.law_copies.proofs.Imports.{◌<◌, ◌∙◌, ◌≡◌, ◌≢◌, Body, Both, ByBoth, ByNone, ByOne, Cell, Did, Effect, IsBothRow, IsInBoth, IsSteady}
+use Rattle.law_copies.proofs.Imports.{JobContext, JobResult, LinkRow, Lost, May, None, PairState, Some, ap, applied, arith, at, cell_holder}
+use Rattle.law_copies.proofs.Imports.{cell_link, first, has_server, inl, inr, is_alone, is_second, is_the_one, leads_link, link_led_by}
+use Rattle.law_copies.proofs.Imports.{live_stage, none_some, option_and_then, other_of, primary_is_one, row_lead, same_some, second, second_by}
+use Rattle.law_copies.proofs.Imports.{secondary_is_one, stage_at, sym, true, true_false, ℕ}
 use Rattle.law_copies.specs.LoneSteps.{IsBare, IsFit, IsNotOf, KeepsCell}
-use Rattle.law_copies.proofs.OtherIsNotHolder.{held_by}
-use Rattle.law_copies.proofs.RolesOfWorkers.{IsHeldHere, RoleIn, alone_both, idle_both, led_alive, not_both, only_alone, other_alone, role_keeps}
-
--- a cell with a second server is live
-pub second_live : (here : JobContext) (cell : Cell) → is_second here.state here.me cell ≡ true → live here.state cell ≡ true
-second_live here cell e = by_bool (live here.state cell) (λ on. on)
-    (λ off. none_some (retired_second here.state cell off) (is_the_one (second here.state cell) here.me e))
+use Rattle.law_copies.proofs.EffectsOnCells.{Changes, IsAtCell, cell_keeps}
+use Rattle.law_copies.proofs.OtherIsNotHolder.{alone_both, held_by, only_alone}
+use Rattle.law_copies.proofs.OwnPartFrames.{keeps_itself, keeps_then}
+use Rattle.law_copies.proofs.RolesOfWorkers.{IsHeldHere, idle_both, led_alive, not_both, other_alone}
 
 -- what a server has nothing to do with a cell for
 pub record IsIdleAt (here : JobContext) (q : Cell) : Type 0 where
@@ -20,41 +17,37 @@ pub record IsIdleAt (here : JobContext) (q : Cell) : Type 0 where
   pub no_holder : IsHeldHere here q → ⊥
   pub no_other : (holder : ℕ) → cell_holder here q ≡ Some holder → ⊥
 
-module _ (heard : Body → Type 0) (here : JobContext) (own : PairState) (fit : IsFit heard here own) (q : Cell) where
-  -- a cell that is not live yet keeps what a server has of it: what is worked on was live
-  module _ (unborn : stage_at here.state q ≡ 0) where
-    not_live : live here.state q ≡ true → ⊥
-    not_live on = let up = (live_stage here.state q on).0 in absurd (omega arith)
+module _ (heard : Body → Type 0) (here : JobContext) (own : PairState) (fit : IsFit heard here own) (q : Cell) (alive : stage_at here.state q < 4)
+    (done : JobResult) (did : Did heard here own done) where
+  -- it has no effect on the cell
+  not_here : ((e : Effect) → IsAtCell heard here own fit q alive e → ⊥) → KeepsCell q own done.own
+  not_here none = cell_keeps heard here own fit q alive (KeepsCell q own) each (keeps_itself q own) done did
+    where
+      each : (now : PairState) (e : Effect) → May heard here own now e → Changes heard here own fit q alive now e → KeepsCell q own now
+          → KeepsCell q own (applied now e)
+      each now e may (inl at) k = absurd (none e at)
+      each now e may (inr kept) k = keeps_then q own now (applied now e) k kept
 
-    unworked : (done : JobResult) (did : Did heard here own done) → RoleIn heard here own fit done did q → ⊥
-    unworked _ (By_lead done d) led = let up = led.born in absurd (omega arith)
-    unworked _ (By_second done d) so = not_live (second_live here q so)
-    unworked _ (By_holder done d) held = not_live held.lives
-    unworked _ (By_other done d) held = not_live held.lives
-    unworked _ _ none = none
+  -- a cell that is not live yet keeps what a server has of it
+  pub unborn_keeps : stage_at here.state q ≡ 0 → KeepsCell q own done.own
+  unborn_keeps unborn = not_here (λ e at. let up = (live_stage here.state q at.lives).0 in absurd (omega arith))
 
-    pub unborn_keeps : (done : JobResult) → Did heard here own done → KeepsCell q own done.own
-    unborn_keeps done did =
-        role_keeps heard here own fit q (omega arith) done did (unworked done did) (λ idle. not_live (idle_both here own q idle).1)
+  -- what it has then is what it had
+  pub unborn_bare : stage_at here.state q ≡ 0 → IsBare done.own q
+  unborn_bare unborn =
+      let k = unborn_keeps unborn in
+      let bare = fit.bare q unborn in
+      record { chain = k.rest.chain ∙ bare.chain; marks = λ kind. k.marks kind ∙ bare.marks kind }
 
-    -- what it has then is what it had
-    pub unborn_bare : (done : JobResult) → Did heard here own done → IsBare done.own q
-    unborn_bare done d =
-        let k = unborn_keeps done d in
-        let bare = fit.bare q unborn in
-        record { chain = k.rest.chain ∙ bare.chain; marks = λ kind. k.marks kind ∙ bare.marks kind }
-
-  module _ (idle : IsIdleAt here q) (alive : stage_at here.state q < 4) (done : JobResult) (did : Did heard here own done) where
-    aside : (done : JobResult) (did : Did heard here own done) → RoleIn heard here own fit done did q → ⊥
-    aside _ (By_lead done d) led = idle.no_lead (led_alive here q alive led)
-    aside _ (By_second done d) so = idle.no_second so
-    aside _ (By_holder done d) held = idle.no_holder held
-    aside _ (By_other done d) other = idle.no_other other.holder other.held
-    aside _ _ none = none
-
-    -- where the cell's link isn't in Both: where it is, an old mark may go
-    pub did_keeps : (IsBothRow here.state q → ⊥) → KeepsCell q own done.own
-    did_keeps no_both = role_keeps heard here own fit q alive done did (aside done did) (λ old. no_both (idle_both here own q old).0)
+  -- where the cell's link isn't in Both: where it is, an old mark may go
+  pub did_keeps : IsIdleAt here q → (IsBothRow here.state q → ⊥) → KeepsCell q own done.own
+  did_keeps idle no_both = not_here (λ e at. elim at.role [
+    | inl led ↦ absurd (idle.no_lead (led_alive here q alive led))
+    | inr (inl so) ↦ absurd (idle.no_second so)
+    | inr (inr (inl held)) ↦ absurd (idle.no_holder held)
+    | inr (inr (inr (inl other))) ↦ absurd (idle.no_other other.0.holder other.0.held)
+    | inr (inr (inr (inr old))) ↦ absurd (no_both (idle_both here own q old).0)
+  ])
 
 -- ### Who is idle at a cell
 
@@ -130,8 +123,8 @@ module _ (here : JobContext) (steady : IsSteady here.state) (cell : Cell) where
 module _ (heard : Body → Type 0) (here : JobContext) (own : PairState) (fit : IsFit heard here own) (cell : Cell) (alive : stage_at here.state cell < 4)
     (done : JobResult) (did : Did heard here own done) where
   pub unlinked_keeps : cell_link here.state cell ≡ None → KeepsCell cell own done.own
-  unlinked_keeps none = did_keeps heard here own fit cell (unlinked_idle here fit.steady cell none) alive done did (λ both. none_some none both.is)
+  unlinked_keeps none = did_keeps heard here own fit cell alive done did (unlinked_idle here fit.steady cell none) (λ both. none_some none both.is)
 
   pub lost_keeps : (row : LinkRow) → cell_link here.state cell ≡ Some row → row.state ≡ Lost → KeepsCell cell own done.own
-  lost_keeps row is lost = did_keeps heard here own fit cell (lost_idle here fit.steady cell row is lost) alive done did
+  lost_keeps row is lost = did_keeps heard here own fit cell alive done did (lost_idle here fit.steady cell row is lost)
       (λ b. let f : Lost ≡ Both = sym lost ∙ ap (λ (r : LinkRow). r.state) (same_some (sym is ∙ b.is)) ∙ b.both in absurd cc)

@@ -1,107 +1,74 @@
 -- Each job of the holder of a link keeps a cell of it.
-use Rattle.law_copies.proofs.Imports.{◌+◌, ◌<◌, ◌∙◌, ◌≡◌, ◌≢◌, ◌≤◌, Asks_page, Asks_to_trim, Begins, Begins_copy, Body, By_filler, By_holder, By_lead}
-use Rattle.law_copies.proofs.Imports.{By_other, By_read, By_second, By_sweep, Cell, Closes_copy, Copies, CopyStep, Copy_as_is, Copy_synced, Copy_trimmed}
-use Rattle.law_copies.proofs.Imports.{Copying, Did, DidHolder, DidLead, DidOther, Drops_entry, Finds_it_full, Goes_on, Goes_on_copying, Goes_on_trimming}
-use Rattle.law_copies.proofs.Imports.{IsCopying, IsHeldWith, IsIdle, Is_copied_to, Is_trimmed, JobContext, JobResult, LastCopy, LinkId, LinkRow, None, Option}
-use Rattle.law_copies.proofs.Imports.{PairState, Pairs, Post, Progress, Says, Sends, Some, Stale, TakenCopy, Tidies, TrimStep, Turns_page, Unmarks_copied}
-use Rattle.law_copies.proofs.Imports.{about, above, ap, arith, at, begins_copy, by_bool, cell_at, cell_cmp, cell_gone, cell_gone_apart, cell_holder}
-use Rattle.law_copies.proofs.Imports.{cell_link, cell_same, chain_in, closed_pairs, closed_store, closes, copying_on, did_count, eq_by_cmp, false, first_copy}
-use Rattle.law_copies.proofs.Imports.{first_last, held_as_flag, holder_cell, id_of, in_both, inl, inr, is_alone, is_flagged, lead_cell, length}
-use Rattle.law_copies.proofs.Imports.{letters_of_job, link_cmp, link_named, link_of, none_some, of_filler, of_holder, of_lead, of_read, of_second, of_sweep}
-use Rattle.law_copies.proofs.Imports.{page_cell, progress_beside, progress_on, refl, same_block, same_cell_or_apart, same_id, same_some, silent, some_or_none}
-use Rattle.law_copies.proofs.Imports.{stage_live, subst, sym, true, true_false, turned, with_copied, with_copying, with_full, with_last_copy, with_mark_on}
-use Rattle.law_copies.proofs.Imports.{with_page, without_copying, worked, ℕ}
-use Rattle.law_copies.specs.CopyProgress.{AreCopying, IsLeft, IsTold}
-use Rattle.law_copies.specs.LoneSteps.{HolderStep, HolderKeeps, IsHolding, KeepsCell}
+use Rattle.law_copies.proofs.Imports.{◌∙◌, ◌≡◌, ◌≢◌, ◌≤◌, An_operation, As_copy, As_operation, As_second, Begins, Begins_copy, Body, By_a_copy}
+use Rattle.law_copies.proofs.Imports.{By_its_operation, Cell, Closes, CopyGoes, Copying, Did, Drops, Effect}
+use Rattle.law_copies.proofs.Imports.{Ends_copy, For_a_fill, For_a_write, Found_no_slot, Has_put, Has_trimmed, IsClosedFor, IsCopying, IsIdle, IsMarked}
+use Rattle.law_copies.proofs.Imports.{IsNextPage, IsOpening, IsPutFor, IsRising, IsSetFor, IsToBegin, IsToEnd, IsUnmarkedFor, Is_copied, Is_off, Is_old}
+use Rattle.law_copies.proofs.Imports.{Is_over, Is_whole, JobContext, JobResult, Key, LinkId, LinkRow, MarkKind, Marks, May, None, Opens, Option, PairState}
+use Rattle.law_copies.proofs.Imports.{Pending, Post, Progress, Puts, Reserves, Says, Sets, Some, Store, Stored, Table, Turns_page, Unmarks, about}
+use Rattle.law_copies.proofs.Imports.{above, ap, applied, arith, at, begins_copy, by_bool, cell_at, cell_cmp, cell_gone, cell_gone_apart}
+use Rattle.law_copies.proofs.Imports.{cell_holder, cell_link, cell_of, cell_same, chain_in, chain_put, chains_with, copying_on, ended, ended_copy}
+use Rattle.law_copies.proofs.Imports.{entry_ahead, eq_by_cmp, false, first_copy, has_proposed, held_as_flag, id_of, in_both, inl, inr, is_alone}
+use Rattle.law_copies.proofs.Imports.{is_flagged, is_second, kept, length, letters_of_job, link_cmp, link_of, live, marks, nat_cmp, no_progress}
+use Rattle.law_copies.proofs.Imports.{none_some, pending_on, progress_on, put, refl, same_cell_or_apart, same_id}
+use Rattle.law_copies.proofs.Imports.{same_some, some_or_none, stale_kept, subst, sym, true, true_false, turned_page, under_way, unwrap_or, with_copying}
+use Rattle.law_copies.proofs.Imports.{with_page, without_copying, ℕ}
+use Rattle.law_jobs.specs.Effects.{Copies, Goes_on}
+use Rattle.law_copies.specs.CopyProgress.{AreCopying, IsTold}
+use Rattle.law_copies.specs.LoneSteps.{HolderKeeps, HolderStep, IsHolding, KeepsCell}
+use Rattle.law_copies.specs.Pair.{HasMarks}
 use Rattle.law_copies.proofs.BlocksOnLinks.{on_block}
-use Rattle.law_copies.proofs.EmptyCellsHaveNoChain.{has_entry}
-use Rattle.law_copies.proofs.OwnPartFrames.{copied_alike, copying_beside, keeps_between, keeps_itself}
-use Rattle.law_copies.proofs.HolderChanges.{step_on}
-use Rattle.law_copies.proofs.LeftToCopy.{IsNext, next_is}
 use Rattle.law_copies.proofs.CopiesGoOn.{IsOnward, begun_onward, closed_onward, copied_itself, ended_onward, going_onward, onward_by, onward_tables}
-use Rattle.law_copies.proofs.HolderPace.{IsPaced, link_itself, paced_beside, paced_copied, paced_table}
 use Rattle.law_copies.proofs.CopyLetters.{telling}
-use Rattle.law_copies.proofs.RolesOfWorkers.{RoleIn, alone_not_in_both, alone_not_row, alone_not_second, cell_map, holder_not_other, idle_both, kept_lives}
-use Rattle.law_copies.proofs.RolesOfWorkers.{named_id, one_named, only_alone, page_on, role, role_keeps, so_at, was_copying, worked_or_apart}
-use Rattle.law_copies.proofs.WorkedCell.{cell_apart_from}
-use Rattle.law_copies.proofs.LeadsFindMarks.{LeadLeaves, LedHere, lead_marked}
-use Rattle.law_copies.proofs.EpochsRise.{did_rising}
+use Rattle.law_copies.proofs.EffectsOnCells.{Changes, cell_keeps, cell_on}
+use Rattle.law_copies.proofs.EmptyCellsHaveNoChain.{has_entry, no_entries}
+use Rattle.law_copies.proofs.EpochsRise.{AreRising, put_entry}
+use Rattle.law_copies.proofs.HolderChanges.{step_on}
+use Rattle.law_copies.proofs.HolderPace.{link_itself, paced_by, page_beside, paced_copied, paced_table, still_marked}
+use Rattle.law_copies.proofs.LeadsFindMarks.{IsMine, KeepsAt, begun_marks, copied_apart, dropped_apart, each_marks, second_apart}
+use Rattle.law_copies.proofs.LeftToCopy.{IsNext, next_is}
+use Rattle.law_copies.proofs.OtherIsNotHolder.{only_alone}
+use Rattle.law_copies.proofs.OwnPartFrames.{keeps_itself}
+use Rattle.law_copies.proofs.RolesOfWorkers.{alone_not_in_both, alone_not_row, alone_not_second, cell_map, holder_not_other, idle_both, kept_lives}
+use Rattle.law_copies.proofs.RolesOfWorkers.{named_id, one_named, page_on}
 use Rattle.petal_msg.specs.declared.body.Body.TheVariants as body
 use Rattle.law_copies.proofs.CopyMoves as moves
 use Rattle.law_copies.proofs.HolderSteps as steps
+use Rattle.law_jobs.specs.Sayings as says
 
 module _ (heard : Body → Type 0) (here : JobContext) (links : ℕ) (row : LinkRow) (vo : Option PairState) (own : PairState) where
   -- ### A copy of the cell
 
-  module _ (cell : Cell) where
-    itself : (now : PairState) → AreCopying links row cell (Some now) vo → HolderStep heard links row cell vo now now
-    itself now old = steps.kept_step heard old now (keeps_itself cell now) (omega arith)
-        (record { paged = refl; after = refl; flag = refl })
-        (onward_by links row cell now now (record { paged = refl; after = refl; flag = refl }) refl (λ later copy lt on is. inl (copy, is)))
+  module _ (cell : Cell) (f : IsHolding heard here links row cell own vo) where
+    begins_here : IsNext here.state row own cell → HolderStep heard links row cell vo own (begins_copy own cell)
+    begins_here n = moves.begun_step heard f.old n.paged n.free n.idle (elim n.left [
+      | inl marked ↦ inl marked
+      | inr all ↦ inr (record { whole = all.whole; stored = has_entry own.store.chains f.fit.filled cell all.stored }, all.past)
+    ])
 
-    -- the block is one that is copied, once its copy ends
-    closed_block : cell_link here.state cell ≡ Some row → (gone : PairState)
-        → above (progress_on (with_copied (cell_link here.state cell) gone cell.block) row).copied cell.block ≡ false
-    closed_block on gone = subst (λ (o : Option LinkRow). above (progress_on (with_copied o gone cell.block) row).copied cell.block ≡ false) (sym on)
-        (copied_itself gone row cell.block row (link_itself (id_of row)))
+    goes_on : (copy : Copying) → CopyGoes heard own cell copy → HolderStep heard links row cell vo own (with_copying own cell copy)
+    goes_on _ (Has_trimmed copy h is fresh) = moves.trimmed_step heard f.old copy is fresh (f.told (body.Trimmed copy.op cell) h refl)
+    goes_on _ (Has_put copy h is trimmed lt) = moves.synced_step heard f.old copy is trimmed lt (f.told (body.Synced copy.op cell copy.index) h refl)
 
-    copy_step : (on : cell_link here.state cell ≡ Some row) (now : PairState) (old : AreCopying links row cell (Some now) vo) (copy : Copying)
-        → copying_on now cell ≡ Some copy → (done : JobResult)
-        → CopyStep here now cell copy done → HolderStep heard links row cell vo now done.own
-    copy_step on now old copy is _ (Unmarks_copied kind synced left) =
-        moves.unmarked_step heard old copy is synced.trimmed synced.past kind
-    copy_step on now old copy is _ (Closes_copy synced left) =
-        let gone = without_copying now cell in
-        let paced = paced_copied (cell_link here.state cell) gone cell.block row in
-        let same = copied_alike (cell_link here.state cell) gone cell.block in
-        moves.closed_step heard old copy is synced.trimmed (closes here now cell).own
-        (ap (λ t. at cell_cmp t cell) same.copying ∙ cell_gone now.copies.pending cell)
-        (λ q ne. ap (λ t. at cell_cmp t q) same.copying ∙ cell_gone_apart now.copies.pending cell q ne) (closed_store here now cell)
-        (closed_pairs here now cell)
-        paced.paged paced.after paced.flag (closed_block on gone) synced.past
-    copy_step on now old copy is _ _ = itself now old
+    module _ (now : PairState) (old : AreCopying links row cell (Some now) vo) where
+      -- the block is one that is copied, once its copy ends
+      closed_block : above (progress_on (ended_copy (cell_link here.state cell) now cell) row).copied cell.block ≡ false
+      closed_block = subst (λ (o : Option LinkRow). above (progress_on (ended_copy o now cell) row).copied cell.block ≡ false) (sym f.is)
+          (copied_itself (without_copying now cell) row cell.block row (link_itself (id_of row)))
 
-    taken_copy_step : (f : IsHolding heard here links row cell own vo) (now : PairState) (copy : Copying) → TakenCopy heard own cell now copy
-        → HolderStep heard links row cell vo own now × (copying_on now cell ≡ Some copy)
-    taken_copy_step f _ _ (Copy_as_is copy is) = (itself own f.old, is)
-    taken_copy_step f _ _ (Copy_trimmed copy h is fresh) =
-        let said = f.told (body.Trimmed copy.op cell) h refl in
-        (moves.trimmed_step heard f.old copy is fresh said, moves.trimmed_is heard f.old copy is fresh said)
-    taken_copy_step f _ _ (Copy_synced copy h is trimmed lt) =
-        let said = f.told (body.Synced copy.op cell copy.index) h refl in (
-          moves.synced_step heard f.old copy is trimmed lt said,
-          moves.synced_is heard f.old copy is trimmed lt said,
-        )
-
-    goes_on_at : (f : IsHolding heard here links row cell own vo) (now : PairState) (copy : Copying) (done : JobResult) → TakenCopy heard own cell now copy
-        → CopyStep here now cell copy done → HolderStep heard links row cell vo own done.own
-    goes_on_at f now copy done taken step =
-        let one = taken_copy_step f now copy taken in
-        step_on heard links row cell vo own now done.own one.0 (copy_step f.is now one.0.copying copy one.1 done step)
-
-    begins_at : (f : IsHolding heard here links row cell own vo) (n : IsNext here.state row own cell) (done : JobResult)
-        → CopyStep here (begins_copy own cell) cell (first_copy own.pairs.next) done → HolderStep heard links row cell vo own done.own
-    begins_at f n done step =
-        let left : IsLeft own row cell =
-        elim n.left [
-          | inl marked ↦ inl marked
-          | inr all ↦ inr (record { whole = all.whole; stored = has_entry own.store.chains f.fit.filled cell all.stored }, all.past)
-        ] in
-        let one = moves.begun_step heard f.old n.paged n.free n.idle left in
-        step_on heard links row cell vo own (begins_copy own cell) done.own one
-        (copy_step f.is (begins_copy own cell) one.copying (first_copy own.pairs.next)
-        (moves.begun_is heard f.old n.paged n.free n.idle left) done step)
-
-    full_at : (f : IsHolding heard here links row cell own vo) (copy : Copying) → copying_on own cell ≡ Some copy → copy.trimmed ≡ true
-        → copy.index < length (chain_in own.store.chains cell) → HolderStep heard links row cell vo own (with_full (without_copying own cell) true)
-    full_at f copy is trimmed lt = moves.full_step heard f.old copy is trimmed (with_full (without_copying own cell) true)
-        (cell_gone own.copies.pending cell) (λ q ne. cell_gone_apart own.copies.pending cell q ne) refl refl refl refl refl refl lt
+      ends : (of : Option LinkRow) → IsToEnd here own now cell of → HolderStep heard links row cell vo now (ended_copy of now cell)
+      ends _ (Found_no_slot copy under trimmed lt) = moves.full_step heard old copy under.is trimmed (ended_copy None now cell)
+          (cell_gone now.copies.pending cell) (λ q ne. cell_gone_apart now.copies.pending cell q ne) refl refl refl refl refl refl lt
+      ends _ (Is_whole copy under synced) =
+          let paced = paced_copied (cell_link here.state cell) (without_copying now cell) cell.block row in
+          moves.closed_step heard old copy under.is synced.trimmed (ended_copy (cell_link here.state cell) now cell)
+          (cell_gone now.copies.pending cell) (λ q ne. cell_gone_apart now.copies.pending cell q ne) refl refl
+          paced.paged paced.after paced.flag closed_block synced.past
 
   -- ### All jobs
 
   module _ (cell : Cell) (f : IsHolding heard here links row cell own vo) where
-    abbrev Step : JobResult → Type 0
-    Step done = HolderStep heard links row cell vo own done.own
+    abbrev Step : PairState → PairState → Type 0
+    Step now to = HolderStep heard links row cell vo now to
 
     mine : is_alone here.me row.state ≡ true
     mine = only_alone here.me row f.whole f.held
@@ -113,94 +80,146 @@ module _ (heard : Body → Type 0) (here : JobContext) (links : ℕ) (row : Link
     no_idle : IsIdle here own cell → ⊥
     no_idle idle = alone_not_row here f.fit.steady cell row f.is here.me mine (idle_both here own cell idle).0
 
-    kept : (done : JobResult) → KeepsCell cell own done.own → own.pairs.next ≤ done.own.pairs.next → IsPaced row own done.own
-        → IsOnward links row cell own done.own → Step done
-    kept done k next paced onward = steps.kept_step heard f.old done.own k next paced onward
-
-    -- where nothing is changed of copies at the holder
-    same_paced : (to : PairState) → to.copies.progress ≡ own.copies.progress → to.copies.pending ≡ own.copies.pending
-        → IsPaced row own to × IsOnward links row cell own to
-    same_paced to progress pending = let paced = paced_table row own to progress in
-        (paced, onward_tables links row cell own to progress pending paced)
-
-    beside : (done : JobResult) (did : Did heard here own done) → worked heard here own done did ≢ Some cell → KeepsCell cell own done.own
-    beside done did ne = cell_apart_from heard here own f.fit.ready cell f.alive (f.fit.bare cell) done did ne no_idle
-
-    -- at this cell, or apart from it
-    either : (c : Cell) (done : JobResult) → (cell ≡ c → IsHolding heard here links row c own vo → HolderStep heard links row c vo own done.own)
-        → (cell ≢ c → Step done) → Step done
-    either c done here_it apart = elim (same_cell_or_apart cell c) [
-      | inl e ↦ subst (λ (q : Cell). HolderStep heard links row q vo own done.own) (sym e) (here_it e (at_cell c e))
-      | inr ne ↦ apart ne
-    ]
-
-    -- ### Writes
-
-    lead_apart : (done : JobResult) (d : DidLead heard here own done) → lead_cell heard here own done d ≢ Some cell → Step done
-    lead_apart done d ne =
-        let copies = (of_lead heard here own done d).copies in
-        let paced = same_paced done.own (ap (λ (c : Copies). c.progress) copies) (ap (λ (c : Copies). c.pending) copies) in
-        kept done (beside done (By_lead done d) ne) (did_count heard here own done (By_lead done d)) paced.0 paced.1
+    not_held : {A : Type 0} (holder : ℕ) → cell_holder here cell ≡ Some holder → A
+    not_held holder held = holder_not_other here f.fit.steady cell row f.is mine holder held
 
     alone : in_both here.state cell ≡ false
     alone = by_bool (in_both here.state cell) (λ both. alone_not_in_both here f.fit.steady cell row f.is here.me mine both) (λ no. no)
 
-    -- no copy of the cell is under way then, and no ballot was started
-    write_here : (done : JobResult) (d : DidLead heard here own done) → LeadLeaves heard here own f.fit done.own cell → Step done
-    write_here done d k =
-        let quiet : (copying_on own cell ≡ None) × (is_flagged own (id_of row) ≡ false) =
-        elim k.before [
-          | inl op ↦ (steps.pending_idle heard f.old op.0 op.1, steps.pending_unflagged heard f.old op.0 op.1)
-          | inr none ↦ (none.0, sym (held_as_flag here.state own cell row f.is) ∙ none.1)
-        ] in
-        steps.write_step heard f.old quiet.0 quiet.1 done.own (of_lead heard here own done d).copies (did_count heard here own done (By_lead done d))
-        (k.kept alone) (elim k.chain [ inl same ↦ inl same | inr marked ↦ inr (k.kept alone marked) ]) k.stored
-        (did_rising heard here own f.fit.rising done (By_lead done d) cell)
+    own_cell : live here.state cell ≡ true → IsMine heard here own f.fit cell
+    own_cell on = record {
+      on = on;
+      no_second = λ so. alone_not_second here f.fit.steady cell row f.is here.me mine so;
+      no_other = λ holder held. not_held holder held;
+      idle = λ copy is. (f.old.copying own copy refl is).free;
+    }
 
-    lead_step : (done : JobResult) → DidLead heard here own done → Step done
-    lead_step done d = elim (worked_or_apart (lead_cell heard here own done d) cell) [
-      | inl e ↦
-          let led = role heard here own f.fit done (By_lead done d) cell e in
-          write_here done d
-          (so_at (LedHere heard here own f.fit done.own) (lead_cell heard here own done d) (lead_marked heard here own f.fit done d) cell e
-          (stage_live here.state cell led.born f.alive))
-      | inr ne ↦ lead_apart done d ne
-    ]
+    -- what stands in a job
+    record Stands (now : PairState) : Type 0 where
+      step : Step own now
+      finds : live here.state cell ≡ true → KeepsAt cell own now
+
+    abbrev ChangesHere : PairState → Effect → Type 0
+    ChangesHere now e = Changes heard here own f.fit cell f.alive now e
+
+    -- an effect that is not on the cell leaves it
+    left : (now : PairState) (e : Effect) → ChangesHere now e → cell_on e ≢ Some cell → KeepsCell cell now (applied now e)
+    left now e (inl at) ne = absurd (ne at.at)
+    left now e (inr kept) ne = kept
+
+    -- ### Writes
+
+    -- no copy of the cell is under way then, and no ballot was started
+    abbrev IsQuiet : PairState → Type 0
+    IsQuiet now = (copying_on now cell ≡ None) × (is_flagged now (id_of row) ≡ false)
+
+    pending_quiet : (now : PairState) → Stands now → (op : Pending) → pending_on now cell ≡ Some op → IsQuiet now
+    pending_quiet now s op is = (steps.pending_idle heard s.step.copying op is, steps.pending_unflagged heard s.step.copying op is)
+
+    new_quiet : (op : Pending) → IsOpening heard here own op → op.cell ≡ cell → IsQuiet own
+    new_quiet _ (For_a_write want new) e = (
+      ap (copying_on own) (sym e) ∙ new.uncopied,
+      sym (held_as_flag here.state own cell row f.is) ∙ ap (has_proposed here.state own) (sym e) ∙ new.unheld,
+    )
+    new_quiet _ (For_a_fill moving new) e = (
+      ap (copying_on own) (sym e) ∙ new.uncopied,
+      sym (held_as_flag here.state own cell row f.is) ∙ ap (has_proposed here.state own) (sym e) ∙ new.unheld,
+    )
+
+    -- the entries stay
+    writes : (now to : PairState) → Stands now → IsQuiet now → to.copies ≡ now.copies → now.pairs.next ≤ to.pairs.next
+        → (IsMarked now.store cell → IsMarked to.store cell) → chain_in to.store.chains cell ≡ chain_in now.store.chains cell → Step now to
+    writes now to s quiet copies next marks chain = steps.write_step heard s.step.copying quiet.0 quiet.1 to copies next marks (inl chain)
+        (λ some none. some (sym chain ∙ none)) (subst (IsRising nat_cmp) (sym chain) (s.step.copying.risen now refl))
+
+    set_quiet : (now : PairState) (op : Pending) → IsSetFor heard here own now op → op.cell ≡ cell → Stands now → IsQuiet now
+    set_quiet now _ (Goes_on op stage there same reserved busy stale) e s =
+        pending_quiet now s op (ap (at cell_cmp now.pairs.pending) (sym e) ∙ there)
+
+    closed_quiet : (now : PairState) (c : Cell) → IsClosedFor heard here own now c → c ≡ cell → Stands now → IsQuiet now
+    closed_quiet now _ (Is_over op how ended there) e s = pending_quiet now s op (ap (at cell_cmp now.pairs.pending) (sym e) ∙ there)
+
+    puts : (now : PairState) (key : Key) (stored : Stored) (op : Pending) → IsPutFor heard here own key stored (As_operation op) → op.cell ≡ cell
+        → live here.state cell ≡ true → now ≡ record own { pairs = record own.pairs { pending = now.pairs.pending } } → Stands now
+        → Step now (applied now (Puts key stored (As_operation op)))
+    puts now _ _ _ (An_operation op reserved paired is fresh why) e on same s =
+        let there = ap (at cell_cmp own.pairs.pending) (sym e) ∙ is in
+        let entry = entry_ahead own op.cell op in
+        let store : now.store ≡ own.store = ap (λ (o : PairState). o.store) same in
+        let has = fit_marks there in
+        let marked : IsMarked now.store cell = subst (λ (x : Store). IsMarked x cell) (sym store)
+        (elim (fresh (ap (live here.state) e ∙ on)).1 [ inl busy ↦ inl (has.busy busy) | inr stale ↦ inr (has.stale stale) ]) in
+        let keyed : cell_of op.key ≡ cell = (f.fit.ready.staged op.cell op is).keyed ∙ e in
+        let quiet : IsQuiet own = (steps.pending_idle heard f.old op there, steps.pending_unflagged heard f.old op there) in
+        let made = chain_put now.store.chains (cell_of op.key) (put nat_cmp (chain_in now.store.chains (cell_of op.key)) op.key.epoch entry) in
+        steps.write_step heard s.step.copying
+        (ap (λ (o : PairState). copying_on o cell) same ∙ quiet.0) (ap (λ (o : PairState). is_flagged o (id_of row)) same ∙ quiet.1)
+        (applied now (Puts op.key entry (As_operation _))) refl (omega arith) (λ m. m) (inr marked)
+        (λ some none. no_entries (chain_in now.store.chains (cell_of op.key)) op.key.epoch entry
+        (sym made ∙ ap (chain_in (chains_with now.store.chains op.key entry)) keyed ∙ none))
+        (put_entry now.store.chains (cell_of op.key) op.key.epoch entry (subst (λ (x : Store). AreRising x.chains) (sym store) f.fit.rising) cell)
+      where
+        fit_marks : {op : Pending} → pending_on own cell ≡ Some op → HasMarks op own.store cell
+        fit_marks {op} there = f.fit.marks cell op on there
+
+    unmarks : (now : PairState) (kind : MarkKind) (c : Cell) → IsUnmarkedFor here own now kind c → c ≡ cell → live here.state cell ≡ true → Stands now
+        → Step now (applied now (Unmarks kind c))
+    unmarks now _ _ (By_its_operation op there busy stale) e on s =
+        let is = ap (at cell_cmp now.pairs.pending) (sym e) ∙ there in
+        let has = (s.finds on).marks op is in
+        writes now _ s (pending_quiet now s op is) refl (omega arith)
+        (λ m. inr (stale_kept now.store op.cell cell ∙ has.stale stale)) refl
+    unmarks now _ _ (By_a_copy kind c copy under synced) e on s =
+        subst (λ (q : Cell). Step now (applied now (Unmarks kind q))) (sym e)
+        (moves.unmarked_step heard s.step.copying copy (ap (copying_on now) (sym e) ∙ under.is) synced.trimmed
+        (subst (λ (q : Cell). length (chain_in now.store.chains q) ≤ copy.index) e synced.past) kind)
+    unmarks now _ _ (Is_old kind c idle same) e on s = absurd (no_idle (subst (IsIdle here own) e idle))
+    unmarks now _ _ (Is_off kind c off) e on s = true_false (ap (live here.state) e ∙ on) off
 
     -- ### Copies
 
-    holder_apart : (done : JobResult) (d : DidHolder heard here own done) → holder_cell heard here own done d ≢ Some cell
-        → IsPaced row own done.own → IsOnward links row cell own done.own → Step done
-    holder_apart done d ne paced onward = kept done (beside done (By_holder done d) ne) (of_holder heard here own done d).next paced onward
+    begins : (c : Cell) → IsToBegin here own c → ChangesHere own (Begins_copy c) → Step own (begins_copy own c)
+    begins c to change =
+        let n = next_is here.state to.id to.row own to.held.is c to.next in
+        elim (same_cell_or_apart cell c) [
+          | inl e ↦
+              let same : to.row ≡ row = same_some (sym n.is ∙ ap (cell_link here.state) (sym e) ∙ f.is) in
+              subst (λ (q : Cell). HolderStep heard links row q vo own (begins_copy own c)) (sym e)
+              (begins_here c (at_cell c e) (subst (λ (x : LinkRow). IsNext here.state x own c) same n))
+          | inr ne ↦ steps.kept_step heard f.old (begins_copy own c) (left own (Begins_copy c) change (λ e. ne (sym (same_some e)))) (omega arith)
+              (record { paged = refl; after = refl; flag = refl })
+              (begun_onward here.state links row cell f.is f.links_are c ne own to.row n (kept_lives heard here own f.fit cell f.alive))
+        ]
 
-    -- a cell's row is the link's, where it is this cell
-    page_apart : (id : LinkId) (r : LinkRow) (after block : Option ℕ) → heard (body.Hello id.map id.link after block)
-        → link_named here.state id ≡ Some r → eq_by_cmp link_cmp (id_of row) (id_of r) ≡ false → page_cell r block ≢ Some cell
-    page_apart id r after None h named apart = λ e. none_some refl e
-    page_apart id r after (Some block) h named apart = λ e.
-        let on : cell_link here.state cell ≡ Some r =
-        ap (cell_link here.state) (sym (same_some e)) ∙ (page_on heard here own f.fit id r after block h named).0 in
-        let same : row ≡ r = same_some (sym f.is ∙ on) in
-        true_false (ap (λ (x : LinkRow). eq_by_cmp link_cmp (id_of row) (id_of x)) (sym same) ∙ link_itself (id_of row)) apart
+    copies : (c : Cell) (copy : Copying) → CopyGoes heard own c copy → ChangesHere own (Copies c copy) → Step own (with_copying own c copy)
+    copies c copy why change = elim (same_cell_or_apart cell c) [
+      | inl e ↦ subst (λ (q : Cell). HolderStep heard links row q vo own (with_copying own c copy)) (sym e) (goes_on c (at_cell c e) copy why)
+      | inr ne ↦ steps.kept_step heard f.old (with_copying own c copy) (left own (Copies c copy) change (λ e. ne (sym (same_some e)))) (omega arith)
+          (record { paged = refl; after = refl; flag = refl }) (by ne copy why)
+    ]
+      where
+        by : cell ≢ c → (copy : Copying) → CopyGoes heard own c copy → IsOnward links row cell own (with_copying own c copy)
+        by ne _ (Has_trimmed was h is fresh) = going_onward here.state links row cell f.is f.links_are c ne own was _ is
+        by ne _ (Has_put was h is trimmed lt) = going_onward here.state links row cell f.is f.links_are c ne own was _ is
 
-    page_paced : (r : LinkRow) (block : Option ℕ) → eq_by_cmp link_cmp (id_of row) (id_of r) ≡ false
-        → IsPaced row own (with_page own r (progress_on own r) block)
-    page_paced r None apart = paced_beside own r (record (progress_on own r) { paged = true }) row apart
-    page_paced r (Some block) apart =
-        let marked : PairState = record own { store = with_mark_on own.store Stale (cell_at r block) } in
-        let p = paced_beside marked r (record (progress_on own r) { after = Some block }) row apart in
-        record { paged = p.paged; after = p.after; flag = p.flag }
+    ends_apart : (now : PairState) (c : Cell) → cell ≢ c → (of : Option LinkRow) → IsToEnd here own now c of → AreCopying links row cell (Some now) vo
+        → IsOnward links row cell now (ended_copy of now c)
+    ends_apart now c ne _ (Found_no_slot copy under trimmed lt) old = ended_onward here.state links row cell f.is f.links_are c ne now
+    ends_apart now c ne _ (Is_whole copy under synced) old =
+        let rests = f.fit.resting.copying c under.was under.was_is in
+        closed_onward here.state links row cell f.is f.links_are c ne now (old.ordered now refl) copy under.is rests.row rests.is
+        (ap (λ (t : Table LinkId Progress). (unwrap_or (at link_cmp t (id_of rests.row)) no_progress).paged) under.progress ∙ rests.paged)
 
-    page_onward : (r : LinkRow) (block : Option ℕ) → eq_by_cmp link_cmp (id_of row) (id_of r) ≡ false
-        → IsOnward links row cell own (with_page own r (progress_on own r) block)
-    page_onward r None apart = onward_by links row cell own _ (page_paced r None apart)
-        (ap (λ (p : Progress). p.copied) (progress_beside own r (record (progress_on own r) { paged = true }) row apart))
-        (λ later copy lt on is. inl (copy, is))
-    page_onward r (Some block) apart =
-        let marked : PairState = record own { store = with_mark_on own.store Stale (cell_at r block) } in
-        onward_by links row cell own _ (page_paced r (Some block) apart)
-        (ap (λ (p : Progress). p.copied) (progress_beside marked r (record (progress_on own r) { after = Some block }) row apart))
-        (λ later copy lt on is. inl (copy, is))
+    ends_copy : (now : PairState) (c : Cell) (of : Option LinkRow) → IsToEnd here own now c of → ChangesHere now (Ends_copy c of) → Stands now
+        → Step now (ended_copy of now c)
+    ends_copy now c of why change s = elim (same_cell_or_apart cell c) [
+      | inl e ↦ subst (λ (q : Cell). HolderStep heard links row q vo now (ended_copy of now c)) (sym e)
+          (ends c (at_cell c e) now (subst (λ (q : Cell). AreCopying links row q (Some now) vo) e s.step.copying) of why)
+      | inr ne ↦
+          let paced = paced_copied of (without_copying now c) c.block row in
+          steps.kept_step heard s.step.copying (ended_copy of now c) (left now (Ends_copy c of) change (λ e. ne (sym (same_some e)))) (omega arith)
+          (record { paged = paced.paged; after = paced.after; flag = paced.flag }) (ends_apart now c ne of why s.step.copying)
+    ]
 
     -- no copy of a cell of the link is under way before the pages are done
     unpaged_idle : (progress_on own row).paged ≡ false → (q : Cell) → cell_link here.state q ≡ Some row → copying_on own q ≡ None
@@ -214,180 +233,97 @@ module _ (heard : Body → Type 0) (here : JobContext) (links : ℕ) (row : Link
     later_on : (later : ℕ) → link_of links later ≡ row.link → cell_link here.state (cell_at row later) ≡ Some row
     later_on later on = on_block here.state cell row f.is later (ap (λ n. link_of n later) f.links_are ∙ on)
 
-    turns_page : (id : LinkId) (r : LinkRow) (other : ℕ) (after block : Option ℕ) (h : heard (body.Hello id.map id.link after block))
-        (held : IsHeldWith here id r other) (fresh : (progress_on own r).paged ≡ false)
-        (at : same_block after (progress_on own r).after ≡ true)
-        → Step (turned own r (progress_on own r) block)
-    turns_page id r other after block h held fresh at = by_bool (eq_by_cmp link_cmp (id_of row) (id_of r))
+    page_here : (block : Option ℕ) → IsNextPage heard here own row block → Step own (turned_page row own block)
+    page_here block page = as_turned block (
+        let said = subst (λ (l : LinkId). heard (body.Hello l.map l.link page.after block)) (sym (named_id here.state page.id row page.held.is)) page.said in
+        steps.page_step heard f.old page.after (cell_map here.state cell row f.is) page.fresh page.waited (unpaged_idle page.fresh cell f.is)
+        (f.met page.after block said) (λ later on. unpaged_idle page.fresh (cell_at row later) (later_on later on)) block said)
+      where
+        as_turned : (block : Option ℕ) → Step own (with_page own row (progress_on own row) block) → Step own (turned_page row own block)
+        as_turned None step = step
+        as_turned (Some block) step = step
+
+    -- of another link
+    page_apart : (r : LinkRow) (block : Option ℕ) → IsNextPage heard here own r block → eq_by_cmp link_cmp (id_of row) (id_of r) ≡ false
+        → cell_on (Turns_page r block) ≢ Some cell
+    page_apart r None page apart e = none_some refl e
+    page_apart r (Some block) page apart e =
+        let on : cell_link here.state cell ≡ Some r =
+        ap (cell_link here.state) (sym (same_some e)) ∙ (page_on heard here own f.fit page.id r page.after block page.said page.held.is).0 in
+        true_false (ap (λ (x : LinkRow). eq_by_cmp link_cmp (id_of row) (id_of x)) (sym (same_some (sym f.is ∙ on))) ∙ link_itself (id_of row)) apart
+
+    turns : (r : LinkRow) (block : Option ℕ) → IsNextPage heard here own r block → ChangesHere own (Turns_page r block)
+        → Step own (turned_page r own block)
+    turns r block page change = by_bool (eq_by_cmp link_cmp (id_of row) (id_of r))
         (λ t.
-        let named : id_of r ≡ id = named_id here.state id r held.is in
-        let same_name : id_of row ≡ id = same_id (id_of row) (id_of r) t ∙ named in
-        let same : row ≡ r = one_named here.state cell row id r f.is held.is same_name in
-        let said : heard (body.Hello row.map row.link after block) =
-        subst (λ (l : LinkId). heard (body.Hello l.map l.link after block)) (sym same_name) h in
-        let fresh_here : (progress_on own row).paged ≡ false = ap (λ (x : LinkRow). (progress_on own x).paged) same ∙ fresh in
-        let waited : same_block after (progress_on own row).after ≡ true = ap
-        (λ (x : LinkRow). same_block after (progress_on own x).after) same ∙ at in
-        let one = steps.page_step heard f.old after (cell_map here.state cell row f.is) fresh_here waited
-        (unpaged_idle fresh_here cell f.is)
-        (f.met after block said) (λ later on. unpaged_idle fresh_here (cell_at row later) (later_on later on)) block said in
-        subst (λ (x : LinkRow). HolderStep heard links row cell vo own (with_page own x (progress_on own x) block)) same one)
-        (λ no. holder_apart _ (Turns_page id r other after block h held fresh at) (page_apart id r after block h held.is no)
-        (page_paced r block no) (page_onward r block no))
+        let named = same_id (id_of row) (id_of r) t ∙ named_id here.state page.id r page.held.is in
+        let same : row ≡ r = one_named here.state cell row page.id r f.is page.held.is named in
+        subst (λ (x : LinkRow). IsNextPage heard here own x block → Step own (turned_page x own block)) same (page_here block) page)
+        (λ apart.
+        let e = page_beside own r row block apart in
+        let paced = paced_by row own (turned_page r own block) (ap (λ (p : Progress). p.paged) e) (ap (λ (p : Progress). p.after) e)
+        (ap (λ (p : Progress). p.caught) e) in
+        steps.kept_step heard f.old (turned_page r own block) (left own (Turns_page r block) change (page_apart r block page apart)) (omega arith) paced
+        (onward_by links row cell own _ paced (ap (λ (p : Progress). p.copied) e) (λ later copy lt on is. inl (copy, is))))
 
-    -- a copy of another cell is taken up
-    record IsTakenUp (c : Cell) (now : PairState) (copy : Copying) : Type 0 where
-      step : HolderStep heard links row cell vo own now
-      kept : KeepsCell cell own now
-      is : copying_on now c ≡ Some copy
+    -- ### All effects
 
-    taken_with : (c : Cell) → cell ≢ c → (was : Copying) → copying_on own c ≡ Some was → (new : Copying)
-        → IsTakenUp c (with_copying own c new) new
-    taken_with c ne was is new =
-        let k = copying_beside own c cell ne new in
-        record {
-          step = steps.kept_step heard f.old (with_copying own c new) k (omega arith) (record { paged = refl; after = refl; flag = refl })
-              (going_onward here.state links row cell f.is f.links_are c ne own was new is);
-          kept = k;
-          is = cell_same own.copies.pending c new;
-        }
+    -- from where the job began
+    first : (e : Effect) (now : PairState) → now ≡ own → ChangesHere now e → (ChangesHere own e → Step own (applied own e)) → Step now (applied now e)
+    first e now same change step = subst (λ (o : PairState). ChangesHere o e → Step o (applied o e)) (sym same) step change
 
-    -- the pages of its link are done
-    taken_paged : (c : Cell) (now : PairState) (copy : Copying) → TakenCopy heard own c now copy
-        → (of : LinkRow) × (cell_link here.state c ≡ Some of) × ((progress_on now of).paged ≡ true)
-    taken_paged c now copy taken =
-        let w = was_copying heard here own c now copy taken in
-        let r = f.fit.resting.copying c w.0 w.1 in
-        (r.row, r.is, ap (λ (p : Progress). p.paged) (w.3 r.row) ∙ r.paged)
+    one : (now : PairState) (e : Effect) → May heard here own now e → ChangesHere now e → Stands now → Step now (applied now e)
+    one now (Begins_copy c) may change s = first (Begins_copy c) now may.1 change (begins c may.0)
+    one now (Copies c copy) may change s = first (Copies c copy) now may.1 change (copies c copy may.0)
+    one now (Turns_page r block) may change s = first (Turns_page r block) now may.1 change (turns r block may.0)
+    one now (Ends_copy c of) may change s = ends_copy now c of may change s
+    one now (Opens op) may (inl on) s = writes now _ s
+        (subst IsQuiet (sym may.1) (new_quiet op may.0 (same_some on.at))) refl (omega arith) (λ m. m) refl
+    one now (Sets op) may (inl on) s = writes now _ s (set_quiet now op may.0 (same_some on.at) s) refl (omega arith) (λ m. m) refl
+    one now (Closes c) may (inl on) s = writes now _ s (closed_quiet now c may (same_some on.at) s) refl (omega arith) (λ m. m) refl
+    one now (Marks kind c) may (inl on) s = writes now _ s
+        (pending_quiet now s may.0 (ap (at cell_cmp now.pairs.pending) (sym (same_some on.at)) ∙ may.1)) refl (omega arith)
+        (still_marked now.store kind c cell) refl
+    one now (Unmarks kind c) may (inl on) s = unmarks now kind c may (same_some on.at) on.lives s
+    one now (Puts key stored (As_operation op)) may (inl on) s = puts now key stored op may.0 (same_some on.at) on.lives may.2.0 s
+    one now (Puts key stored (As_second last)) may (inl on) s = absurd (second_apart heard here own f.fit cell (own_cell on.lives) key stored last may.0
+        (sym (same_some on.at)))
+    one now (Puts key stored (As_copy last)) may (inl on) s = absurd (copied_apart heard here own f.fit cell (own_cell on.lives) key stored last may.0
+        (sym (same_some on.at)))
+    one now (Drops key) may (inl on) s = absurd (dropped_apart heard here own f.fit cell (own_cell on.lives) now key may.2 (sym (same_some on.at)))
+    one now (Reserves c number) may (inl on) s =
+        alone_not_second here f.fit.steady cell row f.is here.me mine (ap (is_second here.state here.me) (sym (same_some on.at)) ∙ may.1)
+    one now (Is_copied c number epochs) may (inl on) s = not_held may.0.holder (ap (cell_holder here) (sym (same_some on.at)) ∙ may.0.held)
+    one now _ may (inl on) s = none_some refl on.at
+    one now e may (inr kept) s = steps.kept_step heard s.step.copying (applied now e) kept (omega arith) (paced_table row now (applied now e) refl)
+        (onward_tables links row cell now (applied now e) refl refl (paced_table row now (applied now e) refl))
 
-    step_paced : (now : PairState) (c : Cell) (copy : Copying) (done : JobResult) → CopyStep here now c copy done → IsPaced row now done.own
-    step_paced now c copy _ (Closes_copy synced left) =
-        let p = paced_copied (cell_link here.state c) (without_copying now c) c.block row in
-        record { paged = p.paged; after = p.after; flag = p.flag }
-    step_paced now c copy _ _ = record { paged = refl; after = refl; flag = refl }
+    each : (now : PairState) (e : Effect) → May heard here own now e → ChangesHere now e → Stands now → Stands (applied now e)
+    each now e may change s = record {
+      step = step_on heard links row cell vo own now (applied now e) s.step (one now e may change s);
+      finds = λ on. each_marks heard here own f.fit cell (own_cell on) now e may (s.finds on);
+    }
 
-    taken_apart : (c : Cell) → cell ≢ c → (now : PairState) (copy : Copying) → TakenCopy heard own c now copy → IsTakenUp c now copy
-    taken_apart c ne _ _ (Copy_as_is copy is) = record { step = itself cell own f.old; kept = keeps_itself cell own; is = is }
-    taken_apart c ne _ _ (Copy_trimmed copy h is fresh) = taken_with c ne copy is (record copy { trimmed = true })
-    taken_apart c ne _ _ (Copy_synced copy h is trimmed lt) = taken_with c ne copy is (record copy { index = copy.index + 1 })
+    stands : Stands own
+    stands = record {
+      step = steps.kept_step heard f.old own (keeps_itself cell own) (omega arith) (record { paged = refl; after = refl; flag = refl })
+          (onward_tables links row cell own own refl refl (record { paged = refl; after = refl; flag = refl }));
+      finds = λ on. begun_marks heard here own f.fit cell (own_cell on);
+    }
 
-    -- and does its next step
-    step_apart : (c : Cell) → cell ≢ c → (now : PairState) → AreCopying links row cell (Some now) vo → (copy : Copying) → copying_on now c ≡ Some copy
-        → (of : LinkRow) → cell_link here.state c ≡ Some of → (progress_on now of).paged ≡ true → (done : JobResult)
-        → KeepsCell cell now done.own → CopyStep here now c copy done → HolderStep heard links row cell vo now done.own
-    step_apart c ne now old copy is of of_is paged _ k (Unmarks_copied kind synced left) =
-        steps.kept_step heard old _ k (omega arith) (record { paged = refl; after = refl; flag = refl })
-        (onward_tables links row cell now _ refl refl (record { paged = refl; after = refl; flag = refl }))
-    step_apart c ne now old copy is of of_is paged _ k (Closes_copy synced left) =
-        let onward = closed_onward here.state links row cell f.is f.links_are c ne now (old.ordered now refl) copy is of of_is paged in
-        steps.kept_step heard old _ k
-        (let e = ap (λ (p : Pairs). p.next) (closed_pairs here now c) in omega arith) (step_paced now c copy _ (Closes_copy synced left))
-        (record { late = onward.late; yet = onward.yet; others = onward.others; page = onward.page })
-    step_apart c ne now old copy is of of_is paged _ k _ = itself cell now old
-
-    goes_apart : (c : Cell) → cell ≢ c → (now : PairState) (copy : Copying) (done : JobResult) → TakenCopy heard own c now copy
-        → CopyStep here now c copy done → Step done
-    goes_apart c ne now copy done taken step =
-        let one = taken_apart c ne now copy taken in
-        let of = taken_paged c now copy taken in
-        let k = beside done (By_holder done (Goes_on_copying c now copy done taken step)) (λ e. ne (sym (same_some e))) in
-        step_on heard links row cell vo own now done.own one.step
-        (step_apart c ne now one.step.copying copy one.is of.0 of.1 of.2 done (keeps_between cell own now done.own one.kept k) step)
-
-    -- a copy that begins asks first
-    begun_own : (c : Cell) (done : JobResult) → CopyStep here (begins_copy own c) c (first_copy own.pairs.next) done → done.own ≡ begins_copy own c
-    begun_own c _ (Asks_to_trim fresh) = refl
-    begun_own c _ (Sends r trimmed there) = true_false trimmed refl
-    begun_own c _ (Unmarks_copied kind synced left) = true_false synced.trimmed refl
-    begun_own c _ (Closes_copy synced left) = true_false synced.trimmed refl
-
-    holder_step : (done : JobResult) → DidHolder heard here own done → Step done
-    holder_step _ (Asks_page id r other held fresh) = let same = same_paced own refl refl in
-        holder_apart _ (Asks_page id r other held fresh) (λ e. none_some refl e) same.0 same.1
-    holder_step _ (Turns_page id r other after block h held fresh at) = turns_page id r other after block h held fresh at
-    holder_step done (Begins_copy id r other c _ held next step) =
-        let n = next_is here.state id r own held.is c next in
-        either c done
-        (λ e g.
-        let same : r ≡ row = same_some (sym n.is ∙ g.is) in
-        begins_at c g (subst (λ (x : LinkRow). IsNext here.state x own c) same n) done step)
-        (λ ne. let begun = sym (begun_own c done step) in
-        holder_apart done (Begins_copy id r other c _ held next step) (λ e. ne (sym (same_some e)))
-        (subst (IsPaced row own) begun (record { paged = refl; after = refl; flag = refl }))
-        (subst (IsOnward links row cell own) begun
-        (begun_onward here.state links row cell f.is f.links_are c ne own r n (kept_lives heard here own f.fit cell f.alive))))
-    holder_step done (Goes_on_copying c now copy _ taken step) = either c done (λ e g. goes_on_at c g now copy done taken step)
-        (λ ne. goes_apart c ne now copy done taken step)
-    holder_step _ (Finds_it_full c copy h is trimmed lt) = either c (silent (with_full (without_copying own c) true))
-        (λ e g. full_at c g copy is trimmed lt)
-        (λ ne. let onward = ended_onward here.state links row cell f.is f.links_are c ne own in
-        holder_apart _ (Finds_it_full c copy h is trimmed lt) (λ e. ne (sym (same_some e))) (record { paged = refl; after = refl; flag = refl })
-        (record { late = onward.late; yet = onward.yet; others = onward.others; page = onward.page }))
-    holder_step _ (Tidies id r block kind is both idle_is left) =
-        holder_apart _ (Tidies id r block kind is both idle_is left) (λ e. none_some refl e)
-        (record { paged = refl; after = refl; flag = refl })
-        (onward_tables links row cell own _ refl refl (record { paged = refl; after = refl; flag = refl }))
-
-    -- ### As the other server of another link
-
-    abbrev KeepsCopies : PairState → PairState → Type 0
-    KeepsCopies now to = (to.copies.progress ≡ now.copies.progress) × (to.copies.pending ≡ now.copies.pending)
-
-    trim_copies : (now : PairState) (c : Cell) (last : LastCopy) (holder : ℕ) (done : JobResult) → TrimStep now c last holder done
-        → KeepsCopies now done.own
-    trim_copies now c last holder _ (Is_trimmed none) = (refl, refl)
-    trim_copies now c last holder _ (Drops_entry epoch epochs left) = (refl, refl)
-
-    other_copies : (done : JobResult) → DidOther heard here own done → KeepsCopies own done.own
-    other_copies done (Is_copied_to number c epochs holder _ h held newer step) =
-        trim_copies (with_last_copy own c (first_last number epochs)) c (first_last number epochs) holder done step
-    other_copies done (Goes_on_trimming c holder last _ held is step) = trim_copies own c last holder done step
-    other_copies _ _ = (refl, refl)
-
-    -- ### All of them
-
-    not_held : {A : Type 0} (holder : ℕ) → cell_holder here cell ≡ Some holder → A
-    not_held holder held = holder_not_other here f.fit.steady cell row f.is mine holder held
-
-    -- the cell is not worked on, and nothing is changed of copies at the holder
-    unworked : (done : JobResult) (did : Did heard here own done) → (RoleIn heard here own f.fit done did cell → ⊥)
-        → done.own.copies.progress ≡ own.copies.progress → done.own.copies.pending ≡ own.copies.pending → Step done
-    unworked done did no_role progress pending =
-        let paced = same_paced done.own progress pending in
-        kept done (role_keeps heard here own f.fit cell f.alive done did no_role no_idle)
-        (did_count heard here own done did) paced.0 paced.1
-
-    same_copies : (done : JobResult) (did : Did heard here own done) → (RoleIn heard here own f.fit done did cell → ⊥)
-        → done.own.copies ≡ own.copies → Step done
-    same_copies done did no_role same = unworked done did no_role (ap (λ (c : Copies). c.progress) same) (ap (λ (c : Copies). c.pending) same)
-
-    did_step : (done : JobResult) → Did heard here own done → Step done
-    did_step done (By_lead _ d) = lead_step done d
-    did_step done (By_second _ d) = same_copies done (By_second done d)
-        (λ so. alone_not_second here f.fit.steady cell row f.is here.me mine so)
-        (of_second heard here own done d).copies
-    did_step done (By_holder _ d) = holder_step done d
-    did_step done (By_other _ d) =
-        let same = other_copies done d in
-        unworked done (By_other done d) (λ by. not_held by.holder by.held) same.0 same.1
-    did_step done (By_filler _ d) =
-        let frame = of_filler heard here own done d in unworked done (By_filler done d) (λ none. none) frame.progress frame.pending
-    did_step done (By_sweep _ d) = same_copies done (By_sweep done d) (λ none. none) (of_sweep heard here own done d).copies
-    did_step done (By_read _ d) = same_copies done (By_read done d) (λ none. none) (ap (λ (o : PairState). o.copies) (of_read heard here own done d).same)
-    did_step done did = itself cell own f.old
+    did_step : (done : JobResult) → Did heard here own done → Step own done.own
+    did_step done did = (cell_keeps heard here own f.fit cell f.alive Stands each stands done did).step
 
     -- the copy of which a letter tells is under way after the job
-    under_way : (now : PairState) (copy : Copying) → IsCopying heard here own cell now copy → copying_on now cell ≡ Some copy
-    under_way _ _ (Begins id r other held next) = cell_same own.copies.pending cell (first_copy own.pairs.next)
-    under_way _ _ (Goes_on _ _ (Copy_as_is copy is)) = is
-    under_way _ _ (Goes_on _ _ (Copy_trimmed copy h is fresh)) = cell_same own.copies.pending cell (record copy { trimmed = true })
-    under_way _ _ (Goes_on _ _ (Copy_synced copy h is trimmed lt)) = cell_same own.copies.pending cell (record copy { index = copy.index + 1 })
+    told_of : (now : PairState) (copy : Copying) → IsCopying heard here own cell now copy → copying_on now cell ≡ Some copy
+    told_of _ _ (Begins id r other held next) = cell_same own.copies.pending cell (first_copy own.pairs.next)
+    told_of _ _ (says.Goes_on now copy taken) = (under_way heard here own cell now copy taken).is
 
     says_told : (new : PairState) → AreCopying links row cell (Some new) vo → (post : Post) → Says heard here own new post
         → (about post.body).cell ≡ Some cell → IsTold row (Some new) vo post.body
     says_told new old = telling heard here own row (Some new) vo cell new
-        (λ copy copies fresh. moves.trim_told heard old copy (under_way new copy copies) fresh) (λ last holder held is none. not_held holder held)
-        (λ copy entry copies trimmed there. moves.entry_told heard old copy (under_way new copy copies) entry trimmed there)
+        (λ copy copies fresh. moves.trim_told heard old copy (told_of new copy copies) fresh) (λ last holder held is none. not_held holder held)
+        (λ copy entry copies trimmed there. moves.entry_told heard old copy (told_of new copy copies) entry trimmed there)
         (λ number index holder last held is same lt. not_held holder held)
 
     -- what is kept

@@ -1,9 +1,9 @@
 -- How far a holder is with a link: what stays so, and what a page changes.
-use Rattle.law_copies.proofs.Imports.{◌∙◌, ◌≡◌, Busy, Cell, IsMarked, LinkId, LinkRow, MarkKind, None, Option, PairState, Progress, Some, Stale, Store, Table}
-use Rattle.law_copies.proofs.Imports.{above, ap, at, by_bool, by_test, cell_at, eq_by_cmp, false, id_of, inl, inr, is_eq, is_flagged, link_cmp, mark_kept}
-use Rattle.law_copies.proofs.Imports.{nat_cmp, nat_cmp_total, no_progress, option_map_or, ordering_then, progress_beside, progress_here, progress_on, refl}
-use Rattle.law_copies.proofs.Imports.{same_block, same_caught, same_id, same_numbers, sym, tied_itself, true, true_false, unwrap_or, with_copied}
-use Rattle.law_copies.proofs.Imports.{with_mark_on, with_page, with_progress, ℕ}
+use Rattle.law_copies.proofs.Imports.{◌∙◌, ◌≡◌, Busy, Cell, IsMarked, LinkId, LinkRow, MarkKind, None, Option, PairState, Progress, Some, Stale, Store}
+use Rattle.law_copies.proofs.Imports.{Table, above, ap, at, by_bool, by_test, cell_at, eq_by_cmp, false, id_of, inl, inr, is_eq, is_flagged, link_cmp}
+use Rattle.law_copies.proofs.Imports.{mark_kept, nat_cmp, nat_cmp_total, no_progress, option_map_or, ordering_then, progress_beside, progress_here}
+use Rattle.law_copies.proofs.Imports.{progress_on, refl, same_block, same_caught, same_id, same_numbers, sym, tied_itself, true, true_false, turned_page}
+use Rattle.law_copies.proofs.Imports.{unwrap_or, with_copied, with_mark_on, with_page, with_progress, ℕ}
 
 -- pages and the ballot are as they were
 pub record IsPaced (row : LinkRow) (own to : PairState) : Type 0 where
@@ -19,7 +19,7 @@ paced_table row own to e = record {
 }
 
 -- by what stands of the link
-paced_by : (row : LinkRow) (own to : PairState) → (progress_on to row).paged ≡ (progress_on own row).paged
+pub paced_by : (row : LinkRow) (own to : PairState) → (progress_on to row).paged ≡ (progress_on own row).paged
     → (progress_on to row).after ≡ (progress_on own row).after
     → (progress_on to row).caught ≡ (progress_on own row).caught → IsPaced row own to
 paced_by row own to paged after caught = record {
@@ -36,6 +36,12 @@ paced_beside own of new row apart =
     let e = progress_beside own of new row apart in
     paced_by row own (with_progress own of new) (ap (λ (p : Progress). p.paged) e) (ap (λ (p : Progress). p.after) e)
     (ap (λ (p : Progress). p.caught) e)
+
+-- a page of another link
+pub page_beside : (own : PairState) (of : LinkRow) (row : LinkRow) (block : Option ℕ) → eq_by_cmp link_cmp (id_of row) (id_of of) ≡ false
+    → progress_on (turned_page of own block) row ≡ progress_on own row
+page_beside own of row None apart = progress_beside own of _ row apart
+page_beside own of row (Some block) apart = progress_beside (record own { store = with_mark_on own.store Stale (cell_at of block) }) of _ row apart
 
 -- where what is put has the same
 pub paced_put : (own : PairState) (of : LinkRow) (new : Progress) (row : LinkRow) → new.paged ≡ (progress_on own of).paged

@@ -11,19 +11,19 @@ pub use Rattle.law_state.proofs.Imports.{joins_blank, left_state, length, length
 pub use Rattle.law_state.proofs.Imports.{not_true, number_itself, option_and_then, option_map, option_map_or, refl, row_lead, same_numbers, same_or_apart}
 pub use Rattle.law_state.proofs.Imports.{same_some, second, secondary, slice_get, slice_get-map, slice_get_within, some_or_none, state_lead, subst, sym}
 pub use Rattle.law_state.proofs.Imports.{touches, true, true_false, unwrap_or, ℕ}
-pub use Rattle.law_log.proofs.Imports.{if◌then◌else◌, ◌||◌, Acted, AreSteps, Ask, Blank, Block, Body, Copying, Ending, Entry, Equal, Firm, HasProperTuple}
-pub use Rattle.law_log.proofs.Imports.{HasProperTuples, IsSettledState, IsSound, JobContext, JobResult, Key, LastCopy, LastOp, Letter, Life, Log, NextCopy}
-pub use Rattle.law_log.proofs.Imports.{Pending, Post, Reaction, Script, Step, Stored, Table, Wait, about, above, acts, all_put_apart, awake, begins_copy}
-pub use Rattle.law_log.proofs.Imports.{blanked, cell_at, cell_holder, cell_of, chain_in, client_sender, closes, copying_on, ended, ends, eq_by_cmp}
-pub use Rattle.law_log.proofs.Imports.{fill_operation, gives_back, has_proposed, holds_link, id_of, is_eq, is_flagged, is_logged, is_second, is_under_way}
-pub use Rattle.law_log.proofs.Imports.{key_at, last_copy, last_on, link_named, log_plain, map, moved_as, nat_cmp, nat_cmp_total, no_progress, other_in}
-pub use Rattle.law_log.proofs.Imports.{pending_on, post_of, progress_on, proposed, put_apart, put_same, puts_entry, raised, ranked, reacts, same_block}
-pub use Rattle.law_log.proofs.Imports.{sender, server_state, setting_of, silent, stamped, start, state_in, stays, subject_of, tied_itself, wakes, with_copied}
-pub use Rattle.law_log.proofs.Imports.{with_full, with_last_copy, with_opened, with_page, with_progress, without_copying, without_pending, world_after}
+pub use Rattle.law_log.proofs.Imports.{◌||◌, Acted, AreSteps, Ask, Blank, Block, Body, Copying, Ending, Entry, Equal, Firm, HasProperTuple, HasProperTuples}
+pub use Rattle.law_log.proofs.Imports.{IsSettledState, IsSound, JobContext, JobResult, Key, LastCopy, LastOp, Letter, Life, Log, NextCopy, Pending, Post}
+pub use Rattle.law_log.proofs.Imports.{Reaction, Script, Step, Stored, Table, Wait, about, above, acts, all_put_apart, awake, begins_copy, blanked, cell_at}
+pub use Rattle.law_log.proofs.Imports.{cell_holder, cell_of, chain_in, client_sender, closes, copying_on, ended, eq_by_cmp, fill_operation, has_proposed}
+pub use Rattle.law_log.proofs.Imports.{holds_link, id_of, if◌then◌else◌, is_eq, is_flagged, is_logged, is_second, is_under_way, key_at, last_copy, last_on}
+pub use Rattle.law_log.proofs.Imports.{link_named, log_plain, map, moved_as, nat_cmp, nat_cmp_total, no_progress, other_in, pending_on, post_of, progress_on}
+pub use Rattle.law_log.proofs.Imports.{proposed, put_apart, put_same, puts_entry, raised, ranked, reacts, same_block, sender, server_state, setting_of}
+pub use Rattle.law_log.proofs.Imports.{silent, stamped, start, state_in, stays, subject_of, tied_itself, wakes, with_copied, with_last_copy, with_page}
+pub use Rattle.law_log.proofs.Imports.{with_progress, without_copying, world_after}
 unfoldable pub use Rattle.law_log.proofs.Imports.{next_copy, put_at}
 pub use Rattle.law_steps.specs.Imports.{Busy, IsBelow, MarkKind, Nothing, Paired, Sender, Stage, Stale, StaysSo, Subject, before_blanks, cell_cmp, crossed}
 pub use Rattle.law_steps.specs.Imports.{epochs_beyond, epochs_of, follows, holder_of, least, letters_of, live, marked_blocks, marks, operation, puts}
-pub use Rattle.law_steps.specs.Imports.{settled_by, stage_at, unmarks, with_copying, with_paired, with_pending, with_reserved, without_entry, without_mark_on}
+pub use Rattle.law_steps.specs.Imports.{settled_by, stage_at, with_copying, without_entry, without_mark_on}
 pub use Rattle.law_steps.proofs.Imports.{ByBoth, ByNone, ByOne, Chain, Copies, Greater, HasStarted, IsCaughtStill, IsRetired, IsSteady, Less, Logged, Mark}
 pub use Rattle.law_steps.proofs.Imports.{Ordering, Pairs, Read_asked, Store, Write_asked, alone_row, at-empty, at-where, blocks_left, cell_apart}
 pub use Rattle.law_steps.proofs.Imports.{cell_cmp_same, cell_cmp_total, cell_gone, cell_gone_apart, cell_same, dies, either_false, ends_cell, ends_link}
@@ -31,40 +31,36 @@ pub use Rattle.law_steps.proofs.Imports.{found_at, history_grows, history_is_fir
 pub use Rattle.law_steps.proofs.Imports.{lesser, log_alone, log_below, log_steady, lookup, max, needs_full_copy, next_block, no_copies, none_of, one_prefix}
 pub use Rattle.law_steps.proofs.Imports.{out_has_stopped, prefix_itself, prefix_long, prefix_more, prefix_on, prefix_plain, progress_beside, progress_here}
 pub use Rattle.law_steps.proofs.Imports.{row_in_both, same_caught, same_id, same_place, settling, so_both, stage_most, stored_blocks, touches_cell, up_some}
-pub use Rattle.law_steps.proofs.Imports.{version_of, was_true, who_is_in_has_begun, with_mark_at, with_mark_on}
+pub use Rattle.law_steps.proofs.Imports.{version_of, was_true, who_is_in_has_begun, with_mark_on}
 unfoldable pub use Rattle.law_steps.proofs.Imports.{put, without}
-pub use Rattle.law_jobs.specs.Imports.{Begins_copy, By_holder, By_lead, By_other, By_second, Closes_alone, Did, DidHolder, DidLead, DidOther, DidSecond}
-pub use Rattle.law_jobs.specs.Imports.{Finds_it_full, Follows, Gives_up, Goes_on_copying, Goes_on_retired, Goes_on_trimming, IsHeldWith, IsOfCopy}
-pub use Rattle.law_jobs.specs.Imports.{Is_copied_to, Marks, Marks_alone, Opens_alone, Opens_fill, Opens_fill_alone, Puts_alone, Puts_entry, Sets_apart, Taken}
-pub use Rattle.law_jobs.specs.Imports.{TakenCopy, Turns_page, Unmarks_alone, chains_with, first_copy, first_last, progress, putting}
-pub use Rattle.law_jobs.proofs.Imports.{As_it_is, As_told, Asks_page, Asks_to_trim, Blanks, By_ballot, By_entry, By_filler, By_job, By_read, By_sweep}
-pub use Rattle.law_jobs.proofs.Imports.{Closes_copy, CopyStep, Copy_as_is, Copy_synced, Copy_trimmed, Drops_entry, Ends, Fails, Goes, Handled, Happens}
-pub use Rattle.law_jobs.proofs.Imports.{Is_trimmed, Rests, Sends, Serves, Serving, Stays, Tidies, TrimStep, Turns, Unmarks_copied, Wakes, Worked, always_firm}
-pub use Rattle.law_jobs.proofs.Imports.{at_apart, at_same, below_itself, chains_at, is_clients, is_mark, is_marked, last_happens, mark_on, of_read, of_sweep}
-pub use Rattle.law_jobs.proofs.Imports.{own_place, rests_after, row_named, same_cell_or_apart, same_mark, start_rests, taking}
-pub use Rattle.law_copies.specs.Imports.{AtRest, IsMarked, IsReady, IsRising, IsToBeCopied, WasStarted, blank_joins_in, is_between, kept_store, no_pairs}
+pub use Rattle.law_jobs.specs.Imports.{Did, IsHeldWith, IsOfCopy, TakenCopy, chains_with, first_copy, first_last, progress, putting}
+pub use Rattle.law_jobs.proofs.Imports.{Asks_page, Blanks, By_ballot, By_entry, By_job, Ends, Fails, Goes, Handled, Happens, Is_trimmed, Rests, Serves}
+pub use Rattle.law_jobs.proofs.Imports.{Serving, Stays, Turns, Wakes, Worked, always_firm, at_apart, at_same, below_itself, chains_at, is_clients, is_mark}
+pub use Rattle.law_jobs.proofs.Imports.{is_marked, last_happens, mark_on, own_place, rests_after, row_named, same_cell_or_apart, same_mark, start_rests}
+pub use Rattle.law_jobs.proofs.Imports.{stood, taking, was_same}
+pub use Rattle.law_copies.specs.Imports.{AtRest, IsMarked, IsRising, IsToBeCopied, WasStarted, blank_joins_in, is_between, kept_store, no_pairs}
 pub use Rattle.law_copies.specs.Imports.{one_put_ahead, with_store}
 pub use Rattle.std.proofs.lemmas.Bool.{cases_lt}
 pub use Rattle.std.specs.Ordering.{ordering_then}
 pub use Rattle.busy_marks.proofs.Orders.{same_itself}
 pub use Rattle.busy_marks.specs.Marks.{has_mark}
-pub use Rattle.law_jobs.proofs.ChainsApart.{chain_apart, chain_put, closed_pairs, closed_store, copied_chains, drop_apart, drop_none, gone_apart, gone_chain}
-pub use Rattle.law_jobs.proofs.ChainsApart.{page_chains}
+pub use Rattle.law_jobs.proofs.ChainsApart.{chain_apart, chain_put, drop_apart, drop_none, gone_apart, gone_chain, page_chains}
 pub use Rattle.law_jobs.proofs.CountsGrow.{did_count}
 pub use Rattle.law_jobs.proofs.FillsByJobs.{Fills, Stood, Writes, did_come}
-pub use Rattle.law_jobs.proofs.JobsAreEffects.{at_keeps, effects_at, job_keeps}
+pub use Rattle.law_jobs.proofs.JobsAreEffects.{job_keeps, under_way}
 pub use Rattle.law_jobs.proofs.JobsKeepChains.{chains_keep}
 pub use Rattle.law_jobs.proofs.JobsSay.{letters_of_job}
 pub use Rattle.law_jobs.proofs.MarksApart.{mark_beside, mark_kept, mark_there, stale_kept, unmark_beside, unmark_none}
 pub use Rattle.law_jobs.proofs.Runs.{At, OneMore, Run, before_part, by_run, firm_in, grown_in, happened_in, longer, more_of, rests_in, run_of, setting_in}
 pub use Rattle.law_jobs.proofs.Runs.{since, stepped_in}
-pub use Rattle.law_jobs.specs.Effects.{A_copy, A_lead, A_new_copy, A_sweep, Alone_has, An_operation, As_copy, As_operation, As_second, Both_have, Closes}
-pub use Rattle.law_jobs.specs.Effects.{Counts, Drops, Effect, Ends_copy, For_a_fill, For_a_write, HasEnded, Idle, IsApart, IsAt, IsClosedFor, IsDroppedFor}
-pub use Rattle.law_jobs.specs.Effects.{IsIdle, IsOpening, IsPutFor, IsReserved, IsSetFor, Is_copied, Is_declined, Is_over}
-pub use Rattle.law_jobs.specs.Effects.{Is_retired, May, Opens, Puts, Reserves, Sets, The_last_copy, applied, entry_ahead}
+pub use Rattle.law_jobs.specs.Effects.{A_copy, A_lead, A_new_copy, A_sweep, Alone_has, An_operation, As_copy, As_operation, As_second, Begins_copy, Both_have}
+pub use Rattle.law_jobs.specs.Effects.{By_a_copy, By_its_operation, Closes, CopyGoes, Drops, Effect, Ends_copy, For_a_fill, For_a_write, Found_no_slot}
+pub use Rattle.law_jobs.specs.Effects.{HasEnded, Has_put, Has_trimmed, Holds_slots, Idle, IsApart, IsClosedFor, IsDroppedFor, IsIdle, IsNewCopy, IsNextPage}
+pub use Rattle.law_jobs.specs.Effects.{IsNotHeld, IsOpening, IsPutFor, IsReserved, IsSetFor, IsToBegin, IsToEnd, IsUnderWay, IsUnmarkedFor}
+pub use Rattle.law_jobs.specs.Effects.{Is_copied, Is_declined, Is_off, Is_old, Is_over, Is_retired, Is_whole, Marks, May, Opens}
+pub use Rattle.law_jobs.specs.Effects.{Puts, Reserves, Sets, The_last_copy, Turns_page, Unmarks, applied, ended_copy, entry_ahead, turned_page}
 pub use Rattle.law_jobs.specs.Sayings.{Asks_copy, Asks_slot, Begins, Ends_fill, Goes_on, Has_copy, Has_slot, IsCopying, Is_sync_full, Is_synced, Moves}
 pub use Rattle.law_jobs.specs.Sayings.{Moves_on, Says, Syncs, Tells_page, Trims}
-pub use Rattle.law_jobs.specs.Worked.{holder_cell, lead_cell, other_cell, page_cell, second_cell, worked}
 pub use Rattle.law_log.proofs.BallotFlags.{flag_put}
 pub use Rattle.law_log.proofs.LogInHistories.{chosen_caught_was}
 pub use Rattle.law_state.proofs.BlankJoins.{counts_joins, joined_counts, joins_grow, joins_on}
@@ -78,7 +74,7 @@ pub use Rattle.law_state.proofs.Incarnations.{joined_in, joined_once, joined_sin
 pub use Rattle.law_state.proofs.Joins.{both_before}
 pub use Rattle.law_state.proofs.LaterDisks.{past_link}
 pub use Rattle.law_state.proofs.Leaves.{either_true, other_between}
-pub use Rattle.law_state.proofs.ListLookups.{get_in, in_get}
+pub use Rattle.law_state.proofs.ListLookups.{get_in, in_filter, in_get}
 pub use Rattle.law_state.proofs.LoneHolders.{IsBothRow, both_not_alone, both_row, second_secondary}
 pub use Rattle.law_state.proofs.NewMapLinks.{in_map}
 pub use Rattle.law_state.proofs.Prefixes.{prefix_within}
@@ -89,7 +85,6 @@ pub use Rattle.law_state.specs.LinkChanges.{By_caught, By_join, By_leave, IsCaug
 pub use Rattle.law_state.specs.LinkRows.{IsLater}
 pub use Rattle.law_steps.proofs.ClientLetters.{turned_asks}
 pub use Rattle.law_steps.proofs.CopiesRest.{among_least, cell_left, in_none, on_row, same_cell}
-pub use Rattle.law_steps.proofs.CopyFrames.{of_holder}
 pub use Rattle.law_steps.proofs.HeldBackForCaughts.{held_as_flag}
 pub use Rattle.law_steps.proofs.IdleServers.{logged_apart}
 pub use Rattle.law_steps.proofs.InvertLead.{is_copying}
@@ -99,7 +94,6 @@ pub use Rattle.law_steps.proofs.LogHistories.{chosen_join_acts, join_has_begun, 
 pub use Rattle.law_steps.proofs.OneWorld.{proposed_as}
 pub use Rattle.law_steps.proofs.OperationsRest.{did_ready}
 pub use Rattle.law_steps.proofs.Records.{none_before_none, split_last}
-pub use Rattle.law_steps.proofs.Subjects.{of_ending, of_filler, of_lead, of_second}
 pub use Rattle.law_steps.proofs.TablesOfPuts.{at_row, put_rises, without_rises}
 pub use Rattle.law_steps.proofs.Ties.{running_prefixes, stays_alone, stays_both}
 pub use Rattle.law_steps.proofs.WakingGoesOn.{may_wake}
@@ -112,8 +106,8 @@ pub use Rattle.petal_msg.specs.declared.operation.FollowProgress.TheVariants.{Re
 pub use Rattle.spec_history.specs.Claims.{AreCovered, Covered, MarksFirst, TwoCopies, is_at_work}
 pub use Rattle.spec_rules.proofs.Applied.{rev_after}
 pub use Rattle.spec_rules.specs.Blanked.{BeforeBlank}
-pub use Rattle.spec_rules.specs.Copies.{turns_page as turned}
 pub use Rattle.spec_rules.specs.Crossing.{is_blank_join, touches_link}
 pub use Rattle.spec_rules.specs.Store.{empty_store, settled}
 pub use Rattle.spec_rules.specs.World.{counted, counted_by, kept, kept_by}
+pub use Rattle.law_jobs.proofs.OperationsCome.{put_with}
 pub use Rattle.spec_state.specs.State.{start as first_state}

@@ -92,8 +92,8 @@ module _ (it : AtSeat) where
         counts = did_count (Handled w k) here own done did;
         marks = (job_marked (Handled w k) here own fit idle done did).marks;
         unheard = λ cell unborn unheard. record {
-          bare = unborn_bare (Handled w k) here own fit cell unborn done did;
-          last = (unborn_keeps (Handled w k) here own fit cell unborn done did).rest.followed ∙ unheard.last;
+          bare = unborn_bare (Handled w k) here own fit cell (omega arith) done did unborn;
+          last = (unborn_keeps (Handled w k) here own fit cell (omega arith) done did unborn).rest.followed ∙ unheard.last;
           pages = λ none row map_is.
               did_pages (Handled w k) here own row (unlinked_apart setting.servers (server_state setting w k) plain_here cell none row map_is) done did
               ∙ unheard.pages none row map_is;

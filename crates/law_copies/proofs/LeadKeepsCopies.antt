@@ -1,17 +1,18 @@
 -- What a step of the first server of a cell in Both keeps of its two copies.
-use Rattle.law_copies.proofs.Imports.{◌+◌, ◌∙◌, ◌≡◌, ◌≢◌, ◌≤◌, ◌⊎◌, A_lead, Alone_has, An_operation, As_copy, As_operation, As_second, Body, Both_have, Cell}
-use Rattle.law_copies.proofs.Imports.{Closes, Counts, Did, Drops, Effect, Ending, For_a_fill, For_a_write, HasEnded, IsApart, IsClosedFor, IsOpening}
-use Rattle.law_copies.proofs.Imports.{IsPutFor, IsReserved, IsSetFor, Is_declined, Is_over, Is_retired, JobResult, Key}
-use Rattle.law_copies.proofs.Imports.{LastOp, May, None, Opens, PairState, Pairs, Pending, Puts, Sets, Some, Stage, Stored, about, ap, applied}
-use Rattle.law_copies.proofs.Imports.{arith, at, both, both_not_alone, cell_apart, cell_cmp, cell_gone, cell_gone_apart, cell_of}
-use Rattle.law_copies.proofs.Imports.{cell_same, chain_in, chain_put, chains_with, ended, entry_ahead, false, fill_operation, follows, inl, inr}
-use Rattle.law_copies.proofs.Imports.{is_alone_on, job_keeps, live, nat_cmp, operation, pending_on, put, putting, refl, same_cell_or_apart, so_both}
-use Rattle.law_copies.proofs.Imports.{stage_live, subst, sym, taking, true, true_false, version_of, without}
+use Rattle.law_copies.proofs.Imports.{◌+◌, ◌∙◌, ◌≡◌, ◌≢◌, ◌≤◌, ◌⊎◌, A_lead, Alone_has, An_operation, As_copy, As_operation, As_second, Body}
+use Rattle.law_copies.proofs.Imports.{Bool, Both_have, Cell, Closes, Did, Drops, Effect, Ending, For_a_fill, For_a_write, HasEnded, IsApart, IsClosedFor}
+use Rattle.law_copies.proofs.Imports.{IsOpening, IsPutFor, IsReserved, IsSetFor, Is_declined, Is_over, Is_retired}
+use Rattle.law_copies.proofs.Imports.{JobResult, Key, LastOp, May, None, Opens, PairState, Pairs, Pending, Puts, Sets, Some, Stage}
+use Rattle.law_copies.proofs.Imports.{Stored, about, ap, applied, arith, at, both, both_not_alone, by_bool, cell_cmp}
+use Rattle.law_copies.proofs.Imports.{cell_gone, cell_of, cell_same, chain_in, chain_put, chains_with, ended, entry_ahead, false}
+use Rattle.law_copies.proofs.Imports.{fill_operation, follows, inl, inr, is_alone_on, live, nat_cmp, operation, pending_on, put}
+use Rattle.law_copies.proofs.Imports.{putting, refl, same_some, so_both, stage_live, subst, sym, taking, true, true_false}
+use Rattle.law_copies.proofs.Imports.{version_of, without}
 use Rattle.law_jobs.specs.Effects.{Goes_on}
 use Rattle.law_copies.specs.Pair.{Keeps, Known, Pair, PairOk, far, pair_of}
 use Rattle.law_copies.specs.Visits.{AliveIn}
-use Rattle.law_copies.proofs.CellInBoth.{CellInBoth, copied_apart, drop_rests, second_apart}
-use Rattle.law_copies.proofs.WorkedCell.{own_apart, put_apart}
+use Rattle.law_copies.proofs.CellInBoth.{CellInBoth, copied_apart, dropped_apart, second_apart}
+use Rattle.law_copies.proofs.EffectsOnCells.{Changes, cell_keeps}
 use Rattle.petal_msg.specs.declared.body.Body.TheVariants as body
 use Rattle.law_copies.proofs.CellChangesKeepCopies as moves
 
@@ -57,7 +58,7 @@ module _ (it : CellInBoth) (leads : it.row.primary ≡ it.here.me) (second_own :
 
   sets_keeps : (now : PairState) (op : Pending) → IsSetFor heard here own now op → PairOk (pair now) → cell ≡ op.cell
       → Keeps (pair now) (record (pair now) { pending = Some op })
-  sets_keeps now _ (Goes_on op stage there same reserved) so e =
+  sets_keeps now _ (Goes_on op stage there same reserved busy stale) so e =
       moves.restages (pair now) op stage so (ap (at cell_cmp now.pairs.pending) e ∙ there) same (λ r. reserved_so op e (reserved r))
 
   closes_keeps : (now : PairState) (op : Pending) (how : Ending) → HasEnded heard here own op how → at cell_cmp now.pairs.pending cell ≡ Some op
@@ -73,13 +74,15 @@ module _ (it : CellInBoth) (leads : it.row.primary ≡ it.here.me) (second_own :
       → Keeps (pair now) (record (pair now) { pending = None })
   closed_so now _ (Is_over op how ended there) so e = closes_keeps now op how ended (ap (at cell_cmp now.pairs.pending) e ∙ there) so e
 
-  puts_keeps : (now : PairState) (op : Pending) (stage : Stage) → pending_on own op.cell ≡ Some op → op.stage ≡ putting
+  puts_keeps : (now : PairState) (op : Pending) (reserved paired : Bool) → pending_on own op.cell ≡ Some op → op.stage ≡ putting
       → now.store.chains ≡ own.store.chains → now.pairs ≡ own.pairs → cell ≡ op.cell
-      → K (applied now (Puts op.key (entry_ahead own op.cell op)
-      (As_operation (record op { version = version_of (chain_in own.store.chains op.cell) + 1; stage = record stage { put = true } }))))
-  puts_keeps now op stage is stage_is chains pairs e =
+      → K (applied now (Puts op.key (entry_ahead own op.cell op) (As_operation (record op {
+        version = version_of (chain_in own.store.chains op.cell) + 1;
+        stage = record op.stage { reserved = reserved; paired = paired; put = true };
+      }))))
+  puts_keeps now op reserved paired is stage_is chains pairs e =
       let entry = entry_ahead own op.cell op in
-      let two : Pending = record op { version = entry.version; stage = record stage { put = true } } in
+      let two : Pending = record op { version = entry.version; stage = record op.stage { reserved = reserved; paired = paired; put = true } } in
       let keyed = (fit.ready.staged op.cell op is).keyed in
       let new = applied now (Puts op.key entry (As_operation two)) in
       let copied : put nat_cmp (chain_in own.store.chains op.cell) op.key.epoch entry ≡ chain_in new.store.chains op.cell =
@@ -97,9 +100,10 @@ module _ (it : CellInBoth) (leads : it.row.primary ≡ it.here.me) (second_own :
   put_so : (now : PairState) (key : Key) (stored : Stored) (op : Pending) → IsPutFor heard here own key stored (As_operation op)
       → now.store.chains ≡ own.store.chains → (now.pairs ≡ own.pairs) ⊎ IsApart here op.cell → cell ≡ op.cell
       → K (applied now (Puts key stored (As_operation op)))
-  put_so now _ _ _ (An_operation op stage is fresh (inr apart)) chains same e = apart_not op is e apart
-  put_so now _ _ _ (An_operation op stage is fresh (inl stage_is)) chains (inr apart) e = apart_not op is e apart
-  put_so now _ _ _ (An_operation op stage is fresh (inl stage_is)) chains (inl pairs) e = puts_keeps now op stage is stage_is chains pairs e
+  put_so now _ _ _ (An_operation op reserved paired is fresh (inr apart)) chains same e = apart_not op is e apart
+  put_so now _ _ _ (An_operation op reserved paired is fresh (inl stage_is)) chains (inr apart) e = apart_not op is e apart
+  put_so now _ _ _ (An_operation op reserved paired is fresh (inl stage_is)) chains (inl pairs) e =
+      puts_keeps now op reserved paired is stage_is chains pairs e
 
   -- ### All effects
 
@@ -111,42 +115,26 @@ module _ (it : CellInBoth) (leads : it.row.primary ≡ it.here.me) (second_own :
       → at cell_cmp new.pairs.pending cell ≡ at cell_cmp now.pairs.pending cell → now.pairs.next ≤ new.pairs.next → K new
   after now new k chain pending next = moves.keeps_then k (moves.first_stays now new second_own cell chain pending next k.ok)
 
-  -- the operation is at the cell, or at another one
-  pending_so : (now : PairState) (op : Pending) → K now
-      → (cell ≡ op.cell → Keeps (pair now) (record (pair now) { pending = Some op })) → K (applied now (Sets op))
-  pending_so now op k here_it = elim (same_cell_or_apart cell op.cell) [
-    | inl e ↦
-        let there = ap (at cell_cmp (put cell_cmp now.pairs.pending op.cell op)) e ∙ cell_same now.pairs.pending op.cell op in
-        moves.keeps_then k (subst (Keeps (pair now)) (λ i. record (pair now) { pending = sym there i }) (here_it e))
-    | inr ne ↦ after now (applied now (Sets op)) k refl (cell_apart now.pairs.pending op.cell op cell ne) (omega arith)
-  ]
+  counted : (now : PairState) (e : Effect) → now.pairs.next ≤ (applied now e).pairs.next
+  counted now (Opens op) = omega arith
+  counted now _ = omega arith
 
-  each : (now : PairState) (e : Effect) → May heard here own now e → K now → K (applied now e)
-  each now (Opens op) may k = elim (same_cell_or_apart cell op.cell) [
-    | inl e ↦ subst (λ (o : PairState). K (applied o (Opens op))) (sym may.1) (opens_keeps op may.0 e)
-    | inr ne ↦ after now (applied now (Opens op)) k refl (cell_apart now.pairs.pending op.cell op cell ne) (omega arith)
-  ]
-  each now (Sets op) may k = pending_so now op k (sets_keeps now op may.0 k.ok)
-  each now (Closes q) may k = elim (same_cell_or_apart cell q) [
-    | inl e ↦
-        let gone = ap (at cell_cmp (without cell_cmp now.pairs.pending q)) e ∙ cell_gone now.pairs.pending q in
-        moves.keeps_then k (subst (Keeps (pair now)) (λ i. record (pair now) { pending = sym gone i }) (closed_so now q may k.ok e))
-    | inr ne ↦ after now (applied now (Closes q)) k refl (cell_gone_apart now.pairs.pending q cell ne) (omega arith)
-  ]
-  each now Counts may k = after now (applied now Counts) k refl refl (omega arith)
-  each now (Puts key stored (As_operation op)) may k = elim (same_cell_or_apart cell op.cell) [
-    | inl e ↦ put_so now key stored op may.0 may.1 may.2.1 e
-    | inr ne ↦
-        let apart = own_apart heard here own fit.ready cell alive (fit.bare cell) key stored op may.0 ne in
-        after now (applied now (Puts key stored (As_operation op))) k (put_apart now.store.chains key stored cell apart)
-        (cell_apart now.pairs.pending op.cell op cell ne) (omega arith)
-  ]
-  each now (Puts key stored (As_second last)) may k = after now (applied now (Puts key stored (As_second last))) k
-      (put_apart now.store.chains key stored cell (second_put key stored last may.0)) refl (omega arith)
-  each now (Puts key stored (As_copy last)) may k = after now (applied now (Puts key stored (As_copy last))) k
-      (put_apart now.store.chains key stored cell (copied_apart it key stored last may.0)) refl (omega arith)
-  each now (Drops key) may k = after now (applied now (Drops key)) k (drop_rests it now key may.0 may.2) refl (omega arith)
-  each now _ may k = k
+  each : (now : PairState) (e : Effect) → May heard here own now e → Changes heard here own fit cell alive now e → K now → K (applied now e)
+  each now (Opens op) may (inl on) k = subst (λ (o : PairState). K (applied o (Opens op))) (sym may.1) (opens_keeps op may.0 (sym (same_some on.at)))
+  each now (Sets op) may (inl on) k =
+      let e = sym (same_some on.at) in
+      let there = ap (at cell_cmp (put cell_cmp now.pairs.pending op.cell op)) e ∙ cell_same now.pairs.pending op.cell op in
+      moves.keeps_then k (subst (Keeps (pair now)) (λ i. record (pair now) { pending = sym there i }) (sets_keeps now op may.0 k.ok e))
+  each now (Closes q) may (inl on) k =
+      let e = sym (same_some on.at) in
+      let gone = ap (at cell_cmp (without cell_cmp now.pairs.pending q)) e ∙ cell_gone now.pairs.pending q in
+      moves.keeps_then k (subst (Keeps (pair now)) (λ i. record (pair now) { pending = sym gone i }) (closed_so now q may k.ok e))
+  each now (Puts key stored (As_operation op)) may (inl on) k = put_so now key stored op may.0 may.1 may.2.1 (sym (same_some on.at))
+  each now (Puts key stored (As_second last)) may (inl on) k = absurd (second_put key stored last may.0 (sym (same_some on.at)))
+  each now (Puts key stored (As_copy last)) may (inl on) k = absurd (copied_apart it key stored last may.0 (sym (same_some on.at)))
+  each now (Drops key) may (inl on) k = absurd (dropped_apart it now key may.2 on.lives (sym (same_some on.at)))
+  each now e may (inl on) k = after now (applied now e) k refl refl (omega arith)
+  each now e may (inr kept) k = after now (applied now e) k kept.rest.chain kept.rest.pending (counted now e)
 
   pub lead_keeps : (done : JobResult) → Did heard here own done → K done.own
-  lead_keeps = job_keeps heard here own K each (moves.stays (pair own) own.pairs.next ok (omega arith))
+  lead_keeps = cell_keeps heard here own fit cell alive K each (moves.stays (pair own) own.pairs.next ok (omega arith))

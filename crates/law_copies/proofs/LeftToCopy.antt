@@ -8,7 +8,8 @@ use Rattle.law_copies.proofs.Imports.{is_link, is_link_under_way, is_mark, is_ma
 use Rattle.law_copies.proofs.Imports.{lookup, mark_on, marked_blocks, nat_lt, nat_tests, needs_full_copy, next_block, next_copy, none_of, none_some}
 use Rattle.law_copies.proofs.Imports.{number_itself, on_row, option_map_or, pending_on, progress_on, refl, same_cell, same_itself, same_mark, same_some}
 use Rattle.law_copies.proofs.Imports.{some_or_none, stored_blocks, subst, sym, tied_itself, true, true_false, unwrap_or, ℕ}
-use Rattle.law_copies.proofs.ChainsRise.{any_in, in_any, in_kept, in_left, in_mapped}
+use Rattle.law_copies.proofs.ChainsRise.{any_in, in_any, in_kept, in_mapped}
+use Rattle.law_state.proofs.ListLookups.{in_filter}
 
 -- ### The least of some numbers
 
@@ -84,7 +85,7 @@ pub marked_on : (state : State) (id : LinkId) (row : LinkRow) (own : PairState) 
     → In block (marked_blocks state row own) → IsMarkedOn state row own block
 marked_on state id row own block named i =
     let m = in_map (λ (m : Mark). m.cell.block) (filter (λ m. is_kept_on state row m.cell) own.store.marks) block i in
-    let left = in_left (λ (m : Mark). is_kept_on state row m.cell) own.store.marks m.0 m.1 in
+    let left = in_filter (λ (m : Mark). is_kept_on state row m.cell) own.store.marks m.0 m.1 in
     let two = both_true (is_on state row m.0.cell) (live state m.0.cell) left.1 in
     let there = on_row state id row named m.0.cell two.0 in
     let same : m.0.cell ≡ cell_at row block = λ j. record { map = there.1 j; block = sym m.2 j } in
@@ -153,7 +154,7 @@ stored_on : (state : State) (id : LinkId) (row : LinkRow) (own : PairState) (blo
     → In block (stored_blocks state row own) → is_some (at cell_cmp own.store.chains (cell_at row block)) ≡ true
 stored_on state id row own block named i =
     let m = in_map (λ (chain : Cell × Chain). chain.0.block) (filter (λ chain. is_kept_on state row chain.0) own.store.chains) block i in
-    let left = in_left (λ (chain : Cell × Chain). is_kept_on state row chain.0) own.store.chains m.0 m.1 in
+    let left = in_filter (λ (chain : Cell × Chain). is_kept_on state row chain.0) own.store.chains m.0 m.1 in
     let two = both_true (is_on state row m.0.0) (live state m.0.0) left.1 in
     let there = on_row state id row named m.0.0 two.0 in
     let same : m.0.0 ≡ cell_at row block = λ j. record { map = there.1 j; block = sym m.2 j } in
@@ -207,7 +208,7 @@ module _ (state : State) (id : LinkId) (row : LinkRow) (own : PairState) (named 
         (λ (xs : List ℕ). needs_full_copy row.state ≡ true → In block xs → IsStored row own (cell_at row block)) (needs_full_copy row.state)
         (filter (above (progress_on own row).copied) (stored_blocks state row own)) []
         (λ t whole j.
-        let two = in_left (above (progress_on own row).copied) (stored_blocks state row own) block j in
+        let two = in_filter (above (progress_on own row).copied) (stored_blocks state row own) block j in
         record { whole = whole; stored = stored_on state id row own block named two.0; past = two.1 })
         (λ f whole j. true_false whole f) (is_stored stored) stored)
   ]

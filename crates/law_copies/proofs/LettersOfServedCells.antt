@@ -1,16 +1,17 @@
 -- A server speaks of pairs and copies only of live cells whose link it is of.
-use Rattle.law_copies.proofs.Imports.{◌∙◌, ◌≡◌, ◌⊎◌, A_copy, As_copy, Asks_copy, Asks_slot, Begins, Body, Cell, Copying, Did, Effect, Ends_fill, Entry}
-use Rattle.law_copies.proofs.Imports.{Goes_on, Has_copy, Has_slot, In, IsCopying, IsOfCopy, IsPutFor, Is_copied, Is_sync_full, Is_synced, JobContext}
-use Rattle.law_copies.proofs.Imports.{JobResult, Key, LastCopy, May, Moves, Moves_on, PairState, Pending, Post, Puts, Says, Some, Stored, Syncs, Tells_page}
-use Rattle.law_copies.proofs.Imports.{Trims, about, after, ap, applied, at, both, by_bool, cell_apart, cell_cmp, cell_holder, cell_of, ended, false}
-use Rattle.law_copies.proofs.Imports.{first_last, follows, inl, inr, is_between, is_lead, is_second, job_keeps, last_copy, lead_links, leads_link}
-use Rattle.law_copies.proofs.Imports.{letters_of_job, live, logged_apart, none_some, pending_on, put, refl, retired_second, said, same_cell_or_apart}
-use Rattle.law_copies.proofs.Imports.{same_some, second, subject_of, subst, sym, true, true_false, ℕ}
+use Rattle.law_copies.proofs.Imports.{◌∙◌, ◌≡◌, ◌⊎◌, A_copy, As_copy, Asks_copy, Asks_slot, Begins, Body, Cell, Copying, Did, Effect}
+use Rattle.law_copies.proofs.Imports.{Ends_fill, Entry, Goes_on, Has_copy, Has_slot, In, IsCopying, IsOfCopy, IsPutFor, Is_copied, Is_sync_full}
+use Rattle.law_copies.proofs.Imports.{Is_synced, JobContext, JobResult, Key, LastCopy, May, Moves, Moves_on, PairState, Pending}
+use Rattle.law_copies.proofs.Imports.{Post, Puts, Says, Some, Stored, Syncs, Tells_page, Trims, about, after, ap, applied, at, both, by_bool}
+use Rattle.law_copies.proofs.Imports.{cell_holder, cell_of, ended, false, first_last, follows, inl, inr, is_between, is_lead, is_second, job_keeps}
+use Rattle.law_copies.proofs.Imports.{last_copy, lead_links, leads_link, letters_of_job, live, logged_apart, none_some, pending_on, put_with, refl}
+use Rattle.law_copies.proofs.Imports.{retired_second, said, same_some, second, subject_of, subst, sym, true, true_false, ℕ}
 use Rattle.law_jobs.specs.Sayings.{Ends}
 use Rattle.law_copies.specs.LoneSteps.{IsFit}
-use Rattle.law_copies.proofs.ForeignCellsStay.{IsIdleAt, second_live}
+use Rattle.law_copies.proofs.ForeignCellsStay.{IsIdleAt}
 use Rattle.law_copies.proofs.MuteLettersTellNothing.{ended_mute, moved_mute}
-use Rattle.law_copies.proofs.RolesOfWorkers.{IsHeldBy, IsHeldHere, begun_held, entry_held, taken_held}
+use Rattle.law_copies.proofs.RolesOfWorkers.{IsHeldBy, IsHeldHere, begun_held, entry_held, second_live, taken_held}
+use Rattle.law_copies.proofs.VisitsAfterSteps.{later}
 use Rattle.petal_msg.specs.declared.body.Body.TheVariants as body
 use Rattle.law_jobs.specs.Sayings as says
 
@@ -41,17 +42,11 @@ module _ (heard : Body → Type 0) (here : JobContext) (own : PairState) where
     put_live : (key : Key) (stored : Stored) (last : LastCopy) → IsPutFor heard here own key stored (As_copy last) → live here.state (cell_of key) ≡ true
     put_live _ _ _ (A_copy entry holder last of at) = fit.copied (cell_of entry.key) last of.last_is
 
-    noted_live : (now : PairState) (cell : Cell) (next : LastCopy) → live here.state cell ≡ true → IsLive now → (last : LastCopy)
-        → at cell_cmp (put cell_cmp now.copies.last cell next) q ≡ Some last → live here.state q ≡ true
-    noted_live now cell next lives so last is = elim (same_cell_or_apart q cell) [
-      | inl e ↦ ap (live here.state) e ∙ lives
-      | inr ne ↦ so last (sym (cell_apart now.copies.last cell next q ne) ∙ is)
-    ]
-
     each_live : (now : PairState) (e : Effect) → May heard here own now e → IsLive now → IsLive (applied now e)
-    each_live now (Is_copied cell number epochs) may so last is =
-        noted_live now cell (first_last number epochs) (fit.lives (body.Trim number cell epochs) may refl cell refl) so last is
-    each_live now (Puts key stored (As_copy next)) may so last is = noted_live now (cell_of key) next (put_live key stored next may.0) so last is
+    each_live now (Is_copied cell number epochs) may so last is = put_with (λ last. live here.state q ≡ true) now.copies.last cell q (first_last number epochs)
+        (λ e. ap (live here.state) e ∙ fit.lives (body.Trim number cell epochs) may.0.said refl cell refl) so last is
+    each_live now (Puts key stored (As_copy next)) may so last is = put_with (λ last. live here.state q ≡ true) now.copies.last (cell_of key) q next
+        (λ e. ap (live here.state) e ∙ put_live key stored next may.0) so last is
     each_live now _ may so last is = so last is
 
     pub did_copied : (done : JobResult) → Did heard here own done → IsLive done.own

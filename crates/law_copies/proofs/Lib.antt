@@ -6,8 +6,8 @@ pub mod OtherIsNotHolder
 pub mod BlocksOnLinks
 pub mod LeftToCopy
 pub mod OwnPartFrames
-pub mod WorkedCell
 pub mod RolesOfWorkers
+pub mod EffectsOnCells
 pub mod ForeignCellsStay
 pub mod CopyLetters
 pub mod CopyEpochs
@@ -18,6 +18,7 @@ pub mod AllPut
 pub mod HolderChanges
 pub mod CopyMoves
 pub mod HolderPace
+pub mod LeadsFindMarks
 pub mod CopiesGoOn
 pub mod HolderSteps
 pub mod HolderJobs
@@ -26,7 +27,6 @@ pub mod CellChangesKeepCopies
 pub mod CellInBoth
 pub mod LeadKeepsCopies
 pub mod SecondKeepsCopies
-pub mod LeadsFindMarks
 pub mod PlacesByPrefixes
 pub mod BlankJoinsMakePlaces
 pub mod ServedAtLaterPrefixes

@@ -1,64 +1,43 @@
 -- Each job of the other server of a link that one server holds alone keeps a cell of it.
-use Rattle.law_copies.proofs.Imports.{◌<◌, ◌∙◌, ◌≡◌, Begins, Body, By_holder, By_lead, By_other, By_second, Cell, Copying, Did, DidOther, Drops_entry, Entry}
-use Rattle.law_copies.proofs.Imports.{Goes_on, Goes_on_trimming, In, IsCopying, IsIdle, IsMarked, IsOfCopy, Is_copied_to, Is_trimmed, JobContext, JobResult}
-use Rattle.law_copies.proofs.Imports.{LastCopy, LinkRow, List, Option, PairState, Post, Puts_entry, Says, Some, Store, TrimStep, about, above, ap, arith}
-use Rattle.law_copies.proofs.Imports.{cell_of, chain_in, filter, first_last, inl, inr, is_alone, is_marked, is_on, last_copy, letters_of_job, marked_blocks}
-use Rattle.law_copies.proofs.Imports.{other_cell, other_of, puts_entry, refl, same_some, subst, sym, true, with_last_copy, ℕ}
-use Rattle.law_copies.specs.CopyProgress.{AreCopying, IsPage, IsTold, IsUpTo}
-use Rattle.law_copies.specs.LoneSteps.{IsFollowing, KeepsCell, OtherKeeps, StaysHere, StaysTold}
-use Rattle.law_copies.proofs.LastCopies.{past_last, past_of, stays_told, to_put, to_trimmed}
-use Rattle.law_copies.proofs.LeftToCopy.{among_marked, least_below, on_itself}
-use Rattle.law_copies.proofs.EpochsRise.{did_rising}
+use Rattle.law_copies.proofs.Imports.{◌+◌, ◌<◌, ◌∙◌, ◌≡◌, A_copy, A_new_copy, A_sweep, As_copy, Begins, Body, Cell, Copying, Did, Drops, Effect, Entry}
+use Rattle.law_copies.proofs.Imports.{Goes_on, Holds_slots, In, IsCopying, IsDroppedFor, IsMarked, IsNewCopy, IsNotHeld, IsOfCopy, IsPutFor, Is_copied}
+use Rattle.law_copies.proofs.Imports.{JobContext, JobResult, Key, LastCopy, LinkRow, List, May, Option, PairState, Post, Puts, Says, Some, Stored}
+use Rattle.law_copies.proofs.Imports.{The_last_copy, about, above, after, ap, applied, arith, at, cell_of, filter, first_last, inl, inr}
+use Rattle.law_copies.proofs.Imports.{is_alone, is_on, kept, key_at, letters_of_job, live, marked_blocks, other_of, puts_entry, refl}
+use Rattle.law_copies.proofs.Imports.{same_some, subst, sym, true, true_false, with_last_copy, ℕ}
+use Rattle.law_copies.specs.CopyProgress.{IsPage, IsTold, IsUpTo}
+use Rattle.law_copies.specs.LoneSteps.{IsFollowing, OtherKeeps, StaysHere}
 use Rattle.law_copies.proofs.ChainsRise.{in_kept}
 use Rattle.law_copies.proofs.CopyLetters.{page_after, page_block, page_link, page_map, page_sent, telling}
-use Rattle.law_copies.proofs.RolesOfWorkers.{IsHeldHere, IsOtherOf, IsSo, RoleIn, alone_not_row, alone_not_second, begun_held, idle_both, kept_lives}
-use Rattle.law_copies.proofs.RolesOfWorkers.{led_alive, named_id, one_named, other_alone, other_not_alone, other_not_leading, other_row, role_keeps, so_at}
-use Rattle.law_copies.proofs.RolesOfWorkers.{taken_held, worked_or_apart}
-use Rattle.law_copies.proofs.WorkedCell.{cell_apart_from}
+use Rattle.law_copies.proofs.EffectsOnCells.{Changes, IsAtCell, cell_keeps}
+use Rattle.law_copies.proofs.EpochsRise.{did_rising}
+use Rattle.law_copies.proofs.LastCopies.{past_last, past_of, stays_told, to_put, to_trimmed}
+use Rattle.law_copies.proofs.LeftToCopy.{among_marked, least_below, on_itself}
+use Rattle.law_copies.proofs.OtherIsNotHolder.{IsOtherOf, other_row}
+use Rattle.law_copies.proofs.RolesOfWorkers.{IsHeldHere, alone_not_row, alone_not_second, begun_held, idle_both, kept_lives, led_alive, named_id}
+use Rattle.law_copies.proofs.RolesOfWorkers.{one_named, other_alone, other_not_alone, other_not_leading, taken_held}
 use Rattle.petal_msg.specs.declared.body.Body.TheVariants as body
 use Rattle.law_copies.proofs.OtherServerChanges as following
-
--- the last copy does its next step, where it was remembered in this job or before
-trims_here : (links : ℕ) (row : LinkRow) (cell : Cell) (vh : Option PairState) (own now : PairState) → now.store ≡ own.store
-    → (copying : AreCopying links row cell vh (Some now))
-    → StaysTold row cell vh (Some own) vh (Some now) → (last : LastCopy) → last_copy now cell ≡ Some last → (holder : ℕ) (done : JobResult)
-    → TrimStep now cell last holder done → StaysHere links row cell vh own done.own
-trims_here links row cell vh own now same copying told last is holder _ (Is_trimmed none) = record {
-  copying = copying;
-  told = told;
-  marks = λ kind. ap (λ (s : Store). is_marked s kind cell) same;
-  changes = inl (ap (λ (s : Store). chain_in s.chains cell) same);
-}
-trims_here links row cell vh own now same copying told last is holder _ (Drops_entry epoch epochs left) = record {
-  copying = following.dropped_copying copying last is epoch epochs left;
-  told = λ said e t. stays_told now _ cell (following.dropped_onward copying last is epoch epochs left) row vh said e
-      (told said e t);
-  marks = λ kind. ap (λ (s : Store). is_marked s kind cell) same;
-  changes = inr (following.dropped_by copying last is epoch epochs left);
-}
 
 module _ {heard : Body → Type 0} {here : JobContext} {links : ℕ} {row : LinkRow} {vh : Option PairState} {own : PairState} where
   -- ### At the cell
 
-  copied_to : (cell : Cell) (f : IsFollowing heard here links row cell vh own) (number : ℕ) (epochs : List ℕ) (holder : ℕ) (done : JobResult)
-      → heard (body.Trim number cell epochs)
-      → ((last : LastCopy) → last_copy own cell ≡ Some last → last.op < number)
-      → TrimStep (with_last_copy own cell (first_last number epochs)) cell (first_last number epochs) holder done
-      → StaysHere links row cell vh own done.own
-  copied_to cell f number epochs holder done h newer step = elim (f.told (body.Trim number cell epochs) h refl) [
+  begins_here : (cell : Cell) (f : IsFollowing heard here links row cell vh own) (number : ℕ) (epochs : List ℕ) → IsNewCopy heard here own cell number epochs
+      → StaysHere links row cell vh own (with_last_copy own cell (first_last number epochs))
+  begins_here cell f number epochs new = elim (f.told (body.Trim number cell epochs) new.said refl) [
     | inl past ↦ (
         let last = past_last own cell number past in
         let le = past_of own cell last.0 last.1 number past in
-        let lt = newer last.0 last.1 in
+        let lt = new.newer last.0 last.1 in
         absurd (omega arith))
     | inr asked ↦
         let o = asked.own in
-        trims_here links row cell vh own (with_last_copy own cell (first_last number epochs)) refl
-        (following.begun_copying f.old number epochs o asked.met asked.trimming asked.epochs_are newer)
-        (stays_told own _ cell
-        (following.begun_onward f.old number epochs o asked.met asked.trimming asked.epochs_are newer) row vh)
-        (first_last number epochs)
-        (following.now_last f.old number epochs o asked.met asked.trimming asked.epochs_are newer) holder done step
+        record {
+          copying = following.begun_copying f.old number epochs o asked.met asked.trimming asked.epochs_are new.newer;
+          told = stays_told own _ cell (following.begun_onward f.old number epochs o asked.met asked.trimming asked.epochs_are new.newer) row vh;
+          marks = λ kind. refl;
+          changes = inl refl;
+        }
   ]
 
   puts_here : (entry : Entry) (holder : ℕ) (last : LastCopy) (f : IsFollowing heard here links row (cell_of entry.key) vh own)
@@ -85,46 +64,59 @@ module _ {heard : Body → Type 0} {here : JobContext} {links : ℕ} {row : Link
         (ap (λ (r : LinkRow). is_alone here.me r.state) (same_some (sym f.is ∙ h.is))
         ∙ other_alone here.state here.me h.other h.row h.other_is)
 
-    no_idle : IsIdle here own cell → ⊥
-    no_idle idle = alone_not_row here f.fit.steady cell row f.is (other_of here.me row) mine.alone (idle_both here own cell idle).0
+    at_cell : (c : Cell) → c ≡ cell → IsFollowing heard here links row c vh own
+    at_cell c e = subst (λ q. IsFollowing heard here links row q vh own) (sym e) f
 
-    stays : (new : PairState) → KeepsCell cell own new → Stays new
-    stays new k = record {
-      copying = following.kept_copying f.old new k.rest;
-      told = following.kept_told f.old new k.rest;
-      marks = k.marks;
-      changes = inl k.rest.chain;
+    drops_at : (now : PairState) (c : Cell) (last : LastCopy) (epoch : ℕ) → cell ≡ c → IsNotHeld now c last epoch → Stays now
+        → Stays (applied now (Drops (key_at c epoch)))
+    drops_at now c last epoch e = subst (λ q. IsNotHeld now q last epoch → Stays now → Stays (applied now (Drops (key_at q epoch)))) e (λ left s. record {
+      copying = following.dropped_copying s.copying last left.is epoch left.later left.beyond;
+      told = λ said e t. stays_told now _ cell (following.dropped_onward s.copying last left.is epoch left.later left.beyond) row vh said e (s.told said e t);
+      marks = s.marks;
+      changes = inr (following.dropped_by s.copying last left.is epoch left.later left.beyond);
+    })
+
+    drops : (now : PairState) (key : Key) → IsDroppedFor heard here own now key → cell_of key ≡ cell → live here.state cell ≡ true → Stays now
+        → Stays (applied now (Drops key))
+    drops now _ (A_new_copy number c epochs epoch new left) e on s = drops_at now c (first_last number epochs) epoch (sym e) left s
+    drops now _ (The_last_copy c holder last epoch held is same left) e on s = drops_at now c last epoch (sym e) left s
+    drops now _ (A_sweep key off) e on s = true_false (ap (live here.state) e ∙ on) off
+
+    puts : (now : PairState) (key : Key) (stored : Stored) (last : LastCopy) → IsPutFor heard here own key stored (As_copy last) → cell_of key ≡ cell
+        → now ≡ applied own (Holds_slots (own.store.tickets + 1)) → Stays (applied now (Puts key stored (As_copy last)))
+    puts now _ _ _ (A_copy entry holder last of at) e same =
+        subst (λ (o : PairState). Stays (applied o (Puts entry.key entry.stored (As_copy (record last { index = last.index + 1 }))))) (sym same)
+        (subst (λ q. StaysHere links row q vh own (puts_entry own entry last holder true).own) e
+        (puts_here entry holder last (at_cell (cell_of entry.key) e) of at))
+
+    abbrev Here : Effect → Type 0
+    Here e = IsAtCell heard here own f.fit cell f.alive e
+
+    each : (now : PairState) (e : Effect) → May heard here own now e → Changes heard here own f.fit cell f.alive now e → Stays now → Stays (applied now e)
+    each now e may (inr kept) s = record {
+      copying = following.kept_copying s.copying (applied now e) kept.rest;
+      told = λ said of t. following.kept_told s.copying (applied now e) kept.rest said of (s.told said of t);
+      marks = λ kind. kept.marks kind ∙ s.marks kind;
+      changes = elim s.changes [ inl same ↦ inl (kept.rest.chain ∙ same) | inr left ↦ inr left ];
     }
-
-    -- the last copy is of this cell
-    abbrev At : JobResult → Cell → Type 0
-    At done c = IsFollowing heard here links row c vh own → StaysHere links row c vh own done.own
-
-    other_at : (done : JobResult) (d : DidOther heard here own done) → IsSo (At done) (other_cell heard here own done d)
-    other_at done (Is_copied_to number c epochs holder _ h held newer step) = λ g. copied_to c g number epochs holder done h newer step
-    other_at done (Goes_on_trimming c holder last _ held is step) =
-        λ g. trims_here links row c vh own own refl g.old (λ said told t. t) last is holder done step
-    other_at _ (Puts_entry entry holder last of at room) = λ g. puts_here entry holder last g of at
-    other_at _ _ = tt
-
-    -- or of another one
-    other_here : (done : JobResult) → DidOther heard here own done → Stays done.own
-    other_here done d = elim (worked_or_apart (other_cell heard here own done d) cell) [
-      | inl e ↦ so_at (At done) (other_cell heard here own done d) (other_at done d) cell e f
-      | inr ne ↦ stays done.own (cell_apart_from heard here own f.fit.ready cell f.alive (f.fit.bare cell) done (By_other done d) ne no_idle)
+    each now (Is_copied c number epochs) may (inl at) s =
+        let e : c ≡ cell = same_some at.at in
+        subst (λ (o : PairState). Stays (applied o (Is_copied c number epochs))) (sym may.1)
+        (subst (λ q. StaysHere links row q vh own (with_last_copy own c (first_last number epochs))) e
+        (begins_here c (at_cell c e) number epochs may.0))
+    each now (Drops key) may (inl at) s = drops now key may.2 (same_some at.at) at.lives s
+    each now (Puts key stored (As_copy last)) may (inl at) s = puts now key stored last may.0 (same_some at.at) may.2
+    each now e may (inl at) s = elim at.role [
+      | inl led ↦ other_not_leading here f.fit.steady cell row f.is f.by f.held (led_alive here cell f.alive led)
+      | inr (inl so) ↦ alone_not_second here f.fit.steady cell row f.is (other_of here.me row) mine.alone so
+      | inr (inr (inl held)) ↦ absurd (no_holder held)
+      | inr (inr (inr (inl other))) ↦ absurd other.1
+      | inr (inr (inr (inr idle))) ↦ alone_not_row here f.fit.steady cell row f.is (other_of here.me row) mine.alone (idle_both here own cell idle).0
     ]
 
-    unworked : (done : JobResult) (did : Did heard here own done) → (RoleIn heard here own f.fit done did cell → ⊥) → Stays done.own
-    unworked done did no_role = stays done.own (role_keeps heard here own f.fit cell f.alive done did no_role no_idle)
-
     here_by : (done : JobResult) → Did heard here own done → Stays done.own
-    here_by _ (By_lead done d) = unworked done (By_lead done d)
-        (λ led. other_not_leading here f.fit.steady cell row f.is f.by f.held (led_alive here cell f.alive led))
-    here_by _ (By_second done d) = unworked done (By_second done d)
-        (λ so. alone_not_second here f.fit.steady cell row f.is (other_of here.me row) mine.alone so)
-    here_by _ (By_holder done d) = unworked done (By_holder done d) no_holder
-    here_by _ (By_other done d) = other_here done d
-    here_by done did = unworked done did (λ none. none)
+    here_by = cell_keeps heard here own f.fit cell f.alive Stays each
+        (record { copying = f.old; told = λ said e t. t; marks = λ kind. refl; changes = inl refl })
 
     -- ### Letters
 

@@ -1,12 +1,13 @@
 -- What a step of the second server of a cell in Both keeps of its two copies.
-use Rattle.law_copies.proofs.Imports.{◌+◌, ◌∙◌, ◌≡◌, ◌≤◌, ◌⊎◌, A_lead, As_copy, As_operation, As_second, Body, Cell, Did, Drops, Effect, IsPutFor, JobResult}
-use Rattle.law_copies.proofs.Imports.{Key, LastOp, List, May, PairState, Pending, Puts, Reserves, Some, Stored, about, ap, applied, arith, at, cell_apart}
-use Rattle.law_copies.proofs.Imports.{cell_cmp, cell_of, cell_same, chain_in, chain_put, chains_with, inl, inr, job_keeps, nat_cmp, progress}
-use Rattle.law_copies.proofs.Imports.{put, putting, refl, same_cell_or_apart, same_some, subst, sym, version_of, ℕ}
+use Rattle.law_copies.proofs.Imports.{◌+◌, ◌∙◌, ◌≡◌, ◌≤◌, ◌⊎◌, A_lead, As_copy, As_operation, As_second, Body, Cell, Did, Drops, Effect, IsPutFor}
+use Rattle.law_copies.proofs.Imports.{JobResult, Key, LastOp, List, May, PairState, Pending, Puts, Replicated, Reserved, Reserves, Some, Stored, about, ap}
+use Rattle.law_copies.proofs.Imports.{applied, arith, at, cell_cmp, cell_of, cell_same, chain_in, chain_put, chains_with, inl}
+use Rattle.law_copies.proofs.Imports.{inr, nat_cmp, progress, put, putting, refl, same_some, subst}
+use Rattle.law_copies.proofs.Imports.{sym, version_of, ℕ}
 use Rattle.law_copies.specs.BothSteps.{LacksFill}
 use Rattle.law_copies.specs.Pair.{IsPutting, Keeps, Known, Pair, PairOk, far, pair_of}
-use Rattle.law_copies.proofs.CellInBoth.{CellInBoth, copied_apart, drop_rests, own_put_apart}
-use Rattle.law_copies.proofs.WorkedCell.{put_apart}
+use Rattle.law_copies.proofs.CellInBoth.{CellInBoth, copied_apart, dropped_apart, own_put_apart}
+use Rattle.law_copies.proofs.EffectsOnCells.{Changes, cell_keeps}
 use Rattle.petal_msg.specs.declared.body.Body.TheVariants as body
 use Rattle.petal_msg.specs.declared.operation.FollowProgress.TheVariants as follow_progress
 use Rattle.law_copies.proofs.CellChangesKeepCopies as moves
@@ -87,27 +88,19 @@ module _ (it : CellInBoth) (follows : it.row.secondary ≡ it.here.me) (first : 
       → now.store.chains ≡ own.store.chains → cell ≡ cell_of key → IsKept (applied now (Puts key stored (As_second last)))
   second_put now _ _ _ (A_lead number key told version bytes h s last next) chains e = follows_keeps now number key told version bytes h last next chains e
 
-  each : (now : PairState) (e : Effect) → May heard here own now e → IsKept now → IsKept (applied now e)
-  each now (Reserves q number) may k = elim (same_cell_or_apart cell q) [
-    | inl e ↦
-        subst (λ (c : Cell). IsKept (applied now (Reserves c number))) e (
-        reserves now number (subst (λ (c : Cell). heard (body.Reserve number c)) (sym e) may.0)
-        (subst (λ (c : Cell). progress (at cell_cmp now.pairs.last c) ≤ number + number) (sym e) may.2) k)
-    | inr ne ↦
-        after now (applied now (Reserves q number)) k refl
-        (cell_apart now.pairs.last q (record { op = number; progress = follow_progress.Reserved }) cell ne)
-  ]
-  each now (Puts key stored (As_operation op)) may k = after now (applied now (Puts key stored (As_operation op))) k
-      (put_apart now.store.chains key stored cell (own_put_apart it follows key stored op may.0)) refl
-  each now (Puts key stored (As_second last)) may k = elim (same_cell_or_apart cell (cell_of key)) [
-    | inl e ↦ second_put now key stored last may.0 may.1 e
-    | inr ne ↦ after now (applied now (Puts key stored (As_second last))) k (put_apart now.store.chains key stored cell ne)
-        (cell_apart now.pairs.last (cell_of key) last cell ne)
-  ]
-  each now (Puts key stored (As_copy last)) may k = after now (applied now (Puts key stored (As_copy last))) k
-      (put_apart now.store.chains key stored cell (copied_apart it key stored last may.0)) refl
-  each now (Drops key) may k = after now (applied now (Drops key)) k (drop_rests it now key may.0 may.2) refl
-  each now _ may k = record { keeps = k.keeps; lacks = k.lacks }
+  each : (now : PairState) (e : Effect) → May heard here own now e → Changes heard here own fit cell it.alive now e → IsKept now → IsKept (applied now e)
+  each now (Reserves q number) may (inl on) k =
+      let e = sym (same_some on.at) in
+      subst (λ (c : Cell). IsKept (applied now (Reserves c number))) e (
+      reserves now number (subst (λ (c : Cell). heard (body.Reserve number c)) (sym e) may.0)
+      (subst (λ (c : Cell). progress (at cell_cmp now.pairs.last c) ≤ number + number) (sym e) may.2) k)
+  each now (Puts key stored (As_operation op)) may (inl on) k = absurd (own_put_apart it follows key stored op may.0 (sym (same_some on.at)))
+  each now (Puts key stored (As_second last)) may (inl on) k = second_put now key stored last may.0 may.1 (sym (same_some on.at))
+  each now (Puts key stored (As_copy last)) may (inl on) k = absurd (copied_apart it key stored last may.0 (sym (same_some on.at)))
+  each now (Drops key) may (inl on) k = absurd (dropped_apart it now key may.2 on.lives (sym (same_some on.at)))
+  each now _ may (inl on) k = record { keeps = k.keeps; lacks = k.lacks }
+  each now e may (inr kept) k = after now (applied now e) k kept.rest.chain kept.rest.followed
 
   pub second_keeps : (done : JobResult) → Did heard here own done → IsKept done.own
-  second_keeps = job_keeps heard here own IsKept each (record { keeps = moves.second_stays first own own cell refl refl ok; lacks = λ old. old })
+  second_keeps = cell_keeps heard here own fit cell it.alive IsKept each
+      (record { keeps = moves.second_stays first own own cell refl refl ok; lacks = λ old. old })

@@ -1,13 +1,13 @@
 -- No job makes a store wait to be filled by others, or takes that away; and a ballot leaves the store as it is.
-use Rattle.law_copies.proofs.Imports.{◌∙◌, ◌≡◌, Body, Bool, Command, Counts, Did, Effect, JobContext, JobResult, Option, PairState, State, applied, job_keeps}
-use Rattle.law_copies.proofs.Imports.{proposed, proposed_as, refl}
+use Rattle.law_copies.proofs.Imports.{◌∙◌, ◌≡◌, Begins_copy, Body, Bool, Command, Did, Effect, JobContext, JobResult, Option, PairState, State, applied}
+use Rattle.law_copies.proofs.Imports.{job_keeps, proposed, proposed_as, refl}
 
 -- whether the own part's store waits to be filled
 abbrev pub waits : PairState → Bool
 waits own = own.store.fresh
 
 each_waits : (now : PairState) (e : Effect) → waits (applied now e) ≡ waits now
-each_waits now Counts = refl
+each_waits now (Begins_copy cell) = refl
 each_waits now _ = refl
 
 pub did_waits : (heard : Body → Type 0) (here : JobContext) (own : PairState) (done : JobResult) → Did heard here own done → waits done.own ≡ waits own

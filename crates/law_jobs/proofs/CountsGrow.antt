@@ -1,14 +1,14 @@
 -- Numbers of operations only grow: the next one, and how far a second server is on each cell.
 use Rattle.law_jobs.proofs.Imports.{◌+◌, ◌∙◌, ◌≡◌, ◌≤◌, Body, Cell, Did, JobContext, JobResult, Key, LastOp, PairState, Stored, ap, arith, at, cell_apart}
 use Rattle.law_jobs.proofs.Imports.{cell_cmp, cell_of, cell_same, far_of, inl, inr, last_on, progress, put, same_cell_or_apart, ℕ}
-use Rattle.law_jobs.specs.Effects.{A_lead, As_second, Counts, Effect, IsPutFor, May, Opens, Puts, Reserves, applied}
+use Rattle.law_jobs.specs.Effects.{A_lead, As_second, Begins_copy, Effect, IsPutFor, May, Opens, Puts, Reserves, applied}
 use Rattle.law_jobs.proofs.JobsAreEffects.{job_keeps}
 use Rattle.petal_msg.specs.declared.operation.FollowProgress.TheVariants as follow_progress
 
 module _ (heard : Body → Type 0) (here : JobContext) (own : PairState) where
   counts : (now : PairState) (e : Effect) → May heard here own now e → own.pairs.next ≤ now.pairs.next → own.pairs.next ≤ (applied now e).pairs.next
   counts now (Opens op) may le = omega arith
-  counts now Counts may le = omega arith
+  counts now (Begins_copy cell) may le = omega arith
   counts now _ may le = le
 
   pub did_count : (done : JobResult) → Did heard here own done → own.pairs.next ≤ done.own.pairs.next

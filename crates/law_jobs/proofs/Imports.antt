@@ -16,11 +16,11 @@ pub use Rattle.law_steps.specs.Imports.{next_stage, operation, puts, with_paired
 pub use Rattle.law_steps.proofs.Imports.{Chain, Filling, Logged, Mark, Pairs, Store, at-empty, cell_apart, cell_gone, cell_gone_apart, cell_same}
 pub use Rattle.law_steps.proofs.Imports.{history_grows, history_is_firm, log_rev, prefix_on, settling, version_of, with_mark_at, with_mark_on}
 unfoldable pub use Rattle.law_steps.proofs.Imports.{put, without}
-pub use Rattle.law_jobs.specs.Imports.{AreSteps, Begins_copy, By_holder, By_lead, By_other, By_second, Closes, Closes_alone, Did, DidHolder, DidLead}
+pub use Rattle.law_jobs.specs.Imports.{AreSteps, Begins_copy, By_holder, By_lead, By_other, By_second, Closes, Closes_alone, Did, DidHolder, DidLead, in_both}
 pub use Rattle.law_jobs.specs.Imports.{DidOther, DidSecond, Finds_it_full, Follows, Gives_up, Goes_on_copying, Goes_on_retired, Goes_on_trimming, IsNextFill}
 pub use Rattle.law_jobs.specs.Imports.{IsNextKey, IsSound, Is_copied_to, Marks, Marks_alone, Opens, Opens_alone, Opens_fill, Opens_fill_alone, Puts}
 pub use Rattle.law_jobs.specs.Imports.{Puts_alone, Puts_entry, Sets_apart, Taken, TakenCopy, Turns_page, Unmarks_alone, chains_with, first_last}
-pub use Rattle.law_jobs.specs.Imports.{progress, putting, setting_of, start}
+pub use Rattle.law_jobs.specs.Imports.{first_copy, progress, putting, setting_of, start}
 pub use Rattle.std.specs.Prelude.{◌+◌, ◌-◌}
 pub use Rattle.busy_marks.proofs.Orders.{is_mark}
 pub use Rattle.busy_marks.proofs.Sets.{is_set, set_apart, set_keeps, unset_apart, unset_back}

@@ -3,12 +3,20 @@ use Rattle.law_jobs.proofs.Imports.{◌+◌, ◌∙◌, ◌≡◌, ◌≤◌, �
 use Rattle.law_jobs.proofs.Imports.{Stage, Stored, Table, Was, ap, arith, at, at_apart, at_same, cell_apart, cell_cmp, cell_gone, cell_gone_apart, cell_same}
 use Rattle.law_jobs.proofs.Imports.{inl, inr, nat_cmp, put, refl, same_cell_or_apart, same_itself, same_on, same_or_apart, same_some, stood, subst, sym}
 use Rattle.law_jobs.proofs.Imports.{was_same, without, ℕ}
-use Rattle.law_jobs.specs.Effects.{An_operation, As_operation, By_operation, Closes, Counts, Effect, Finishes, Goes_on, Had_no_slot, IsFinishedFor, IsOpening}
-use Rattle.law_jobs.specs.Effects.{IsPutFor, IsSetFor, May, Opens, Puts, Sets, applied}
+use Rattle.law_jobs.specs.Effects.{An_operation, As_operation, Begins_copy, By_operation, Closes, Effect, Finishes, Goes_on, Had_no_slot, IsFinishedFor}
+use Rattle.law_jobs.specs.Effects.{IsOpening, IsPutFor, IsSetFor, May, Opens, Puts, Sets, applied}
 use Rattle.law_jobs.proofs.JobsAreEffects.{job_keeps}
 
 pub restaged : (op : Pending) (version : ℕ) (stage : Stage) → IsSame op (record op { version = version; stage = stage })
 restaged op version stage = record { number = refl; kind = refl; client = refl; seq = refl; rev = refl; key = refl; bytes = refl }
+
+-- what is at a cell once something is put at one: that, or what was there
+pub put_with : {A : Type 0} (P : A → Type 0) (t : Table Cell A) (cell q : Cell) (new : A) → (q ≡ cell → P new)
+    → ((old : A) → at cell_cmp t q ≡ Some old → P old) → (x : A) → at cell_cmp (put cell_cmp t cell new) q ≡ Some x → P x
+put_with P t cell q new comes stays x there = elim (same_cell_or_apart q cell) [
+  | inl e ↦ subst P (same_some (sym (cell_same t cell new) ∙ ap (at cell_cmp (put cell_cmp t cell new)) (sym e) ∙ there)) (comes e)
+  | inr ne ↦ stays x (sym (cell_apart t cell new q ne) ∙ there)
+]
 
 module _ (heard : Body → Type 0) (here : JobContext) (own : PairState) where
   -- ### What is pending
@@ -17,7 +25,7 @@ module _ (heard : Body → Type 0) (here : JobContext) (own : PairState) where
     Stood : Was own cell op → HasCome next cell op
     Is_new : (first : Pending) → IsOpening heard here own first → cell ≡ first.cell → IsSame first op → own.pairs.next + 1 ≤ next → HasCome next cell op
 
-  abbrev HaveCome : PairState → Type 0
+  abbrev pub HaveCome : PairState → Type 0
   HaveCome now = (cell : Cell) (op : Pending) → at cell_cmp now.pairs.pending cell ≡ Some op → HasCome now.pairs.next cell op
 
   further : (next : ℕ) (cell : Cell) (op later : Pending) → IsSame op later → HasCome next cell op → HasCome next cell later
@@ -27,38 +35,29 @@ module _ (heard : Body → Type 0) (here : JobContext) (own : PairState) where
 
   set_so : (now : PairState) (op : Pending) → IsSetFor heard here own now op → HaveCome now → (cell : Cell) → cell ≡ op.cell
       → HasCome now.pairs.next cell op
-  set_so now _ (Goes_on op stage is put reserved) so cell e =
+  set_so now _ (Goes_on op stage is put reserved busy stale) so cell e =
       further now.pairs.next cell op _ (restaged op op.version stage) (so cell op (ap (at cell_cmp now.pairs.pending) e ∙ is))
 
   put_so : (next : ℕ) (key : Key) (stored : Stored) (op : Pending) → IsPutFor heard here own key stored (As_operation op) → (cell : Cell) → cell ≡ op.cell
       → HasCome next cell op
-  put_so next _ _ _ (An_operation op stage is fresh why) cell e =
+  put_so next _ _ _ (An_operation op reserved paired is fresh why) cell e =
       Stood (record { was = op; is = ap (at cell_cmp own.pairs.pending) e ∙ is; same = restaged op _ _ })
-
-  come_with : (next : ℕ) (t : Table Cell Pending) (set : Pending) → ((cell : Cell) → cell ≡ set.cell → HasCome next cell set)
-      → ((cell : Cell) (op : Pending) → at cell_cmp t cell ≡ Some op → HasCome next cell op) → (cell : Cell) (op : Pending)
-      → at cell_cmp (put cell_cmp t set.cell set) cell ≡ Some op → HasCome next cell op
-  come_with next t set comes so cell op there = elim (same_cell_or_apart cell set.cell) [
-    | inl e ↦
-        let same = same_some (sym (cell_same t set.cell set) ∙ ap (at cell_cmp (put cell_cmp t set.cell set)) (sym e) ∙ there) in
-        subst (HasCome next cell) same (comes cell e)
-    | inr ne ↦ so cell op (sym (cell_apart t set.cell set cell ne) ∙ there)
-  ]
 
   counted : (next : ℕ) (cell : Cell) (op : Pending) → HasCome next cell op → HasCome (next + 1) cell op
   counted next cell op (Stood was) = Stood was
   counted next cell op (Is_new first opening at_cell same le) = Is_new first opening at_cell same (omega arith)
 
-  each_come : (now : PairState) (e : Effect) → May heard here own now e → HaveCome now → HaveCome (applied now e)
+  pub each_come : (now : PairState) (e : Effect) → May heard here own now e → HaveCome now → HaveCome (applied now e)
   each_come now (Opens new) may so cell op there =
       let number : now.pairs.next ≡ own.pairs.next = ap (λ (o : PairState). o.pairs.next) may.1 in
-      come_with (now.pairs.next + 1) now.pairs.pending new (λ q e. Is_new new may.0 e (same_itself new) (omega arith))
-      (λ q old is. counted now.pairs.next q old (so q old is)) cell op there
-  each_come now (Sets next) may so cell op there = come_with now.pairs.next now.pairs.pending next (set_so now next may.0 so) so cell op there
+      put_with (HasCome (now.pairs.next + 1) cell) now.pairs.pending new.cell cell new (λ e. Is_new new may.0 e (same_itself new) (omega arith))
+      (λ old is. counted now.pairs.next cell old (so cell old is)) op there
+  each_come now (Sets next) may so cell op there =
+      put_with (HasCome now.pairs.next cell) now.pairs.pending next.cell cell next (set_so now next may.0 so cell) (so cell) op there
   each_come now (Puts key stored (As_operation next)) may so cell op there =
-      come_with now.pairs.next now.pairs.pending next (put_so now.pairs.next key stored next may.0) so cell op there
+      put_with (HasCome now.pairs.next cell) now.pairs.pending next.cell cell next (put_so now.pairs.next key stored next may.0 cell) (so cell) op there
   each_come now (Closes of) may so cell op there = so cell op (stood now.pairs.pending of cell op there)
-  each_come now Counts may so cell op there = counted now.pairs.next cell op (so cell op there)
+  each_come now (Begins_copy of) may so cell op there = counted now.pairs.next cell op (so cell op there)
   each_come now _ may so cell op there = so cell op there
 
   pub did_come : (done : JobResult) → Did heard here own done → HaveCome done.own
@@ -92,7 +91,7 @@ module _ (heard : Body → Type 0) (here : JobContext) (own : PairState) where
   each_finish : (now : PairState) (e : Effect) → May heard here own now e → F now → F (applied now e)
   each_finish now (Opens op) may so = None_new (ap (λ (o : PairState). o.pairs.finished) may.1)
   each_finish now (Sets op) may so = None_new may.1
-  each_finish now (Puts key stored (As_operation op)) may so = None_new may.2.0
+  each_finish now (Puts key stored (As_operation op)) may so = None_new (ap (λ (o : PairState). o.pairs.finished) may.2.0)
   each_finish now (Closes cell) may so = after_closing now.pairs.finished now.pairs.pending cell so
   each_finish now (Finishes client last) may so = Is_done client last may.0 (ap (λ t. put nat_cmp t client last) may.1)
   each_finish now _ may so = so

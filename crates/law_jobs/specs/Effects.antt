@@ -1,11 +1,12 @@
 -- Of what a job is made: effects, each on one place of a server's own part, with what was so when it was had.
-use Rattle.law_jobs.specs.Imports.{Body, Both, Cell, Chain, Copying, Ending, Entry, Finished, Full, IsNew, IsNewFill, IsNextKey, IsOfCopy, JobContext, Key}
-use Rattle.law_jobs.specs.Imports.{LastCopy, LastOp, LinkId, LinkRow, MarkKind, Moving, PairState, Pending, Progress, Stage, Stored, Table, Taken, Wanted}
-use Rattle.law_jobs.specs.Imports.{Write, Written, at, cell_at, cell_cmp, cell_holder, cell_of, chain_in, chains_with, copying, copying_on, epochs_beyond}
-use Rattle.law_jobs.specs.Imports.{fill_operation, first_last, free_of, idle_mark, in_both, is_alone_on, is_second, key_at, last_copy, last_on, link_named}
-use Rattle.law_jobs.specs.Imports.{live, operation, pending_on, progress, put, putting, version_of, with_copying, with_entry, with_filled, with_full}
-use Rattle.law_jobs.specs.Imports.{with_last, with_last_copy, with_mark_on, with_pending, with_progress, without_copying, without_entry, without_mark_on}
-use Rattle.law_jobs.specs.Imports.{without_pending}
+use Rattle.law_jobs.specs.Imports.{Block, Body, Both, Busy, Cell, Chain, Copying, Ending, Entry, Finished, Full, IsHeldWith, IsNew, IsNewFill, IsNextKey}
+use Rattle.law_jobs.specs.Imports.{IsOfCopy, IsSynced, JobContext, Key, LastCopy, LastOp, LinkId, LinkRow, MarkKind, Moving, PairState, Pending, Stage}
+use Rattle.law_jobs.specs.Imports.{Stale, Stored, Table, Taken, Wanted, Write, Written, at, begins_copy, cell_at, cell_cmp, cell_holder}
+use Rattle.law_jobs.specs.Imports.{cell_link, cell_of, chain_in, chains_with, copying, copying_on, epochs_beyond, fill_operation, first_last, free_of, idle_mark}
+use Rattle.law_jobs.specs.Imports.{in_both, is_alone_on, is_marked, is_second, key_at, last_copy, last_on, link_named, live, next_copy, operation}
+use Rattle.law_jobs.specs.Imports.{pending_on, progress, progress_on, put, putting, same_block, version_of, with_copied, with_copying, with_entry}
+use Rattle.law_jobs.specs.Imports.{with_filled, with_full, with_last, with_last_copy, with_mark_on, with_page, with_pending, without_copying}
+use Rattle.law_jobs.specs.Imports.{without_entry, without_mark_on, without_pending}
 use Rattle.std.specs.Prelude.{◌+◌, ◌<◌, ◌∷◌, ◌≡◌, ◌≤◌, ◌⊎◌, Bool, List, None, Option, Some, false, length, true, ℕ}
 use Rattle.std.specs.Ordering.{nat_cmp}
 use Rattle.petal_msg.specs.declared.body.Body.TheVariants as body
@@ -23,23 +24,26 @@ pub data Effect : Type 0 where
   -- it is at another stage
   Sets : Pending → Effect
   Closes : Cell → Effect
-  -- a number is given away
-  Counts : Effect
   Finishes : ℕ → Finished → Effect
   -- the second server sets a slot apart for the operation of this number
   Reserves : Cell → ℕ → Effect
   -- in a slot that was set apart
   Puts : Key → Stored → Noted → Effect
   Drops : Key → Effect
+  -- for the operation on the cell
   Marks : MarkKind → Cell → Effect
   Unmarks : MarkKind → Cell → Effect
   -- so many slots are set apart
   Holds_slots : ℕ → Effect
+  -- a copy from this server begins, under the next number, and goes on
+  Begins_copy : Cell → Effect
   Copies : Cell → Copying → Effect
-  Ends_copy : Cell → Effect
+  -- it ends, and its block is the greatest copied one of the link, if one is named
+  Ends_copy : Cell → Option LinkRow → Effect
   -- a copy to this server begins, under this number and with these epochs
   Is_copied : Cell → ℕ → List ℕ → Effect
-  Moves_on : LinkRow → Progress → Effect
+  -- the other server's next marked block is marked here, or it has no more
+  Turns_page : LinkRow → Option ℕ → Effect
   Is_full : Bool → Effect
   Fills : LinkRow → Key → Effect
 
@@ -55,12 +59,24 @@ abbrev pub copy_noted : Table Cell LastCopy → Cell → Noted → Table Cell La
 copy_noted last cell (As_copy now) = put cell_cmp last cell now
 copy_noted last cell _ = last
 
+abbrev pub ended_copy : Option LinkRow → PairState → Cell → PairState
+ended_copy row own cell =
+    let gone = without_copying own cell in
+    record gone { copies = record gone.copies { progress = (with_copied row gone cell.block).copies.progress } }
+
+abbrev pub turned_page : LinkRow → PairState → Option ℕ → PairState
+turned_page row own block =
+    let to = with_page own row (progress_on own row) block in
+    record own {
+      store = record own.store { marks = to.store.marks; records = to.store.records };
+      copies = record own.copies { progress = to.copies.progress };
+    }
+
 abbrev pub applied : PairState → Effect → PairState
 applied own (Opens op) =
     record own { pairs = record own.pairs { next = own.pairs.next + 1; pending = put cell_cmp own.pairs.pending op.cell op } }
 applied own (Sets op) = with_pending own op
 applied own (Closes cell) = without_pending own cell
-applied own Counts = record own { pairs = record own.pairs { next = own.pairs.next + 1 } }
 applied own (Finishes client last) = record own { pairs = record own.pairs { finished = put nat_cmp own.pairs.finished client last } }
 applied own (Reserves cell number) = with_last own cell number follow_progress.Reserved
 applied own (Puts key stored noted) = record own {
@@ -72,10 +88,11 @@ applied own (Drops key) = record own { store = without_entry own.store key }
 applied own (Marks kind cell) = record own { store = with_mark_on own.store kind cell }
 applied own (Unmarks kind cell) = record own { store = without_mark_on own.store kind cell }
 applied own (Holds_slots tickets) = record own { store = record own.store { tickets = tickets } }
+applied own (Begins_copy cell) = begins_copy own cell
 applied own (Copies cell copy) = with_copying own cell copy
-applied own (Ends_copy cell) = without_copying own cell
+applied own (Ends_copy cell row) = ended_copy row own cell
 applied own (Is_copied cell number epochs) = with_last_copy own cell (first_last number epochs)
-applied own (Moves_on row progress) = with_progress own row progress
+applied own (Turns_page row block) = turned_page row own block
 applied own (Is_full full) = with_full own full
 applied own (Fills row key) = with_filled own row key
 
@@ -95,12 +112,19 @@ entry_ahead own cell op = record { version = version_of (chain_in own.store.chai
 abbrev pub chains_ahead : PairState → Cell → Pending → Table Cell Chain
 chains_ahead own cell op = chains_with own.store.chains op.key (entry_ahead own cell op)
 
--- of what comes an entry that is put, and what is noted with it: of an operation, which has not put yet; of a lead, for which its second server
--- has set a slot apart; or of a holder, as the next one of its copy
+-- a live block's operation has not put yet, and its block is marked
+abbrev pub IsToPut : JobContext → Pending → Type 0
+IsToPut here op = live here.state op.cell ≡ true → (op.stage.put ≡ false) × ((op.stage.busy ≡ true) ⊎ (op.stage.stale ≡ true))
+
+-- of what comes an entry that is put, and what is noted with it: of an operation; of a lead, for which its second server has set a slot apart; or
+-- of a holder, as the next one of its copy
 pub data IsPutFor (heard : Body → Type 0) (here : JobContext) (own : PairState) : Key → Stored → Noted → Type 0 where
-  An_operation : (op : Pending) (stage : Stage) → pending_on own op.cell ≡ Some op → (live here.state op.cell ≡ true → op.stage.put ≡ false)
-      → (op.stage ≡ putting) ⊎ IsApart here op.cell → IsPutFor heard here own op.key (entry_ahead own op.cell op)
-      (As_operation (record op { version = version_of (chain_in own.store.chains op.cell) + 1; stage = record stage { put = true } }))
+  An_operation : (op : Pending) (reserved paired : Bool) → pending_on own op.cell ≡ Some op → IsToPut here op
+      → (op.stage ≡ putting) ⊎ IsApart here op.cell
+      → IsPutFor heard here own op.key (entry_ahead own op.cell op) (As_operation (record op {
+        version = version_of (chain_in own.store.chains op.cell) + 1;
+        stage = record op.stage { reserved = reserved; paired = paired; put = true };
+      }))
   A_lead : (number : ℕ) (key : Key) (told version : ℕ) (bytes : List ℕ) → heard (body.Replicate number key told bytes)
       → is_second here.state here.me (cell_of key) ≡ true → last_on own (cell_of key) ≡ Some (record { op = number; progress = follow_progress.Reserved })
       → version ≡ version_of (chain_in own.store.chains (cell_of key)) + 1
@@ -108,29 +132,48 @@ pub data IsPutFor (heard : Body → Type 0) (here : JobContext) (own : PairState
   A_copy : (entry : Entry) (holder : ℕ) (last : LastCopy) → IsOfCopy heard here own entry holder last → entry.index ≡ last.index
       → IsPutFor heard here own entry.key entry.stored (As_copy (record last { index = last.index + 1 }))
 
--- what the server remembers of pairs is then as the job began, but for what a late letter told of the operation
+-- all is then as the job began, but for what a late letter told of the operation, or the slot that is set apart for an entry of a copy
 abbrev pub IsFirstNoted : JobContext → (own now : PairState) → Noted → Type 0
-IsFirstNoted here own now (As_operation op) = (now.pairs.finished ≡ own.pairs.finished) × ((now.pairs ≡ own.pairs) ⊎ IsApart here op.cell)
-IsFirstNoted here own now _ = now.pairs ≡ own.pairs
+IsFirstNoted here own now (As_operation op) =
+    (now ≡ record own { pairs = record own.pairs { pending = now.pairs.pending } }) × ((now.pairs ≡ own.pairs) ⊎ IsApart here op.cell)
+IsFirstNoted here own now (As_second last) = now ≡ own
+IsFirstNoted here own now (As_copy last) = now ≡ applied own (Holds_slots (own.store.tickets + 1))
+
+-- a copy to this server is new here
+pub record IsNewCopy (heard : Body → Type 0) (here : JobContext) (own : PairState) (cell : Cell) (number : ℕ) (epochs : List ℕ) : Type 0 where
+  pub said : heard (body.Trim number cell epochs)
+  pub holder : ℕ
+  pub held : cell_holder here cell ≡ Some holder
+  pub newer : (last : LastCopy) → last_copy own cell ≡ Some last → last.op < number
+
+-- the first entry that the holder has not, by the last copy as it is now
+pub record IsNotHeld (now : PairState) (cell : Cell) (last : LastCopy) (epoch : ℕ) : Type 0 where
+  pub is : last_copy now cell ≡ Some last
+  pub later : List ℕ
+  pub beyond : epochs_beyond now cell last.epochs ≡ epoch ∷ later
 
 -- why an entry is dropped: its holder has it not, by a copy that is new here or by the last one; or its cell is no longer live
-pub data IsDroppedFor (heard : Body → Type 0) (here : JobContext) (own : PairState) : Key → Type 0 where
-  A_new_copy : (number : ℕ) (cell : Cell) (epochs : List ℕ) (holder epoch : ℕ) → heard (body.Trim number cell epochs)
-      → cell_holder here cell ≡ Some holder → ((last : LastCopy) → last_copy own cell ≡ Some last → last.op < number)
-      → IsDroppedFor heard here own (key_at cell epoch)
-  The_last_copy : (cell : Cell) (holder : ℕ) (last : LastCopy) (epoch : ℕ) (epochs : List ℕ) → cell_holder here cell ≡ Some holder
-      → last_copy own cell ≡ Some last → epochs_beyond own cell last.epochs ≡ epoch ∷ epochs → IsDroppedFor heard here own (key_at cell epoch)
-  A_sweep : (key : Key) → live here.state (cell_of key) ≡ false → IsDroppedFor heard here own key
+pub data IsDroppedFor (heard : Body → Type 0) (here : JobContext) (own now : PairState) : Key → Type 0 where
+  A_new_copy : (number : ℕ) (cell : Cell) (epochs : List ℕ) (epoch : ℕ) → IsNewCopy heard here own cell number epochs
+      → IsNotHeld now cell (first_last number epochs) epoch → IsDroppedFor heard here own now (key_at cell epoch)
+  The_last_copy : (cell : Cell) (holder : ℕ) (last : LastCopy) (epoch : ℕ) → cell_holder here cell ≡ Some holder → last_copy own cell ≡ Some last
+      → now ≡ own → IsNotHeld now cell last epoch → IsDroppedFor heard here own now (key_at cell epoch)
+  A_sweep : (key : Key) → live here.state (cell_of key) ≡ false → IsDroppedFor heard here own now key
 
 -- for what an operation is opened under the next number
 pub data IsOpening (heard : Body → Type 0) (here : JobContext) (own : PairState) : Pending → Type 0 where
   For_a_write : (want : Wanted) → IsNew heard here own want → IsOpening heard here own (operation here own.pairs.next want)
   For_a_fill : (moving : Moving) → IsNewFill heard here own moving → IsOpening heard here own (fill_operation here own.pairs.next moving)
 
+-- why a stage says that the block is marked: it said so already, or the block is
+abbrev pub IsFlagged : PairState → MarkKind → Cell → (was is : Bool) → Type 0
+IsFlagged now kind cell was is = is ≡ true → (was ≡ true) ⊎ (is_marked now.store kind cell ≡ true)
+
 -- an operation goes on at another stage, put or not as it was
 pub data IsSetFor (heard : Body → Type 0) (here : JobContext) (own now : PairState) : Pending → Type 0 where
   Goes_on : (op : Pending) (stage : Stage) → pending_on now op.cell ≡ Some op → stage.put ≡ op.stage.put
-      → (stage.reserved ≡ true → IsReserved heard here own op) → IsSetFor heard here own now (record op { stage = stage })
+      → (stage.reserved ≡ true → IsReserved heard here own op) → IsFlagged now Busy op.cell op.stage.busy stage.busy → IsFlagged now Stale op.cell op.stage.stale stage.stale
+      → IsSetFor heard here own now (record op { stage = stage })
 
 -- how an operation that was pending at its lead has ended: its second server has no slot for it, or told that it has put, too, or it has been put
 -- where the lead is alone, or it is of a cell that is no longer live
@@ -181,6 +224,56 @@ pub record IsFilledAs (heard : Body → Type 0) (here : JobContext) (own : PairS
   pub next : IsNextKey here own key row
   pub is : old ≡ record { map = row.map; block = key.block; epoch = key.epoch }
 
+-- a copy from this server is under way, was so as the job began, and links are as far
+pub record IsUnderWay (own now : PairState) (cell : Cell) (copy : Copying) : Type 0 where
+  pub is : copying_on now cell ≡ Some copy
+  pub was : Copying
+  pub was_is : copying_on own cell ≡ Some was
+  pub pairs : now.pairs ≡ own.pairs
+  pub progress : now.copies.progress ≡ own.copies.progress
+
+-- it begins on the next block of the link; it goes on as the other server told; it ends as that has no slot, or has put all
+pub record IsToBegin (here : JobContext) (own : PairState) (cell : Cell) : Type 0 where
+  pub id : LinkId
+  pub row : LinkRow
+  pub other : ℕ
+  pub held : IsHeldWith here id row other
+  pub next : next_copy here.state row own ≡ Block cell
+
+pub data CopyGoes (heard : Body → Type 0) (own : PairState) (cell : Cell) : Copying → Type 0 where
+  Has_trimmed : (copy : Copying) → heard (body.Trimmed copy.op cell) → copying_on own cell ≡ Some copy → copy.trimmed ≡ false
+      → CopyGoes heard own cell (record copy { trimmed = true })
+  Has_put : (copy : Copying) → heard (body.Synced copy.op cell copy.index) → copying_on own cell ≡ Some copy → copy.trimmed ≡ true
+      → copy.index < length (chain_in own.store.chains cell) → CopyGoes heard own cell (record copy { index = copy.index + 1 })
+
+pub data IsToEnd (here : JobContext) (own now : PairState) (cell : Cell) : Option LinkRow → Type 0 where
+  Found_no_slot : (copy : Copying) → IsUnderWay own now cell copy → copy.trimmed ≡ true → copy.index < length (chain_in now.store.chains cell)
+      → IsToEnd here own now cell None
+  Is_whole : (copy : Copying) → IsUnderWay own now cell copy → IsSynced now cell copy → IsToEnd here own now cell (cell_link here.state cell)
+
+-- the page that is waited for of a link
+pub record IsNextPage (heard : Body → Type 0) (here : JobContext) (own : PairState) (row : LinkRow) (block : Option ℕ) : Type 0 where
+  pub id : LinkId
+  pub other : ℕ
+  pub after : Option ℕ
+  pub said : heard (body.Hello id.map id.link after block)
+  pub held : IsHeldWith here id row other
+  pub fresh : (progress_on own row).paged ≡ false
+  pub waited : same_block after (progress_on own row).after ≡ true
+
+-- an old mark of the cell, on a link in Both, which nothing that is under way needs
+pub data IsIdle (here : JobContext) (own : PairState) : Cell → Type 0 where
+  Idle : (id : LinkId) (row : LinkRow) (block : ℕ) → link_named here.state id ≡ Some row → row.state ≡ Both
+      → idle_mark here.state row own ≡ Some block → IsIdle here own (cell_at row block)
+
+-- why a mark goes: the operation on the cell has the stale one, nor the copy, of which all is put; it is an old one; or the cell is not live
+pub data IsUnmarkedFor (here : JobContext) (own now : PairState) : MarkKind → Cell → Type 0 where
+  By_its_operation : (op : Pending) → pending_on now op.cell ≡ Some op → op.stage.busy ≡ false → op.stage.stale ≡ true → IsUnmarkedFor here own now Busy op.cell
+  By_a_copy : (kind : MarkKind) (cell : Cell) (copy : Copying) → IsUnderWay own now cell copy → IsSynced now cell copy
+      → IsUnmarkedFor here own now kind cell
+  Is_old : (kind : MarkKind) (cell : Cell) → IsIdle here own cell → now ≡ own → IsUnmarkedFor here own now kind cell
+  Is_off : (kind : MarkKind) (cell : Cell) → live here.state cell ≡ false → IsUnmarkedFor here own now kind cell
+
 -- what was so when a server did it that handled only such letters as `heard` knows: by its own part as the job began, `own`, and as it is
 -- by now. A job puts one entry at most, and is done with one request
 abbrev pub May : (heard : Body → Type 0) (here : JobContext) (own now : PairState) → Effect → Type 0
@@ -190,45 +283,22 @@ May heard here own now (Finishes client last) = IsFinishedFor heard here own now
 May heard here own now (Closes cell) = IsClosedFor heard here own now cell
 May heard here own now (Puts key stored noted) =
     IsPutFor heard here own key stored noted × (now.store.chains ≡ own.store.chains) × IsFirstNoted here own now noted
-May heard here own now (Drops key) = (now.store.chains ≡ own.store.chains) × (now.pairs.pending ≡ own.pairs.pending) × IsDroppedFor heard here own key
+May heard here own now (Drops key) =
+    (now.store.chains ≡ own.store.chains) × (now.pairs.pending ≡ own.pairs.pending) × IsDroppedFor heard here own now key
+May heard here own now (Marks kind cell) = (op : Pending) × (pending_on now cell ≡ Some op)
+May heard here own now (Unmarks kind cell) = IsUnmarkedFor here own now kind cell
+May heard here own now (Begins_copy cell) = IsToBegin here own cell × (now ≡ own)
+May heard here own now (Copies cell copy) = CopyGoes heard own cell copy × (now ≡ own)
+May heard here own now (Ends_copy cell row) = IsToEnd here own now cell row
+May heard here own now (Turns_page row block) = IsNextPage heard here own row block × (now ≡ own)
 May heard here own now (Reserves cell number) =
     heard (body.Reserve number cell) × (is_second here.state here.me cell ≡ true) × (progress (last_on now cell) ≤ number + number)
-May heard here own now (Is_copied cell number epochs) = heard (body.Trim number cell epochs)
+May heard here own now (Is_copied cell number epochs) = IsNewCopy heard here own cell number epochs × (now ≡ own)
 May heard here own now (Is_full full) = full ≡ true → HearsNone heard here own
-May heard here own now (Moves_on row moved) = (id : LinkId) × (link_named here.state id ≡ Some row)
 May heard here own now (Fills row key) = IsFilledAs heard here own row key × (now.filled ≡ own.filled)
 May heard here own now _ = Unit {0}
 
--- an old mark of the cell, on a link in Both, which nothing that is under way needs
-pub data IsIdle (here : JobContext) (own : PairState) : Cell → Type 0 where
-  Idle : (id : LinkId) (row : LinkRow) (block : ℕ) → link_named here.state id ≡ Some row → row.state ≡ Both
-      → idle_mark here.state row own ≡ Some block → IsIdle here own (cell_at row block)
-
--- where it is noted
-abbrev pub noted_cell : Key → Noted → Cell
-noted_cell key (As_operation op) = op.cell
-noted_cell key _ = cell_of key
-
--- each effect on a cell is on the one on which the job works; but idle marks, and what is left of a cell that is no longer live, go on any
-abbrev pub IsAt : JobContext → PairState → Option Cell → Effect → Type 0
-IsAt here own at (Opens op) = at ≡ Some op.cell
-IsAt here own at (Sets op) = at ≡ Some op.cell
-IsAt here own at (Closes cell) = at ≡ Some cell
-IsAt here own at (Reserves cell number) = at ≡ Some cell
-IsAt here own at (Puts key stored noted) = at ≡ Some (noted_cell key noted)
-IsAt here own at (Drops key) = (at ≡ Some (cell_of key)) ⊎ (live here.state (cell_of key) ≡ false)
-IsAt here own at (Marks kind cell) = at ≡ Some cell
-IsAt here own at (Unmarks kind cell) = (at ≡ Some cell) ⊎ (live here.state cell ≡ false) ⊎ IsIdle here own cell
-IsAt here own at (Copies cell copy) = at ≡ Some cell
-IsAt here own at (Ends_copy cell) = at ≡ Some cell
-IsAt here own at (Is_copied cell number epochs) = at ≡ Some cell
-IsAt here own at _ = Unit {0}
-
--- what a server's own part may become by effects, one after the other, in a job that works on this cell or none
-pub data BecomesAt (heard : Body → Type 0) (here : JobContext) (own : PairState) (cell : Option Cell) : PairState → Type 0 where
-  As_it_was : BecomesAt heard here own cell own
-  Then : (now : PairState) (effect : Effect) → BecomesAt heard here own cell now → May heard here own now effect → IsAt here own cell effect
-      → BecomesAt heard here own cell (applied now effect)
-
-abbrev pub Becomes : (heard : Body → Type 0) → JobContext → (own now : PairState) → Type 0
-Becomes heard here own now = (cell : Option Cell) × BecomesAt heard here own cell now
+-- what a server's own part may become by effects, one after the other
+pub data Becomes (heard : Body → Type 0) (here : JobContext) (own : PairState) : PairState → Type 0 where
+  As_it_was : Becomes heard here own own
+  Then : (now : PairState) (effect : Effect) → Becomes heard here own now → May heard here own now effect → Becomes heard here own (applied now effect)

@@ -36,7 +36,7 @@ pub use Rattle.law_copies.specs.Imports.{WasStarted, blank_joins_in, is_between,
 pub use Rattle.law_copies.proofs.Imports.{A_lead, A_new_copy, A_sweep, Alone_has, An_operation, As_operation, At, BeforeBlank, Both_have, By_caught, By_join}
 pub use Rattle.law_copies.proofs.Imports.{By_leave, Closes, Drops, Effect, Fills, For_a_fill, For_a_write, HasEnded, HasJoinedSince, IsCaughtBy, IsDroppedFor}
 pub use Rattle.law_copies.proofs.Imports.{IsInBoth, IsOpening, IsPutFor, IsSetFor, Is_retired, May, Opens, Puts, Says}
-pub use Rattle.law_copies.proofs.Imports.{Sets, Stood, The_last_copy, Writes, applied, before_part, by_run, chain_apart, chain_put}
+pub use Rattle.law_copies.proofs.Imports.{Sets, Stood, The_last_copy, Writes, applied, before_part, by_run, chain_apart, chain_put, in_filter}
 pub use Rattle.law_copies.proofs.Imports.{chosen_caught_was, counted, counted_by, did_come, drop_apart, drop_none, either_true, entry_ahead, first_by}
 pub use Rattle.law_copies.proofs.Imports.{first_state, happened_in, in_none, job_keeps, joined_counts, joined_since, kept, kept_by, letters_of_job}
 pub use Rattle.law_copies.proofs.Imports.{link_led_by, live_stage, log_both_place, log_grown, log_lost, log_touched, longer, lost_not_both, none_before_none}
@@ -47,7 +47,7 @@ pub use Rattle.law_epochs.proofs.Imports.{AliveIn, IsAt, IsLinked, IsTouchedBy, 
 pub use Rattle.law_epochs.proofs.Imports.{is_at_so, log_retired, place_by, place_of_later, place_touched, proper, runs_at, split_prefixes, stage_facts}
 pub use Rattle.law_epochs.proofs.Imports.{stands_in}
 pub use Rattle.law_moves.specs.Imports.{HasNewer, IsFilledFrom, IsServing}
-pub use Rattle.law_copies.proofs.ChainsRise.{in_kept, in_left, in_mapped}
+pub use Rattle.law_copies.proofs.ChainsRise.{in_kept, in_mapped}
 pub use Rattle.law_copies.proofs.CopiesInHistories.{good_after, start_good, step_goes}
 pub use Rattle.law_copies.proofs.EmptyJoins.{after_prefix, joined_where}
 pub use Rattle.law_copies.proofs.NewPlaces.{half_store}

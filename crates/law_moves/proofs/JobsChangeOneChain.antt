@@ -124,12 +124,12 @@ module _ (heard : Body → Type 0) (here : JobContext) (own : PairState) (never 
 
     puts_so : (chains : Table Cell Chain) (key : Key) (stored : Stored) (noted : Noted) → IsPutFor heard here own key stored noted
         → chains ≡ own.store.chains → S (chains_with chains key stored)
-    puts_so chains _ _ _ (An_operation op stage is fresh why) same =
+    puts_so chains _ _ _ (An_operation op reserved paired is fresh why) same =
         let stored = entry_ahead own op.cell op in
         An_own (record {
           op = op;
           is = is;
-          fresh = by_bool (live here.state op.cell) fresh (λ off. absurd (never own op (As_it_is op is) off));
+          fresh = by_bool (live here.state op.cell) (λ on. (fresh on).0) (λ off. absurd (never own op (As_it_is op is) off));
           entry = stored;
           bytes = refl;
           chains = ap (λ c. chains_with c op.key stored) same;
@@ -153,14 +153,16 @@ module _ (heard : Body → Type 0) (here : JobContext) (own : PairState) (never 
         copied (cell_of entry.key) holder of_copy.held
         (Is_put entry last refl of_copy.said of_copy.last_is of_copy.op_is next (ap (λ c. chains_with c entry.key entry.stored) same))
 
-    drops_so : (store : Store) (key : Key) → IsDroppedFor heard here own key → store.chains ≡ own.store.chains → S (without_entry store key).chains
-    drops_so store _ (A_new_copy number cell epochs holder epoch h held newer) same =
+    drops_so : (now : PairState) (store : Store) (key : Key) → IsDroppedFor heard here own now key → store.chains ≡ own.store.chains
+        → S (without_entry store key).chains
+    drops_so now store _ (A_new_copy number cell epochs epoch new left) same =
+        copied cell new.holder new.held
+        (Is_dropped_first number epochs epoch new.said new.newer (λ i. (without_entry (record store { chains = same i }) (key_at cell epoch)).chains))
+    drops_so now store _ (The_last_copy cell holder last epoch held is kept left) same =
         copied cell holder held
-        (Is_dropped_first number epochs epoch h newer (λ i. (without_entry (record store { chains = same i }) (key_at cell epoch)).chains))
-    drops_so store _ (The_last_copy cell holder last epoch epochs held is beyond) same =
-        copied cell holder held
-        (Is_dropped last epoch epochs is beyond (λ i. (without_entry (record store { chains = same i }) (key_at cell epoch)).chains))
-    drops_so store _ (A_sweep key off) same =
+        (Is_dropped last epoch left.later is (ap (λ (o : PairState). epochs_beyond o cell last.epochs) (sym kept) ∙ left.beyond)
+        (λ i. (without_entry (record store { chains = same i }) (key_at cell epoch)).chains))
+    drops_so now store _ (A_sweep key off) same =
         Of_the_retired (record {
           cell = cell_of key;
           seat = seat;
@@ -171,7 +173,7 @@ module _ (heard : Body → Type 0) (here : JobContext) (own : PairState) (never 
 
     each : (now : PairState) (e : Effect) → May heard here own now e → S now.store.chains → S (applied now e).store.chains
     each now (Puts key stored noted) may so = puts_so now.store.chains key stored noted may.0 may.1
-    each now (effect.Drops key) may so = drops_so now.store key may.2 may.0
+    each now (effect.Drops key) may so = drops_so now now.store key may.2 may.0
     each now _ may so = so
 
   -- a server that is not In as itself stores nothing

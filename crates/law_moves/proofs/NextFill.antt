@@ -2,7 +2,7 @@
 use Rattle.law_moves.proofs.Imports.{[], ◌&&◌, ◌==◌, ◌||◌, ◌∙◌, ◌∷◌, ◌≡◌, ◌⊎◌, Cell, Chain, Equal, Greater, In, Key, Less, LinkRow, List, None, Option}
 use Rattle.law_moves.proofs.Imports.{Ordering, PairState, Some, State, Stored, Table, ap, arith, at, at-empty, by_bool, by_test, cell_cmp, cell_cmp_same}
 use Rattle.law_moves.proofs.Imports.{comes_before, comes_next, cond, earlier, false, fill_left, fill_of, filter, first_key, flat_map, in_former, in_kept}
-use Rattle.law_moves.proofs.Imports.{in_later, in_left, in_mapped, in_none, inl, inr, is_eq, is_on, is_some, key_at, keys_in, keys_of, lookup, map, nat_cmp}
+use Rattle.law_moves.proofs.Imports.{in_later, in_filter, in_mapped, in_none, inl, inr, is_eq, is_on, is_some, key_at, keys_in, keys_of, lookup, map, nat_cmp}
 use Rattle.law_moves.proofs.Imports.{nat_tests, next_fill, none_some, not, number_itself, ranked, refl, region_of, region_to_move, same_numbers, same_some}
 use Rattle.law_moves.proofs.Imports.{subst, sym, true, true_false, unwrap_or, ℕ}
 use Rattle.std.specs.BTreeMap.{is_at}
@@ -148,7 +148,7 @@ module _ (state : State) (row : LinkRow) (region : ℕ) (own : PairState) where
   next_is next e =
       let keys = keys_in state row region own in
       let first = first_is (filter (comes_next region (last_told row own)) keys) next e in
-      let here = in_left (comes_next region (last_told row own)) keys next first.among in
+      let here = in_filter (comes_next region (last_told row own)) keys next first.among in
       record {
         among = here.0;
         new = here.1;

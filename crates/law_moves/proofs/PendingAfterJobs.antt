@@ -2,9 +2,10 @@
 -- and not put.
 use Rattle.law_moves.proofs.Imports.{◌∙◌, ◌≡◌, ◌⊎◌, An_operation, As_operation, Body, Cell, Chain, Closes, Did, Drops, Effect, For_a_fill, For_a_write}
 use Rattle.law_moves.proofs.Imports.{Goes_on, IsOpening, IsPutFor, IsSame, IsSetFor, JobContext, JobResult, Key, May, None}
-use Rattle.law_moves.proofs.Imports.{Opens, PairState, Pending, Puts, Sets, Some, Stored, Table, ap, applied, at, by_bool, cell_apart, cell_cmp}
-use Rattle.law_moves.proofs.Imports.{cell_of, cell_same, chain_in, chains_ahead, chains_with, entry_ahead, false, inl, inr, job_keeps, none_some, put, refl}
-use Rattle.law_moves.proofs.Imports.{restaged, same_cell_or_apart, same_itself, same_on, same_some, stood, subst, sym, true, true_false}
+use Rattle.law_moves.proofs.Imports.{Opens, PairState, Pending, Puts, Sets, Some, Stored, Table, ap, applied, at, by_bool, cell_cmp}
+use Rattle.law_moves.proofs.Imports.{cell_of, chain_in, chains_ahead, chains_with, entry_ahead, false, inl, inr, job_keeps, none_some, put, refl}
+use Rattle.law_moves.proofs.Imports.{restaged, same_itself, same_on, same_some, stood, subst, sym, true, true_false}
+use Rattle.law_jobs.proofs.OperationsCome.{put_with}
 use Rattle.law_moves.proofs.JobsChangeOneChain.{not_ahead}
 
 -- the operation was pending, or is new
@@ -26,7 +27,7 @@ module _ (heard : Body → Type 0) (here : JobContext) (own : PairState)
 
   -- one that is set
   set_so : (now : PairState) (next : Pending) → IsSetFor heard here own now next → AreSo now → (q : Cell) → q ≡ next.cell → W now.store.chains q next
-  set_so now _ (Goes_on op stage is put reserved) so q e = elim (so q op (ap (at cell_cmp now.pairs.pending) e ∙ is)) [
+  set_so now _ (Goes_on op stage is put reserved busy stale) so q e = elim (so q op (ap (at cell_cmp now.pairs.pending) e ∙ is)) [
     | Is_new none number fresh ↦ Is_new none number (put ∙ fresh)
     | It_was o was same how ↦ It_was o was (same_on o op _ same (restaged op op.version stage)) (λ done. how (sym put ∙ done))
   ]
@@ -37,7 +38,7 @@ module _ (heard : Body → Type 0) (here : JobContext) (own : PairState)
 
   noted_so : (chains : Table Cell Chain) → chains ≡ own.store.chains → (key : Key) (stored : Stored) (op : Pending)
       → IsPutFor heard here own key stored (As_operation op) → (q : Cell) → q ≡ op.cell → W (chains_with chains key stored) q op
-  noted_so chains same _ _ _ (An_operation op stage is fresh why) q e =
+  noted_so chains same _ _ _ (An_operation op reserved paired is fresh why) q e =
       It_was op (ap (at cell_cmp own.pairs.pending) e ∙ is) (restaged op _ _)
       (λ done. inr (ap (λ t. chains_with t op.key (entry_ahead own op.cell op)) same ∙ ap (λ c. chains_ahead own c op) (sym e)))
 
@@ -48,23 +49,13 @@ module _ (heard : Body → Type 0) (here : JobContext) (own : PairState)
       It_was o was as_it (λ done.
       elim (how done) [ inl put ↦ inl put | inr ahead ↦ absurd (not_ahead own q o (keyed q o was) (ap (λ c. chain_in c q) (sym ahead ∙ same))) ])
 
-  -- one that is set is on its own cell, and others stay
-  so_with : (chains : Table Cell Chain) (t : Table Cell Pending) (next : Pending) (q : Cell) → (q ≡ next.cell → W chains q next)
-      → ((op : Pending) → at cell_cmp t q ≡ Some op → W chains q op) → (op : Pending) → at cell_cmp (put cell_cmp t next.cell next) q ≡ Some op → W chains q op
-  so_with chains t next q comes so op there = elim (same_cell_or_apart q next.cell) [
-    | inl e ↦
-        let same = same_some (sym (cell_same t next.cell next) ∙ ap (at cell_cmp (put cell_cmp t next.cell next)) (sym e) ∙ there) in
-        subst (W chains q) same (comes e)
-    | inr ne ↦ so op (sym (cell_apart t next.cell next q ne) ∙ there)
-  ]
-
   each : (now : PairState) (e : Effect) → May heard here own now e → AreSo now → AreSo (applied now e)
   each now (Opens next) may so q op there =
-      so_with now.store.chains now.pairs.pending next q (opened_so now.store.chains next may.0 q) (so q) op there
-  each now (Sets next) may so q op there = so_with now.store.chains now.pairs.pending next q (set_so now next may.0 so q) (so q) op there
+      put_with (W now.store.chains q) now.pairs.pending next.cell q next (opened_so now.store.chains next may.0 q) (so q) op there
+  each now (Sets next) may so q op there = put_with (W now.store.chains q) now.pairs.pending next.cell q next (set_so now next may.0 so q) (so q) op there
   each now (Closes cell) may so q op there = so q op (stood now.pairs.pending cell q op there)
   each now (Puts key stored (As_operation next)) may so q op there =
-      so_with (chains_with now.store.chains key stored) now.pairs.pending next q (noted_so now.store.chains may.1 key stored next may.0 q)
+      put_with (W (chains_with now.store.chains key stored) q) now.pairs.pending next.cell q next (noted_so now.store.chains may.1 key stored next may.0 q)
       (λ old is. put_so now.store.chains key stored may.1 q old (so q old is)) op there
   each now (Puts key stored _) may so q op there = put_so now.store.chains key stored may.1 q op (so q op there)
   each now (Drops key) may so q op there = stands _ q op (ap (λ t. at cell_cmp t q) (sym may.1) ∙ there)

@@ -4,6 +4,7 @@ use Rattle.law_moves.proofs.Imports.{[], if◌then◌else◌, ◌++◌, ◌∙�
 use Rattle.law_moves.proofs.Imports.{Script, Some, WasThere, ap, arith, at_by, by_bool, by_run, chosen_log, counted, ends_of, first_state, inl, inr, is_at}
 use Rattle.law_moves.proofs.Imports.{is_some, none_before_none, none_some, past_link, run_of, setting_of, some_or_none, split_last, split_prefixes, start}
 use Rattle.law_moves.proofs.Imports.{start_good, start_plain, step_goes, subst, sym, true, true_false, ℕ}
+use Rattle.law_steps.proofs.Records.{tails}
 
 abbrev GoodAt : Script → List Record → Type 0
 GoodAt script records =
@@ -52,9 +53,6 @@ seen_after script sound records legal =
     (λ script sound legal. record { good = start_good (setting_of script); seen_all = start_seen script }) next (run_of script sound records legal)
 
 -- ### What a server was at a place
-
-tails : {A : Type 0} {x z : A} {xs zs : List A} → x ∷ xs ≡ z ∷ zs → xs ≡ zs
-tails e = cc
 
 -- what follows one prefix of a list is one
 pub same_rest : {A : Type 0} (xs ys zs : List A) → xs ++ ys ≡ xs ++ zs → ys ≡ zs

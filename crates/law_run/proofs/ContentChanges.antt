@@ -2,7 +2,7 @@
 use Rattle.law_run.proofs.Imports.{[], ◌&&◌, ◌<◌, ◌==◌, ◌||◌, ◌∙◌, ◌∷◌, ◌≡◌, ◌⊎◌, Asked, Bool, Cell, Chain, Change, DiskRow, Event, In, List, None, Option}
 use Rattle.law_run.proofs.Imports.{Request, Some, Take, World, Write, after_step, all_left, all_there, ap, arith, at, before_step, blocks_in, blocks_of}
 use Rattle.law_run.proofs.Imports.{both_true, by_bool, cell_cmp, cell_cmp_same, changed_blocks, false, filter_map, flat_map, had_content, has_content_next}
-use Rattle.law_run.proofs.Imports.{in_flat, in_flat_map, in_kept, in_left, in_map, in_mapped, inl, inr, is_changed, map, nat_list_eq_equiv, nat_lists_same}
+use Rattle.law_run.proofs.Imports.{in_flat, in_flat_map, in_kept, in_filter, in_map, in_mapped, inl, inr, is_changed, map, nat_list_eq_equiv, nat_lists_same}
 use Rattle.law_run.proofs.Imports.{none_some, not, number_itself, open_write, range_with_len, refl, same_bytes, same_numbers, same_some, subst, sym, taken}
 use Rattle.law_run.proofs.Imports.{taker, takes, takes_on, true, true_false, was_true, with_first, write_asked, write_by, writes_so, ℕ}
 use Rattle.law_run.proofs.ListMembers.{all_empty, into_range, into_filter_map, of_filter_map, found_one, row_at, key_at, put_key}
@@ -171,7 +171,7 @@ module _ (change : Change) where
         let row = of_row.0 in
         let of_block = in_map (events_of_moves row) (changed_blocks change row) x of_row.2 in
         let b = of_block.0 in
-        let changed = (in_left (is_changed change row) (blocks_in change.setting change.next) b of_block.1).1 in
+        let changed = (in_filter (is_changed change row) (blocks_in change.setting change.next) b of_block.1).1 in
         let one = told_one row b (told_changed row of_row.1 b changed) in
         (one.0, of_block.2 ∙ one.1, record { row = row; there = of_row.1; block = b; it = one.2 })
 

@@ -60,10 +60,10 @@ pub use Rattle.law_moves.specs.Imports.{HasNewer, IsFilledFrom, IsServing}
 pub use Rattle.law_moves.proofs.Imports.{AliveIn, AreCopies, AreCopying, AreTwins, Good, HasSent, IsAt, IsCaught, IsLast, IsLeft, IsLinked, IsOther, IsOwn}
 pub use Rattle.law_moves.proofs.Imports.{IsStaged, IsTold, PairOk, WasThere, Working, alive_on, alone_authority, alone_or_flagged, at_by, ballot_store}
 pub use Rattle.law_moves.proofs.Imports.{begins_to_leave, both_authority, both_last, both_since, chain_that_counts, chains_ahead, far, frozen_by, good_after}
-pub use Rattle.law_moves.proofs.Imports.{half, half_store, held_by, in_counts, in_kept, in_left, in_mapped, in_own, is_at, joined_where, lead, linked_between}
-pub use Rattle.law_moves.proofs.Imports.{no_home, one_place, one_row, other_apart, other_than, pair_at, pair_of, place_by, place_of_later, place_touched}
-pub use Rattle.law_moves.proofs.Imports.{places_up, prefixes_meet, rows_later, source_same, split_prefixes, stage_facts, stage_in, stage_is, start_good}
-pub use Rattle.law_moves.proofs.Imports.{step_goes, store_by, unseen_beyond}
+pub use Rattle.law_moves.proofs.Imports.{half, half_store, held_by, in_counts, in_filter, in_kept, in_mapped, in_own, is_at, joined_where, lead}
+pub use Rattle.law_moves.proofs.Imports.{linked_between, no_home, one_place, one_row, other_apart, other_than, pair_at, pair_of, place_by, place_of_later}
+pub use Rattle.law_moves.proofs.Imports.{place_touched, places_up, prefixes_meet, rows_later, source_same, split_prefixes, stage_facts, stage_in, stage_is}
+pub use Rattle.law_moves.proofs.Imports.{start_good, step_goes, store_by, unseen_beyond}
 pub use Rattle.std.proofs.Math.Seq.{drop-append_seam}
 pub use Rattle.std.proofs.lemmas.Cmp.{nat_list_eq_equiv}
 pub use Rattle.std.proofs.lemmas.List.{length-append}

@@ -2,7 +2,7 @@
 use Rattle.law_run.proofs.Imports.{[], if◌then◌else◌, ◌&&◌, ◌==◌, ◌∙◌, ◌∷◌, ◌≡◌, ◌⊎◌, Actor, AreStepsFrom, Asked, Body, Bool, Client, Deliver, Event, In}
 use Rattle.law_run.proofs.Imports.{IsPrefix, Letter, Line, List, Look, MayActor, MayLook, None, Obeys, Option, Plain, Record, Request, Setting, Some, State}
 use Rattle.law_run.proofs.Imports.{Step, World, accepted, accepts, after, ap, both_true, by_bool, by_test, chosen_log, client_state, counts, data_line, false}
-use Rattle.law_run.proofs.Imports.{first_of, heard, hears, hears_any, hears_of, in-append, in_get, in_later, in_left, inl, inr, is_read, line_by, look_by}
+use Rattle.law_run.proofs.Imports.{first_of, heard, hears, hears_any, hears_of, in-append, in_get, in_later, in_filter, inl, inr, is_read, line_by, look_by}
 use Rattle.law_run.proofs.Imports.{look_for, look_of, none_some, refl, replay, same_numbers, same_some, step, stepped, subst, sym, true, true_false, ℕ}
 use Rattle.spec_history.specs.Events.{same_name}
 use Rattle.law_run.specs.WritesGoOn.{IsMindful, Onward}
@@ -49,7 +49,7 @@ one_client e = cc
 
 -- the line of a request is one of the script's
 pub line_in : (lines : List Line) (c seq : ℕ) (line : Line) → line_by lines c seq ≡ Some line → In line lines
-line_in lines c seq line e = (in_left (λ l. l.client == c) lines line (in_get _ _ line e)).0
+line_in lines c seq line e = (in_filter (λ l. l.client == c) lines line (in_get _ _ line e)).0
 
 -- the request of the line that accepts is that of the letter's number
 pub record Accepts (lines : List Line) (letter : Letter) (seq number : ℕ) : Type 0 where
