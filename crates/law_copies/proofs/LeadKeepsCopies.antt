@@ -3,7 +3,7 @@ use Rattle.law_copies.proofs.Imports.{◌+◌, ◌∙◌, ◌≡◌, ◌≢◌, 
 use Rattle.law_copies.proofs.Imports.{Bool, Both_have, Cell, Closes, Did, Drops, Effect, Ending, For_a_fill, For_a_write, HasEnded, IsApart, IsClosedFor}
 use Rattle.law_copies.proofs.Imports.{IsOpening, IsPutFor, IsReserved, IsSetFor, Is_declined, Is_over, Is_retired}
 use Rattle.law_copies.proofs.Imports.{JobResult, Key, LastOp, May, None, Opens, PairState, Pairs, Pending, Puts, Sets, Some, Stage}
-use Rattle.law_copies.proofs.Imports.{Stored, about, ap, applied, arith, at, both, both_not_alone, by_bool, cell_cmp}
+use Rattle.law_copies.proofs.Imports.{Stored, about, ap, applied, arith, at, both, both_not_alone, cell_cmp}
 use Rattle.law_copies.proofs.Imports.{cell_gone, cell_of, cell_same, chain_in, chain_put, chains_with, ended, entry_ahead, false}
 use Rattle.law_copies.proofs.Imports.{fill_operation, follows, inl, inr, is_alone_on, live, nat_cmp, operation, pending_on, put}
 use Rattle.law_copies.proofs.Imports.{putting, refl, same_some, so_both, stage_live, subst, sym, taking, true, true_false}

@@ -54,7 +54,7 @@ pub use Rattle.law_copies.proofs.NewPlaces.{half_store}
 pub use Rattle.law_copies.proofs.OtherIsNotHolder.{IsOther, held_by, other_apart}
 pub use Rattle.law_copies.proofs.PlacesByPrefixes.{alive_on, linked_between, one_place, one_row, places_up, prefixes_meet, rows_later, state_next}
 pub use Rattle.law_copies.proofs.ServedAtLaterPrefixes.{alone_or_flagged, both_last, both_since, other_than, same_only, serves_alone, serves_its}
-pub use Rattle.law_copies.proofs.ServedAtLaterPrefixes.{unseen_beyond}
+pub use Rattle.law_copies.proofs.ServedAtLaterPrefixes.{heard_there, unseen_beyond}
 pub use Rattle.law_copies.proofs.StoreHistories.{in_counts, in_own, kept_after, own_by}
 pub use Rattle.law_copies.proofs.StoresAlongRecords.{before_last, stays_filled}
 pub use Rattle.law_copies.specs.CopyProgress.{AreCopying, HasSent, IsCaught, IsLeft, IsTold}

@@ -1,17 +1,18 @@
 -- What a lead of a cell, by its own state, has of it while nothing of its own is under way, or its second server has followed: each server that serves the
 -- link by what is chosen has it too. And of two such leads the one has just held the link alone, and is after its own Caught.
-use Rattle.law_moves.proofs.Imports.{◌+◌, ◌<◌, ◌==◌, ◌∙◌, ◌≡◌, ◌≢◌, ◌≤◌, ◌⊎◌, AliveIn, AreCopies, Bool, Both, Cell, Chain, Command, HasOwnCaught, IsHeldBy}
-use Rattle.law_moves.proofs.Imports.{IsInBoth, IsLinked, IsPrefix, IsServing, LinkRow, List, None, Only, Option, PairOk, PairState, Pending, Run, Some, Store}
+use Rattle.law_moves.proofs.Imports.{◌+◌, ◌<◌, ◌==◌, ◌∙◌, ◌≡◌, ◌≢◌, ◌≤◌, ◌⊎◌, AliveIn, AreCopies, Bool, Both, Cell, Chain, Command, Handled, HasOwnCaught}
+use Rattle.law_moves.proofs.Imports.{IsHeldBy, IsInBoth, IsLinked, IsPrefix, IsServing, LinkRow, List, None, Only, Option, PairOk, PairState, Pending, Run, Some, Store}
 use Rattle.law_moves.proofs.Imports.{Working, alone_not_both, alone_row, ap, arith, at, at-empty, at_apart, at_most_or_above, at_same, blank_joins_in}
-use Rattle.law_moves.proofs.Imports.{both_since, by_bool, cell_cmp, cell_link, chain_in, chosen_state, either_true, end_of, false, far, half, half_store}
-use Rattle.law_moves.proofs.Imports.{has_proposed, has_server, holder_is_one, in_both, inl, inr, is_alone_on, is_clients, is_some, is_the_one, kept}
-use Rattle.law_moves.proofs.Imports.{link_led_by, nat_cmp, none_some, one_before, one_put_ahead, one_row, option_and_then, pair_at, pair_of, pending_on}
+use Rattle.law_moves.proofs.Imports.{both_since, by_bool, cell_cmp, cell_link, chain_in, chosen_state, either_true, end_of, false, far, half}
+use Rattle.law_moves.proofs.Imports.{half_store, has_proposed, has_server, heard_there, holder_is_one, in_both, inl, inr, is_alone_on, is_clients, is_some, is_the_one}
+use Rattle.law_moves.proofs.Imports.{kept, link_led_by, nat_cmp, none_some, one_before, one_put_ahead, one_row, option_and_then, pair_at, pair_of, pending_on}
 use Rattle.law_moves.proofs.Imports.{place_by, places_up, prefix_itself, primary_is_one, progress, put, refl, row_lead, rows_later, running_prefixes}
 use Rattle.law_moves.proofs.Imports.{same_numbers, same_only, same_or_apart, same_some, server_state, serves_alone, serves_its, so_both, stage_at, stage_live}
 use Rattle.law_moves.proofs.Imports.{stays_alone, subst, sym, true, true_false, unseen_beyond, ℕ}
 use Rattle.law_moves.specs.Fills.{Has}
 use Rattle.law_moves.proofs.MoveWorlds.{chosen_twins, facts_at, firm, good, own_counts, rests, steady_at, up}
 use Rattle.law_moves.proofs.MoveScenes.{LeadsAt, TwoLeads}
+use Rattle.petal_msg.specs.declared.body.Body.TheVariants as body
 
 -- ### Two copies
 

@@ -78,7 +78,7 @@ pub use Rattle.law_copies.proofs.MarksPrecedePuts.{marks_first}
 pub use Rattle.law_copies.proofs.OtherIsNotHolder.{held_not_lead}
 pub use Rattle.law_copies.proofs.PlacesByPrefixes.{linked_alive, retired_not}
 pub use Rattle.law_copies.proofs.RolesOfWorkers.{other_alone}
-pub use Rattle.law_copies.proofs.ServedAtLaterPrefixes.{AllStarted, been_below, holder_is_one, holds_since, reached_here}
+pub use Rattle.law_copies.proofs.ServedAtLaterPrefixes.{AllStarted, been_below, heard_there, holder_is_one, holds_since, reached_here}
 pub use Rattle.law_copies.proofs.StoreHistories.{always_empty}
 pub use Rattle.law_copies.proofs.TwoCopyRules.{copies_after, covered_after}
 pub use Rattle.law_copies.specs.CopyProgress.{IsLastCopy, IsTrimming, links_of}

@@ -4,7 +4,7 @@ use Rattle.law_run.proofs.Imports.{[], ◌&&◌, ◌++◌, ◌∙◌, ◌∷◌,
 use Rattle.law_run.proofs.Imports.{HasStage, IsHeldBy, IsLast, IsLinked, IsPrefix, IsStaged, Join, LinkRow, List, None, Only, Option, Pair, PairOk, PairState}
 use Rattle.law_run.proofs.Imports.{Pending, Setting, Some, Store, about, alive_on, alone_authority, alone_not_both, ap, arith, at, at-empty, authority}
 use Rattle.law_run.proofs.Imports.{blank_joins_in, both_last, both_row, both_since, by_bool, cell_cmp, chain_in, chosen_log, chosen_state, counted, far, half}
-use Rattle.law_run.proofs.Imports.{half_store, has_proposed, has_server, held_as_flag, holds_since, in_both, inl, inr, is_alone_on, is_clients, is_in}
+use Rattle.law_run.proofs.Imports.{half_store, has_proposed, has_server, heard_there, held_as_flag, holds_since, in_both, inl, inr, is_alone_on, is_clients, is_in}
 use Rattle.law_run.proofs.Imports.{is_lead, is_second, is_the_one, kept, lead, led_by, linked_alive, linked_between, live, live_stage, none_some, one_before}
 use Rattle.law_run.proofs.Imports.{one_row, op_there, own_below, own_plain, own_steady, owns_of, pair_at, pair_of, place_by, place_of_later, place_touched}
 use Rattle.law_run.proofs.Imports.{places_up, prefix_itself, prefix_more, prefix_on, primary_is_one, reached_here, ready_chosen, refl, retired_second}
