@@ -1,14 +1,14 @@
 -- What a lead of a cell, by its own state, has of it while nothing of its own is under way, or its second server has followed: each server that serves the
 -- link by what is chosen has it too. And of two such leads the one has just held the link alone, and is after its own Caught.
 use Rattle.law_moves.proofs.Imports.{◌+◌, ◌<◌, ◌==◌, ◌∙◌, ◌≡◌, ◌≢◌, ◌≤◌, ◌⊎◌, AliveIn, AreCopies, Bool, Both, Cell, Chain, Command, Handled, HasOwnCaught}
-use Rattle.law_moves.proofs.Imports.{IsHeldBy, IsInBoth, IsLinked, IsPrefix, IsServing, LinkRow, List, None, Only, Option, PairOk, PairState, Pending, Run, Some, Store}
-use Rattle.law_moves.proofs.Imports.{Working, alone_not_both, alone_row, ap, arith, at, at-empty, at_apart, at_most_or_above, at_same, blank_joins_in}
-use Rattle.law_moves.proofs.Imports.{both_since, by_bool, cell_cmp, cell_link, chain_in, chosen_state, either_true, end_of, false, far, half}
-use Rattle.law_moves.proofs.Imports.{half_store, has_proposed, has_server, heard_there, holder_is_one, in_both, inl, inr, is_alone_on, is_clients, is_some, is_the_one}
-use Rattle.law_moves.proofs.Imports.{kept, link_led_by, nat_cmp, none_some, one_before, one_put_ahead, one_row, option_and_then, pair_at, pair_of, pending_on}
-use Rattle.law_moves.proofs.Imports.{place_by, places_up, prefix_itself, primary_is_one, progress, put, refl, row_lead, rows_later, running_prefixes}
-use Rattle.law_moves.proofs.Imports.{same_numbers, same_only, same_or_apart, same_some, server_state, serves_alone, serves_its, so_both, stage_at, stage_live}
-use Rattle.law_moves.proofs.Imports.{stays_alone, subst, sym, true, true_false, unseen_beyond, ℕ}
+use Rattle.law_moves.proofs.Imports.{IsHeldBy, IsInBoth, IsLinked, IsPrefix, IsServing, LinkRow, List, None, Only, Option, PairOk, PairState, Pending, Run}
+use Rattle.law_moves.proofs.Imports.{Some, Store, Working, alone_not_both, alone_row, ap, arith, at, at-empty, at_apart, at_most_or_above, at_same}
+use Rattle.law_moves.proofs.Imports.{blank_joins_in, both_since, by_bool, cell_cmp, cell_link, chain_in, chosen_state, either_true, end_of, false, far}
+use Rattle.law_moves.proofs.Imports.{half, half_store, has_proposed, has_server, heard_there, holder_is_one, in_both, inl, inr, is_alone_on, is_clients}
+use Rattle.law_moves.proofs.Imports.{is_some, is_the_one, kept, link_led_by, nat_cmp, none_some, one_before, one_put_ahead, one_row, option_and_then}
+use Rattle.law_moves.proofs.Imports.{pair_at, pair_of, pending_on, place_by, places_up, prefix_itself, primary_is_one, progress, put, refl, row_lead}
+use Rattle.law_moves.proofs.Imports.{rows_later, running_prefixes, same_numbers, same_only, same_or_apart, same_some, server_state, serves_alone}
+use Rattle.law_moves.proofs.Imports.{serves_its, so_both, stage_at, stage_live, stays_alone, subst, sym, true, true_false, unseen_beyond, ℕ}
 use Rattle.law_moves.specs.Fills.{Has}
 use Rattle.law_moves.proofs.MoveWorlds.{chosen_twins, facts_at, firm, good, own_counts, rests, steady_at, up}
 use Rattle.law_moves.proofs.MoveScenes.{LeadsAt, TwoLeads}
@@ -71,7 +71,8 @@ module _ (one other : Option PairState) (a b : Store) (cell : Cell) (ok : PairOk
       subst (λ (c : Chain). Has c epoch) first_is
       (copies_first pair.first pair.second (far pair) pair.pending epoch ok.copies (subst (λ (c : Chain). Has c epoch) (sym second_is) has))
 
-  pub both_equal : IsSettledBy (far (pair_of (half one a) (half other b) cell)) (at cell_cmp (half one a).pairs.pending cell) → chain_in a.chains cell ≡ chain_in b.chains cell
+  pub both_equal : IsSettledBy (far (pair_of (half one a) (half other b) cell)) (at cell_cmp (half one a).pairs.pending cell)
+      → chain_in a.chains cell ≡ chain_in b.chains cell
   both_equal settled =
       let pair = pair_of (half one a) (half other b) cell in
       sym first_is ∙ copies_equal pair.first pair.second (far pair) pair.pending ok.copies settled ∙ second_is

@@ -2,9 +2,9 @@
 -- and not put.
 use Rattle.law_moves.proofs.Imports.{◌∙◌, ◌≡◌, ◌⊎◌, An_operation, As_operation, Body, Cell, Chain, Closes, Did, Drops, Effect, For_a_fill, For_a_write}
 use Rattle.law_moves.proofs.Imports.{Goes_on, IsOpening, IsPutFor, IsSame, IsSetFor, JobContext, JobResult, Key, May, None}
-use Rattle.law_moves.proofs.Imports.{Opens, PairState, Pending, Puts, Sets, Some, Stored, Table, ap, applied, at, by_bool, cell_cmp}
-use Rattle.law_moves.proofs.Imports.{cell_of, chain_in, chains_ahead, chains_with, entry_ahead, false, inl, inr, job_keeps, none_some, put, refl}
-use Rattle.law_moves.proofs.Imports.{restaged, same_itself, same_on, same_some, stood, subst, sym, true, true_false}
+use Rattle.law_moves.proofs.Imports.{Opens, PairState, Pending, Puts, Sets, Some, Stored, Table, ap, applied, at, cell_cmp}
+use Rattle.law_moves.proofs.Imports.{cell_of, chain_in, chains_ahead, chains_with, entry_ahead, false, inl, inr, job_keeps, put, refl}
+use Rattle.law_moves.proofs.Imports.{restaged, same_itself, same_on, stood, sym, true}
 use Rattle.law_jobs.proofs.OperationsCome.{put_with}
 use Rattle.law_moves.proofs.JobsChangeOneChain.{not_ahead}
 

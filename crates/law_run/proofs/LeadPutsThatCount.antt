@@ -212,7 +212,8 @@ module _ (this : ServerStep) (k : Plain) where
       | It_was was there same how ↦ (
           let new = done.own.store.chains in
           subst (λ (q : Cell). at cell_cmp own.pairs.pending q ≡ Some was
-          → (op.stage.put ≡ true → (was.stage.put ≡ true) ⊎ (new ≡ chains_ahead own q was)) → Counted q op (chain_in new q) → Held op) ((this.ground.ready.rests.pending this.n).staged cell was there).own
+          → (op.stage.put ≡ true → (was.stage.put ≡ true) ⊎ (new ≡ chains_ahead own q was)) → Counted q op (chain_in new q) → Held op)
+          ((this.ground.ready.rests.pending this.n).staged cell was there).own
           (λ at_own how_put counted. same_held was op same (stage_held was op at_own new s held how_put counted)) there how)
     ]
 

@@ -19,7 +19,8 @@ const WRITES: &[Case] = &[
             not sent 1 replicate 1>0; 1 works; not 1 works; replicate 1>0; told begin; 1 has 0/5 fill 7; 1 marks 0 5; 0 has 0/5 fill 0;
             0 works; told begin take; 0 has 0/5 fill 7; 0 marks 0 none;
             replicated 0>1; not sent 1 written 1>a; 1 works; not 1 works; line 3 open; written 1>a; line 3 ok; told begin take end;
-            1 has 0/5 fill 7; not 1 has 0/5 fill 8; 1 marks 0 5; not 1 marks 0 none; 1 ticks; 1 works off; 1 marks 0 none; wait; b calls 5; read b>0; 0 works; data 0>b; line 5 fill 7; told begin take end look",
+            1 has 0/5 fill 7; not 1 has 0/5 fill 8; 1 marks 0 5; not 1 marks 0 none; 1 ticks; 1 works off; 1 marks 0 none;
+            wait; b calls 5; read b>0; 0 works; data 0>b; line 5 fill 7; told begin take end look",
     },
     Case {
         shows: "a copy that comes again is put once",
