@@ -1,6 +1,6 @@
 -- What happens to one cell keeps its two copies together.
-use Rattle.law_copies.proofs.Imports.{◌+◌, ◌<◌, ◌∙◌, ◌≡◌, ◌≤◌, ◌⊎◌, Body, Cell, Key, List, None, PairState, Pending, Replicated, Reserved, Some, Stage, arith}
-use Rattle.law_copies.proofs.Imports.{at, by_bool, cell_cmp, chain_in, false, first, inl, inr, nat_cmp, progress, put, putting, second, subst, sym}
+use Rattle.law_copies.proofs.Imports.{◌+◌, ◌<◌, ◌∙◌, ◌≡◌, ◌≤◌, ◌⊎◌, Body, Cell, Key, List, None, PairState, Pending, Replicated, Reserved, Some, Stage}
+use Rattle.law_copies.proofs.Imports.{arith, at, by_bool, cell_cmp, chain_in, false, first, inl, inr, nat_cmp, progress, put, putting, second, subst, sym}
 use Rattle.law_copies.proofs.Imports.{true, version_of, ℕ}
 use Rattle.law_copies.specs.Pair.{Grows, IsPutting, Keeps, Known, Pair, PairOk, ceiling, far, pair_of}
 use Rattle.petal_msg.specs.declared.body.Body.TheVariants as body

@@ -1,14 +1,12 @@
 -- A server, and a cell whose link is in Both by its own state: what the server does of copies is of other cells.
-use Rattle.law_copies.proofs.Imports.{◌∙◌, ◌≡◌, ◌≢◌, A_copy, A_new_copy, A_sweep, An_operation, As_copy, As_operation, Body, Both, Cell, IsDroppedFor}
-use Rattle.law_copies.proofs.Imports.{IsPutFor, JobContext, Key, LastCopy, LinkRow, PairState, Pending, Some, Stored, The_last_copy, ap, at, cell_holder}
-use Rattle.law_copies.proofs.Imports.{cell_link, cell_of, in_both, is_lead, is_second, is_the}
-use Rattle.law_copies.proofs.Imports.{is_the_one, kept, lead_links, leads_link, live, option_and_then, option_map, other_of, pending_on}
-use Rattle.law_copies.proofs.Imports.{refl, row_lead, same_numbers, same_some, second_secondary, secondary, so_both, state_lead, subst}
-use Rattle.law_copies.proofs.Imports.{sym, true, true_false, ℕ}
+use Rattle.law_copies.proofs.Imports.{◌∙◌, ◌≡◌, ◌≢◌, An_operation, As_operation, Body, Both, Cell, IsPutFor, JobContext, Key, LinkRow, PairState, Pending}
+use Rattle.law_copies.proofs.Imports.{Some, Stored, ap, cell_holder, cell_link, in_both, is_lead, is_second, is_the, is_the_one, lead_links, leads_link}
+use Rattle.law_copies.proofs.Imports.{option_and_then, option_map, other_of, pending_on, row_lead, same_numbers, same_some, second_secondary, secondary}
+use Rattle.law_copies.proofs.Imports.{so_both, state_lead, subst, sym, true, ℕ}
 use Rattle.law_copies.specs.LoneSteps.{IsFit}
 use Rattle.law_copies.specs.Visits.{AliveIn}
 use Rattle.law_copies.proofs.OtherIsNotHolder.{held_by}
-use Rattle.law_copies.proofs.RolesOfWorkers.{IsHeldBy, IsHeldHere, IsLedHere, led_alive, not_both, other_alone}
+use Rattle.law_copies.proofs.RolesOfWorkers.{IsLedHere, led_alive, not_both}
 
 -- what it handles, where it is and what it has, and the cell's row
 pub record CellInBoth : Type 1 where
@@ -31,25 +29,9 @@ module _ (it : CellInBoth) where
   both_of : (other : LinkRow) → cell_link here.state cell ≡ Some other → other.state ≡ Both
   both_of other is = ap (λ (r : LinkRow). r.state) (same_some (sym is ∙ is_row)) ∙ both_row
 
-  -- no copy is of the cell
-  pub not_held_here : IsHeldHere here cell → ⊥
-  not_held_here held = not_both here.me held.row (other_alone here.state here.me held.other held.row held.other_is) (both_of held.row held.is)
-
-  held_apart : (q : Cell) (holder : ℕ) → cell_holder here q ≡ Some holder → cell ≢ q
-  held_apart q holder held e =
-      let h = held_by here cell holder (ap (cell_holder here) e ∙ held) in not_both (other_of here.me h.0) h.0 h.1.alone (both_of h.0 h.1.is)
-
-  pub not_held_by : IsHeldBy here cell → ⊥
-  not_held_by by = held_apart cell by.holder by.held refl
-
-  -- what a copy puts or drops is of other cells
-  pub copied_apart : (key : Key) (stored : Stored) (last : LastCopy) → IsPutFor heard here own key stored (As_copy last) → cell ≢ cell_of key
-  copied_apart _ _ _ (A_copy entry holder last of at) = held_apart (cell_of entry.key) holder of.held
-
-  pub dropped_apart : (now : PairState) (key : Key) → IsDroppedFor heard here own now key → live here.state cell ≡ true → cell ≢ cell_of key
-  dropped_apart now _ (A_new_copy number q epochs epoch new left) on e = held_apart q new.holder new.held e
-  dropped_apart now _ (The_last_copy q holder last epoch held is kept left) on e = held_apart q holder held e
-  dropped_apart now _ (A_sweep key off) on e = true_false on (ap (live here.state) e ∙ off)
+  -- no other server holds it
+  pub no_other : (holder : ℕ) → cell_holder here cell ≡ Some holder → ⊥
+  no_other holder held = let h = held_by here cell holder held in not_both (other_of here.me h.0) h.0 h.1.alone (both_of h.0 h.1.is)
 
   -- ### The first server
 

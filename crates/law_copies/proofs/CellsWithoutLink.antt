@@ -1,9 +1,8 @@
 -- What a job leaves of a cell without a link.
 use Rattle.law_copies.proofs.Imports.{◌∙◌, ◌≡◌, Body, Cell, Did, Effect, Ends_copy, Found_no_slot, IsSettledState, IsToEnd, Is_whole, JobContext}
-use Rattle.law_copies.proofs.Imports.{JobResult, LinkId, LinkRow, May, None, Option, PairState, Some, State, Turns_page, ap, applied, by_bool}
-use Rattle.law_copies.proofs.Imports.{cell_link, ended_copy, eq_by_cmp, false, id_of, inl, inr, job_keeps, link_at, link_cmp, link_named, linked}
-use Rattle.law_copies.proofs.Imports.{none_some, owner, progress_on, refl, row_named, same_id, some_or_none, sym}
-use Rattle.law_copies.proofs.Imports.{without_copying, ℕ}
+use Rattle.law_copies.proofs.Imports.{JobResult, LinkId, LinkRow, May, None, Option, PairState, Some, State, Turns_page, ap, applied, by_bool, cell_link}
+use Rattle.law_copies.proofs.Imports.{ended_copy, eq_by_cmp, false, id_of, inl, inr, job_keeps, link_at, link_cmp, link_named, linked, none_some, owner}
+use Rattle.law_copies.proofs.Imports.{progress_on, refl, row_named, same_id, some_or_none, sym, without_copying, ℕ}
 use Rattle.law_copies.proofs.CopiesGoOn.{copied_apart}
 use Rattle.law_copies.proofs.HolderPace.{page_beside}
 use Rattle.law_copies.proofs.RolesOfWorkers.{named_id}

@@ -1,7 +1,7 @@
 -- Chains whose rows rise: which row stands at an epoch, and when two chains are one.
-use Rattle.law_copies.proofs.Imports.{[], ◌<◌, ◌||◌, ◌∙◌, ◌∷◌, ◌≡◌, ◌≢◌, Bool, In, IsRising, Less, List, None, Some, Table, ap, arith, at, at-empty, at_row}
-use Rattle.law_copies.proofs.Imports.{by_bool, cond, false, filter, get_in, in_get, inl, inr, list_any, map, nat_cmp, nat_cmp_total, nat_tests, none_some}
-use Rattle.law_copies.proofs.Imports.{ranked, refl, same_or_apart, same_some, slice_get, some_or_none, subst, sym, true, true_false, ℕ}
+use Rattle.law_copies.proofs.Imports.{[], ◌<◌, ◌||◌, ◌∙◌, ◌∷◌, ◌≡◌, ◌≢◌, Bool, In, IsRising, Less, List, None, Some, Table, ap, arith, at, at-empty}
+use Rattle.law_copies.proofs.Imports.{at_row, by_bool, cond, false, filter, get_in, in_get, inl, inr, list_any, map, nat_cmp, nat_cmp_total, nat_tests}
+use Rattle.law_copies.proofs.Imports.{none_some, ranked, refl, same_or_apart, same_some, slice_get, some_or_none, subst, sym, true, true_false, ℕ}
 
 module _ {X : Type 0} where
   at_here : (es : Table ℕ X) (k : ℕ) (x : X) → at nat_cmp ((k, x) ∷ es) k ≡ Some x

@@ -1,11 +1,11 @@
 -- How the copies of a link go on at its holder, for a cell of it on which the job is not at work: the greatest copied block, and the
 -- copies of later blocks.
-use Rattle.law_copies.proofs.Imports.{◌<◌, ◌∙◌, ◌≡◌, ◌≢◌, ◌⊎◌, Cell, Copying, IsMarked, IsToBeCopied, LinkId, LinkRow, None, Option, PairState}
-use Rattle.law_copies.proofs.Imports.{Progress, Some, State, Table, above, ap, arith, at, begins_copy, by_bool, by_test, cell_apart, cell_at}
-use Rattle.law_copies.proofs.Imports.{cell_cmp, cell_gone, cell_gone_apart, cell_link, copying_on, ended_copy, eq_by_cmp, false, first_copy, id_of, inl}
-use Rattle.law_copies.proofs.Imports.{inr, is_some, least, link_cmp, link_of, live, nat_lt, nat_tests, no_progress, none_some, progress}
-use Rattle.law_copies.proofs.Imports.{progress_beside, progress_here, progress_on, refl, row_named, same_cell_or_apart, same_id, same_or_apart}
-use Rattle.law_copies.proofs.Imports.{same_some, subst, sym, true, unwrap_or, with_copied, with_copying, with_progress, without_copying, ℕ}
+use Rattle.law_copies.proofs.Imports.{◌<◌, ◌∙◌, ◌≡◌, ◌≢◌, ◌⊎◌, Cell, Copying, IsMarked, IsToBeCopied, LinkId, LinkRow, None, Option, PairState, Progress}
+use Rattle.law_copies.proofs.Imports.{Some, State, Table, above, ap, arith, at, begins_copy, by_bool, by_test, cell_apart, cell_at, cell_cmp, cell_gone}
+use Rattle.law_copies.proofs.Imports.{cell_gone_apart, cell_link, copying_on, ended_copy, eq_by_cmp, false, first_copy, id_of, inl, inr, is_some, least}
+use Rattle.law_copies.proofs.Imports.{link_cmp, link_of, live, nat_lt, nat_tests, no_progress, none_some, progress, progress_beside, progress_here}
+use Rattle.law_copies.proofs.Imports.{progress_on, refl, row_named, same_cell_or_apart, same_id, same_or_apart, same_some, subst, sym, true, unwrap_or}
+use Rattle.law_copies.proofs.Imports.{with_copied, with_copying, with_progress, without_copying, ℕ}
 use Rattle.law_copies.specs.CopyProgress.{AreInOrder, HasPage, IsCopied, NotCopied, links_of}
 use Rattle.law_copies.proofs.BlocksOnLinks.{block_on, on_block}
 use Rattle.law_copies.proofs.HolderPace.{IsPaced, paced_copied}

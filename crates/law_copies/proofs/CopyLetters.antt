@@ -1,9 +1,9 @@
 -- What a job sends of copies.
-use Rattle.law_copies.proofs.Imports.{[], ◌<◌, ◌∙◌, ◌≡◌, Body, Bool, Cell, Copying, Did, Ends_fill, In, IsCopying, Is_synced, JobContext, JobResult, LastCopy}
-use Rattle.law_copies.proofs.Imports.{LinkId, LinkRow, Moves, Moves_on, None, Option, PairState, Post, Says, Some, Stored, Syncs, Tells_page, Trims, about}
-use Rattle.law_copies.proofs.Imports.{above, among_least, ap, cell_holder, cell_link, chain_in, ended, epochs_beyond, epochs_of, false, filter, holder_of}
-use Rattle.law_copies.proofs.Imports.{is_between, last_copy, least, letters_of_job, link_named, live, logged_apart, marked_blocks, refl, same_some, slice_get}
-use Rattle.law_copies.proofs.Imports.{subject_of, subst, sym, true, true_false, ℕ}
+use Rattle.law_copies.proofs.Imports.{[], ◌<◌, ◌∙◌, ◌≡◌, Body, Bool, Cell, Copying, Did, Ends_fill, In, IsCopying, Is_synced, JobContext, JobResult}
+use Rattle.law_copies.proofs.Imports.{LastCopy, LinkId, LinkRow, Moves, Moves_on, None, Option, PairState, Post, Says, Some, Stored, Syncs, Tells_page}
+use Rattle.law_copies.proofs.Imports.{Trims, about, above, among_least, ap, cell_holder, cell_link, chain_in, ended, epochs_beyond, epochs_of, false}
+use Rattle.law_copies.proofs.Imports.{filter, holder_of, is_between, last_copy, least, letters_of_job, link_named, live, logged_apart, marked_blocks, refl}
+use Rattle.law_copies.proofs.Imports.{same_some, slice_get, subject_of, subst, sym, true, true_false, ℕ}
 use Rattle.law_jobs.specs.Sayings.{Ends}
 use Rattle.law_copies.specs.CopyProgress.{IsOfLink, IsTold, HasTrimmed, HasSent, HasPut}
 use Rattle.law_copies.proofs.LeftToCopy.{marked_on}

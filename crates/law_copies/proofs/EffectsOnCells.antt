@@ -1,15 +1,15 @@
 -- An effect leaves each cell as it is but the one that it is on, and that by what the server is to it.
 use Rattle.law_copies.proofs.Imports.{◌<◌, ◌∙◌, ◌≡◌, ◌≢◌, ◌⊎◌, A_copy, A_lead, A_new_copy, A_sweep, An_operation, As_copy, As_operation, As_second}
 use Rattle.law_copies.proofs.Imports.{Begins_copy, Body, Busy, By_a_copy, By_its_operation, Cell, Chain, Closes, CopyGoes, Copying, Did, Drops, Effect}
-use Rattle.law_copies.proofs.Imports.{Ends_copy, For_a_fill, For_a_write, Found_no_slot, Has_put, Has_trimmed, IsClosedFor, IsDroppedFor}
-use Rattle.law_copies.proofs.Imports.{IsIdle, IsNewCopy, IsNextPage, IsOpening, IsPutFor, IsSetFor, IsToEnd, IsUnderWay, IsUnmarkedFor, Is_copied}
-use Rattle.law_copies.proofs.Imports.{Is_off, Is_old, Is_over, Is_whole, JobContext, JobResult, Key, LastCopy, LastOp, LinkRow, List, MarkKind, May}
-use Rattle.law_copies.proofs.Imports.{None, Opens, Option, PairState, Pending, Puts, Reserved, Reserves, Sets, Some, Stale, Stored, Table}
-use Rattle.law_copies.proofs.Imports.{The_last_copy, Turns_page, ap, applied, arith, at, cell_apart, cell_at, cell_gone_apart, cell_of}
-use Rattle.law_copies.proofs.Imports.{chain_apart, chain_in, chains_with, copying_on, drop_apart, drop_none, ended, false, first, first_copy}
-use Rattle.law_copies.proofs.Imports.{first_last, follows, inl, inr, is_marked, is_second, job_keeps, kept, key_at, last_copy, last_on, live}
-use Rattle.law_copies.proofs.Imports.{live_stage, mark_beside, marks, nat_cmp, pending_on, put, refl, same_cell_or_apart, same_or_apart}
-use Rattle.law_copies.proofs.Imports.{stage_at, stage_live, subst, sym, true, true_false, unmark_beside, unmark_none, was_same, ℕ}
+use Rattle.law_copies.proofs.Imports.{Ends_copy, For_a_fill, For_a_write, Found_no_slot, Has_put, Has_trimmed, IsClosedFor, IsDroppedFor, IsIdle}
+use Rattle.law_copies.proofs.Imports.{IsNewCopy, IsNextPage, IsOpening, IsPutFor, IsSetFor, IsToEnd, IsUnderWay, IsUnmarkedFor, Is_copied, Is_off, Is_old}
+use Rattle.law_copies.proofs.Imports.{Is_over, Is_whole, JobContext, JobResult, Key, LastCopy, LastOp, LinkRow, List, MarkKind, May, None, Opens, Option}
+use Rattle.law_copies.proofs.Imports.{PairState, Pending, Puts, Reserved, Reserves, Sets, Some, Stale, Stored, Table, The_last_copy, Turns_page, ap}
+use Rattle.law_copies.proofs.Imports.{applied, arith, at, cell_apart, cell_at, cell_gone_apart, cell_holder, cell_of, chain_apart, chain_in, chains_with}
+use Rattle.law_copies.proofs.Imports.{copying_on, drop_apart, drop_none, ended, false, first, first_copy, first_last, follows, inl, inr, is_marked}
+use Rattle.law_copies.proofs.Imports.{is_second, job_keeps, key_at, last_copy, last_on, live, live_stage, mark_beside, marks, nat_cmp, pending_on, put}
+use Rattle.law_copies.proofs.Imports.{refl, same_cell_or_apart, same_or_apart, stage_at, stage_live, subst, sym, true, true_false, unmark_beside}
+use Rattle.law_copies.proofs.Imports.{unmark_none, was_same, ℕ}
 use Rattle.law_jobs.specs.Effects.{Copies, Goes_on, Marks, Unmarks}
 use Rattle.law_jobs.proofs.OperationsCome.{HasCome, HaveCome, Is_new, Stood, each_come}
 use Rattle.law_copies.specs.LoneSteps.{IsBare, IsFit, KeepsCell}
@@ -21,6 +21,16 @@ use Rattle.petal_msg.specs.declared.operation.FollowProgress.TheVariants as foll
 pub put_apart : (chains : Table Cell Chain) (key : Key) (stored : Stored) (q : Cell) → q ≢ cell_of key
     → chain_in (chains_with chains key stored) q ≡ chain_in chains q
 put_apart chains key stored q ne = chain_apart chains (cell_of key) (put nat_cmp (chain_in chains (cell_of key)) key.epoch stored) q ne
+
+-- where no other server holds the cell's link, no copy puts or drops there
+module _ (heard : Body → Type 0) (here : JobContext) (own : PairState) (q : Cell) (no_other : (holder : ℕ) → cell_holder here q ≡ Some holder → ⊥) where
+  pub copied_apart : (key : Key) (stored : Stored) (last : LastCopy) → IsPutFor heard here own key stored (As_copy last) → q ≢ cell_of key
+  copied_apart _ _ _ (A_copy entry holder last of at) e = no_other holder (ap (cell_holder here) e ∙ of.held)
+
+  pub dropped_apart : (now : PairState) (key : Key) → IsDroppedFor heard here own now key → live here.state q ≡ true → q ≢ cell_of key
+  dropped_apart now _ (A_new_copy number cell epochs epoch new left) on e = no_other new.holder (ap (cell_holder here) e ∙ new.held)
+  dropped_apart now _ (The_last_copy cell holder last epoch held is same left) on e = no_other holder (ap (cell_holder here) e ∙ held)
+  dropped_apart now _ (A_sweep key off) on e = true_false on (ap (live here.state) e ∙ off)
 
 -- the cell that an effect is on, if it is on one
 abbrev pub cell_on : Effect → Option Cell

@@ -1,12 +1,12 @@
 -- An entry that a server applies: of each cell the server comes to a new place with nothing in memory of it, or it stays where it was.
-use Rattle.law_copies.proofs.Imports.{[], ◌++◌, ◌+◌, ◌∙◌, ◌∷◌, ◌≡◌, ◌≤◌, ◌⊎◌, Both, Busy, By_caught, By_join, By_leave, Caught, Cell, Command, HasProperTuple}
-use Rattle.law_copies.proofs.Imports.{HasProperTuples, HasStarted, In, IsCaughtBy, IsPrefix, IsSteady, LastCopy, LinkRow, List, None, PairState, Pairs}
-use Rattle.law_copies.proofs.Imports.{Pending, Some, Stale, State, StaysSo, after, alone_not_both, ap, arith, at, both_before, by_bool, cell_cmp, cell_link}
-use Rattle.law_copies.proofs.Imports.{chain_in, chosen_log, copying_on, crossed, false, has_mark, held_as_flag, id_of, in_later, in_once, inl, inr, is_in}
-use Rattle.law_copies.proofs.Imports.{is_the_one, last_copy, left_not_both, left_row, length, link_cmp, link_led_by, live, live_stage, log_entry_stays}
-use Rattle.law_copies.proofs.Imports.{log_steady, log_touched, mark_on, nat_cmp, no_progress, none_some, option_and_then, other_of, pending_on, prefix_itself}
-use Rattle.law_copies.proofs.Imports.{prefix_more, prefix_plain, refl, row_lead, row_named, same_or_apart, same_some, server_state, some_or_none, stage_at}
-use Rattle.law_copies.proofs.Imports.{stage_live, state_after, subst, sym, touches, true, true_false, unwrap_or, ℕ}
+use Rattle.law_copies.proofs.Imports.{[], ◌++◌, ◌+◌, ◌∙◌, ◌∷◌, ◌≡◌, ◌≤◌, ◌⊎◌, Both, Busy, By_caught, By_join, By_leave, Caught, Cell, Command}
+use Rattle.law_copies.proofs.Imports.{HasProperTuple, HasProperTuples, HasStarted, In, IsCaughtBy, IsPrefix, IsSteady, LastCopy, LinkRow, List, None}
+use Rattle.law_copies.proofs.Imports.{PairState, Pairs, Pending, Some, Stale, State, StaysSo, after, alone_not_both, ap, arith, at, both_before, by_bool}
+use Rattle.law_copies.proofs.Imports.{cell_cmp, cell_link, chain_in, chosen_log, copying_on, crossed, false, has_mark, held_as_flag, id_of, in_later}
+use Rattle.law_copies.proofs.Imports.{in_once, inl, inr, is_in, is_the_one, last_copy, left_not_both, left_row, length, link_cmp, link_led_by, live}
+use Rattle.law_copies.proofs.Imports.{live_stage, log_entry_stays, log_steady, log_touched, mark_on, nat_cmp, no_progress, none_some, option_and_then}
+use Rattle.law_copies.proofs.Imports.{other_of, pending_on, prefix_itself, prefix_more, prefix_plain, refl, row_lead, row_named, same_or_apart, same_some}
+use Rattle.law_copies.proofs.Imports.{server_state, some_or_none, stage_at, stage_live, state_after, subst, sym, touches, true, true_false, unwrap_or, ℕ}
 use Rattle.law_copies.specs.GoodCopies.{IsUnheard}
 use Rattle.law_copies.specs.Pair.{HaveMarks}
 use Rattle.law_copies.specs.Visits.{AliveIn, IsLinked, place_by, with_stores}
@@ -15,8 +15,8 @@ use Rattle.law_copies.proofs.NewcomersRememberNothing.{IsFresh}
 use Rattle.law_copies.proofs.ServedAtLaterPrefixes.{same_only}
 use Rattle.law_copies.proofs.PlacesByPrefixes.{below_at, linked_alive, place_of_later, place_touched, place_untouched, places_up, rows_later, state_next}
 use Rattle.law_copies.proofs.RolesOfWorkers.{above_none, cell_map}
-use Rattle.law_copies.proofs.LeftByEntry.{KeepsAll, lives_on, cell_never, link_never, touched_fresh, untouched_keeps, left_fresh, left_keeps, left_copied}
-use Rattle.law_copies.proofs.LeftByEntry.{left_unheard}
+use Rattle.law_copies.proofs.LeftByEntry.{KeepsAll, cell_never, left_copied, left_fresh, left_keeps, left_unheard, link_never, lives_on, touched_fresh}
+use Rattle.law_copies.proofs.LeftByEntry.{untouched_keeps}
 
 -- ### At the server's own places
 

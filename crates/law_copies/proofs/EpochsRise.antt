@@ -1,7 +1,7 @@
 -- The epochs of each chain rise, whatever a server does.
 use Rattle.law_copies.proofs.Imports.{[], ◌∙◌, ◌∷◌, Body, Cell, Chain, Did, IsRising, JobContext, JobResult, Key, PairState, Store, Stored, Table, ap}
-use Rattle.law_copies.proofs.Imports.{cell_cmp, cell_of, chain_apart, chain_in, chain_put, chains_at, chains_keep, gone_apart, gone_chain, inl, inr, nat_cmp}
-use Rattle.law_copies.proofs.Imports.{nat_cmp_total, put, put_rises, same_cell_or_apart, subst, sym, without, without_entry, without_rises, ℕ}
+use Rattle.law_copies.proofs.Imports.{cell_cmp, cell_of, chain_apart, chain_in, chain_put, chains_at, chains_keep, gone_apart, gone_chain, inl, inr}
+use Rattle.law_copies.proofs.Imports.{nat_cmp, nat_cmp_total, put, put_rises, same_cell_or_apart, subst, sym, without, without_entry, without_rises, ℕ}
 
 -- each chain rises
 abbrev pub AreRising : Table Cell Chain → Type 0

@@ -1,9 +1,9 @@
 -- A job leaves a cell whose link the server is not of, or that has no link.
-use Rattle.law_copies.proofs.Imports.{◌<◌, ◌∙◌, ◌≡◌, ◌≢◌, Body, Both, ByBoth, ByNone, ByOne, Cell, Did, Effect, IsBothRow, IsInBoth, IsSteady}
-use Rattle.law_copies.proofs.Imports.{JobContext, JobResult, LinkRow, Lost, May, None, PairState, Some, ap, applied, arith, at, cell_holder}
-use Rattle.law_copies.proofs.Imports.{cell_link, first, has_server, inl, inr, is_alone, is_second, is_the_one, leads_link, link_led_by}
-use Rattle.law_copies.proofs.Imports.{live_stage, none_some, option_and_then, other_of, primary_is_one, row_lead, same_some, second, second_by}
-use Rattle.law_copies.proofs.Imports.{secondary_is_one, stage_at, sym, true, true_false, ℕ}
+use Rattle.law_copies.proofs.Imports.{◌<◌, ◌∙◌, ◌≡◌, ◌≢◌, Body, Both, ByBoth, ByNone, ByOne, Cell, Did, Effect, IsBothRow, IsInBoth, IsSteady, JobContext}
+use Rattle.law_copies.proofs.Imports.{JobResult, LinkRow, Lost, May, None, PairState, Some, ap, applied, arith, at, cell_holder, cell_link, first}
+use Rattle.law_copies.proofs.Imports.{has_server, inl, inr, is_alone, is_second, is_the_one, leads_link, link_led_by, live_stage, none_some}
+use Rattle.law_copies.proofs.Imports.{option_and_then, other_of, primary_is_one, row_lead, same_some, second, second_by, secondary_is_one, stage_at, sym}
+use Rattle.law_copies.proofs.Imports.{true, true_false, ℕ}
 use Rattle.law_copies.specs.LoneSteps.{IsBare, IsFit, IsNotOf, KeepsCell}
 use Rattle.law_copies.proofs.EffectsOnCells.{Changes, IsAtCell, cell_keeps}
 use Rattle.law_copies.proofs.OtherIsNotHolder.{alone_both, held_by, only_alone}

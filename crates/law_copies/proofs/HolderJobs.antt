@@ -1,17 +1,16 @@
 -- Each job of the holder of a link keeps a cell of it.
 use Rattle.law_copies.proofs.Imports.{◌∙◌, ◌≡◌, ◌≢◌, ◌≤◌, An_operation, As_copy, As_operation, As_second, Begins, Begins_copy, Body, By_a_copy}
-use Rattle.law_copies.proofs.Imports.{By_its_operation, Cell, Closes, CopyGoes, Copying, Did, Drops, Effect}
-use Rattle.law_copies.proofs.Imports.{Ends_copy, For_a_fill, For_a_write, Found_no_slot, Has_put, Has_trimmed, IsClosedFor, IsCopying, IsIdle, IsMarked}
-use Rattle.law_copies.proofs.Imports.{IsNextPage, IsOpening, IsPutFor, IsRising, IsSetFor, IsToBegin, IsToEnd, IsUnmarkedFor, Is_copied, Is_off, Is_old}
-use Rattle.law_copies.proofs.Imports.{Is_over, Is_whole, JobContext, JobResult, Key, LinkId, LinkRow, MarkKind, Marks, May, None, Opens, Option, PairState}
-use Rattle.law_copies.proofs.Imports.{Pending, Post, Progress, Puts, Reserves, Says, Sets, Some, Store, Stored, Table, Turns_page, Unmarks, about}
-use Rattle.law_copies.proofs.Imports.{above, ap, applied, arith, at, begins_copy, by_bool, cell_at, cell_cmp, cell_gone, cell_gone_apart}
-use Rattle.law_copies.proofs.Imports.{cell_holder, cell_link, cell_of, cell_same, chain_in, chain_put, chains_with, copying_on, ended, ended_copy}
-use Rattle.law_copies.proofs.Imports.{entry_ahead, eq_by_cmp, false, first_copy, has_proposed, held_as_flag, id_of, in_both, inl, inr, is_alone}
-use Rattle.law_copies.proofs.Imports.{is_flagged, is_second, kept, length, letters_of_job, link_cmp, link_of, live, marks, nat_cmp, no_progress}
-use Rattle.law_copies.proofs.Imports.{none_some, pending_on, progress_on, put, refl, same_cell_or_apart, same_id}
-use Rattle.law_copies.proofs.Imports.{same_some, some_or_none, stale_kept, subst, sym, true, true_false, turned_page, under_way, unwrap_or, with_copying}
-use Rattle.law_copies.proofs.Imports.{with_page, without_copying, ℕ}
+use Rattle.law_copies.proofs.Imports.{By_its_operation, Cell, Closes, CopyGoes, Copying, Did, Drops, Effect, Ends_copy, For_a_fill, For_a_write}
+use Rattle.law_copies.proofs.Imports.{Found_no_slot, Has_put, Has_trimmed, IsClosedFor, IsCopying, IsIdle, IsMarked, IsNextPage, IsOpening, IsPutFor}
+use Rattle.law_copies.proofs.Imports.{IsRising, IsSetFor, IsToBegin, IsToEnd, IsUnmarkedFor, Is_copied, Is_off, Is_old, Is_over, Is_whole, JobContext}
+use Rattle.law_copies.proofs.Imports.{JobResult, Key, LinkId, LinkRow, MarkKind, Marks, May, None, Opens, Option, PairState, Pending, Post, Progress, Puts}
+use Rattle.law_copies.proofs.Imports.{Reserves, Says, Sets, Some, Store, Stored, Table, Turns_page, Unmarks, about, above, ap, applied, arith, at}
+use Rattle.law_copies.proofs.Imports.{begins_copy, by_bool, cell_at, cell_cmp, cell_gone, cell_gone_apart, cell_holder, cell_link, cell_of, cell_same}
+use Rattle.law_copies.proofs.Imports.{chain_in, chain_put, chains_with, copying_on, ended, ended_copy, entry_ahead, eq_by_cmp, false, first_copy}
+use Rattle.law_copies.proofs.Imports.{has_proposed, held_as_flag, id_of, in_both, inl, inr, is_alone, is_flagged, is_second, length, letters_of_job}
+use Rattle.law_copies.proofs.Imports.{link_cmp, link_of, live, marks, nat_cmp, no_progress, none_some, pending_on, progress_on, put, refl}
+use Rattle.law_copies.proofs.Imports.{same_cell_or_apart, same_id, same_some, some_or_none, stale_kept, subst, sym, true, true_false, turned_page}
+use Rattle.law_copies.proofs.Imports.{under_way, unwrap_or, with_copying, with_page, without_copying, ℕ}
 use Rattle.law_jobs.specs.Effects.{Copies, Goes_on}
 use Rattle.law_copies.specs.CopyProgress.{AreCopying, IsTold}
 use Rattle.law_copies.specs.LoneSteps.{HolderKeeps, HolderStep, IsHolding, KeepsCell}
@@ -19,12 +18,12 @@ use Rattle.law_copies.specs.Pair.{HasMarks}
 use Rattle.law_copies.proofs.BlocksOnLinks.{on_block}
 use Rattle.law_copies.proofs.CopiesGoOn.{IsOnward, begun_onward, closed_onward, copied_itself, ended_onward, going_onward, onward_by, onward_tables}
 use Rattle.law_copies.proofs.CopyLetters.{telling}
-use Rattle.law_copies.proofs.EffectsOnCells.{Changes, cell_keeps, cell_on}
+use Rattle.law_copies.proofs.EffectsOnCells.{Changes, cell_keeps, cell_on, copied_apart, dropped_apart}
 use Rattle.law_copies.proofs.EmptyCellsHaveNoChain.{has_entry, no_entries}
 use Rattle.law_copies.proofs.EpochsRise.{AreRising, put_entry}
 use Rattle.law_copies.proofs.HolderChanges.{step_on}
 use Rattle.law_copies.proofs.HolderPace.{link_itself, paced_by, page_beside, paced_copied, paced_table, still_marked}
-use Rattle.law_copies.proofs.LeadsFindMarks.{IsMine, KeepsAt, begun_marks, copied_apart, dropped_apart, each_marks, second_apart}
+use Rattle.law_copies.proofs.LeadsFindMarks.{IsMine, KeepsAt, begun_marks, each_marks, second_apart}
 use Rattle.law_copies.proofs.LeftToCopy.{IsNext, next_is}
 use Rattle.law_copies.proofs.OtherIsNotHolder.{only_alone}
 use Rattle.law_copies.proofs.OwnPartFrames.{keeps_itself}
@@ -288,9 +287,10 @@ module _ (heard : Body → Type 0) (here : JobContext) (links : ℕ) (row : Link
     one now (Puts key stored (As_operation op)) may (inl on) s = puts now key stored op may.0 (same_some on.at) on.lives may.2.0 s
     one now (Puts key stored (As_second last)) may (inl on) s = absurd (second_apart heard here own f.fit cell (own_cell on.lives) key stored last may.0
         (sym (same_some on.at)))
-    one now (Puts key stored (As_copy last)) may (inl on) s = absurd (copied_apart heard here own f.fit cell (own_cell on.lives) key stored last may.0
+    one now (Puts key stored (As_copy last)) may (inl on) s =
+        absurd (copied_apart heard here own cell (λ holder held. not_held holder held) key stored last may.0 (sym (same_some on.at)))
+    one now (Drops key) may (inl on) s = absurd (dropped_apart heard here own cell (λ holder held. not_held holder held) now key may.2 on.lives
         (sym (same_some on.at)))
-    one now (Drops key) may (inl on) s = absurd (dropped_apart heard here own f.fit cell (own_cell on.lives) now key may.2 (sym (same_some on.at)))
     one now (Reserves c number) may (inl on) s =
         alone_not_second here f.fit.steady cell row f.is here.me mine (ap (is_second here.state here.me) (sym (same_some on.at)) ∙ may.1)
     one now (Is_copied c number epochs) may (inl on) s = not_held may.0.holder (ap (cell_holder here) (sym (same_some on.at)) ∙ may.0.held)

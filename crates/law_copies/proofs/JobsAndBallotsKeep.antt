@@ -1,9 +1,9 @@
 -- What a job, and a ballot that is started, keeps by itself.
 use Rattle.law_copies.proofs.Imports.{[], ◌∙◌, ◌≡◌, Both, Caught, Cell, Command, Did, Handled, In, IsSettledState, JobContext, JobResult, LinkId, LinkRow}
-use Rattle.law_copies.proofs.Imports.{List, None, Option, PairState, Post, Some, Starts, ap, arith, both, cell_link, chosen_log, did_count, eq_by_cmp, false}
-use Rattle.law_copies.proofs.Imports.{holder_of, holds_link, id_of, inl, is_between, is_logged, link_cmp, link_named, log_plain, logged_apart, own_place}
-use Rattle.law_copies.proofs.Imports.{prefix_plain, progress_beside, progress_on, proposed, refl, server_state, so_both, stage_live, subject_of, subst, sym}
-use Rattle.law_copies.proofs.Imports.{true, true_false, ℕ}
+use Rattle.law_copies.proofs.Imports.{List, None, Option, PairState, Post, Some, Starts, ap, arith, both, cell_link, chosen_log, did_count, eq_by_cmp}
+use Rattle.law_copies.proofs.Imports.{false, holder_of, holds_link, id_of, inl, is_between, is_logged, link_cmp, link_named, log_plain, logged_apart}
+use Rattle.law_copies.proofs.Imports.{own_place, prefix_plain, progress_beside, progress_on, proposed, refl, server_state, so_both, stage_live, subject_of}
+use Rattle.law_copies.proofs.Imports.{subst, sym, true, true_false, ℕ}
 use Rattle.law_copies.specs.Visits.{AliveIn}
 use Rattle.law_copies.specs.CopyProgress.{links_of}
 use Rattle.law_copies.specs.Pair.{pair_of}

@@ -11,8 +11,8 @@ use Rattle.law_copies.proofs.Imports.{version_of, without}
 use Rattle.law_jobs.specs.Effects.{Goes_on}
 use Rattle.law_copies.specs.Pair.{Keeps, Known, Pair, PairOk, far, pair_of}
 use Rattle.law_copies.specs.Visits.{AliveIn}
-use Rattle.law_copies.proofs.CellInBoth.{CellInBoth, copied_apart, dropped_apart, second_apart}
-use Rattle.law_copies.proofs.EffectsOnCells.{Changes, cell_keeps}
+use Rattle.law_copies.proofs.CellInBoth.{CellInBoth, no_other, second_apart}
+use Rattle.law_copies.proofs.EffectsOnCells.{Changes, cell_keeps, copied_apart, dropped_apart}
 use Rattle.petal_msg.specs.declared.body.Body.TheVariants as body
 use Rattle.law_copies.proofs.CellChangesKeepCopies as moves
 
@@ -131,8 +131,9 @@ module _ (it : CellInBoth) (leads : it.row.primary ≡ it.here.me) (second_own :
       moves.keeps_then k (subst (Keeps (pair now)) (λ i. record (pair now) { pending = sym gone i }) (closed_so now q may k.ok e))
   each now (Puts key stored (As_operation op)) may (inl on) k = put_so now key stored op may.0 may.1 may.2.1 (sym (same_some on.at))
   each now (Puts key stored (As_second last)) may (inl on) k = absurd (second_put key stored last may.0 (sym (same_some on.at)))
-  each now (Puts key stored (As_copy last)) may (inl on) k = absurd (copied_apart it key stored last may.0 (sym (same_some on.at)))
-  each now (Drops key) may (inl on) k = absurd (dropped_apart it now key may.2 on.lives (sym (same_some on.at)))
+  each now (Puts key stored (As_copy last)) may (inl on) k =
+      absurd (copied_apart heard here own cell (no_other it) key stored last may.0 (sym (same_some on.at)))
+  each now (Drops key) may (inl on) k = absurd (dropped_apart heard here own cell (no_other it) now key may.2 on.lives (sym (same_some on.at)))
   each now e may (inl on) k = after now (applied now e) k refl refl (omega arith)
   each now e may (inr kept) k = after now (applied now e) k kept.rest.chain kept.rest.pending (counted now e)
 

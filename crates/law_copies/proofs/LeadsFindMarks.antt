@@ -1,18 +1,18 @@
 -- A lead puts only on a block that is marked on its device, and its operations find the marks that their stages tell of.
-use Rattle.law_copies.proofs.Imports.{◌+◌, ◌||◌, ◌∙◌, ◌≡◌, ◌≢◌, ◌⊎◌, A_copy, A_lead, A_new_copy, A_sweep, An_operation, As_copy, As_operation, As_second}
-use Rattle.law_copies.proofs.Imports.{Body, Busy, By_a_copy, By_its_operation, Cell, Closes, Copying, Did, Drops, Effect, For_a_fill, For_a_write, Idle}
-use Rattle.law_copies.proofs.Imports.{IsDroppedFor, IsIdle, IsMarked, IsOpening, IsPutFor, IsSetFor, IsUnmarkedFor, Is_off, Is_old, JobContext, JobResult}
-use Rattle.law_copies.proofs.Imports.{Key, LastCopy, LastOp, MarkKind, Marks, May, None, Opens, PairState, Pairs, Pending, Puts, Sets, Some, Stale, Store}
-use Rattle.law_copies.proofs.Imports.{Stored, The_last_copy, Turns_page, Unmarks, among_least, ap, applied, at, both, cell_apart, cell_at, cell_cmp}
-use Rattle.law_copies.proofs.Imports.{cell_holder, cell_of, cell_same, chain_in, copying_on, did_ready, drop_apart, entry_ahead, false, follows, inl, inr}
-use Rattle.law_copies.proofs.Imports.{is_marked, is_second, is_some, is_under_way, job_keeps, leads_link, led_by_link, live, live_stage, mark_kept}
-use Rattle.law_copies.proofs.Imports.{marked_blocks, marks, nat_cmp, none_some, not, not_true, pending_on, put, put_with, refl, same_cell_or_apart}
-use Rattle.law_copies.proofs.Imports.{same_some, some_or_none, stale_kept, stood, subst, sym, true, true_false, unmark_beside, version_of, ℕ}
+use Rattle.law_copies.proofs.Imports.{◌+◌, ◌||◌, ◌∙◌, ◌≡◌, ◌≢◌, ◌⊎◌, A_lead, An_operation, As_copy, As_operation, As_second, Body, Busy, By_a_copy}
+use Rattle.law_copies.proofs.Imports.{By_its_operation, Cell, Closes, Copying, Did, Drops, Effect, For_a_fill, For_a_write, Idle, IsIdle, IsMarked}
+use Rattle.law_copies.proofs.Imports.{IsOpening, IsPutFor, IsSetFor, IsUnmarkedFor, Is_off, Is_old, JobContext, JobResult, Key, LastOp, MarkKind, Marks}
+use Rattle.law_copies.proofs.Imports.{May, None, Opens, PairState, Pairs, Pending, Puts, Sets, Some, Stale, Store, Stored, Turns_page, Unmarks}
+use Rattle.law_copies.proofs.Imports.{among_least, ap, applied, at, both, cell_apart, cell_at, cell_cmp, cell_holder, cell_of, cell_same, chain_in}
+use Rattle.law_copies.proofs.Imports.{copying_on, did_ready, drop_apart, entry_ahead, false, follows, inl, inr, is_marked, is_second, is_some}
+use Rattle.law_copies.proofs.Imports.{is_under_way, job_keeps, leads_link, led_by_link, live, live_stage, mark_kept, marked_blocks, nat_cmp, none_some}
+use Rattle.law_copies.proofs.Imports.{not, not_true, pending_on, put, put_with, refl, same_cell_or_apart, same_some, some_or_none, stale_kept, stood}
+use Rattle.law_copies.proofs.Imports.{subst, sym, true, true_false, unmark_beside, version_of, ℕ}
 use Rattle.law_jobs.specs.Effects.{Goes_on}
 use Rattle.law_copies.specs.LoneSteps.{IsFit}
 use Rattle.law_copies.specs.Pair.{HasMarks, HaveMarks}
 use Rattle.law_state.proofs.ListLookups.{in_filter}
-use Rattle.law_copies.proofs.EffectsOnCells.{own_apart, put_apart}
+use Rattle.law_copies.proofs.EffectsOnCells.{copied_apart, dropped_apart, own_apart, put_apart}
 use Rattle.law_copies.proofs.OtherIsNotHolder.{held_not_leading}
 use Rattle.law_copies.proofs.RolesOfWorkers.{leads_not_second}
 
@@ -126,14 +126,6 @@ module _ (heard : Body → Type 0) (here : JobContext) (own : PairState) (fit : 
     pub second_apart : (key : Key) (stored : Stored) (last : LastOp) → IsPutFor heard here own key stored (As_second last) → q ≢ cell_of key
     second_apart _ _ _ (A_lead number key told version bytes h follows last next) e = no_second (ap (is_second here.state here.me) e ∙ follows)
 
-    pub copied_apart : (key : Key) (stored : Stored) (last : LastCopy) → IsPutFor heard here own key stored (As_copy last) → q ≢ cell_of key
-    copied_apart _ _ _ (A_copy entry holder last of at) e = no_other holder (ap (cell_holder here) e ∙ of.held)
-
-    pub dropped_apart : (now : PairState) (key : Key) → IsDroppedFor heard here own now key → q ≢ cell_of key
-    dropped_apart now _ (A_new_copy number cell epochs epoch new left) e = no_other new.holder (ap (cell_holder here) e ∙ new.held)
-    dropped_apart now _ (The_last_copy cell holder last epoch held is same left) e = no_other holder (ap (cell_holder here) e ∙ held)
-    dropped_apart now _ (A_sweep key off) e = true_false on (ap (live here.state) e ∙ off)
-
     pub each_marks : (now : PairState) (e : Effect) → May heard here own now e → K now → K (applied now e)
     each_marks now (Opens op) may k = record {
       marks = put_with (λ o. HasMarks o now.store q) now.pairs.pending op.cell q op
@@ -151,9 +143,9 @@ module _ (heard : Body → Type 0) (here : JobContext) (own : PairState) (fit : 
     each_marks now (Puts key stored (As_second last)) may k =
         stays now _ k refl (λ kind there. there) (put_apart now.store.chains key stored q (second_apart key stored last may.0))
     each_marks now (Puts key stored (As_copy last)) may k =
-        stays now _ k refl (λ kind there. there) (put_apart now.store.chains key stored q (copied_apart key stored last may.0))
+        stays now _ k refl (λ kind there. there) (put_apart now.store.chains key stored q (copied_apart heard here own q no_other key stored last may.0))
     each_marks now (Drops key) may k =
-        stays now _ k refl (λ kind there. there) (drop_apart now.store key q (dropped_apart now key may.2))
+        stays now _ k refl (λ kind there. there) (drop_apart now.store key q (dropped_apart heard here own q no_other now key may.2 on))
     each_marks now (Marks which cell) may k = stays now _ k refl (λ kind. mark_kept now.store which kind cell q) refl
     each_marks now (Unmarks which cell) may k = elim (same_cell_or_apart q cell) [
       | inl e ↦ unmarked now which cell may e k

@@ -1,13 +1,13 @@
 -- What is left to copy of a link, by what the holder has marked and under way.
-use Rattle.law_copies.proofs.Imports.{[], if◌then◌else◌, ◌&&◌, ◌==◌, ◌∙◌, ◌∷◌, ◌≡◌, ◌≢◌, ◌≤◌, ◌⊎◌, Ask, Block, Busy, Cell, Chain, Copying, Equal, Greater, In}
-use Rattle.law_copies.proofs.Imports.{IsMarked, IsToBeCopied, Less, LinkId, LinkRow, List, Mark, MarkKind, NextCopy, None, Nothing, Option, Ordering}
-use Rattle.law_copies.proofs.Imports.{PairState, Pending, Some, Stale, State, Store, Table, Wait, above, among_least, ap, arith, at, blocks_left, both_true}
-use Rattle.law_copies.proofs.Imports.{by_bool, by_test, cell_at, cell_cmp, cell_cmp_same, cell_cmp_total, cell_left, cell_link, chain_in, cond, copying_on}
-use Rattle.law_copies.proofs.Imports.{either_false, false, filter, in-append, in_former, in_later, in_map, in_none, inl, inr, is_at, is_eq, is_kept_on}
-use Rattle.law_copies.proofs.Imports.{is_link, is_link_under_way, is_mark, is_marked, is_on, is_some, is_under_way, least, lesser, link_named, list_any, live}
-use Rattle.law_copies.proofs.Imports.{lookup, mark_on, marked_blocks, nat_lt, nat_tests, needs_full_copy, next_block, next_copy, none_of, none_some}
-use Rattle.law_copies.proofs.Imports.{number_itself, on_row, option_map_or, pending_on, progress_on, refl, same_cell, same_itself, same_mark, same_some}
-use Rattle.law_copies.proofs.Imports.{some_or_none, stored_blocks, subst, sym, tied_itself, true, true_false, unwrap_or, ℕ}
+use Rattle.law_copies.proofs.Imports.{[], ◌&&◌, ◌==◌, ◌∙◌, ◌∷◌, ◌≡◌, ◌≢◌, ◌≤◌, ◌⊎◌, Ask, Block, Busy, Cell, Chain, Copying, Equal, Greater, In, IsMarked}
+use Rattle.law_copies.proofs.Imports.{IsToBeCopied, Less, LinkId, LinkRow, List, Mark, MarkKind, NextCopy, None, Nothing, Option, Ordering, PairState}
+use Rattle.law_copies.proofs.Imports.{Pending, Some, Stale, State, Store, Table, Wait, above, among_least, ap, arith, at, blocks_left, both_true, by_bool}
+use Rattle.law_copies.proofs.Imports.{by_test, cell_at, cell_cmp, cell_cmp_same, cell_cmp_total, cell_left, cell_link, chain_in, cond, copying_on}
+use Rattle.law_copies.proofs.Imports.{either_false, false, filter, if◌then◌else◌, in-append, in_former, in_later, in_map, in_none, inl, inr, is_at, is_eq}
+use Rattle.law_copies.proofs.Imports.{is_kept_on, is_link, is_link_under_way, is_mark, is_marked, is_on, is_some, is_under_way, least, lesser, link_named}
+use Rattle.law_copies.proofs.Imports.{list_any, live, lookup, mark_on, marked_blocks, nat_lt, nat_tests, needs_full_copy, next_block, next_copy, none_of}
+use Rattle.law_copies.proofs.Imports.{none_some, number_itself, on_row, option_map_or, pending_on, progress_on, refl, same_cell, same_itself, same_mark}
+use Rattle.law_copies.proofs.Imports.{same_some, some_or_none, stored_blocks, subst, sym, tied_itself, true, true_false, unwrap_or, ℕ}
 use Rattle.law_copies.proofs.ChainsRise.{any_in, in_any, in_kept, in_mapped}
 use Rattle.law_state.proofs.ListLookups.{in_filter}
 

@@ -1,17 +1,16 @@
 -- A server speaks of pairs and copies only of live cells whose link it is of.
-use Rattle.law_copies.proofs.Imports.{◌∙◌, ◌≡◌, ◌⊎◌, A_copy, As_copy, Asks_copy, Asks_slot, Begins, Body, Cell, Copying, Did, Effect}
-use Rattle.law_copies.proofs.Imports.{Ends_fill, Entry, Goes_on, Has_copy, Has_slot, In, IsCopying, IsOfCopy, IsPutFor, Is_copied, Is_sync_full}
-use Rattle.law_copies.proofs.Imports.{Is_synced, JobContext, JobResult, Key, LastCopy, May, Moves, Moves_on, PairState, Pending}
-use Rattle.law_copies.proofs.Imports.{Post, Puts, Says, Some, Stored, Syncs, Tells_page, Trims, about, after, ap, applied, at, both, by_bool}
-use Rattle.law_copies.proofs.Imports.{cell_holder, cell_of, ended, false, first_last, follows, inl, inr, is_between, is_lead, is_second, job_keeps}
-use Rattle.law_copies.proofs.Imports.{last_copy, lead_links, leads_link, letters_of_job, live, logged_apart, none_some, pending_on, put_with, refl}
-use Rattle.law_copies.proofs.Imports.{retired_second, said, same_some, second, subject_of, subst, sym, true, true_false, ℕ}
+use Rattle.law_copies.proofs.Imports.{◌∙◌, ◌≡◌, ◌⊎◌, A_copy, As_copy, Asks_copy, Asks_slot, Begins, Body, Cell, Copying, Did, Effect, Ends_fill, Entry}
+use Rattle.law_copies.proofs.Imports.{Goes_on, Has_copy, Has_slot, In, IsCopying, IsOfCopy, IsPutFor, Is_copied, Is_sync_full, Is_synced, JobContext}
+use Rattle.law_copies.proofs.Imports.{JobResult, Key, LastCopy, May, Moves, Moves_on, PairState, Pending, Post, Puts, Says, Some, Stored, Syncs}
+use Rattle.law_copies.proofs.Imports.{Tells_page, Trims, about, after, ap, applied, at, both, by_bool, cell_holder, cell_of, ended, false, first_last}
+use Rattle.law_copies.proofs.Imports.{follows, inl, inr, is_between, is_lead, is_second, job_keeps, last_copy, lead_links, leads_link, letters_of_job}
+use Rattle.law_copies.proofs.Imports.{live, logged_apart, none_some, pending_on, put_with, refl, retired_second, said, same_some, second, subject_of}
+use Rattle.law_copies.proofs.Imports.{subst, sym, true, true_false, ℕ}
 use Rattle.law_jobs.specs.Sayings.{Ends}
 use Rattle.law_copies.specs.LoneSteps.{IsFit}
 use Rattle.law_copies.proofs.ForeignCellsStay.{IsIdleAt}
 use Rattle.law_copies.proofs.MuteLettersTellNothing.{ended_mute, moved_mute}
 use Rattle.law_copies.proofs.RolesOfWorkers.{IsHeldBy, IsHeldHere, begun_held, entry_held, second_live, taken_held}
-use Rattle.law_copies.proofs.VisitsAfterSteps.{later}
 use Rattle.petal_msg.specs.declared.body.Body.TheVariants as body
 use Rattle.law_jobs.specs.Sayings as says
 

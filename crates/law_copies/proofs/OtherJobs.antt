@@ -2,9 +2,9 @@
 use Rattle.law_copies.proofs.Imports.{◌+◌, ◌<◌, ◌∙◌, ◌≡◌, A_copy, A_new_copy, A_sweep, As_copy, Begins, Body, Cell, Copying, Did, Drops, Effect, Entry}
 use Rattle.law_copies.proofs.Imports.{Goes_on, Holds_slots, In, IsCopying, IsDroppedFor, IsMarked, IsNewCopy, IsNotHeld, IsOfCopy, IsPutFor, Is_copied}
 use Rattle.law_copies.proofs.Imports.{JobContext, JobResult, Key, LastCopy, LinkRow, List, May, Option, PairState, Post, Puts, Says, Some, Stored}
-use Rattle.law_copies.proofs.Imports.{The_last_copy, about, above, after, ap, applied, arith, at, cell_of, filter, first_last, inl, inr}
-use Rattle.law_copies.proofs.Imports.{is_alone, is_on, kept, key_at, letters_of_job, live, marked_blocks, other_of, puts_entry, refl}
-use Rattle.law_copies.proofs.Imports.{same_some, subst, sym, true, true_false, with_last_copy, ℕ}
+use Rattle.law_copies.proofs.Imports.{The_last_copy, about, above, after, ap, applied, arith, at, cell_of, filter, first_last, inl, inr, is_alone, is_on}
+use Rattle.law_copies.proofs.Imports.{key_at, letters_of_job, live, marked_blocks, other_of, puts_entry, refl, same_some, subst, sym, true, true_false}
+use Rattle.law_copies.proofs.Imports.{with_last_copy, ℕ}
 use Rattle.law_copies.specs.CopyProgress.{IsPage, IsTold, IsUpTo}
 use Rattle.law_copies.specs.LoneSteps.{IsFollowing, OtherKeeps, StaysHere}
 use Rattle.law_copies.proofs.ChainsRise.{in_kept}

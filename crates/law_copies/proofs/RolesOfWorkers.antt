@@ -2,12 +2,11 @@
 use Rattle.law_copies.proofs.Imports.{◌&&◌, ◌<◌, ◌==◌, ◌∙◌, ◌≡◌, ◌≢◌, ◌≤◌, Block, Body, Both, Busy, Cell, Copying, Entry, Idle, IsBothRow, IsHeldWith}
 use Rattle.law_copies.proofs.Imports.{IsIdle, IsOfCopy, IsSteady, JobContext, LastCopy, LinkId, LinkRow, None, Only, Option, PairState, Pending, Some}
 use Rattle.law_copies.proofs.Imports.{Stale, State, TakenCopy, after, among_least, ap, arith, both, both_row, both_true, by_bool, by_test, cell_at}
-use Rattle.law_copies.proofs.Imports.{cell_holder, cell_link, cell_of, copying_on, filter, first, found_at, holder_of, id_of, in_both, inl, inr}
-use Rattle.law_copies.proofs.Imports.{is_alone, is_lead, is_link, is_second, is_the_one, is_under_way, is_up, lead_links, leads_link, link_led_by}
-use Rattle.law_copies.proofs.Imports.{link_named, live, live_stage, marked_blocks, nat_tests, next_copy, none_some, not, on_row}
-use Rattle.law_copies.proofs.Imports.{option_and_then, other_in, other_of, pending_on, refl, retired_second, row_lead, row_named, same_numbers}
-use Rattle.law_copies.proofs.Imports.{same_or_apart, same_some, second, second_by, stage_at, stage_live, subst, sym, true, true_false}
-use Rattle.law_copies.proofs.Imports.{under_way, ℕ}
+use Rattle.law_copies.proofs.Imports.{cell_holder, cell_link, cell_of, copying_on, filter, first, found_at, holder_of, id_of, in_both, inl, inr, is_alone}
+use Rattle.law_copies.proofs.Imports.{is_lead, is_link, is_second, is_the_one, is_under_way, is_up, lead_links, leads_link, link_led_by, link_named, live}
+use Rattle.law_copies.proofs.Imports.{live_stage, marked_blocks, nat_tests, next_copy, none_some, not, on_row, option_and_then, other_in, other_of}
+use Rattle.law_copies.proofs.Imports.{pending_on, refl, retired_second, row_lead, row_named, same_numbers, same_or_apart, same_some, second, second_by}
+use Rattle.law_copies.proofs.Imports.{stage_at, stage_live, subst, sym, true, true_false, under_way, ℕ}
 use Rattle.law_copies.specs.LoneSteps.{IsFit}
 use Rattle.law_state.proofs.ListLookups.{in_filter}
 use Rattle.law_copies.proofs.LeftToCopy.{HasAny, marked_on, next_is, on_itself}

@@ -1,13 +1,12 @@
 -- What a step of the second server of a cell in Both keeps of its two copies.
 use Rattle.law_copies.proofs.Imports.{◌+◌, ◌∙◌, ◌≡◌, ◌≤◌, ◌⊎◌, A_lead, As_copy, As_operation, As_second, Body, Cell, Did, Drops, Effect, IsPutFor}
 use Rattle.law_copies.proofs.Imports.{JobResult, Key, LastOp, List, May, PairState, Pending, Puts, Replicated, Reserved, Reserves, Some, Stored, about, ap}
-use Rattle.law_copies.proofs.Imports.{applied, arith, at, cell_cmp, cell_of, cell_same, chain_in, chain_put, chains_with, inl}
-use Rattle.law_copies.proofs.Imports.{inr, nat_cmp, progress, put, putting, refl, same_some, subst}
-use Rattle.law_copies.proofs.Imports.{sym, version_of, ℕ}
+use Rattle.law_copies.proofs.Imports.{applied, arith, at, cell_cmp, cell_of, cell_same, chain_in, chain_put, chains_with, inl, inr, nat_cmp, progress, put}
+use Rattle.law_copies.proofs.Imports.{putting, refl, same_some, subst, sym, version_of, ℕ}
 use Rattle.law_copies.specs.BothSteps.{LacksFill}
 use Rattle.law_copies.specs.Pair.{IsPutting, Keeps, Known, Pair, PairOk, far, pair_of}
-use Rattle.law_copies.proofs.CellInBoth.{CellInBoth, copied_apart, dropped_apart, own_put_apart}
-use Rattle.law_copies.proofs.EffectsOnCells.{Changes, cell_keeps}
+use Rattle.law_copies.proofs.CellInBoth.{CellInBoth, no_other, own_put_apart}
+use Rattle.law_copies.proofs.EffectsOnCells.{Changes, cell_keeps, copied_apart, dropped_apart}
 use Rattle.petal_msg.specs.declared.body.Body.TheVariants as body
 use Rattle.petal_msg.specs.declared.operation.FollowProgress.TheVariants as follow_progress
 use Rattle.law_copies.proofs.CellChangesKeepCopies as moves
@@ -96,8 +95,9 @@ module _ (it : CellInBoth) (follows : it.row.secondary ≡ it.here.me) (first : 
       (subst (λ (c : Cell). progress (at cell_cmp now.pairs.last c) ≤ number + number) (sym e) may.2) k)
   each now (Puts key stored (As_operation op)) may (inl on) k = absurd (own_put_apart it follows key stored op may.0 (sym (same_some on.at)))
   each now (Puts key stored (As_second last)) may (inl on) k = second_put now key stored last may.0 may.1 (sym (same_some on.at))
-  each now (Puts key stored (As_copy last)) may (inl on) k = absurd (copied_apart it key stored last may.0 (sym (same_some on.at)))
-  each now (Drops key) may (inl on) k = absurd (dropped_apart it now key may.2 on.lives (sym (same_some on.at)))
+  each now (Puts key stored (As_copy last)) may (inl on) k =
+      absurd (copied_apart heard here own cell (no_other it) key stored last may.0 (sym (same_some on.at)))
+  each now (Drops key) may (inl on) k = absurd (dropped_apart heard here own cell (no_other it) now key may.2 on.lives (sym (same_some on.at)))
   each now _ may (inl on) k = record { keeps = k.keeps; lacks = k.lacks }
   each now e may (inr kept) k = after now (applied now e) k kept.rest.chain kept.rest.followed
 

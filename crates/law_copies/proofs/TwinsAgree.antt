@@ -1,8 +1,8 @@
 -- What each step of one of the two servers of a cell in Both keeps of the cell.
 use Rattle.law_copies.proofs.Imports.{◌+◌, ◌<◌, ◌∙◌, ◌≡◌, Asks_copy, Asks_slot, Body, Cell, Copying, Did, Ends_fill, Fills, Has_copy, Has_slot, JobResult}
-use Rattle.law_copies.proofs.Imports.{Key, Moves, Moves_on, None, PairState, Pending, Post, Says, Some, Stage, Stood, Writes, about, ap, arith, at, cell_cmp}
-use Rattle.law_copies.proofs.Imports.{chain_in, copying_on, did_come, did_ready, ended, inl, is_between, is_clients, letters_of_job, nat_cmp, pending_on}
-use Rattle.law_copies.proofs.Imports.{progress, refl, same_some, stage_live, subject_of, subst, sym, true_false}
+use Rattle.law_copies.proofs.Imports.{Key, Moves, Moves_on, None, PairState, Pending, Post, Says, Some, Stage, Stood, Writes, about, ap, arith, at}
+use Rattle.law_copies.proofs.Imports.{cell_cmp, chain_in, copying_on, did_come, did_ready, ended, inl, is_between, is_clients, letters_of_job, nat_cmp}
+use Rattle.law_copies.proofs.Imports.{pending_on, progress, refl, same_some, stage_live, subject_of, subst, sym, true_false}
 use Rattle.law_copies.specs.BothSteps.{LacksFill, LeadKeeps, SecondKeeps}
 use Rattle.law_copies.specs.Pair.{AreCopies, IsRecalled, Known, PairOk, ceiling_of, pair_of}
 use Rattle.law_copies.proofs.CellInBoth.{CellInBoth}

@@ -1,8 +1,8 @@
 -- What is pending after a job was so before, in whatever stage, or was opened under the next number; and which request a job is done with.
 use Rattle.law_jobs.proofs.Imports.{◌+◌, ◌∙◌, ◌≡◌, ◌≤◌, ◌⊎◌, Body, Cell, Did, Finished, IsSame, JobContext, JobResult, Key, None, PairState, Pending, Some}
-use Rattle.law_jobs.proofs.Imports.{Stage, Stored, Table, Was, ap, arith, at, at_apart, at_same, cell_apart, cell_cmp, cell_gone, cell_gone_apart, cell_same}
-use Rattle.law_jobs.proofs.Imports.{inl, inr, nat_cmp, put, refl, same_cell_or_apart, same_itself, same_on, same_or_apart, same_some, stood, subst, sym}
-use Rattle.law_jobs.proofs.Imports.{was_same, without, ℕ}
+use Rattle.law_jobs.proofs.Imports.{Stage, Stored, Table, Was, ap, arith, at, at_apart, at_same, cell_apart, cell_cmp, cell_gone, cell_gone_apart}
+use Rattle.law_jobs.proofs.Imports.{cell_same, inl, inr, nat_cmp, put, refl, same_cell_or_apart, same_itself, same_on, same_or_apart, same_some, stood}
+use Rattle.law_jobs.proofs.Imports.{subst, sym, was_same, without, ℕ}
 use Rattle.law_jobs.specs.Effects.{An_operation, As_operation, Begins_copy, By_operation, Closes, Effect, Finishes, Goes_on, Had_no_slot, IsFinishedFor}
 use Rattle.law_jobs.specs.Effects.{IsOpening, IsPutFor, IsSetFor, May, Opens, Puts, Sets, applied}
 use Rattle.law_jobs.proofs.JobsAreEffects.{job_keeps}

@@ -1,11 +1,11 @@
 -- A job changes at most one chain: that of an operation that is pending here, of one whose lead asked to follow, or of a cell whose
 -- link the other server holds alone, and copies to this one.
 use Rattle.law_moves.proofs.Imports.{[], ◌+◌, ◌<◌, ◌∙◌, ◌∷◌, ◌≡◌, ◌≢◌, ◌≤◌, A_lead, A_new_copy, A_sweep, An_operation, As_it_is, Body, Cell, Chain, Did}
-use Rattle.law_moves.proofs.Imports.{Effect, Entry, IsDroppedFor, IsPutFor, IsSeatedOrMute, JobContext, JobResult, Key, LastCopy, List, May, Noted, PairState}
-use Rattle.law_moves.proofs.Imports.{Pending, Puts, Some, Store, Stored, Table, Taken, The_last_copy, ap, applied, arith, at, at_same, by_bool, cell_holder}
-use Rattle.law_moves.proofs.Imports.{cell_of, chain_apart, chain_in, chain_put, chains_ahead, chains_with, cond, drop_apart, drop_none, entry_ahead}
-use Rattle.law_moves.proofs.Imports.{epochs_beyond, false, inl, inr, is_eq, is_in, is_second, job_keeps, key_at, last_copy, last_on, live, lookup, max}
-use Rattle.law_moves.proofs.Imports.{nat_cmp, none_some, pending_on, put, refl, same_some, subst, sym, true, version_of, without_entry, ℕ}
+use Rattle.law_moves.proofs.Imports.{Effect, Entry, IsDroppedFor, IsPutFor, IsSeatedOrMute, JobContext, JobResult, Key, LastCopy, List, May, Noted}
+use Rattle.law_moves.proofs.Imports.{PairState, Pending, Puts, Some, Store, Stored, Table, Taken, The_last_copy, ap, applied, arith, at, at_same, by_bool}
+use Rattle.law_moves.proofs.Imports.{cell_holder, cell_of, chain_apart, chain_in, chain_put, chains_ahead, chains_with, cond, drop_apart, drop_none}
+use Rattle.law_moves.proofs.Imports.{entry_ahead, epochs_beyond, false, inl, inr, is_eq, is_in, is_second, job_keeps, key_at, last_copy, last_on, live}
+use Rattle.law_moves.proofs.Imports.{lookup, max, nat_cmp, none_some, pending_on, put, refl, same_some, subst, sym, true, version_of, without_entry, ℕ}
 use Rattle.std.specs.BTreeMap.{is_at}
 use Rattle.petal_msg.specs.declared.body.Body.TheVariants as body
 use Rattle.petal_msg.specs.declared.operation.FollowProgress.TheVariants as follow_progress

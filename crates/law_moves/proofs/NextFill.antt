@@ -1,10 +1,10 @@
 -- The keys that an old lead has still to move: which one comes next, and what the new map is known to have once none is left.
 use Rattle.law_moves.proofs.Imports.{[], ◌&&◌, ◌==◌, ◌||◌, ◌∙◌, ◌∷◌, ◌≡◌, ◌⊎◌, Cell, Chain, Equal, Greater, In, Key, Less, LinkRow, List, None, Option}
 use Rattle.law_moves.proofs.Imports.{Ordering, PairState, Some, State, Stored, Table, ap, arith, at, at-empty, by_bool, by_test, cell_cmp, cell_cmp_same}
-use Rattle.law_moves.proofs.Imports.{comes_before, comes_next, cond, earlier, false, fill_left, fill_of, filter, first_key, flat_map, in_former, in_kept}
-use Rattle.law_moves.proofs.Imports.{in_later, in_filter, in_mapped, in_none, inl, inr, is_eq, is_on, is_some, key_at, keys_in, keys_of, lookup, map, nat_cmp}
-use Rattle.law_moves.proofs.Imports.{nat_tests, next_fill, none_some, not, number_itself, ranked, refl, region_of, region_to_move, same_numbers, same_some}
-use Rattle.law_moves.proofs.Imports.{subst, sym, true, true_false, unwrap_or, ℕ}
+use Rattle.law_moves.proofs.Imports.{comes_before, comes_next, cond, earlier, false, fill_left, fill_of, filter, first_key, flat_map, in_filter, in_former}
+use Rattle.law_moves.proofs.Imports.{in_kept, in_later, in_mapped, in_none, inl, inr, is_eq, is_on, is_some, key_at, keys_in, keys_of, lookup, map}
+use Rattle.law_moves.proofs.Imports.{nat_cmp, nat_tests, next_fill, none_some, not, number_itself, ranked, refl, region_of, region_to_move, same_numbers}
+use Rattle.law_moves.proofs.Imports.{same_some, subst, sym, true, true_false, unwrap_or, ℕ}
 use Rattle.std.specs.BTreeMap.{is_at}
 use Rattle.law_moves.specs.LeftToMove.{IsKept, IsKnown, IsNext, IsOurs, last_told}
 

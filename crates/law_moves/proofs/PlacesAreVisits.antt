@@ -1,9 +1,9 @@
 -- After each legal history two copies are kept so that what a server was at each place is told: where it was at a place, it is one of the visits there,
 -- with the operations that it had.
-use Rattle.law_moves.proofs.Imports.{[], if◌then◌else◌, ◌++◌, ◌∙◌, ◌∷◌, ◌≡◌, AreSteps, At, Cell, Good, IsSound, List, OneMore, PairState, Pairs, Record}
-use Rattle.law_moves.proofs.Imports.{Script, Some, WasThere, ap, arith, at_by, by_bool, by_run, chosen_log, counted, ends_of, first_state, inl, inr, is_at}
-use Rattle.law_moves.proofs.Imports.{is_some, none_before_none, none_some, past_link, run_of, setting_of, some_or_none, split_last, split_prefixes, start}
-use Rattle.law_moves.proofs.Imports.{start_good, start_plain, step_goes, subst, sym, true, true_false, ℕ}
+use Rattle.law_moves.proofs.Imports.{[], ◌++◌, ◌∙◌, ◌∷◌, ◌≡◌, AreSteps, At, Cell, Good, IsSound, List, OneMore, PairState, Pairs, Record, Script, Some}
+use Rattle.law_moves.proofs.Imports.{WasThere, ap, arith, at_by, by_bool, by_run, chosen_log, counted, ends_of, first_state, if◌then◌else◌, inl, inr}
+use Rattle.law_moves.proofs.Imports.{is_at, is_some, none_before_none, none_some, past_link, run_of, setting_of, some_or_none, split_last, split_prefixes}
+use Rattle.law_moves.proofs.Imports.{start, start_good, start_plain, step_goes, subst, sym, true, true_false, ℕ}
 use Rattle.law_steps.proofs.Records.{tails}
 
 abbrev GoodAt : Script → List Record → Type 0
@@ -34,7 +34,8 @@ module _ (it : OneMore) (old : IsSeen it.prior.script it.prior.records) where
 
   seen_next : AreSeen script records (step_goes script prefix own sound legal old.good).good
   seen_next before later n place cell e on =
-      ap is_some ((step_goes script prefix own sound legal old.good).visits n place cell) ∙ by_bool (is_at setting n ((counted setting v).servers n) place cell)
+      ap is_some ((step_goes script prefix own sound legal old.good).visits n place cell)
+      ∙ by_bool (is_at setting n ((counted setting v).servers n) place cell)
       (λ now. ap (λ b. is_some (if b then Some ((counted setting v).servers n).own else old.good.visits n place cell)) now)
       (λ off. ap (λ b. is_some (if b then Some ((counted setting v).servers n).own else old.good.visits n place cell)) off
       ∙ elim (split_last prefix own before later e) [
