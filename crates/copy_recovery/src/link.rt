@@ -83,7 +83,7 @@ fn take_mark<D: Disk>(
     }
 }
 
-/// In Both a mark that an earlier life left is taken away.
+/// In Both a mark that a write or an earlier life left is taken away.
 fn clear_old_marks<D: Disk>(
     here: &JobContext,
     side: &PairMemory,

@@ -47,29 +47,28 @@ opens pair op ok none number reserved put = grind arith
 -- an operation goes on at another stage: it says no more of the second server than was so, or that server told
 pub restages : (pair : Pair) (op : Pending) (stage : Stage) → PairOk pair → pair.pending ≡ Some op → stage.put ≡ op.stage.put
     → (stage.reserved ≡ true → (op.stage.reserved ≡ true) ⊎ (op.op + op.op ≤ far pair))
-    → (stage.paired ≡ true → (op.stage.paired ≡ true) ⊎ (op.op + op.op + 1 ≤ far pair))
     → Keeps pair (record pair { pending = Some (record op { stage = stage }) })
-restages pair op stage ok some put reserved paired =
+restages pair op stage ok some put reserved =
     by_bool op.stage.put (λ done. let later : stage.put ≡ true = put ∙ done in grind arith)
     (λ fresh. let later : stage.put ≡ false = put ∙ fresh in grind arith)
 
 -- the first server puts its copy, once the block is marked
 pub puts : (pair : Pair) (op new : Pending) → PairOk pair → pair.pending ≡ Some op → op.stage.reserved ≡ true → op.stage.put ≡ false → new.op ≡ op.op
-    → new.key ≡ op.key → new.bytes ≡ op.bytes → new.stage.put ≡ true → new.stage.paired ≡ false
+    → new.key ≡ op.key → new.bytes ≡ op.bytes → new.stage.put ≡ true
     → Keeps pair (record pair {
       first = put nat_cmp pair.first op.key.epoch (record { version = version_of pair.first + 1; bytes = op.bytes });
       pending = Some new;
     })
-puts pair op new ok some reserved at number key bytes put paired = grind arith
+puts pair op new ok some reserved at number key bytes put = grind arith
 
 -- the second server has no room
 pub refuses : (pair : Pair) (op : Pending) → PairOk pair → pair.pending ≡ Some op → op.stage.put ≡ false → Keeps pair (record pair { pending = None })
 refuses pair op ok some at = grind arith
 
 -- the operation is done with: the second server said that it has followed
-pub closes : (pair : Pair) (op : Pending) → PairOk pair → pair.pending ≡ Some op → op.stage.put ≡ true → op.stage.paired ≡ true
+pub closes : (pair : Pair) (op : Pending) → PairOk pair → pair.pending ≡ Some op → op.stage.put ≡ true → op.op + op.op + 1 ≤ far pair
     → Keeps pair (record pair { pending = None })
-closes pair op ok some at paired = grind arith
+closes pair op ok some at past = grind arith
 
 -- the second server sets a slot apart
 pub reserves : (pair : Pair) (number : ℕ) → PairOk pair → progress pair.last ≤ number + number → number < ceiling pair

@@ -66,4 +66,4 @@ module _ (it : CellInBoth) where
         leads_not (led_alive here cell alive (subst (IsLedHere here) (sym e) (record { born = staged.born; leads = staged.leads })))
 
     pub own_put_apart : (key : Key) (stored : Stored) (op : Pending) → IsPutFor heard here own key stored (As_operation op) → cell ≢ op.cell
-    own_put_apart _ _ _ (An_operation op reserved paired is fresh why so) = op_apart op is
+    own_put_apart _ _ _ (An_operation op reserved paired is fresh why) = op_apart op is

@@ -71,7 +71,7 @@ module _ (heard : Body → Type 0) (here : JobContext) (own : PairState) (fit : 
 
   -- an operation's entry is of its own cell
   pub own_apart : (key : Key) (stored : Stored) (op : Pending) → IsPutFor heard here own key stored (As_operation op) → q ≢ op.cell → q ≢ cell_of key
-  own_apart _ _ _ (An_operation op reserved paired is fresh why so) ne e = ne (e ∙ (fit.ready.staged op.cell op is).keyed)
+  own_apart _ _ _ (An_operation op reserved paired is fresh why) ne e = ne (e ∙ (fit.ready.staged op.cell op is).keyed)
 
   -- the effect is on the cell, which is live
   pub record IsAtCell (e : Effect) : Type 0 where
@@ -137,7 +137,7 @@ module _ (heard : Body → Type 0) (here : JobContext) (own : PairState) (fit : 
   opens_led _ (For_a_fill moving new) = led_here here (cell_of moving.key) new.lead
 
   put_led : (key : Key) (stored : Stored) (op : Pending) → IsPutFor heard here own key stored (As_operation op) → IsLedHere here op.cell
-  put_led _ _ _ (An_operation op reserved paired is fresh why so) = op_leads heard here own fit op.cell op is
+  put_led _ _ _ (An_operation op reserved paired is fresh why) = op_leads heard here own fit op.cell op is
 
   put_second : (key : Key) (stored : Stored) (last : LastOp) → IsPutFor heard here own key stored (As_second last)
       → is_second here.state here.me (cell_of key) ≡ true
@@ -149,7 +149,7 @@ module _ (heard : Body → Type 0) (here : JobContext) (own : PairState) (fit : 
   module _ (now : PairState) (led : (cell : Cell) (op : Pending) → pending_on now cell ≡ Some op → IsLedHere here cell)
       (bare : stage_at here.state q ≡ 0 → IsBare now q) where
     set_led : (op : Pending) → IsSetFor heard here own now op → IsLedHere here op.cell
-    set_led _ (Goes_on op stage there same reserved paired busy stale) = led op.cell op there
+    set_led _ (Goes_on op stage there same reserved busy stale) = led op.cell op there
 
     closed_led : (cell : Cell) → IsClosedFor heard here own now cell → IsLedHere here cell
     closed_led _ (Is_over op how ended there) = led op.cell op there

@@ -132,7 +132,7 @@ module _ (heard : Body → Type 0) (here : JobContext) (links : ℕ) (row : Link
         (λ some none. some (sym chain ∙ none)) (subst (IsRising nat_cmp) (sym chain) (s.step.copying.risen now refl))
 
     set_quiet : (now : PairState) (op : Pending) → IsSetFor heard here own now op → op.cell ≡ cell → Stands now → IsQuiet now
-    set_quiet now _ (Goes_on op stage there same reserved paired busy stale) e s =
+    set_quiet now _ (Goes_on op stage there same reserved busy stale) e s =
         pending_quiet now s op (ap (at cell_cmp now.pairs.pending) (sym e) ∙ there)
 
     closed_quiet : (now : PairState) (c : Cell) → IsClosedFor heard here own now c → c ≡ cell → Stands now → IsQuiet now
@@ -141,7 +141,7 @@ module _ (heard : Body → Type 0) (here : JobContext) (links : ℕ) (row : Link
     puts : (now : PairState) (key : Key) (stored : Stored) (op : Pending) → IsPutFor heard here own key stored (As_operation op) → op.cell ≡ cell
         → live here.state cell ≡ true → now ≡ record own { pairs = record own.pairs { pending = now.pairs.pending } } → Stands now
         → Step now (applied now (Puts key stored (As_operation op)))
-    puts now _ _ _ (An_operation op reserved paired is fresh why so) e on same s =
+    puts now _ _ _ (An_operation op reserved paired is fresh why) e on same s =
         let there = ap (at cell_cmp own.pairs.pending) (sym e) ∙ is in
         let entry = entry_ahead own op.cell op in
         let store : now.store ≡ own.store = ap (λ (o : PairState). o.store) same in
@@ -167,7 +167,7 @@ module _ (heard : Body → Type 0) (here : JobContext) (links : ℕ) (row : Link
         let is = ap (at cell_cmp now.pairs.pending) (sym e) ∙ there in
         let has = (s.finds on).marks op is in
         writes now _ s (pending_quiet now s op is) refl (omega arith)
-        (λ m. inr (stale_kept now.store op.cell cell ∙ has.stale (stale (ap (in_both here.state) e ∙ alone)))) refl
+        (λ m. inr (stale_kept now.store op.cell cell ∙ has.stale stale)) refl
     unmarks now _ _ (By_a_copy kind c copy under synced) e on s =
         subst (λ (q : Cell). Step now (applied now (Unmarks kind q))) (sym e)
         (moves.unmarked_step heard s.step.copying copy (ap (copying_on now) (sym e) ∙ under.is) synced.trimmed

@@ -1,11 +1,14 @@
 -- What a step of the first server of a cell in Both keeps of its two copies.
-use Rattle.law_copies.proofs.Imports.{◌+◌, ◌∙◌, ◌≡◌, ◌≢◌, ◌≤◌, ◌⊎◌, A_lead, Alone_has, An_operation, As_copy, As_operation, As_second, Body, Bool, Both_have}
-use Rattle.law_copies.proofs.Imports.{Cell, Closes, Did, Drops, Effect, Ending, For_a_fill, For_a_write, Goes_on, HasEnded, IsApart, IsClosedFor, IsOpening}
-use Rattle.law_copies.proofs.Imports.{IsPaired, IsPutFor, IsReserved, IsSetFor, Is_apart, Is_declined, Is_over, Is_replicated, Is_retired, JobResult, Key}
-use Rattle.law_copies.proofs.Imports.{LastOp, May, None, Opens, PairState, Pairs, Pending, Puts, Sets, Some, Stage, Stored, Was_paired, about, ap, applied}
-use Rattle.law_copies.proofs.Imports.{arith, at, both, both_not_alone, by_bool, cell_cmp, cell_gone, cell_of, cell_same, chain_in, chain_put, chains_with}
-use Rattle.law_copies.proofs.Imports.{ended, entry_ahead, false, fill_operation, follows, inl, inr, is_alone_on, live, nat_cmp, operation, pending_on, put}
-use Rattle.law_copies.proofs.Imports.{putting, refl, same_some, so_both, stage_live, subst, sym, taking, true, true_false, version_of, without}
+use Rattle.law_copies.proofs.Imports.{◌+◌, ◌∙◌, ◌≡◌, ◌≢◌, ◌≤◌, ◌⊎◌, A_lead, Alone_has, An_operation, As_copy, As_operation, As_second, Body}
+use Rattle.law_copies.proofs.Imports.{Bool, Both_have, Cell, Closes, Did, Drops, Effect, Ending, For_a_fill, For_a_write, HasEnded, IsApart, IsClosedFor}
+use Rattle.law_copies.proofs.Imports.{IsOpening, IsPutFor, IsReserved, IsSetFor, Is_declined, Is_over, Is_retired}
+use Rattle.law_copies.proofs.Imports.{JobResult, Key, LastOp, May, None, Opens, PairState, Pairs, Pending, Puts, Sets, Some, Stage}
+use Rattle.law_copies.proofs.Imports.{Stored, about, ap, applied, arith, at, both, both_not_alone, cell_cmp}
+use Rattle.law_copies.proofs.Imports.{cell_gone, cell_of, cell_same, chain_in, chain_put, chains_with, ended, entry_ahead, false}
+use Rattle.law_copies.proofs.Imports.{fill_operation, follows, inl, inr, is_alone_on, live, nat_cmp, operation, pending_on, put}
+use Rattle.law_copies.proofs.Imports.{putting, refl, same_some, so_both, stage_live, subst, sym, taking, true, true_false}
+use Rattle.law_copies.proofs.Imports.{version_of, without}
+use Rattle.law_jobs.specs.Effects.{Goes_on}
 use Rattle.law_copies.specs.Pair.{Keeps, Known, Pair, PairOk, far, pair_of}
 use Rattle.law_copies.specs.Visits.{AliveIn}
 use Rattle.law_copies.proofs.CellInBoth.{CellInBoth, no_other, second_apart}
@@ -53,22 +56,16 @@ module _ (it : CellInBoth) (leads : it.row.primary ≡ it.here.me) (second_own :
   reserved_so op e (inr (inl h)) = inr (known (body.Reserved op.op op.cell) h (ap Some (sym e)))
   reserved_so op e (inr (inr why)) = apart_not op why.0 e why.1
 
-  paired_so : (op : Pending) → cell ≡ op.cell → IsPaired heard here own op.cell op → (op.stage.paired ≡ true) ⊎ (op.op + op.op + 1 ≤ far (pair own))
-  paired_so op e (Was_paired was) = inl was
-  paired_so op e (Is_replicated h is both done) = inr (known (body.Replicated op.op op.cell) h (ap Some (sym e)))
-  paired_so op e (Is_apart is apart) = apart_not op is e apart
-
   sets_keeps : (now : PairState) (op : Pending) → IsSetFor heard here own now op → PairOk (pair now) → cell ≡ op.cell
       → Keeps (pair now) (record (pair now) { pending = Some op })
-  sets_keeps now _ (Goes_on op stage there same reserved paired busy stale) so e =
+  sets_keeps now _ (Goes_on op stage there same reserved busy stale) so e =
       moves.restages (pair now) op stage so (ap (at cell_cmp now.pairs.pending) e ∙ there) same (λ r. reserved_so op e (reserved r))
-      (λ p. paired_so op e (paired p))
 
   closes_keeps : (now : PairState) (op : Pending) (how : Ending) → HasEnded heard here own op how → at cell_cmp now.pairs.pending cell ≡ Some op
       → PairOk (pair now) → cell ≡ op.cell → Keeps (pair now) (record (pair now) { pending = None })
   closes_keeps now op _ (Is_declined _ h is reserved unput) there so e = moves.refuses (pair now) op so there unput
-  closes_keeps now op _ (Both_have _ is both stage) there so e =
-      moves.closes (pair now) op so there (ap (λ (s : Stage). s.put) stage) (ap (λ (s : Stage). s.paired) stage)
+  closes_keeps now op _ (Both_have _ h is both stage) there so e =
+      moves.closes (pair now) op so there (ap (λ (s : Stage). s.put) stage) (known (body.Replicated op.op op.cell) h (ap Some (sym e)))
   closes_keeps now op _ (Alone_has _ _ taken alone stale done free) there so e = alone_not op.cell e alone
   closes_keeps now op _ (Is_retired then _ taken off) there so e =
       let t = taking own then op taken in retired_not op.cell t.old t.was e off
@@ -77,22 +74,13 @@ module _ (it : CellInBoth) (leads : it.row.primary ≡ it.here.me) (second_own :
       → Keeps (pair now) (record (pair now) { pending = None })
   closed_so now _ (Is_over op how ended there) so e = closes_keeps now op how ended (ap (at cell_cmp now.pairs.pending) e ∙ there) so e
 
-  -- an operation that puts has a slot at its second server, which has not put
-  unpaired : (op : Pending) (told : Bool) → cell ≡ op.cell → op.stage ≡ putting → (told ≡ true → IsPaired heard here own op.cell op) → told ≡ false
-  unpaired op told e is paired = by_bool told (λ p. by (paired p)) (λ f. f)
-    where
-      by : IsPaired heard here own op.cell op → told ≡ false
-      by (Was_paired was) = true_false was (ap (λ (s : Stage). s.paired) is)
-      by (Is_replicated h there both done) = true_false done (ap (λ (s : Stage). s.put) is)
-      by (Is_apart there apart) = apart_not op there e apart
-
-  puts_keeps : (now : PairState) (op : Pending) (reserved paired : Bool) → pending_on own op.cell ≡ Some op → op.stage ≡ putting → paired ≡ false
+  puts_keeps : (now : PairState) (op : Pending) (reserved paired : Bool) → pending_on own op.cell ≡ Some op → op.stage ≡ putting
       → now.store.chains ≡ own.store.chains → now.pairs ≡ own.pairs → cell ≡ op.cell
       → K (applied now (Puts op.key (entry_ahead own op.cell op) (As_operation (record op {
         version = version_of (chain_in own.store.chains op.cell) + 1;
         stage = record op.stage { reserved = reserved; paired = paired; put = true };
       }))))
-  puts_keeps now op reserved paired is stage_is alone chains pairs e =
+  puts_keeps now op reserved paired is stage_is chains pairs e =
       let entry = entry_ahead own op.cell op in
       let two : Pending = record op { version = entry.version; stage = record op.stage { reserved = reserved; paired = paired; put = true } } in
       let keyed = (fit.ready.staged op.cell op is).keyed in
@@ -107,15 +95,15 @@ module _ (it : CellInBoth) (leads : it.row.primary ≡ it.here.me) (second_own :
         pending = sym (cell_same now.pairs.pending op.cell two) i;
         next = sym (ap (λ (p : Pairs). p.next) pairs) i;
       }) (moves.puts (pair_of own second_own op.cell) op two (subst (λ (q : Cell). PairOk (pair_of own second_own q)) e ok) is
-      (ap (λ (s : Stage). s.reserved) stage_is) (ap (λ (s : Stage). s.put) stage_is) refl refl refl refl alone))
+      (ap (λ (s : Stage). s.reserved) stage_is) (ap (λ (s : Stage). s.put) stage_is) refl refl refl refl))
 
   put_so : (now : PairState) (key : Key) (stored : Stored) (op : Pending) → IsPutFor heard here own key stored (As_operation op)
       → now.store.chains ≡ own.store.chains → (now.pairs ≡ own.pairs) ⊎ IsApart here op.cell → cell ≡ op.cell
       → K (applied now (Puts key stored (As_operation op)))
-  put_so now _ _ _ (An_operation op reserved paired is fresh (inr apart) so) chains same e = apart_not op is e apart
-  put_so now _ _ _ (An_operation op reserved paired is fresh (inl stage_is) so) chains (inr apart) e = apart_not op is e apart
-  put_so now _ _ _ (An_operation op reserved paired is fresh (inl stage_is) so) chains (inl pairs) e =
-      puts_keeps now op reserved paired is stage_is (unpaired op paired e stage_is so) chains pairs e
+  put_so now _ _ _ (An_operation op reserved paired is fresh (inr apart)) chains same e = apart_not op is e apart
+  put_so now _ _ _ (An_operation op reserved paired is fresh (inl stage_is)) chains (inr apart) e = apart_not op is e apart
+  put_so now _ _ _ (An_operation op reserved paired is fresh (inl stage_is)) chains (inl pairs) e =
+      puts_keeps now op reserved paired is stage_is chains pairs e
 
   -- ### All effects
 

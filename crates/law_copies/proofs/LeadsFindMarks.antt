@@ -60,7 +60,7 @@ module _ (heard : Body → Type 0) (here : JobContext) (own : PairState) (fit : 
         record { busy = λ e. true_false e refl; stale = λ e. true_false e refl; lacks = λ fill unput. new.lacks }
 
     set_to : (now : PairState) (op : Pending) → IsSetFor heard here own now op → K now → q ≡ op.cell → HasMarks op now.store q
-    set_to now _ (Goes_on op stage there same reserved paired busy stale) k e =
+    set_to now _ (Goes_on op stage there same reserved busy stale) k e =
         let was = k.marks op (ap (at cell_cmp now.pairs.pending) e ∙ there) in
         record {
           busy = λ t. elim (busy t) [ inl old ↦ was.busy old | inr there ↦ ap (is_marked now.store Busy) e ∙ there ];
@@ -103,7 +103,7 @@ module _ (heard : Body → Type 0) (here : JobContext) (own : PairState) (fit : 
     -- the entry is put on a marked block
     put_here : (now : PairState) (key : Key) (stored : Stored) (op : Pending) → IsPutFor heard here own key stored (As_operation op)
         → now.store ≡ own.store → q ≡ op.cell → K (applied now (Puts key stored (As_operation op)))
-    put_here now _ _ _ (An_operation op reserved paired is fresh why so) same e =
+    put_here now _ _ _ (An_operation op reserved paired is fresh why) same e =
         let old = fit.marks q op on (ap (at cell_cmp own.pairs.pending) e ∙ is) in
         let now_put : Pending = record op {
           version = version_of (chain_in own.store.chains op.cell) + 1;

@@ -1,16 +1,17 @@
 -- Who may have served a cell's link at later prefixes of the log: what a server that is at a place may rely on, whatever has been chosen
 -- since.
-use Rattle.law_copies.proofs.Imports.{[], ◌++◌, ◌<◌, ◌==◌, ◌∙◌, ◌∷◌, ◌≡◌, ◌≤◌, ◌⊎◌, Bool, Both, ByBoth, ByNone, ByOne, Caught, Cell, Command, Firm}
-use Rattle.law_copies.proofs.Imports.{HasProperTuples, IsCaughtStill, IsHeldStill, IsPrefix, IsSteady, LinkRow, List, Lost, None, Only, PairState, Record}
-use Rattle.law_copies.proofs.Imports.{Setting, Some, State, StaysSo, Store, WasStarted, World, alone_not_both, alone_row, ap, arith, by_bool, cell_link}
-use Rattle.law_copies.proofs.Imports.{chosen_log, either_true, false, has_server, held_as_flag, id_of, inl, inr, is_alone_on, is_flagged, is_in, is_some}
-use Rattle.law_copies.proofs.Imports.{log_alone, log_both_place, log_steady, lost_not_both, number_itself, option_map_or, other_between, other_of}
-use Rattle.law_copies.proofs.Imports.{prefix_itself, prefix_more, prefix_on, prefix_plain, primary_is_one, refl, running_prefixes, same_numbers, same_some}
-use Rattle.law_copies.proofs.Imports.{secondary_is_one, server_state, serves, some_or_none, state_after, stays_alone, stays_both, subst, sym, true}
-use Rattle.law_copies.proofs.Imports.{true_false, up_some, ℕ}
+use Rattle.law_copies.proofs.Imports.{[], ◌++◌, ◌<◌, ◌==◌, ◌∙◌, ◌∷◌, ◌≡◌, ◌≤◌, ◌⊎◌, Body, Bool, Both, ByBoth, ByNone, ByOne, Caught, Cell, Command, Firm}
+use Rattle.law_copies.proofs.Imports.{Handled, HasProperTuples, IsCaughtStill, IsHeldStill, IsPrefix, IsSteady, LinkRow, List, Lost, None, Only, PairState}
+use Rattle.law_copies.proofs.Imports.{Record, Setting, Some, State, StaysSo, Store, WasStarted, World, about, alone_not_both, alone_row, ap, arith, by_bool}
+use Rattle.law_copies.proofs.Imports.{cell_link, chosen_log, chosen_state, either_true, false, has_server, held_as_flag, id_of, inl, inr, is_alone_on}
+use Rattle.law_copies.proofs.Imports.{is_flagged, is_in, is_some, log_alone, log_both_place, log_steady, lost_not_both, number_itself, option_map_or}
+use Rattle.law_copies.proofs.Imports.{other_between, other_of, prefix_itself, prefix_more, prefix_on, prefix_plain, primary_is_one, refl, running_prefixes}
+use Rattle.law_copies.proofs.Imports.{same_numbers, same_some, secondary_is_one, server_state, serves, some_or_none, state_after, stays_alone, stays_both}
+use Rattle.law_copies.proofs.Imports.{subst, sym, true, true_false, up_some, ℕ}
 use Rattle.law_copies.specs.CopyProgress.{IsCaught}
-use Rattle.law_copies.specs.GoodCopies.{Good}
-use Rattle.law_copies.specs.Visits.{AliveIn, IsLinked, place_by, with_stores}
+use Rattle.law_copies.specs.GoodCopies.{Good, pair_at}
+use Rattle.law_copies.specs.Pair.{Known}
+use Rattle.law_copies.specs.Visits.{AliveIn, IsLinked, place_by, store_by, with_stores}
 use Rattle.law_copies.proofs.PlacesByPrefixes.{alive_on, at_most_or_above, prefixes_meet, one_row, other_later, places_up, rows_later}
 
 -- each Caught that is chosen was started by its holder after the entries before it
@@ -287,6 +288,17 @@ module _ (setting : Setting) (records : List Record) (w : World) (stores : ℕ �
 
     pub both_last : row.state ≡ Both → has_server k row ≡ true → good.reached cell ≤ place_by setting (own_prefix k) row
     both_last both has = elim (last_by (both_still both has)) [ inl le ↦ le | inr never ↦ absurd never ]
+
+    -- a letter that the server handles at a link in Both tells what is so at the link's place
+    pub heard_there : row.state ≡ Both → has_server k row ≡ true → AliveIn (chosen_state setting w) cell → (said : Body) → Handled w k said
+        → (about said).cell ≡ Some cell
+        → Known (pair_at (store_by setting good.stores (own_prefix k)) good.visits (place_by setting (own_prefix k) row) cell row.primary row.secondary) said
+    heard_there both has alive said h =
+        let of = (good.letters h.letter h.sent (own_prefix k) cell row (firm.servers k) (sym h.at) is
+        (alive_on setting chosen firm.plain (own_prefix k) chosen cell (firm.servers k) (prefix_itself chosen) alive)).both alive both (both_last both has) in
+        subst (λ (b : Body). (about b).cell ≡ Some cell
+        → Known (pair_at (store_by setting good.stores (own_prefix k)) good.visits (place_by setting (own_prefix k) row) cell row.primary row.secondary) b)
+        h.is of
 
     module _ (started : AllStarted setting records w) where
       -- one that the server holds alone it holds so still, or it was done with it

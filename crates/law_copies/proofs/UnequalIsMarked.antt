@@ -1,6 +1,6 @@
 -- The two copies of a cell in Both are equal, or the first is one put ahead and marked. So an unequal block is marked once one server
 -- is left alone.
-use Rattle.law_copies.proofs.Imports.{◌+◌, ◌≡◌, ◌⊎◌, AtRest, Bool, Busy, Cell, LinkRow, None, Option, PairState, Pending, Some, Stage, ap, arith, at, by_bool}
+use Rattle.law_copies.proofs.Imports.{◌+◌, ◌≡◌, ◌⊎◌, AtRest, Bool, Busy, Cell, LinkRow, None, Option, PairState, Pending, Some, Stage, ap, arith, at}
 use Rattle.law_copies.proofs.Imports.{cases_lt, cell_cmp, false, inl, inr, is_copying, is_marked, one_put_ahead, refl, sym, true}
 use Rattle.law_copies.specs.CopyProgress.{IsCovered, Is_equal, Is_marked_here, Is_marked_there}
 use Rattle.law_copies.specs.Pair.{Pair, pair_of, far, IsRecalled, Working, AreCopies, PairOk}
@@ -22,8 +22,7 @@ copied pair ok rests = by pair.pending refl ok.copies
     working op is false e even = inl even.even
     working op is true e ahead = elim (cases_lt (far pair) (op.op + op.op + 1)) [
       | inl before ↦
-          let unpaired : op.stage.paired ≡ false = by_bool op.stage.paired (λ p. let past = ahead.paired p in absurd (omega arith)) (λ p. p) in
-          let stage = is_copying op.stage (rests op is) e unpaired in
+          let stage = is_copying op.stage (rests op is) e in
           let begun = ahead.begun in
           inr (record { op = op; is = is; ahead = ahead.ahead (omega arith); busy = ap (λ (s : Stage). s.busy) stage })
       | inr past ↦ inl (ahead.even past)

@@ -50,12 +50,11 @@ pub record IsEven (first second : Chain) (at : ℕ) (op : Pending) : Type 0 wher
   pub not_past : at < op.op + op.op + 1
   pub begun : op.stage.reserved ≡ true → op.op + op.op ≤ at
 
--- the first server has put: it is one put ahead, or the second one has followed, as it has where it said so
+-- the first server has put: it is one put ahead, or the second one has followed
 pub record IsAhead (first second : Chain) (at : ℕ) (op : Pending) : Type 0 where
   pub begun : op.op + op.op ≤ at
   pub ahead : at ≡ op.op + op.op → first ≡ one_put_ahead second op
   pub even : op.op + op.op + 1 ≤ at → first ≡ second
-  pub paired : op.stage.paired ≡ true → op.op + op.op + 1 ≤ at
 
 abbrev pub Working : Chain → Chain → ℕ → Pending → (put : Bool) → Type 0
 Working first second at op false = IsEven first second at op

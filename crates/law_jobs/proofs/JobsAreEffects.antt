@@ -4,25 +4,26 @@ use Rattle.law_jobs.proofs.Imports.{By_other, By_read, By_second, By_sweep, Cell
 use Rattle.law_jobs.proofs.Imports.{Copy_trimmed, Copying, Did, DidFiller, DidHolder, DidLead, DidOther, DidSecond, DidSweep, Drops_entry, Ending}
 use Rattle.law_jobs.proofs.Imports.{Finds_it_full, FollowProgress, Follows, Gives_up, Goes_on_copying, Goes_on_retired, Goes_on_trimming, Ignores}
 use Rattle.law_jobs.proofs.Imports.{Is_copied_to, Is_filled, Is_full, Is_out_of_slots, Is_trimmed, JobContext, JobResult, Key, LastCopy, LinkRow, MarkKind}
-use Rattle.law_jobs.proofs.Imports.{Marks, Marks_alone, None, OpKind, Opens, Opens_alone, Opens_fill, Opens_fill_alone, Option, PairState, Pending, Promises}
-use Rattle.law_jobs.proofs.Imports.{Puts, Puts_alone, Puts_entry, Refuses, Sends, Sets_apart, Some, Stage, Sweeps, Taken, TakenCopy, Tidies, TrimStep}
-use Rattle.law_jobs.proofs.Imports.{Turns_page, Unmarks, Unmarks_alone, Unmarks_copied, above, acts, ap, begins_copy, by_test, cell_at, cell_gone, cell_link}
-use Rattle.law_jobs.proofs.Imports.{cell_of, cell_same, chain_in, ends, false, fill_operation, first_copy, first_last, gives_back, gives_up, in_both, inl}
-use Rattle.law_jobs.proofs.Imports.{inr, is_marked, key_at, last_copy, live, marks, next_stage, of_read, operation, pending_on, progress, progress_on, puts}
-use Rattle.law_jobs.proofs.Imports.{putting, refl, subst, sym, taking, tells, told, true, true_false, version_of, with_copied, with_mark_at, with_opened}
-use Rattle.law_jobs.proofs.Imports.{with_page, with_paired, with_pending, with_progress, with_reserved, without_copying, without_pending, ℕ}
+use Rattle.law_jobs.proofs.Imports.{Marks, Marks_alone, None, OpKind, Opens, Opens_alone, Opens_fill, Opens_fill_alone, Option, PairState, Pending}
+use Rattle.law_jobs.proofs.Imports.{Promises, Puts, Puts_alone, Puts_entry, Refuses, Sends, Sets_apart, Some, Stage, Sweeps, Taken, TakenCopy, Tidies}
+use Rattle.law_jobs.proofs.Imports.{TrimStep, Turns_page, Unmarks_alone, Unmarks_copied, above, acts, ap, begins_copy, by_test, cell_at}
+use Rattle.law_jobs.proofs.Imports.{cell_gone, cell_link, cell_of, cell_same, chain_in, ends, false, fill_operation, first_copy, first_last, gives_back}
+use Rattle.law_jobs.proofs.Imports.{gives_up, inl, inr, is_marked, key_at, last_copy, live, marks, next_stage, of_read, operation, pending_on}
+use Rattle.law_jobs.proofs.Imports.{progress_on, puts, putting, refl, subst, sym, taking, tells, told, true, true_false, version_of, with_copied}
+use Rattle.law_jobs.proofs.Imports.{with_mark_at, with_opened, with_page, with_pending, with_progress, with_reserved, without_copying}
+use Rattle.law_jobs.proofs.Imports.{without_pending, ℕ}
 use Rattle.law_jobs.specs.Effects.{A_copy, A_lead, A_new_copy, A_sweep, Alone_has, An_operation, As_copy, As_it_was, As_operation, As_second, Becomes}
-use Rattle.law_jobs.specs.Effects.{Both_have, By_a_copy, By_its_operation, By_operation, Effect, For_a_fill, For_a_write, Found_no_slot, Goes_on, Had_no_slot}
-use Rattle.law_jobs.specs.Effects.{HasEnded, Has_put, Has_trimmed, Idle, IsApart, IsDroppedFor, IsFilledAs, IsNewCopy, IsNextPage, IsNotHeld, IsOpening}
-use Rattle.law_jobs.specs.Effects.{IsSetFor, IsToBegin, IsToPut, IsUnderWay, IsUnmarkedFor, Is_apart, Is_declined, Is_off, Is_old, Is_over, Is_replicated}
-use Rattle.law_jobs.specs.Effects.{Is_retired, Is_whole, May, The_last_copy, Then, Was_paired, applied, ended_copy, entry_ahead}
-use Rattle.law_jobs.proofs.MarksApart.{mark_there}
+use Rattle.law_jobs.specs.Effects.{Both_have, By_a_copy, By_its_operation, By_operation, Effect, For_a_fill, For_a_write, Found_no_slot, Goes_on}
+use Rattle.law_jobs.specs.Effects.{Had_no_slot, HasEnded, Has_put, Has_trimmed, Idle, IsApart, IsDroppedFor, IsFilledAs, IsNewCopy, IsNextPage, IsNotHeld}
+use Rattle.law_jobs.specs.Effects.{IsOpening, IsSetFor, IsToBegin, IsToPut, IsUnderWay, IsUnmarkedFor, Is_declined, Is_off, Is_old, Is_over}
+use Rattle.law_jobs.specs.Effects.{Is_retired, Is_whole, May, The_last_copy, Then, applied, ended_copy, entry_ahead}
 use Rattle.busy_marks.specs.declared.marks.MarkKind.TheVariants as mark
 use Rattle.petal_msg.specs.declared.retired.Retired.TheVariants as retired
 use Rattle.petal_msg.specs.declared.operation.Action.TheVariants as action
 use Rattle.petal_msg.specs.declared.operation.Ending.TheVariants as ending
 use Rattle.petal_msg.specs.declared.operation.FollowProgress.TheVariants as follow_progress
 use Rattle.petal_msg.specs.declared.operation.OpKind.TheVariants as kind
+use Rattle.law_jobs.proofs.MarksApart.{mark_there}
 use Rattle.law_jobs.specs.Effects as effect
 
 module _ (heard : Body → Type 0) (here : JobContext) (own : PairState) where
@@ -34,8 +35,7 @@ module _ (heard : Body → Type 0) (here : JobContext) (own : PairState) where
   taken_to : (now : PairState) (op : Pending) → Taken own now op → IsApart here op.cell → To now
   taken_to _ _ (As_it_is op is) apart = As_it_was
   taken_to _ _ (As_told op reserved paired is) apart = Then own (effect.Sets (told op reserved paired)) As_it_was (
-    Goes_on op (record op.stage { reserved = reserved; paired = paired }) is refl (λ e. inr (inr (is, apart))) (λ e. Is_apart is apart)
-        (λ e. inl e) (λ e. inl e),
+    Goes_on op (record op.stage { reserved = reserved; paired = paired }) is refl (λ e. inr (inr (is, apart))) (λ e. inl e) (λ e. inl e),
     refl,
   )
 
@@ -57,9 +57,9 @@ module _ (heard : Body → Type 0) (here : JobContext) (own : PairState) where
   flags : (now : PairState) (op : Pending) (which : MarkKind) (is : Bool) → pending_on now op.cell ≡ Some op
       → (is ≡ true → is_marked now.store which op.cell ≡ true) → IsSetFor heard here own now (with_mark_at op which is)
   flags now op mark.Busy is there marked =
-      Goes_on op (record op.stage { busy = is }) there refl (λ e. inl e) (λ e. Was_paired e) (λ e. inr (marked e)) (λ e. inl e)
+      Goes_on op (record op.stage { busy = is }) there refl (λ e. inl e) (λ e. inr (marked e)) (λ e. inl e)
   flags now op mark.Stale is there marked =
-      Goes_on op (record op.stage { stale = is }) there refl (λ e. inl e) (λ e. Was_paired e) (λ e. inl e) (λ e. inr (marked e))
+      Goes_on op (record op.stage { stale = is }) there refl (λ e. inl e) (λ e. inl e) (λ e. inr (marked e))
 
   marks_to : (now : PairState) (op : Pending) (which : MarkKind) → pending_on now op.cell ≡ Some op → now.pairs.finished ≡ own.pairs.finished
       → To now → To (with_pending (applied now (effect.Marks which op.cell)) (with_mark_at op which true))
@@ -74,13 +74,6 @@ module _ (heard : Body → Type 0) (here : JobContext) (own : PairState) where
       Then (with_pending now (with_mark_at op which false)) (effect.Unmarks which op.cell)
       (Then now (effect.Sets (with_mark_at op which false)) so (flags now op which false there (λ e. true_false e refl), same)) why
 
-  -- the busy mark goes, once the stage says so
-  unbusies_to : (now : PairState) (op : Pending) → pending_on now op.cell ≡ Some op → now.pairs.finished ≡ own.pairs.finished → To now
-      → (in_both here.state op.cell ≡ false → op.stage.stale ≡ true)
-      → To (with_pending (applied now (effect.Unmarks mark.Busy op.cell)) (with_mark_at op mark.Busy false))
-  unbusies_to now op there same so stale = unmarks_to now op mark.Busy there same so
-      (By_its_operation (with_mark_at op mark.Busy false) (cell_same now.pairs.pending op.cell (with_mark_at op mark.Busy false)) refl stale)
-
   opened_to : (op : Pending) → IsOpening heard here own op → To (with_opened own op)
   opened_to op opening =
       Then (applied own (effect.Opens op)) (effect.Holds_slots (own.store.tickets + 1)) (Then own (effect.Opens op) As_it_was (opening, refl)) tt
@@ -88,14 +81,14 @@ module _ (heard : Body → Type 0) (here : JobContext) (own : PairState) where
   puts_as_is : (op : Pending) → pending_on own op.cell ≡ Some op → IsToPut here op → (op.stage ≡ putting) ⊎ IsApart here op.cell → To (puts own op).own
   puts_as_is op is fresh why =
       Then own (effect.Puts op.key (entry_ahead own op.cell op) (As_operation _)) As_it_was
-      (An_operation op op.stage.reserved op.stage.paired is fresh why (λ e. Was_paired e), refl, (refl, inl refl))
+      (An_operation op op.stage.reserved op.stage.paired is fresh why, refl, (refl, inl refl))
 
   puts_taken : (now : PairState) (op : Pending) → Taken own now op → IsToPut here op → IsApart here op.cell → To (puts now op).own
   puts_taken _ _ (As_it_is op is) fresh apart = puts_as_is op is fresh (inr apart)
   puts_taken _ _ (As_told op reserved paired is) fresh apart =
       Then (with_pending own (told op reserved paired)) (effect.Puts op.key (entry_ahead own op.cell op) (As_operation _))
       (taken_to _ _ (As_told op reserved paired is) apart)
-      (An_operation op reserved paired is fresh (inr apart) (λ e. Is_apart is apart), refl, (refl, inr apart))
+      (An_operation op reserved paired is fresh (inr apart), refl, (refl, inr apart))
 
   drops_to : (now : PairState) (op : Pending) → Taken own now op → live here.state op.cell ≡ false → To (gives_up now op)
   drops_to now op taken off =
@@ -140,22 +133,18 @@ module _ (heard : Body → Type 0) (here : JobContext) (own : PairState) where
   lead_to _ (Marks op h is both stage) =
       marks_to (with_pending own (with_reserved op)) (with_reserved op) mark.Busy (cell_same own.pairs.pending op.cell (with_reserved op)) refl
       (Then own (effect.Sets (with_reserved op)) As_it_was
-      (Goes_on op (record op.stage { reserved = true }) is refl (λ e. inr (inl h)) (λ e. Was_paired e) (λ e. inl e) (λ e. inl e), refl))
+      (Goes_on op (record op.stage { reserved = true }) is refl (λ e. inr (inl h)) (λ e. inl e) (λ e. inl e), refl))
   lead_to _ (Puts op is both stage) =
       puts_as_is op is (λ on. (ap (λ (s : Stage). s.put) stage, inl (ap (λ (s : Stage). s.busy) stage))) (inl stage)
-  lead_to _ (Unmarks op h is both stage) =
-      unbusies_to (with_pending own (with_paired op)) (with_paired op) (cell_same own.pairs.pending op.cell (with_paired op)) refl
-      (Then own (effect.Sets (with_paired op)) As_it_was (
-        Goes_on op (record op.stage { paired = true }) is refl (λ e. inl e) (λ e. Is_replicated h is both (ap (λ (s : Stage). s.put) stage))
-            (λ e. inl e) (λ e. inl e),
-        refl,
-      )) (λ alone. true_false both alone)
-  lead_to _ (Closes op is both stage) = closes_to own op (Both_have op is both stage) is refl As_it_was
+  lead_to _ (Closes op h is both stage) = closes_to own op (Both_have op h is both stage) is refl As_it_was
   lead_to _ (Opens_alone want new alone) = opens_alone_to (operation here own.pairs.next want) (For_a_write want new)
   lead_to _ (Marks_alone now op taken alone fresh) = marks_taken now op taken (inl alone) mark.Stale
   lead_to _ (Puts_alone now op taken alone stale put) = puts_taken now op taken (λ on. (put, inr stale)) (inl alone)
   lead_to _ (Unmarks_alone now op taken alone stale put busy) =
-      let t = taking own now op taken in unbusies_to now op t.there t.finished (taken_to now op taken (inl alone)) (λ apart. stale)
+      let t = taking own now op taken in
+      let free = with_mark_at op mark.Busy false in
+      unmarks_to now op mark.Busy t.there t.finished (taken_to now op taken (inl alone))
+      (By_its_operation free (cell_same now.pairs.pending op.cell free) refl stale)
   lead_to _ (Closes_alone now op taken alone stale put free) = closes_taken now op taken (inl alone) (Alone_has now op taken alone stale put free)
   lead_to _ (Opens_fill moving new room both) = opened_to (fill_operation here own.pairs.next moving) (For_a_fill moving new)
   lead_to _ (Opens_fill_alone moving new room alone) = opens_alone_to (fill_operation here own.pairs.next moving) (For_a_fill moving new)

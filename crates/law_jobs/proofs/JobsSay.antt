@@ -83,8 +83,8 @@ module _ (reads : Type 0) (heard : Body → Type 0) (here : JobContext) (own : P
   lead_said _ (Opens want new both) =
       let op = operation here own.pairs.next want in
       one _ _ _ (λ to so. says.Opens op to new.lead both new.none (cell_same own.pairs.pending want.cell op) refl refl so)
-  lead_said _ (Closes op is both stage) =
-      ends_said (without_pending own op.cell) op op.kind ending.Written refl (Both_have op is both stage) (cell_gone own.pairs.pending op.cell) refl
+  lead_said _ (Closes op h is both stage) =
+      ends_said (without_pending own op.cell) op op.kind ending.Written refl (Both_have op h is both stage) (cell_gone own.pairs.pending op.cell) refl
   lead_said _ (Closes_alone now op taken alone stale put free) =
       ends_said (without_pending now op.cell) op op.kind ending.Written refl (Alone_has now op taken alone stale put free)
       (cell_gone now.pairs.pending op.cell) (taking own now op taken).finished

@@ -35,12 +35,12 @@ module _ (heard : Body → Type 0) (here : JobContext) (own : PairState) where
 
   set_so : (now : PairState) (op : Pending) → IsSetFor heard here own now op → HaveCome now → (cell : Cell) → cell ≡ op.cell
       → HasCome now.pairs.next cell op
-  set_so now _ (Goes_on op stage is put reserved paired busy stale) so cell e =
+  set_so now _ (Goes_on op stage is put reserved busy stale) so cell e =
       further now.pairs.next cell op _ (restaged op op.version stage) (so cell op (ap (at cell_cmp now.pairs.pending) e ∙ is))
 
   put_so : (next : ℕ) (key : Key) (stored : Stored) (op : Pending) → IsPutFor heard here own key stored (As_operation op) → (cell : Cell) → cell ≡ op.cell
       → HasCome next cell op
-  put_so next _ _ _ (An_operation op reserved paired is fresh why so) cell e =
+  put_so next _ _ _ (An_operation op reserved paired is fresh why) cell e =
       Stood (record { was = op; is = ap (at cell_cmp own.pairs.pending) e ∙ is; same = restaged op _ _ })
 
   counted : (next : ℕ) (cell : Cell) (op : Pending) → HasCome next cell op → HasCome (next + 1) cell op

@@ -1,12 +1,12 @@
 -- Of what a job is made: effects, each on one place of a server's own part, with what was so when it was had.
 use Rattle.law_jobs.specs.Imports.{Block, Body, Both, Busy, Cell, Chain, Copying, Ending, Entry, Finished, Full, IsHeldWith, IsNew, IsNewFill, IsNextKey}
-use Rattle.law_jobs.specs.Imports.{IsOfCopy, IsSynced, JobContext, Key, LastCopy, LastOp, LinkId, LinkRow, MarkKind, Moving, PairState, Pending, Stage, Stale}
-use Rattle.law_jobs.specs.Imports.{Stored, Table, Taken, Wanted, Write, Written, answering, at, begins_copy, cell_at, cell_cmp, cell_holder, cell_link}
-use Rattle.law_jobs.specs.Imports.{cell_of, chain_in, chains_with, copying_on, epochs_beyond, fill_operation, first_last, free_of, idle_mark, in_both}
+use Rattle.law_jobs.specs.Imports.{IsOfCopy, IsSynced, JobContext, Key, LastCopy, LastOp, LinkId, LinkRow, MarkKind, Moving, PairState, Pending, Stage}
+use Rattle.law_jobs.specs.Imports.{Stale, Stored, Table, Taken, Wanted, Write, Written, at, begins_copy, cell_at, cell_cmp, cell_holder, cell_link, cell_of}
+use Rattle.law_jobs.specs.Imports.{chain_in, chains_with, copying, copying_on, epochs_beyond, fill_operation, first_last, free_of, idle_mark, in_both}
 use Rattle.law_jobs.specs.Imports.{is_alone_on, is_marked, is_second, key_at, last_copy, last_on, link_named, live, next_copy, operation, pending_on}
-use Rattle.law_jobs.specs.Imports.{progress, progress_on, put, putting, same_block, version_of, with_copied, with_copying, with_entry, with_filled, with_full}
-use Rattle.law_jobs.specs.Imports.{with_last, with_last_copy, with_mark_on, with_page, with_pending, without_copying, without_entry, without_mark_on}
-use Rattle.law_jobs.specs.Imports.{without_pending}
+use Rattle.law_jobs.specs.Imports.{progress, progress_on, put, putting, same_block, version_of, with_copied, with_copying, with_entry, with_filled}
+use Rattle.law_jobs.specs.Imports.{with_full, with_last, with_last_copy, with_mark_on, with_page, with_pending, without_copying, without_entry}
+use Rattle.law_jobs.specs.Imports.{without_mark_on, without_pending}
 use Rattle.std.specs.Prelude.{◌+◌, ◌<◌, ◌∷◌, ◌≡◌, ◌≤◌, ◌⊎◌, Bool, List, None, Option, Some, false, length, true, ℕ}
 use Rattle.std.specs.Ordering.{nat_cmp}
 use Rattle.petal_msg.specs.declared.body.Body.TheVariants as body
@@ -105,13 +105,6 @@ abbrev pub IsReserved : (heard : Body → Type 0) → JobContext → PairState �
 IsReserved heard here own op =
     (op.stage.reserved ≡ true) ⊎ heard (body.Reserved op.op op.cell) ⊎ ((pending_on own op.cell ≡ Some op) × IsApart here op.cell)
 
--- or that it has put: that server told so after the lead put
-pub data IsPaired (heard : Body → Type 0) (here : JobContext) (own : PairState) (cell : Cell) (op : Pending) : Type 0 where
-  Was_paired : op.stage.paired ≡ true → IsPaired heard here own cell op
-  Is_replicated : heard (body.Replicated op.op cell) → pending_on own cell ≡ Some op → in_both here.state cell ≡ true → op.stage.put ≡ true
-      → IsPaired heard here own cell op
-  Is_apart : pending_on own cell ≡ Some op → IsApart here cell → IsPaired heard here own cell op
-
 -- the entry of an operation, of the version after that of its cell's chain
 abbrev pub entry_ahead : PairState → Cell → Pending → Stored
 entry_ahead own cell op = record { version = version_of (chain_in own.store.chains cell) + 1; bytes = op.bytes }
@@ -127,7 +120,7 @@ IsToPut here op = live here.state op.cell ≡ true → (op.stage.put ≡ false) 
 -- of a holder, as the next one of its copy
 pub data IsPutFor (heard : Body → Type 0) (here : JobContext) (own : PairState) : Key → Stored → Noted → Type 0 where
   An_operation : (op : Pending) (reserved paired : Bool) → pending_on own op.cell ≡ Some op → IsToPut here op
-      → (op.stage ≡ putting) ⊎ IsApart here op.cell → (paired ≡ true → IsPaired heard here own op.cell op)
+      → (op.stage ≡ putting) ⊎ IsApart here op.cell
       → IsPutFor heard here own op.key (entry_ahead own op.cell op) (As_operation (record op {
         version = version_of (chain_in own.store.chains op.cell) + 1;
         stage = record op.stage { reserved = reserved; paired = paired; put = true };
@@ -179,17 +172,16 @@ IsFlagged now kind cell was is = is ≡ true → (was ≡ true) ⊎ (is_marked n
 -- an operation goes on at another stage, put or not as it was
 pub data IsSetFor (heard : Body → Type 0) (here : JobContext) (own now : PairState) : Pending → Type 0 where
   Goes_on : (op : Pending) (stage : Stage) → pending_on now op.cell ≡ Some op → stage.put ≡ op.stage.put
-      → (stage.reserved ≡ true → IsReserved heard here own op) → (stage.paired ≡ true → IsPaired heard here own op.cell op)
-      → IsFlagged now Busy op.cell op.stage.busy stage.busy → IsFlagged now Stale op.cell op.stage.stale stage.stale
-      → IsSetFor heard here own now (record op { stage = stage })
+      → (stage.reserved ≡ true → IsReserved heard here own op) → IsFlagged now Busy op.cell op.stage.busy stage.busy
+      → IsFlagged now Stale op.cell op.stage.stale stage.stale → IsSetFor heard here own now (record op { stage = stage })
 
--- how an operation that was pending at its lead has ended: its second server has no slot for it, or it has been put where its copies are, or it
--- is of a cell that is no longer live
+-- how an operation that was pending at its lead has ended: its second server has no slot for it, or told that it has put, too, or it has been put
+-- where the lead is alone, or it is of a cell that is no longer live
 pub data HasEnded (heard : Body → Type 0) (here : JobContext) (own : PairState) : Pending → Ending → Type 0 where
   Is_declined : (op : Pending) → heard (body.PairFull op.op op.cell) → pending_on own op.cell ≡ Some op → op.stage.reserved ≡ false
       → op.stage.put ≡ false → HasEnded heard here own op Full
-  Both_have : (op : Pending) → pending_on own op.cell ≡ Some op → in_both here.state op.cell ≡ true → op.stage ≡ answering
-      → HasEnded heard here own op Written
+  Both_have : (op : Pending) → heard (body.Replicated op.op op.cell) → pending_on own op.cell ≡ Some op → in_both here.state op.cell ≡ true
+      → op.stage ≡ copying → HasEnded heard here own op Written
   Alone_has : (now : PairState) (op : Pending) → Taken own now op → is_alone_on here.state here.me op.cell ≡ true → op.stage.stale ≡ true
       → op.stage.put ≡ true → op.stage.busy ≡ false → HasEnded heard here own op Written
   Is_retired : (now : PairState) (op : Pending) → Taken own now op → live here.state op.cell ≡ false → HasEnded heard here own op Written
@@ -274,10 +266,9 @@ pub data IsIdle (here : JobContext) (own : PairState) : Cell → Type 0 where
   Idle : (id : LinkId) (row : LinkRow) (block : ℕ) → link_named here.state id ≡ Some row → row.state ≡ Both
       → idle_mark here.state row own ≡ Some block → IsIdle here own (cell_at row block)
 
--- why a mark goes: the operation on the cell no longer needs it, nor the copy, of which all is put; it is an old one; or the cell is not live
+-- why a mark goes: the operation on the cell has the stale one, nor the copy, of which all is put; it is an old one; or the cell is not live
 pub data IsUnmarkedFor (here : JobContext) (own now : PairState) : MarkKind → Cell → Type 0 where
-  By_its_operation : (op : Pending) → pending_on now op.cell ≡ Some op → op.stage.busy ≡ false
-      → (in_both here.state op.cell ≡ false → op.stage.stale ≡ true) → IsUnmarkedFor here own now Busy op.cell
+  By_its_operation : (op : Pending) → pending_on now op.cell ≡ Some op → op.stage.busy ≡ false → op.stage.stale ≡ true → IsUnmarkedFor here own now Busy op.cell
   By_a_copy : (kind : MarkKind) (cell : Cell) (copy : Copying) → IsUnderWay own now cell copy → IsSynced now cell copy
       → IsUnmarkedFor here own now kind cell
   Is_old : (kind : MarkKind) (cell : Cell) → IsIdle here own cell → now ≡ own → IsUnmarkedFor here own now kind cell

@@ -22,7 +22,7 @@ module _ (heard : Body → Type 0) (here : JobContext) (own new : PairState) whe
   pub data HasFilled (key : Key) : Type 0 where
     Is_there : (moving : Moving) → IsFilled heard here own moving → moving.key ≡ key → new ≡ own → HasFilled key
     Was_put : (op : Pending) → pending_on own op.cell ≡ Some op → op.key ≡ key → op.kind ≡ kind.Fill → op.stage.put ≡ true
-        → ((in_both here.state op.cell ≡ true) × (op.stage.paired ≡ true)) ⊎ (is_alone_on here.state here.me op.cell ≡ true)
+        → ((in_both here.state op.cell ≡ true) × heard (body.Replicated op.op op.cell)) ⊎ (is_alone_on here.state here.me op.cell ≡ true)
         → pending_on new op.cell ≡ None → HasFilled key
 
   -- what asks a second server to put
@@ -47,8 +47,7 @@ module _ (heard : Body → Type 0) (here : JobContext) (own new : PairState) whe
 
   module _ (never : NeverRetired here own) where
     written_said : (op : Pending) → HasEnded heard here own op Written → op.kind ≡ kind.Fill → pending_on new op.cell ≡ None → HasFilled op.key
-    written_said _ (Both_have op is both stage) fill none =
-        Was_put op is refl fill (ap (λ (s : Stage). s.put) stage) (inl (both, ap (λ (s : Stage). s.paired) stage)) none
+    written_said _ (Both_have op h is both stage) fill none = Was_put op is refl fill (ap (λ (s : Stage). s.put) stage) (inl (both, h)) none
     written_said _ (Alone_has _ _ (As_it_is op is) alone stale put free) fill none = Was_put op is refl fill put (inr alone) none
     written_said _ (Alone_has _ _ (As_told op reserved paired is) alone stale put free) fill none = Was_put op is refl fill put (inr alone) none
     written_said _ (Is_retired now op taken off) fill none = absurd (never now op taken off)

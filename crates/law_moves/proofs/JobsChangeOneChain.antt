@@ -124,7 +124,7 @@ module _ (heard : Body → Type 0) (here : JobContext) (own : PairState) (never 
 
     puts_so : (chains : Table Cell Chain) (key : Key) (stored : Stored) (noted : Noted) → IsPutFor heard here own key stored noted
         → chains ≡ own.store.chains → S (chains_with chains key stored)
-    puts_so chains _ _ _ (An_operation op reserved paired is fresh why so) same =
+    puts_so chains _ _ _ (An_operation op reserved paired is fresh why) same =
         let stored = entry_ahead own op.cell op in
         An_own (record {
           op = op;

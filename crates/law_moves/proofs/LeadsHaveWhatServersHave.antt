@@ -1,17 +1,18 @@
 -- What a lead of a cell, by its own state, has of it while nothing of its own is under way, or its second server has followed: each server that serves the
 -- link by what is chosen has it too. And of two such leads the one has just held the link alone, and is after its own Caught.
-use Rattle.law_moves.proofs.Imports.{◌+◌, ◌<◌, ◌==◌, ◌∙◌, ◌≡◌, ◌≢◌, ◌≤◌, ◌⊎◌, AliveIn, AreCopies, Bool, Both, Cell, Chain, Command, HasOwnCaught, IsHeldBy}
-use Rattle.law_moves.proofs.Imports.{IsInBoth, IsLinked, IsPrefix, IsServing, LinkRow, List, None, Only, Option, PairOk, PairState, Pending, Run, Some, Store}
-use Rattle.law_moves.proofs.Imports.{Working, alone_not_both, alone_row, ap, arith, at, at-empty, at_apart, at_most_or_above, at_same, blank_joins_in}
-use Rattle.law_moves.proofs.Imports.{both_since, by_bool, cell_cmp, cell_link, chain_in, chosen_state, either_true, end_of, false, far, half, half_store}
-use Rattle.law_moves.proofs.Imports.{has_proposed, has_server, holder_is_one, in_both, inl, inr, is_alone_on, is_clients, is_some, is_the_one, kept}
-use Rattle.law_moves.proofs.Imports.{link_led_by, nat_cmp, none_some, one_before, one_put_ahead, one_row, option_and_then, pair_at, pair_of, pending_on}
-use Rattle.law_moves.proofs.Imports.{place_by, places_up, prefix_itself, primary_is_one, progress, put, refl, row_lead, rows_later, running_prefixes}
-use Rattle.law_moves.proofs.Imports.{same_numbers, same_only, same_or_apart, same_some, server_state, serves_alone, serves_its, so_both, stage_at, stage_live}
-use Rattle.law_moves.proofs.Imports.{stays_alone, subst, sym, true, true_false, unseen_beyond, ℕ}
+use Rattle.law_moves.proofs.Imports.{◌+◌, ◌<◌, ◌==◌, ◌∙◌, ◌≡◌, ◌≢◌, ◌≤◌, ◌⊎◌, AliveIn, AreCopies, Bool, Both, Cell, Chain, Command, Handled, HasOwnCaught}
+use Rattle.law_moves.proofs.Imports.{IsHeldBy, IsInBoth, IsLinked, IsPrefix, IsServing, LinkRow, List, None, Only, Option, PairOk, PairState, Pending, Run}
+use Rattle.law_moves.proofs.Imports.{Some, Store, Working, alone_not_both, alone_row, ap, arith, at, at-empty, at_apart, at_most_or_above, at_same}
+use Rattle.law_moves.proofs.Imports.{blank_joins_in, both_since, by_bool, cell_cmp, cell_link, chain_in, chosen_state, either_true, end_of, false, far}
+use Rattle.law_moves.proofs.Imports.{half, half_store, has_proposed, has_server, heard_there, holder_is_one, in_both, inl, inr, is_alone_on, is_clients}
+use Rattle.law_moves.proofs.Imports.{is_some, is_the_one, kept, link_led_by, nat_cmp, none_some, one_before, one_put_ahead, one_row, option_and_then}
+use Rattle.law_moves.proofs.Imports.{pair_at, pair_of, pending_on, place_by, places_up, prefix_itself, primary_is_one, progress, put, refl, row_lead}
+use Rattle.law_moves.proofs.Imports.{rows_later, running_prefixes, same_numbers, same_only, same_or_apart, same_some, server_state, serves_alone}
+use Rattle.law_moves.proofs.Imports.{serves_its, so_both, stage_at, stage_live, stays_alone, subst, sym, true, true_false, unseen_beyond, ℕ}
 use Rattle.law_moves.specs.Fills.{Has}
 use Rattle.law_moves.proofs.MoveWorlds.{chosen_twins, facts_at, firm, good, own_counts, rests, steady_at, up}
 use Rattle.law_moves.proofs.MoveScenes.{LeadsAt, TwoLeads}
+use Rattle.petal_msg.specs.declared.body.Body.TheVariants as body
 
 -- ### Two copies
 
@@ -36,10 +37,10 @@ copies_first first second far_is (Some op) epoch copies has = by op.stage.put co
     ]
 
 -- nothing is pending, or the second server has followed
-abbrev pub IsSettledBy : Option Pending → Type 0
-IsSettledBy o = (o ≡ None) ⊎ ((op : Pending) × (o ≡ Some op) × (op.stage.put ≡ true) × (op.stage.paired ≡ true))
+abbrev pub IsSettledBy : ℕ → Option Pending → Type 0
+IsSettledBy far_is o = (o ≡ None) ⊎ ((op : Pending) × (o ≡ Some op) × (op.stage.put ≡ true) × (op.op + op.op + 1 ≤ far_is))
 
-copies_equal : (first second : Chain) (far_is : ℕ) (o : Option Pending) → AreCopies first second far_is o → IsSettledBy o → first ≡ second
+copies_equal : (first second : Chain) (far_is : ℕ) (o : Option Pending) → AreCopies first second far_is o → IsSettledBy far_is o → first ≡ second
 copies_equal first second far_is None same settled = same
 copies_equal first second far_is (Some op) copies (inl none) = none_some none refl
 copies_equal first second far_is (Some op) copies (inr done) =
@@ -48,7 +49,7 @@ copies_equal first second far_is (Some op) copies (inr done) =
   where
     by : (put : Bool) → put ≡ true → Working first second far_is op put → first ≡ second
     by false e even = even.even
-    by true e ahead = ahead.even (ahead.paired (ap (λ (p : Pending). p.stage.paired) (sym (same_some (sym done.1))) ∙ done.3))
+    by true e ahead = ahead.even (subst (λ (p : Pending). p.op + p.op + 1 ≤ far_is) (same_some (sym done.1)) done.3)
 
 half_none : (visit : Option PairState) (store : Store) (cell : Cell) → visit ≡ None → at cell_cmp (half visit store).pairs.pending cell ≡ None
 half_none visit store cell none = ap (λ o. at cell_cmp (half o store).pairs.pending cell) none ∙ at-empty cell_cmp cell
@@ -70,7 +71,8 @@ module _ (one other : Option PairState) (a b : Store) (cell : Cell) (ok : PairOk
       subst (λ (c : Chain). Has c epoch) first_is
       (copies_first pair.first pair.second (far pair) pair.pending epoch ok.copies (subst (λ (c : Chain). Has c epoch) (sym second_is) has))
 
-  pub both_equal : IsSettledBy (at cell_cmp (half one a).pairs.pending cell) → chain_in a.chains cell ≡ chain_in b.chains cell
+  pub both_equal : IsSettledBy (far (pair_of (half one a) (half other b) cell)) (at cell_cmp (half one a).pairs.pending cell)
+      → chain_in a.chains cell ≡ chain_in b.chains cell
   both_equal settled =
       let pair = pair_of (half one a) (half other b) cell in
       sym first_is ∙ copies_equal pair.first pair.second (far pair) pair.pending ok.copies settled ∙ second_is
@@ -188,10 +190,10 @@ module _ (it : Run) (cell : Cell) (k : ℕ) (lead : LeadsAt (end_of it).setting 
 
   -- ### What it has, the others have
 
-  -- nothing is pending on the cell, or its second server has followed, or the server holds the link alone and may go on with it
+  -- nothing is pending on the cell, or its second server tells that it has followed, or the server holds the link alone and may go on with it
   pub data IsIdle : Type 0 where
     Nothing : pending_on own cell ≡ None → IsIdle
-    Followed : (op : Pending) → pending_on own cell ≡ Some op → op.stage.put ≡ true → op.stage.paired ≡ true
+    Followed : (op : Pending) → pending_on own cell ≡ Some op → op.stage.put ≡ true → Handled w k (body.Replicated op.op cell)
         → in_both (server_state setting w k) cell ≡ true → IsIdle
     Holds : (op : Pending) → pending_on own cell ≡ Some op → is_alone_on (server_state setting w k) k cell ≡ true → IsIdle
 
@@ -223,7 +225,12 @@ module _ (it : Run) (cell : Cell) (k : ℕ) (lead : LeadsAt (end_of it).setting 
           (counts now.primary) (chosen_twins it cell now end both alive).pair)
 
       -- the first one has it, and nothing that the second one has not
-      to_second : HasIt now.primary → IsSettledBy (at cell_cmp (half (visit now.primary) (kept setting w now.primary)).pairs.pending cell) → HasIt now.secondary
+      abbrev far_at : ℕ → ℕ
+      far_at place = progress (at cell_cmp (half ((good it).visits now.secondary place cell) (kept setting w now.secondary)).pairs.last cell)
+
+      to_second : HasIt now.primary
+          → IsSettledBy (far_at (place_by setting chosen now)) (at cell_cmp (half (visit now.primary) (kept setting w now.primary)).pairs.pending cell)
+          → HasIt now.secondary
       to_second first settled =
           subst (λ (c : Chain). Has c epoch)
           (both_equal (visit now.primary) (visit now.secondary) (kept setting w now.primary) (kept setting w now.secondary) cell ok settled) first
@@ -244,7 +251,10 @@ module _ (it : Run) (cell : Cell) (k : ℕ) (lead : LeadsAt (end_of it).setting 
           let pending = half_some (visit now.primary) (kept setting w now.primary) own cell there in
           either n one first (to_second first (elim idle [
             | Nothing none ↦ inl (pending ∙ none)
-            | Followed op is put paired on ↦ inr (op, pending ∙ is, put, paired)
+            | Followed op is put h on ↦
+                let past = heard_there setting records w stores (firm it) (good it) k runs seat cell now f.linked f.both
+                (primary_is_one now k f.first) alive (body.Replicated op.op cell) h refl in
+                inr (op, pending ∙ is, put, subst (λ place. op.op + op.op + 1 ≤ far_at place) (sym f.place) past)
             | Holds op is alone_on ↦ true_false (so_both (server_state setting w k) cell now f.linked f.both)
                 (alone_not_both (server_state setting w k) k cell alone_on)
           ]))
@@ -266,7 +276,7 @@ module _ (it : Run) (cell : Cell) (k : ℕ) (lead : LeadsAt (end_of it).setting 
       | Alone whole so ↦ subst HasIt (sym (serves_alone k n serving.row so serving.so)) kept_mine
       | Following b ↦ elim idle [
         | Nothing none ↦ by_after serving.row serving.is b.both b none n serving.one_of
-        | Followed op is put paired on ↦ absurd (not_flagged op is b.flagged)
+        | Followed op is put h on ↦ absurd (not_flagged op is b.flagged)
         | Holds op is alone_on ↦ absurd (not_flagged op is b.flagged)
       ]
     ]

@@ -1,19 +1,18 @@
--- What is pending after a job was so before: with the same number, and put only if it was, or the job put it, and its copy told only for a reason; or
--- it is new, under the next number, and neither put nor copied.
+-- What is pending after a job was so before: with the same number, and put only if it was, or the job put it; or it is new, under the next number,
+-- and not put.
 use Rattle.law_moves.proofs.Imports.{◌∙◌, ◌≡◌, ◌⊎◌, An_operation, As_operation, Body, Cell, Chain, Closes, Did, Drops, Effect, For_a_fill, For_a_write}
-use Rattle.law_moves.proofs.Imports.{Goes_on, IsOpening, IsPaired, IsPutFor, IsSame, IsSetFor, Is_apart, Is_replicated, JobContext, JobResult, Key, May, None}
-use Rattle.law_moves.proofs.Imports.{Opens, PairState, Pending, Puts, Sets, Some, Stored, Table, Was_paired, ap, applied, at, by_bool, cell_cmp, cell_of}
-use Rattle.law_moves.proofs.Imports.{chain_in, chains_ahead, chains_with, entry_ahead, false, inl, inr, job_keeps, none_some, put, put_with, refl, restaged}
-use Rattle.law_moves.proofs.Imports.{same_itself, same_on, same_some, stood, subst, sym, true, true_false}
+use Rattle.law_moves.proofs.Imports.{Goes_on, IsOpening, IsPutFor, IsSame, IsSetFor, JobContext, JobResult, Key, May, None}
+use Rattle.law_moves.proofs.Imports.{Opens, PairState, Pending, Puts, Sets, Some, Stored, Table, ap, applied, at, cell_cmp}
+use Rattle.law_moves.proofs.Imports.{cell_of, chain_in, chains_ahead, chains_with, entry_ahead, false, inl, inr, job_keeps, put, refl}
+use Rattle.law_moves.proofs.Imports.{restaged, same_itself, same_on, stood, sym, true}
+use Rattle.law_jobs.proofs.OperationsCome.{put_with}
 use Rattle.law_moves.proofs.JobsChangeOneChain.{not_ahead}
 
 -- the operation was pending, or is new
 pub data WasSo (heard : Body → Type 0) (here : JobContext) (own : PairState) (chains : Table Cell Chain) (q : Cell) (op : Pending) : Type 0 where
   It_was : (o : Pending) → at cell_cmp own.pairs.pending q ≡ Some o → IsSame o op
-      → (op.stage.put ≡ true → (o.stage.put ≡ true) ⊎ (chains ≡ chains_ahead own q o))
-      → (op.stage.paired ≡ true → IsPaired heard here own q o) → WasSo heard here own chains q op
-  Is_new : at cell_cmp own.pairs.pending q ≡ None → op.op ≡ own.pairs.next → op.stage.put ≡ false → op.stage.paired ≡ false
-      → WasSo heard here own chains q op
+      → (op.stage.put ≡ true → (o.stage.put ≡ true) ⊎ (chains ≡ chains_ahead own q o)) → WasSo heard here own chains q op
+  Is_new : at cell_cmp own.pairs.pending q ≡ None → op.op ≡ own.pairs.next → op.stage.put ≡ false → WasSo heard here own chains q op
 
 module _ (heard : Body → Type 0) (here : JobContext) (own : PairState)
     (keyed : (cell : Cell) (op : Pending) → at cell_cmp own.pairs.pending cell ≡ Some op → cell_of op.key ≡ cell) where
@@ -24,47 +23,31 @@ module _ (heard : Body → Type 0) (here : JobContext) (own : PairState)
   AreSo now = (q : Cell) (op : Pending) → at cell_cmp now.pairs.pending q ≡ Some op → W now.store.chains q op
 
   stands : (chains : Table Cell Chain) (q : Cell) (op : Pending) → at cell_cmp own.pairs.pending q ≡ Some op → W chains q op
-  stands chains q op is = It_was op is (same_itself op) (λ put. inl put) (λ paired. Was_paired paired)
-
-  -- of one that was pending the reason is told as it was
-  paired_on : (q : Cell) (o op : Pending) → at cell_cmp own.pairs.pending q ≡ Some o → (op.stage.paired ≡ true → IsPaired heard here own q o)
-      → IsPaired heard here own q op → IsPaired heard here own q o
-  paired_on q o op was old (Was_paired paired) = old paired
-  paired_on q o op was old (Is_replicated h is both put) = subst (IsPaired heard here own q) (same_some (sym is ∙ was)) (Is_replicated h is both put)
-  paired_on q o op was old (Is_apart is apart) = subst (IsPaired heard here own q) (same_some (sym is ∙ was)) (Is_apart is apart)
-
-  -- of none that was there is none
-  unpaired : {B : Type 0} (q : Cell) (op : Pending) → at cell_cmp own.pairs.pending q ≡ None → op.stage.paired ≡ false → IsPaired heard here own q op → B
-  unpaired q op none fresh (Was_paired paired) = true_false paired fresh
-  unpaired q op none fresh (Is_replicated h is both put) = none_some none is
-  unpaired q op none fresh (Is_apart is apart) = none_some none is
+  stands chains q op is = It_was op is (same_itself op) (λ put. inl put)
 
   -- one that is set
   set_so : (now : PairState) (next : Pending) → IsSetFor heard here own now next → AreSo now → (q : Cell) → q ≡ next.cell → W now.store.chains q next
-  set_so now _ (Goes_on op stage is put reserved paired busy stale) so q e = elim (so q op (ap (at cell_cmp now.pairs.pending) e ∙ is)) [
-    | Is_new none number fresh alone ↦ Is_new none number (put ∙ fresh)
-        (by_bool stage.paired (λ done. unpaired q op none alone (subst (λ c. IsPaired heard here own c op) (sym e) (paired done))) (λ f. f))
-    | It_was o was same how why ↦ It_was o was (same_on o op _ same (restaged op op.version stage)) (λ done. how (sym put ∙ done))
-        (λ done. paired_on q o op was why (subst (λ c. IsPaired heard here own c op) (sym e) (paired done)))
+  set_so now _ (Goes_on op stage is put reserved busy stale) so q e = elim (so q op (ap (at cell_cmp now.pairs.pending) e ∙ is)) [
+    | Is_new none number fresh ↦ Is_new none number (put ∙ fresh)
+    | It_was o was same how ↦ It_was o was (same_on o op _ same (restaged op op.version stage)) (λ done. how (sym put ∙ done))
   ]
 
   opened_so : (chains : Table Cell Chain) (op : Pending) → IsOpening heard here own op → (q : Cell) → q ≡ op.cell → W chains q op
-  opened_so chains _ (For_a_write want new) q e = Is_new (ap (at cell_cmp own.pairs.pending) e ∙ new.none) refl refl refl
-  opened_so chains _ (For_a_fill moving new) q e = Is_new (ap (at cell_cmp own.pairs.pending) e ∙ new.none) refl refl refl
+  opened_so chains _ (For_a_write want new) q e = Is_new (ap (at cell_cmp own.pairs.pending) e ∙ new.none) refl refl
+  opened_so chains _ (For_a_fill moving new) q e = Is_new (ap (at cell_cmp own.pairs.pending) e ∙ new.none) refl refl
 
   noted_so : (chains : Table Cell Chain) → chains ≡ own.store.chains → (key : Key) (stored : Stored) (op : Pending)
       → IsPutFor heard here own key stored (As_operation op) → (q : Cell) → q ≡ op.cell → W (chains_with chains key stored) q op
-  noted_so chains same _ _ _ (An_operation op reserved paired is fresh why so) q e =
+  noted_so chains same _ _ _ (An_operation op reserved paired is fresh why) q e =
       It_was op (ap (at cell_cmp own.pairs.pending) e ∙ is) (restaged op _ _)
       (λ done. inr (ap (λ t. chains_with t op.key (entry_ahead own op.cell op)) same ∙ ap (λ c. chains_ahead own c op) (sym e)))
-      (λ done. subst (λ c. IsPaired heard here own c op) (sym e) (so done))
 
   put_so : (chains : Table Cell Chain) (key : Key) (stored : Stored) → chains ≡ own.store.chains → (q : Cell) (op : Pending) → W chains q op
       → W (chains_with chains key stored) q op
-  put_so chains key stored same q op (Is_new none number fresh alone) = Is_new none number fresh alone
-  put_so chains key stored same q op (It_was o was as_it how why) =
+  put_so chains key stored same q op (Is_new none number fresh) = Is_new none number fresh
+  put_so chains key stored same q op (It_was o was as_it how) =
       It_was o was as_it (λ done.
-      elim (how done) [ inl put ↦ inl put | inr ahead ↦ absurd (not_ahead own q o (keyed q o was) (ap (λ c. chain_in c q) (sym ahead ∙ same))) ]) why
+      elim (how done) [ inl put ↦ inl put | inr ahead ↦ absurd (not_ahead own q o (keyed q o was) (ap (λ c. chain_in c q) (sym ahead ∙ same))) ])
 
   each : (now : PairState) (e : Effect) → May heard here own now e → AreSo now → AreSo (applied now e)
   each now (Opens next) may so q op there =

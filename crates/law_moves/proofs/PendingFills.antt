@@ -264,8 +264,8 @@ module _ (it : OneMore) (all : WereKnown it) where
   puts_next m cell op runs is fills put = elim (came m cell op is) [
     | Same_pairs up_was was ↦ still_has m cell op op.key.epoch runs (up_was runs) was fills (known.puts m cell op (up_was runs) was fills put)
     | By_job job there ↦ elim (did_was (Handled w m) (own_place setting w m) (w.servers m).own (keyed_was m) job.done job.did cell op there) [
-      | Is_new none next fresh alone ↦ true_false put fresh
-      | It_was o was same how why ↦ elim (how put) [
+      | Is_new none next fresh ↦ true_false put fresh
+      | It_was o was same how ↦ elim (how put) [
         | inr ahead ↦
             let has : Has (chain_in job.done.own.store.chains cell) o.key.epoch =
             ap (λ c. is_some (at nat_cmp (chain_in c cell) o.key.epoch)) ahead
@@ -304,7 +304,7 @@ module _ (it : OneMore) (all : WereKnown it) where
   numbered_next old m cell op is = elim (came m cell op is) [
     | Same_pairs up_was was ↦ old m cell op was
     | By_job job there ↦ elim (did_was (Handled w m) (own_place setting w m) (w.servers m).own (keyed_was m) job.done job.did cell op there) [
-      | Is_new none next fresh alone ↦ (let one = (good prior).counts m in omega arith)
-      | It_was o was same how why ↦ (let one = old m cell o was in let e = same.number in omega arith)
+      | Is_new none next fresh ↦ (let one = (good prior).counts m in omega arith)
+      | It_was o was same how ↦ (let one = old m cell o was in let e = same.number in omega arith)
     ]
   ]

@@ -187,7 +187,7 @@ module _ (it : OneMore) (all : WereKnown it) where
         (λ lead. Nothing filled.none) filled.has
     by_says (Was_put op there of fill put how none) =
         told_op op op.cell there of (fill_not_client op fill) put (λ lead. elim how [
-          | inl copied ↦ Followed op there put copied.1 copied.0
+          | inl said ↦ Followed op there put said.1 said.0
           | inr alone ↦ Holds op there alone
         ])
 

@@ -177,7 +177,7 @@ module _ (scene : Scene) (n : ℕ) (runs : (scene.w.servers n).life.running ≡ 
 
   ended_was : (op : Pending) (how : Ending) → HasEnded hears here own op how → Was own op.cell op
   ended_was _ _ (Is_declined op h is reserved put) = was_same own op.cell op is
-  ended_was _ _ (Both_have op is both stage) = was_same own op.cell op is
+  ended_was _ _ (Both_have op h is both stage) = was_same own op.cell op is
   ended_was _ _ (Alone_has now op taken alone stale put free) = was_taken own now op taken
   ended_was _ _ (Is_retired now op taken off) = was_taken own now op taken
 

@@ -6,7 +6,7 @@ use Rattle.law_run.proofs.Imports.{entry_by, entry_of, events_with, false, flat_
 use Rattle.law_run.proofs.Imports.{inr, is_some, kept, kept_store, length, make_of, makes, map, named_cell, nat_cmp, number_itself, old_cell, option_and_then}
 use Rattle.law_run.proofs.Imports.{put_apart, put_same, refl, same_or_apart, state_after, state_in, stays, subst, sym, takes, true, true_false, ℕ}
 use Rattle.law_run.proofs.ContentsByCells.{entry_named, entry_over, has_named, has_over, is_between}
-use Rattle.law_run.specs.MachineTies.{Follow, HasCounted, Is_counted, Is_followed, Is_told}
+use Rattle.law_run.specs.MachineTies.{Follow, HasCounted, Is_counted, Is_followed}
 use Rattle.law_run.proofs.ChosenDisks.{disks_now, rows_in}
 use Rattle.law_run.proofs.StoresThatCount.{frozen_stays}
 use Rattle.law_run.proofs.SnapshotsTaken.{no_freezes}
@@ -124,8 +124,6 @@ module _ (setting : Setting) (w : World) (n stamp : ℕ) where
 
     counted_back : (i : ℕ) (cell : Cell) (op : Pending) → v.servers i ≡ w.servers i → HasCounted setting v i cell op (chain_in (kept setting v i).chains cell)
         → HasCounted setting w i cell op (chain_in (kept setting w i).chains cell)
-    counted_back i cell op e (Is_told both paired) =
-        Is_told (subst (λ (x : Server). in_both (state_in setting.servers x.log) cell ≡ true) e both) paired
     counted_back i cell op e (Is_followed row linked both shared put equal) =
         Is_followed row (subst (λ (x : Server). IsLinked setting x.log.applied cell row) e linked) both
         (ap (λ s. in_both s cell) (sym state_same) ∙ shared) put

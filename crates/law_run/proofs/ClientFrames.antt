@@ -6,7 +6,7 @@ use Rattle.law_run.proofs.Imports.{flat_map, freezes, has_content_where, in-appe
 use Rattle.law_run.proofs.Imports.{map, nat_cmp, open_of, open_write, owns_of, reacts, refl, said, seen, stamped, subst, sym, takes, true, true_false}
 use Rattle.law_run.proofs.Imports.{turned_asks, write_asked, ℕ}
 use Rattle.law_run.specs.WritesGoOn.{IsMindful, held_in, is_held, Seat}
-use Rattle.law_run.specs.MachineTies.{HasCounted, Is_told, Is_followed, Is_counted, Follow}
+use Rattle.law_run.specs.MachineTies.{HasCounted, Is_followed, Is_counted, Follow}
 use Rattle.law_run.proofs.ChosenDisks.{rows_in, disks_now}
 use Rattle.law_run.proofs.SnapshotsTaken.{no_freezes}
 use Rattle.law_run.proofs.ReadsLookWhereSent.{is_looked, no_look, one_client}
@@ -152,7 +152,6 @@ module _ (this : ClientStep) where
     -- the servers' part is as before, and so is what is chosen
     counted_back : (n : ℕ) (cell : Cell) (op : Pending) (chain : Chain) → HasCounted this.setting (after_turn reacted) n cell op chain
         → HasCounted this.setting this.w n cell op chain
-    counted_back n cell op chain (Is_told off paired) = Is_told off paired
     counted_back n cell op chain (Is_followed row linked both shared put same) = Is_followed row linked both shared put same
     counted_back n cell op chain (Is_counted put here) = Is_counted put here
 

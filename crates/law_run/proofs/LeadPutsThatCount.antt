@@ -1,14 +1,14 @@
 -- What a job leaves pending and finished at its server: the write of what is put where it counts, or is closed, has had its bytes.
 use Rattle.law_run.proofs.Imports.{◌+◌, ◌∙◌, ◌≡◌, ◌≤◌, ◌⊎◌, A_copy, Alone_has, An_asked, An_own, AreCopies, As_it_is, As_told, Bool, Both, Both_have}
-use Rattle.law_run.proofs.Imports.{By_operation, Cell, Chain, Did, Finished, Had_no_slot, IsFinishedFor, IsLinked, IsOpen, IsPaired, IsSame, IsSteady}
-use Rattle.law_run.proofs.Imports.{Is_apart, Is_declined, Is_new, Is_replicated, Is_retired, It_was, JobResult, LinkRow, NeverRetired, None, Nothing_new}
-use Rattle.law_run.proofs.Imports.{Of_the_retired, Only, Option, PairOk, PairState, Pending, Plain, Some, Stage, Store, StoresSo, Table, Taken, Was_paired}
-use Rattle.law_run.proofs.Imports.{Working, alone_not_both, answering, ap, at, authority, cell_cmp, cell_of, chain_apart, chain_in, chains_ahead}
+use Rattle.law_run.proofs.Imports.{By_operation, Cell, Chain, Did, Finished, Had_no_slot, IsFinishedFor, IsLinked, IsOpen, IsSame, IsSteady}
+use Rattle.law_run.proofs.Imports.{Is_declined, Is_new, Is_retired, It_was, JobResult, LinkRow, NeverRetired, None, Nothing_new}
+use Rattle.law_run.proofs.Imports.{Of_the_retired, Only, Option, PairOk, PairState, Pending, Plain, Some, Stage, Store, StoresSo, Table, Taken}
+use Rattle.law_run.proofs.Imports.{Working, ap, at, authority, cell_cmp, cell_of, chain_apart, chain_in, chains_ahead}
 use Rattle.law_run.proofs.Imports.{chosen_state, copied_apart, did_was, false, far, half, held_not_lead, in_both, inl, inr, is_alone_on, is_clients, is_lead}
 use Rattle.law_run.proofs.Imports.{is_second, is_the_one, kept, lead_links, led_by, live, nat_cmp, not_ahead, own_steady, pair_of, put, refl}
 use Rattle.law_run.proofs.Imports.{same_cell_or_apart, same_some, second_by, secondary_is_one, so_both, subst, sym, true, true_false, ℕ}
 use Rattle.law_run.specs.WritesGoOn.{is_held, Onward}
-use Rattle.law_run.specs.MachineTies.{HasCounted, Is_told, Is_followed, Is_counted}
+use Rattle.law_run.specs.MachineTies.{HasCounted, Is_followed, Is_counted}
 use Rattle.law_run.proofs.ServerFrames.{kept_finished, own_counted}
 use Rattle.law_run.proofs.GroundGives.{Followed}
 use Rattle.law_run.proofs.Machine.{held_onward}
@@ -123,15 +123,9 @@ module _ (this : ServerStep) (k : Plain) where
         ∙ ap (λ (r : LinkRow). chain_in (kept this.setting this.w r.secondary).chains op.cell) (same_some (sym f.1.linked ∙ linked))
 
     -- a new operation
-    fresh_held : (cell : Cell) (op : Pending) (chain : Chain) → op.stage.paired ≡ false → op.stage.put ≡ false → Counted cell op chain → Held op
-    fresh_held cell op chain unpaired unput (Is_told both e) clients = true_false e unpaired
-    fresh_held cell op chain unpaired unput (Is_counted e counts) clients = true_false e unput
-    fresh_held cell op chain unpaired unput (Is_followed row linked both shared e same) clients = true_false e unput
-
-    -- ### Alone
-
-    not_both : {B : Type 0} (cell : Cell) → is_alone_on here.state this.n cell ≡ true → in_both here.state cell ≡ true → B
-    not_both cell alone both = true_false both (alone_not_both here.state this.n cell alone)
+    fresh_held : (cell : Cell) (op : Pending) (chain : Chain) → op.stage.put ≡ false → Counted cell op chain → Held op
+    fresh_held cell op chain unput (Is_counted e counts) clients = true_false e unput
+    fresh_held cell op chain unput (Is_followed row linked both shared e same) clients = true_false e unput
 
     -- ### What a job stores
 
@@ -177,18 +171,11 @@ module _ (this : ServerStep) (k : Plain) where
 
     -- ### What is pending
 
-    told_held : (was : Pending) → at cell_cmp own.pairs.pending was.cell ≡ Some was → in_both here.state was.cell ≡ true
-        → IsPaired hears here own was.cell was → Held was
-    told_held was is both (Was_paired paired) = was_held was.cell was is (Is_told both paired)
-    told_held was is both (Is_replicated h there shared put) = paired_held was h is both put
-    told_held was is both (Is_apart there (inl alone)) = not_both was.cell alone both
-    told_held was is both (Is_apart there (inr off)) = absurd (never own was (As_it_is was is) off)
-
     -- an operation that was pending, in the stage that it is left in
     stage_held : (was op : Pending) (is : at cell_cmp own.pairs.pending was.cell ≡ Some was) (new : Table Cell Chain) (s : StoresSo hears here own new)
         → PutHeld s → (op.stage.put ≡ true → (was.stage.put ≡ true) ⊎ (new ≡ chains_ahead own was.cell was))
-        → (op.stage.paired ≡ true → IsPaired hears here own was.cell was) → Counted was.cell op (chain_in new was.cell) → Held was
-    stage_held was op is new s held how why = by
+        → Counted was.cell op (chain_in new was.cell) → Held was
+    stage_held was op is new s held how = by
       where
         chain : (chain_in new was.cell ≡ mine was.cell) ⊎ ((was.stage.put ≡ false)
             × (is_clients was.kind ≡ true → authority (chosen_state this.setting this.w) was.cell ≡ Some this.n → is_held k was.client ≡ true))
@@ -198,7 +185,6 @@ module _ (this : ServerStep) (k : Plain) where
         unmoved ahead stays = absurd (not_ahead own was.cell was (keyed was.cell was is) (ap (λ c. chain_in c was.cell) (sym ahead) ∙ stays))
 
         by : Counted was.cell op (chain_in new was.cell) → Held was
-        by (Is_told both paired) = told_held was is both (why paired)
         by (Is_counted put counts) = elim (how put) [
           | inl old ↦ was_held was.cell was is (Is_counted old counts)
           | inr ahead ↦ elim chain [ inl stays ↦ unmoved ahead stays | inr made ↦ λ clients still. made.1 clients counts ]
@@ -222,13 +208,13 @@ module _ (this : ServerStep) (k : Plain) where
     pub pending_held : (done : JobResult) → Did hears here own done → (s : StoresSo hears here own done.own.store.chains) → PutHeld s → (cell : Cell)
         (op : Pending) → at cell_cmp done.own.pairs.pending cell ≡ Some op → Counted cell op (chain_in done.own.store.chains cell) → Held op
     pending_held done did s held cell op is = elim (did_was hears here own keyed done did cell op is) [
-      | Is_new none number fresh alone ↦ fresh_held cell op (chain_in done.own.store.chains cell) alone fresh
-      | It_was was there same how why ↦ (
+      | Is_new none number fresh ↦ fresh_held cell op (chain_in done.own.store.chains cell) fresh
+      | It_was was there same how ↦ (
           let new = done.own.store.chains in
           subst (λ (q : Cell). at cell_cmp own.pairs.pending q ≡ Some was
-          → (op.stage.put ≡ true → (was.stage.put ≡ true) ⊎ (new ≡ chains_ahead own q was)) → (op.stage.paired ≡ true → IsPaired hears here own q was)
-          → Counted q op (chain_in new q) → Held op) ((this.ground.ready.rests.pending this.n).staged cell was there).own
-          (λ at_own how_put why_paired counted. same_held was op same (stage_held was op at_own new s held how_put why_paired counted)) there how why)
+          → (op.stage.put ≡ true → (was.stage.put ≡ true) ⊎ (new ≡ chains_ahead own q was)) → Counted q op (chain_in new q) → Held op)
+          ((this.ground.ready.rests.pending this.n).staged cell was there).own
+          (λ at_own how_put counted. same_held was op same (stage_held was op at_own new s held how_put counted)) there how)
     ]
 
     -- ### What is finished
@@ -242,10 +228,6 @@ module _ (this : ServerStep) (k : Plain) where
     full_unwritten e = cc
 
     -- an operation that is closed has had its bytes
-    closed_held : (op : Pending) → at cell_cmp own.pairs.pending op.cell ≡ Some op → in_both here.state op.cell ≡ true → op.stage ≡ answering → Held op
-    closed_held op is both stage =
-        was_held op.cell op is (Is_told both (ap (λ (s : Stage). s.paired) stage))
-
     closed_alone : (now : PairState) (op : Pending) → Taken own now op → is_alone_on here.state this.n op.cell ≡ true → op.stage.put ≡ true → Held op
     closed_alone _ _ (As_it_is op is) alone put = was_held op.cell op is (Is_counted put (op_alone (grounded this) this.n op.cell op runs is alone))
     closed_alone _ _ (As_told op reserved paired is) alone put =
@@ -256,7 +238,8 @@ module _ (this : ServerStep) (k : Plain) where
         → IsOpen (this.w.clients client) last.seq → is_held k client ≡ true
     finish_held t _ _ (Had_no_slot want new full gone) e = full_unwritten e
     finish_held t _ _ (By_operation _ _ (Is_declined op h is reserved put) write gone) e = full_unwritten e
-    finish_held t _ _ (By_operation _ _ (Both_have op is both stage) write gone) e = closed_held op is both stage (ap is_clients write)
+    finish_held t _ _ (By_operation _ _ (Both_have op h is both stage) write gone) e =
+        paired_held op h is both (ap (λ (s : Stage). s.put) stage) (ap is_clients write)
     finish_held t _ _ (By_operation _ _ (Alone_has now op taken alone stale put free) write gone) e =
         closed_alone now op taken alone put (ap is_clients write)
     finish_held t _ _ (By_operation _ _ (Is_retired now op taken off) write gone) e = absurd (never now op taken off)

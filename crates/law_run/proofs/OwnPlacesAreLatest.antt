@@ -1,15 +1,16 @@
 -- What a server that runs relies on at its own place of a cell's link: that no server that serves the link has been further, and what the
 -- other server has in memory of the place.
-use Rattle.law_run.proofs.Imports.{[], ◌&&◌, ◌++◌, ◌∙◌, ◌∷◌, ◌≡◌, ◌≤◌, ◌⊎◌, AliveIn, AreCopies, AreTwins, Body, Both, Cell, Command, Handled, HasProperTuples}
-use Rattle.law_run.proofs.Imports.{HasStage, IsHeldBy, IsLast, IsLinked, IsPrefix, IsStaged, Join, LinkRow, List, None, Only, Option, Pair, PairOk, PairState}
-use Rattle.law_run.proofs.Imports.{Pending, Setting, Some, Store, about, alive_on, alone_authority, alone_not_both, ap, arith, at, at-empty, authority}
-use Rattle.law_run.proofs.Imports.{blank_joins_in, both_last, both_row, both_since, by_bool, cell_cmp, chain_in, chosen_log, chosen_state, counted, far, half}
-use Rattle.law_run.proofs.Imports.{half_store, has_proposed, has_server, held_as_flag, holds_since, in_both, inl, inr, is_alone_on, is_clients, is_in}
-use Rattle.law_run.proofs.Imports.{is_lead, is_second, is_the_one, kept, lead, led_by, linked_alive, linked_between, live, live_stage, none_some, one_before}
-use Rattle.law_run.proofs.Imports.{one_row, op_there, own_below, own_plain, own_steady, owns_of, pair_at, pair_of, place_by, place_of_later, place_touched}
-use Rattle.law_run.proofs.Imports.{places_up, prefix_itself, prefix_more, prefix_on, primary_is_one, reached_here, ready_chosen, refl, retired_second}
-use Rattle.law_run.proofs.Imports.{rows_later, runs_now, second, second_by, secondary_is_one, server_state, serves, so_alone, so_both, stage_at, stage_facts}
-use Rattle.law_run.proofs.Imports.{subst, sym, top_last, true, true_false, ℕ}
+use Rattle.law_run.proofs.Imports.{[], ◌&&◌, ◌++◌, ◌∙◌, ◌∷◌, ◌≡◌, ◌≤◌, ◌⊎◌, AliveIn, AreCopies, AreTwins, Body, Both, Cell, Command, Handled}
+use Rattle.law_run.proofs.Imports.{HasProperTuples, HasStage, IsHeldBy, IsLast, IsLinked, IsPrefix, IsStaged, Join, LinkRow, List, None, Only, Option, Pair}
+use Rattle.law_run.proofs.Imports.{PairOk, PairState, Pending, Setting, Some, Store, about, alive_on, alone_authority, alone_not_both, ap, arith, at}
+use Rattle.law_run.proofs.Imports.{at-empty, authority, blank_joins_in, both_last, both_row, both_since, by_bool, cell_cmp, chain_in, chosen_log}
+use Rattle.law_run.proofs.Imports.{chosen_state, counted, far, half, half_store, has_proposed, has_server, heard_there, held_as_flag, holds_since, in_both}
+use Rattle.law_run.proofs.Imports.{inl, inr, is_alone_on, is_clients, is_in, is_lead, is_second, is_the_one, kept, lead, led_by, linked_alive}
+use Rattle.law_run.proofs.Imports.{linked_between, live, live_stage, none_some, one_before, one_row, op_there, own_below, own_plain, own_steady, owns_of}
+use Rattle.law_run.proofs.Imports.{pair_at, pair_of, place_by, place_of_later, place_touched, places_up, prefix_itself, prefix_more, prefix_on}
+use Rattle.law_run.proofs.Imports.{primary_is_one, reached_here, ready_chosen, refl, retired_second, rows_later, runs_now, second, second_by}
+use Rattle.law_run.proofs.Imports.{secondary_is_one, server_state, serves, so_alone, so_both, stage_at, stage_facts, subst, sym, top_last, true, true_false}
+use Rattle.law_run.proofs.Imports.{ℕ}
 use Rattle.law_copies.specs.Pair.{Known}
 use Rattle.law_run.proofs.FirstIsOneAhead.{unfollowed_equal}
 use Rattle.law_run.proofs.BlankedServeNothing.{more_joins}
@@ -207,12 +208,8 @@ module _ (g : Grounded) where
   pub heard_shared : (n : ℕ) (cell : Cell) (row : LinkRow) → IsSharing n cell row → (said : Body) → Handled w n said
       → (about said).cell ≡ Some cell
       → Known (pair_at (store_there n) ground.good.visits (place_of n row) cell row.primary row.secondary) said
-  heard_shared n cell row s said h of =
-      let own_alive = alive_here n cell s.alive in
-      subst (λ (b : Body). (about b).cell ≡ Some cell
-      → Known (pair_at (store_there n) ground.good.visits (place_of n row) cell row.primary row.secondary) b) h.is
-      ((ground.good.letters h.letter h.sent (own_prefix n) cell row (firm.servers n) (sym h.at) s.linked own_alive).both s.alive s.both
-      (sharing_last n cell row s)) of
+  heard_shared n cell row s =
+      heard_there setting ground.records w stores firm ground.good n s.runs s.seat cell row s.linked s.both s.has s.alive
 
   -- the second server
   pub record IsSharedSecond (n : ℕ) (cell : Cell) : Type 0 where

@@ -5,7 +5,7 @@ use Rattle.law_run.proofs.Imports.{chosen_log, chosen_state, in-append, in_both,
 use Rattle.law_run.proofs.Imports.{one_row, open_write, own_steady, owns_of, place_by, places_up, prefix_itself, put_apart, put_same, refl, rows_later}
 use Rattle.law_run.proofs.Imports.{same_or_apart, same_some, secondary_is_one, server_state, serves, so_both, state_in, subst, sym, true, ℕ}
 use Rattle.law_run.specs.WritesGoOn.{is_held, Onward}
-use Rattle.law_run.specs.MachineTies.{HasCounted, Is_told, Is_followed, Is_counted, Follow, Stores}
+use Rattle.law_run.specs.MachineTies.{HasCounted, Is_followed, Is_counted, Follow, Stores}
 use Rattle.law_run.proofs.StepsLeaveServers.{Leaves, As_it_was, In_place, Goes_further, Boots, serves_leaves}
 use Rattle.law_run.proofs.OwnPlacesAreLatest.{IsSharing, op_seat, op_shared, shared_before, op_alive}
 use Rattle.law_run.proofs.ServingStoresCount.{serving_same}
@@ -212,11 +212,6 @@ module _ (this : ServerStep) (k : Plain) where
         to_here row = subst (λ (x : Server). IsLinked this.setting x.log.applied cell row) server_now
 
         by : HasCounted this.setting v this.n cell op (chain_now this.n cell) → is_held k op.client ≡ true
-        by (Is_told both paired) =
-            let b = both_row (server_state this.setting v this.n) cell both in
-            let was = was_shared cell op b.row leaves is (to_here b.row b.is) b.both in
-            job.as_lead cell op runs is clients (Is_told (so_both
-            (server_state this.setting this.w this.n) cell was.old was.linked was.both) paired) still
         by (Is_followed row linked both shared put same) =
             let was = was_shared cell op row leaves is (to_here row linked) both in
             let as_before = second_same this.n cell row linked shared
@@ -259,8 +254,6 @@ module _ (this : ServerStep) (k : Plain) where
             ∙ ap (λ (s : Store). chain_in s.chains cell) (sym (counts_then i cell op runs is (owns_of this.w i).store))
 
         by : HasCounted this.setting v i cell op (chain_now i cell) → is_held k op.client ≡ true
-        by (Is_told both paired) =
-            was (Is_told (subst (λ (x : Server). in_both (state_in this.setting.servers x.log) cell ≡ true) same_server both) paired)
         by (Is_followed row linked both shared put same) =
             let there_now = there in
             let there : IsLinked this.setting (this.w.servers i).log.applied cell row =

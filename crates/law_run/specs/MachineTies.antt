@@ -162,10 +162,9 @@ pub record Stores (setting : Setting) (rows : List DiskRow) (w : World) (m : Pla
   pub mindful : IsMindful m
 
 -- why the write of an operation that is pending at this server, which has this chain, has had its bytes: while the server has the cell's
--- link in Both by its own state, it heard that the second one has put, or the second one has, and the link is in Both by what is chosen;
--- or the server has put itself, and its copy counts by what is chosen
+-- link in Both by its own state, the second one has put, and the link is in Both by what is chosen; or the server has put itself, and its copy
+-- counts by what is chosen
 pub data HasCounted (setting : Setting) (w : World) (n : ℕ) (cell : Cell) (op : Pending) (chain : Chain) : Type 0 where
-  Is_told : in_both (server_state setting w n) cell ≡ true → op.stage.paired ≡ true → HasCounted setting w n cell op chain
   Is_followed : (row : LinkRow) → IsLinked setting (w.servers n).log.applied cell row → row.state ≡ Both → in_both (chosen_state setting w) cell ≡ true
       → op.stage.put ≡ true → chain ≡ chain_in (kept setting w row.secondary).chains cell → HasCounted setting w n cell op chain
   Is_counted : op.stage.put ≡ true → authority (chosen_state setting w) cell ≡ Some n → HasCounted setting w n cell op chain

@@ -1,35 +1,35 @@
 -- What a lead does for a write is one of the kinds that the relation names.
 use Rattle.law_steps.proofs.Imports.{if◌then◌else◌, ◌&&◌, ◌+◌, ◌<◌, ◌==◌, ◌||◌, ◌∙◌, ◌≡◌, ◌≤◌, Again, Body, Bool, Cell, Copy, Finished, In, IsSteady}
-use Rattle.law_steps.proofs.Imports.{JobContext, JobResult, Moving, Newer, None, Older, Option, PairState, Pending, Post, Some, Stage, Wanted, acts}
-use Rattle.law_steps.proofs.Imports.{alone_action, ap, arith, at, both_action, both_true, by_bool, by_test, cell_of, cell_same, chain_in, copying_on}
-use Rattle.law_steps.proofs.Imports.{either_false, either_of, false, fill_operation, free_of, goes_on, goes_on_with, has_epoch, has_proposed, hears_fill}
-use Rattle.law_steps.proofs.Imports.{hears_pair_full, hears_replicated, hears_reserved, held, in_both, is_in, is_kept_back, is_lead, is_pending_for}
-use Rattle.law_steps.proofs.Imports.{is_replicating, is_reserving, is_some, is_under_way, is_writes_held, leads_link, live, nat_cmp, nat_lt, nat_tests}
-use Rattle.law_steps.proofs.Imports.{next_stage, none_of, not, not_true, on_fill, on_write, only, opened, opens, opens_fill, operation, pending_on, post_to}
-use Rattle.law_steps.proofs.Imports.{refl, said, same_numbers, says, second, standing, subst, sym, takes, takes_newer, true, true_false, was_true}
-use Rattle.law_steps.proofs.Imports.{with_opened, with_paired, with_pending, with_reserved, ℕ}
-use Rattle.law_steps.specs.Operations.{IsStaged, AtRest, Waiting, Putting, Copying, Answering, waiting, putting, copying, answering, done_to}
-use Rattle.law_steps.specs.DidLead.{Asks_for, Repeats, Is_full, Opens, Marks, Puts, Gives_up, Unmarks, Closes, Opens_alone, Marks_alone, Puts_alone}
+use Rattle.law_steps.proofs.Imports.{JobContext, JobResult, Moving, Newer, None, Older, OpKind, Option, PairState, Pending, Post, Some, Stage, Wanted, acts}
+use Rattle.law_steps.proofs.Imports.{alone_action, ap, arith, at, both_action, both_true, by_bool, by_test, cell_cmp_total, cell_of, cell_same, chain_in}
+use Rattle.law_steps.proofs.Imports.{copying_on, either_false, either_of, ends, false, fill_operation, free_of, goes_on, goes_on_with, has_epoch}
+use Rattle.law_steps.proofs.Imports.{has_proposed, hears_fill, hears_pair_full, hears_replicated, hears_reserved, held, in_both, is_in, is_kept_back}
+use Rattle.law_steps.proofs.Imports.{is_lead, is_pending_for, is_replicating, is_reserving, is_some, is_under_way, is_writes_held, leads_link, live}
+use Rattle.law_steps.proofs.Imports.{nat_cmp, nat_lt, nat_tests, next_stage, none_of, not, not_true, on_fill, on_write, only, opened, opens, opens_fill}
+use Rattle.law_steps.proofs.Imports.{operation, pending_on, post_to, refl, said, same_numbers, says, second, standing, subst, sym, takes, takes_newer, true}
+use Rattle.law_steps.proofs.Imports.{true_false, was_true, with_opened, with_paired, with_pending, with_reserved, without_pending, Written, ℕ}
+use Rattle.law_steps.specs.Operations.{IsStaged, AtRest, Waiting, Putting, Copying, waiting, putting, copying, done_to}
+use Rattle.law_steps.specs.DidLead.{Asks_for, Repeats, Is_full, Opens, Marks, Puts, Gives_up, Closes, Opens_alone, Marks_alone, Puts_alone}
 use Rattle.law_steps.specs.DidLead.{Unmarks_alone, Closes_alone, Opens_fill, Opens_fill_alone, Has_fill, Has_no_room, Goes_on_retired, Asks, A_slot, A_copy}
 use Rattle.law_steps.specs.DidLead.{IsNew, IsNewFill, Taken, As_it_is, As_told, IsIdleFill}
 use Rattle.law_steps.specs.Did.{Did, Ignores, Refuses, For_a_write, By_copy_for_a_write, A_write, By_lead}
 use Rattle.law_steps.proofs.BusyLetters.{busy_not_held, busy_seq, held_not_busy, held_seq}
+use Rattle.law_steps.proofs.TablesOfPuts.{without_put}
 use Rattle.law_steps.proofs.WhoLeads.{lead_links, link_alone}
 use Rattle.petal_msg.specs.declared.body.Body.TheVariants as body
 use Rattle.petal_msg.specs.declared.letter.Actor.TheVariants as actor
 use Rattle.petal_msg.specs.declared.operation.Action.TheVariants as action
+use Rattle.petal_msg.specs.declared.operation.OpKind.TheVariants as kind
 
 is_waiting : (stage : Stage) → AtRest stage → stage.reserved ≡ false → stage ≡ waiting
 is_waiting stage (Waiting e) f = e
 is_waiting stage (Putting e) f = true_false (ap (λ (s : Stage). s.reserved) e) f
 is_waiting stage (Copying e) f = true_false (ap (λ (s : Stage). s.reserved) e) f
-is_waiting stage (Answering e) f = true_false (ap (λ (s : Stage). s.reserved) e) f
 
-pub is_copying : (stage : Stage) → AtRest stage → stage.put ≡ true → stage.paired ≡ false → stage ≡ copying
-is_copying stage (Waiting e) f g = true_false f (ap (λ (s : Stage). s.put) e)
-is_copying stage (Putting e) f g = true_false f (ap (λ (s : Stage). s.put) e)
-is_copying stage (Copying e) f g = e
-is_copying stage (Answering e) f g = true_false (ap (λ (s : Stage). s.paired) e) g
+pub is_copying : (stage : Stage) → AtRest stage → stage.put ≡ true → stage ≡ copying
+is_copying stage (Waiting e) f = true_false f (ap (λ (s : Stage). s.put) e)
+is_copying stage (Putting e) f = true_false f (ap (λ (s : Stage). s.put) e)
+is_copying stage (Copying e) f = e
 
 pub no_free : (free : ℕ) → nat_lt 0 free ≡ false → free ≡ 0
 no_free free e = grind (arith, nat_tests)
@@ -105,7 +105,6 @@ module _ (heard : Body → Type 0) (here : JobContext) (own : PairState) (steady
         | Putting stage ↦ subst (λ a. D (acts here own op a)) (sym (both_next op putting (s.leads on) both stage)) (By_lead _ (Puts op is both stage))
         | Copying stage ↦ subst (λ a. D (acts here own op a)) (sym (both_next op copying (s.leads on) both stage))
             (By_lead _ (Asks_for _ (asks_copy op is stage)))
-        | Answering stage ↦ subst (λ a. D (acts here own op a)) (sym (both_next op answering (s.leads on) both stage)) (By_lead _ (Closes op is both stage))
       ])
       (λ apart. did_alone own op (As_it_is op is) (s.leads on) apart))
       (λ off. By_lead _ (Goes_on_retired own op (As_it_is op is) off))
@@ -233,6 +232,19 @@ module _ (heard : Body → Type 0) (here : JobContext) (own : PairState) (steady
       (not_true _ reserving.1)))
       (λ t. Ignores)
 
+  -- an operation that ends is gone, with all that letters told of it
+  ended_told : (now : PairState) (op : Pending) (of : OpKind) → ends here now op of Written ≡ ends here now (with_paired op) of Written
+  ended_told now op kind.Write = refl
+  ended_told now op kind.Fill = refl
+  ended_told now op kind.Copy = refl
+
+  answered : (op : Pending) → ends here (without_pending own op.cell) op op.kind Written
+      ≡ acts here (with_pending own (with_paired op)) (with_paired op) action.Answer
+  answered op =
+      ap (λ t. ends here (record own { pairs = record own.pairs { pending = t } }) op op.kind Written)
+      (sym (without_put cell_cmp_total own.pairs.pending op.cell (with_paired op)))
+      ∙ ended_told (without_pending (with_pending own (with_paired op)) op.cell) op op.kind
+
   pub did_replicated : (number : ℕ) (cell : Cell) (o : Option Pending) → heard (body.Replicated number cell) → pending_on own cell ≡ o
       → D (hears_replicated here own number o)
   unfolding goes_on
@@ -245,11 +257,11 @@ module _ (heard : Body → Type 0) (here : JobContext) (own : PairState) (steady
       let s = staged op.cell op is in
       goes_on_told op (record op.stage { paired = true }) (As_told op op.stage.reserved true is) s.leads
       (λ on both.
-      let stage = is_copying op.stage (s.stage on both) more.1 (not_true _ tests.1) in
+      let stage = is_copying op.stage (s.stage on both) more.1 in
       subst (λ a. D (acts here (with_pending own (with_paired op)) (with_paired op) a))
       (sym (both_next (with_paired op) (with_paired (record op { stage = copying })).stage (s.leads on) both
       (ap (λ (x : Stage). (record x { paired = true })) stage)))
-      (By_lead _ (Unmarks op (heard_of number op body.Replicated cell h (staged cell op e).own more.0) is both stage))))
+      (subst D (answered op) (By_lead _ (Closes op (heard_of number op body.Replicated cell h (staged cell op e).own more.0) is both stage)))))
       (λ t. Ignores)
 
   -- ### Entries that move

@@ -1,11 +1,11 @@
--- After each job the pending operations rest: in one of the four stages, where the link is in Both.
+-- After each job the pending operations rest: in one of the three stages, where the link is in Both.
 use Rattle.law_steps.proofs.Imports.{◌+◌, ◌∙◌, ◌≡◌, ◌≢◌, ◌⊎◌, Action, Body, Bool, Busy, Cell, Full, JobContext, JobResult, PairState, Pairs, Pending, Some}
 use Rattle.law_steps.proofs.Imports.{Stage, Stale, State, Table, Written, acts, alone_not_both, ap, at, by_test, cell_apart, cell_cmp, cell_cmp_total}
 use Rattle.law_steps.proofs.Imports.{cell_gone, cell_gone_apart, cell_of, cell_same, chain_in, false, fill_operation, gives_back, has_proposed, in_both, inl}
 use Rattle.law_steps.proofs.Imports.{inr, is_alone_on, is_lead, live, next_stage, none_some, operation, put, refl, same_or_apart, same_some, subst, sym, true}
 use Rattle.law_steps.proofs.Imports.{true_false, version_of, with_mark_at, with_paired, with_reserved, without, without_pending, ℕ}
-use Rattle.law_steps.specs.Operations.{A_fill, A_write, IsOpenedFor, IsStaged, AtRest, Waiting, Putting, Copying, Answering}
-use Rattle.law_steps.specs.DidLead.{DidLead, Opens, Marks, Puts, Gives_up, Unmarks, Closes, Opens_alone, Marks_alone, Puts_alone, Unmarks_alone, Closes_alone}
+use Rattle.law_steps.specs.Operations.{A_fill, A_write, IsOpenedFor, IsStaged, AtRest, Waiting, Putting, Copying}
+use Rattle.law_steps.specs.DidLead.{DidLead, Opens, Marks, Puts, Gives_up, Closes, Opens_alone, Marks_alone, Puts_alone, Unmarks_alone, Closes_alone}
 use Rattle.law_steps.specs.DidLead.{Opens_fill, Opens_fill_alone, Goes_on_retired, Taken, As_it_is}
 use Rattle.law_steps.specs.Did.{Did, Ignores, Refuses, By_read, By_lead, By_second, By_holder, By_other, By_filler, By_sweep}
 use Rattle.law_steps.specs.Ready.{IsReady, IsRising}
@@ -212,10 +212,7 @@ module _ (heard : Body → Type 0) (here : JobContext) (own : PairState)
   lead_ready _ (Puts op is both stage) =
       let two : Pending = record op { version = version_of (chain_in own.store.chains op.cell) + 1; stage = record op.stage { put = true } } in
       put_ready op two (restaged op two is refl refl refl refl refl (Copying (ap (λ (x : Stage). (record x { put = true })) stage)))
-  lead_ready _ (Unmarks op h is both stage) =
-      put_twice_ready op (with_paired op) _ (restaged op (with_mark_at (with_paired op) Busy false) is refl refl refl refl refl
-      (Answering (ap (λ (x : Stage). (record x { paired = true; busy = false })) stage)))
-  lead_ready _ (Closes op is both stage) = subst R (sym (of_ending here (without_pending own op.cell) op op.kind Written).pending)
+  lead_ready _ (Closes op h is both stage) = subst R (sym (of_ending here (without_pending own op.cell) op op.kind Written).pending)
       (taken_gone own op (As_it_is op is))
   lead_ready _ (Opens_alone want new alone) =
       let op = operation here own.pairs.next want in

@@ -5,7 +5,7 @@ use Rattle.law_steps.proofs.Imports.{acts, ap, at, by_test, cell_cmp, cell_link,
 use Rattle.law_steps.proofs.Imports.{no_progress, option_map_or, progress_on, refl, subject_of, subst, sym, tells, unwrap_or, without_pending, ℕ}
 use Rattle.law_steps.specs.Ready.{IsRising}
 use Rattle.law_steps.specs.DidRead.{DidRead, Not_here, Shows}
-use Rattle.law_steps.specs.DidLead.{DidLead, Repeats, Marks, Puts, Gives_up, Unmarks, Closes, Opens_alone, Marks_alone, Puts_alone, Unmarks_alone}
+use Rattle.law_steps.specs.DidLead.{DidLead, Repeats, Marks, Puts, Gives_up, Closes, Opens_alone, Marks_alone, Puts_alone, Unmarks_alone}
 use Rattle.law_steps.specs.DidLead.{Closes_alone, Opens_fill_alone, Goes_on_retired, Taken}
 use Rattle.law_steps.specs.DidSecond.{DidSecond, Sets_apart, Promises, Declines, Follows}
 use Rattle.law_steps.specs.DidFiller.{DidFiller, Is_filled, Is_out_of_slots}
@@ -149,8 +149,7 @@ module _ (heard : Body → Type 0) (here : JobContext) (own : PairState) where
       frame_on own (gives_back (without_pending own op.cell)) _ refl refl (ends_frame here (gives_back (without_pending own op.cell)) op op.kind Full)
   of_lead _ (Marks op h is both stage) = record { last = refl; copies = refl; no_letters = λ letter i. elim i [ inl e ↦ cc | inr none ↦ none ] }
   of_lead _ (Puts op is both stage) = record { last = refl; copies = refl; no_letters = λ letter i. elim i [ inl e ↦ cc | inr none ↦ none ] }
-  of_lead _ (Unmarks op h is both stage) = record { last = refl; copies = refl; no_letters = λ letter i. elim i [ inl e ↦ cc | inr none ↦ none ] }
-  of_lead _ (Closes op is both stage) =
+  of_lead _ (Closes op h is both stage) =
       frame_on own (without_pending own op.cell) _ refl refl (ends_frame here (without_pending own op.cell) op op.kind Written)
   of_lead _ (Opens_alone want new alone) = record { last = refl; copies = refl; no_letters = λ letter i. elim i [ inl e ↦ cc | inr none ↦ none ] }
   of_lead _ (Marks_alone now op taken alone fresh) = taken_frame now op taken (action.Mark Stale)

@@ -1,6 +1,6 @@
 -- Rows of a table that was made by puts: each row is what stands at its key.
 use Rattle.law_steps.proofs.Imports.{[], ◌∙◌, ◌∷◌, ◌≡◌, ◌⊎◌, Bool, Equal, Greater, In, IsTotalOrder, Less, Ordering, Some, Table, ap, at, cond, false, filter}
-use Rattle.law_steps.proofs.Imports.{in_filter, inl, inr, insert_entry, is_at, is_eq, lookup, match_ordering, ordering_reverse, put, refl, subst, sym}
+use Rattle.law_steps.proofs.Imports.{in_filter, inl, inr, insert_entry, is_at, is_eq, lookup, match_ordering, not, ordering_reverse, put, refl, subst, sym}
 use Rattle.law_steps.proofs.Imports.{tied_itself, true, without}
 use Rattle.law_steps.specs.Ready.{IsRising}
 
@@ -79,6 +79,30 @@ put_rises o t k x h = rising_put o t k x h
 pub without_rises : {K X : Type 0} (R : K → K → Ordering) (t : Table K X) (k : K) → IsRising R t → IsRising R (without R t k)
 unfolding without
 without_rises R t k h = rising_filter R _ t h
+
+-- what was put at a key goes with what stood there
+insert_gone : {K X : Type 0} {R : K → K → Ordering} → IsTotalOrder R → (t : Table K X) (k : K) (x : X)
+    → filter (λ row. not (is_at (R k) row.0)) (insert_entry R t k x) ≡ filter (λ row. not (is_at (R k) row.0)) t
+insert_gone {R = R} o [] k x = ap (λ r. cond (not (is_eq r)) ((k, x) ∷ []) []) (tied_itself o k)
+insert_gone {K} {X} {R} o (e ∷ es) k x =
+    elim (R k e.0) as (λ r. R k e.0 ≡ r → left (match_ordering r ((k, x) ∷ e ∷ es) ((e.0, x) ∷ es) (e ∷ insert_entry R es k x))
+    ≡ cond (not (is_eq r)) (e ∷ left es) (left es)) [
+      | Less ↦ λ is. at_key (k, x) (e ∷ es) (tied_itself o k) ∙ ap (λ r. cond (not (is_eq r)) (e ∷ left es) (left es)) is
+      | Equal ↦ λ is. at_key (e.0, x) es is
+      | Greater ↦ λ is.
+          let more = insert_entry R es k x in
+          ap (λ r. cond (not (is_eq r)) (e ∷ left more) (left more)) is ∙ ap (λ rows. e ∷ rows) (insert_gone o es k x)
+    ] refl
+  where
+    left : Table K X → Table K X
+    left t = filter (λ row. not (is_at (R k) row.0)) t
+
+    at_key : (row : K × X) (rows : Table K X) → R k row.0 ≡ Equal → left (row ∷ rows) ≡ left rows
+    at_key row rows is = ap (λ r. cond (not (is_eq r)) (row ∷ left rows) (left rows)) is
+
+pub without_put : {K X : Type 0} {R : K → K → Ordering} → IsTotalOrder R → (t : Table K X) (k : K) (x : X) → without R (put R t k x) k ≡ without R t k
+unfolding put without
+without_put o t k x = insert_gone o t k x
 
 -- a row is what stands at its key
 pub at_row : {K X : Type 0} {R : K → K → Ordering} → IsTotalOrder R → (t : Table K X) (row : K × X) → IsRising R t → In row t → at R t row.0 ≡ Some row.1

@@ -6,7 +6,7 @@ use Rattle.law_steps.proofs.Imports.{flat_map, has_proposed, in-append, in_both,
 use Rattle.law_steps.proofs.Imports.{nat_lt, next_copy, next_stage, not, not_true, only, option_map_or, other_in, page_asked, page_for, page_posts}
 use Rattle.law_steps.proofs.Imports.{pending_on, post_to, refl, second, sends_entry, sent_again, slice_get, subject_of, subst, sym, tick_posts, true}
 use Rattle.law_steps.proofs.Imports.{true_false, voter_of, was_true, ℕ}
-use Rattle.law_steps.specs.Operations.{IsStaged, Waiting, Putting, Copying, Answering, waiting, putting, copying, answering}
+use Rattle.law_steps.specs.Operations.{IsStaged, Waiting, Putting, Copying, waiting, putting, copying}
 use Rattle.law_steps.specs.DidLead.{Asks, A_trim, A_copied_entry, A_page, An_entry_to_move, Of_the_log, other_on}
 use Rattle.law_steps.specs.DidStep.{IsSeatedOrMute, is_between}
 use Rattle.law_steps.specs.Ready.{IsRising}
@@ -65,7 +65,6 @@ module _ (it : KnownServer) where
         | Waiting stage ↦ asks_slot hears_server here own steady staged op is stage post (sent both waiting stage (s.leads on))
         | Copying stage ↦ asks_copy hears_server here own steady staged op is stage post (sent both copying stage (s.leads on))
         | Putting stage ↦ absurd (sent both putting stage (s.leads on))
-        | Answering stage ↦ absurd (sent both answering stage (s.leads on))
       ])
       (λ apart. absurd (alone_sends op post
       (subst (λ a. In post (awaited here own op a)) (alone_next hears_server here own steady staged op (s.leads on) apart) h))))

@@ -5,11 +5,11 @@ use Rattle.law_steps.specs.Imports.{Body, Busy, Cell, Copying, Finished, In, Job
 use Rattle.law_steps.specs.Imports.{Stored, Wanted, acts, at, cell_link, cell_of, chain_in, copying_on, ended, ends, epochs_of, fill_operation, finishes}
 use Rattle.law_steps.specs.Imports.{free_of, gives_back, has_proposed, held, in_both, is_alone_on, is_in, is_lead, is_logged, is_writes_held, key_at, lead}
 use Rattle.law_steps.specs.Imports.{live, marks, next_fill, next_stage, old_lead, opened, operation, other_in, page_wanted, pending_on, progress_on, puts}
-use Rattle.law_steps.specs.Imports.{region_to_move, says, says_to, second, subject_of, target, unmarks, with_opened, with_paired, with_pending, with_reserved}
+use Rattle.law_steps.specs.Imports.{region_to_move, says, says_to, second, subject_of, target, unmarks, with_opened, with_pending, with_reserved}
 use Rattle.law_steps.specs.Imports.{without_pending}
 use Rattle.std.specs.Prelude.{[], ◌<◌, ◌≡◌, ◌≤◌, Bool, List, None, Option, Some, false, is_some, option_and_then, slice_get, true, ℕ}
 use Rattle.std.specs.Ordering.{nat_cmp}
-use Rattle.law_steps.specs.Operations.{waiting, putting, copying, answering, done_to}
+use Rattle.law_steps.specs.Operations.{waiting, putting, copying, done_to}
 use Rattle.petal_msg.specs.declared.body.Body.TheVariants as body
 use Rattle.petal_msg.specs.declared.letter.Actor.TheVariants as actor
 use Rattle.petal_msg.specs.declared.operation.Ending.TheVariants as ending
@@ -114,10 +114,8 @@ pub data DidLead (heard : Body → Type 0) (here : JobContext) (own : PairState)
       → DidLead heard here own (marks (with_pending own (with_reserved op)) (with_reserved op) Busy)
   Puts : (op : Pending) → pending_on own op.cell ≡ Some op → in_both here.state op.cell ≡ true → op.stage ≡ putting
       → DidLead heard here own (puts own op)
-  Unmarks : (op : Pending) → heard (body.Replicated op.op op.cell) → pending_on own op.cell ≡ Some op → in_both here.state op.cell ≡ true
+  Closes : (op : Pending) → heard (body.Replicated op.op op.cell) → pending_on own op.cell ≡ Some op → in_both here.state op.cell ≡ true
       → op.stage ≡ copying
-      → DidLead heard here own (unmarks (with_pending own (with_paired op)) (with_paired op) Busy)
-  Closes : (op : Pending) → pending_on own op.cell ≡ Some op → in_both here.state op.cell ≡ true → op.stage ≡ answering
       → DidLead heard here own (ends here (without_pending own op.cell) op op.kind ending.Written)
   Opens_alone : (want : Wanted) → IsNew heard here own want → is_alone_on here.state here.me want.cell ≡ true
       → DidLead heard here own (marks (opened here own want) (operation here own.pairs.next want) Stale)

@@ -5,7 +5,7 @@ use Rattle.petal_msg.specs.declared.operation.FollowProgress.TheVariants as foll
 use Rattle.petal_msg.specs.declared.operation.OpKind.TheVariants as kind
 
 -- the stages that an operation rests in while its link is in Both: it waits for its slot at the second server; its block is marked, and it is to put;
--- it has put, and waits for the second server's copy; the mark is gone, and it is to answer
+-- it has put, and waits for the second server's copy
 abbrev pub waiting : Stage
 waiting = first_stage
 
@@ -15,14 +15,10 @@ putting = record first_stage { reserved = true; busy = true }
 abbrev pub copying : Stage
 copying = record first_stage { reserved = true; busy = true; put = true }
 
-abbrev pub answering : Stage
-answering = record first_stage { reserved = true; put = true; paired = true }
-
 pub data AtRest (stage : Stage) : Type 0 where
   Waiting : stage ≡ waiting → AtRest stage
   Putting : stage ≡ putting → AtRest stage
   Copying : stage ≡ copying → AtRest stage
-  Answering : stage ≡ answering → AtRest stage
 
 -- what an operation was opened for: a client's write, or an entry that moves, which is of no client
 pub data IsOpenedFor (op : Pending) : Type 0 where

@@ -32,11 +32,11 @@ pub fn what_is_chosen_is_steady()
 {}
 
 /// After every legal history, what waits in a queue was sent to its server, and a pending operation is of a client's write or an entry that
-/// moves. While its cell is live, by the server's own state, the server leads the cell's link, and the operation rests in one of four stages
+/// moves. While its cell is live, by the server's own state, the server leads the cell's link, and the operation rests in one of three stages
 /// where the link is in Both; and the server has started no ballot for the Caught of the link. While the server runs this is so by what is
 /// chosen, too. A copy that is under way is of a live cell of a link that the server holds alone by its own state, and whose pages are
 /// done; and the last copy to a server is of a link that the other one holds, or of a retired cell.
-pub fn operations_rest_in_four_stages()
+pub fn operations_rest_in_three_stages()
     ensures chosen { (script : Script) (records : List Record) → IsSound script
         → AreSteps script records → (n : ℕ) → ((world_after (setting_of script) (start (setting_of script)) records).servers n).life.running ≡ true
         → IsReady (chosen_state (setting_of script) (world_after (setting_of script) (start (setting_of script)) records)) n

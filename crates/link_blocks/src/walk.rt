@@ -79,7 +79,7 @@ fn is_idle(here: &JobContext, side: &PairMemory, row: &LinkRow, block: BlockNo) 
     is_kept(here, row, block) && !side.is_under_way(cell_at(row, block))
 }
 
-/// The least live block of the link that is marked here and on which nothing is under way: a mark that an earlier life left.
+/// The least live block of the link that is marked here and on which nothing is under way: a mark that a write or an earlier life left.
 pub fn idle_mark<D: Disk>(
     here: &JobContext,
     side: &PairMemory,

@@ -115,9 +115,13 @@ make_moves = Calls 0 1 ∷ passes 0 0 ++ ballot_moves 1 ++ client_ticks 0 ∷ pa
 -- the write goes by its lead, server 1, and its second server, 0, to its answer
 abbrev pub write_moves : List Move
 write_moves =
-    Calls 0 2 ∷ passes 15 1 ++ passes 16 0 ++ passes 17 1 ++ Works 1 ∷ Works 1 ∷ passes 18 0 ++ passes 19 1 ++ Works 1 ∷ Hands 20 ∷ []
+    Calls 0 2 ∷ passes 15 1 ++ passes 16 0 ++ passes 17 1 ++ Works 1 ∷ Works 1 ∷ passes 18 0 ++ passes 19 1 ++ Hands 20 ∷ []
 
--- the same up to where its lead has put, and its second server was not told yet
+-- at a tick the lead finds the mark idle, and takes it away
+abbrev pub tidy_moves : List Move
+tidy_moves = server_ticks 1 ∷ Works 1 ∷ []
+
+-- the write up to where its lead has put, and its second server was not told yet
 abbrev pub put_moves : List Move
 put_moves = Calls 0 2 ∷ passes 15 1 ++ passes 16 0 ++ passes 17 1 ++ Works 1 ∷ []
 
@@ -219,7 +223,7 @@ crowd_after moves = plays crowded crowd moves
 -- the first write fills the slots of servers 0 and 1
 abbrev pub fill_moves : List Move
 fill_moves =
-    Calls 0 2 ∷ passes 0 0 ++ passes 1 1 ++ passes 2 0 ++ Works 0 ∷ Works 0 ∷ passes 3 1 ++ passes 4 0 ++ Works 0 ∷ Hands 5 ∷ []
+    Calls 0 2 ∷ passes 0 0 ++ passes 1 1 ++ passes 2 0 ++ Works 0 ∷ Works 0 ∷ passes 3 1 ++ passes 4 0 ++ Hands 5 ∷ []
 
 -- the second write is led by server 2, which sets its slot apart; server 0 has none
 abbrev pub declined_moves : List Move

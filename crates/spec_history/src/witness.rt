@@ -11,7 +11,7 @@ ghost use Rattle.spec_history.specs.Contents.{content_at};
 ghost use Rattle.spec_history.specs.Examples.{after_clash_moves, again_moves, cell_at, chain_at, clash_moves, crowd_after, crowd_disk, crowded};
 ghost use Rattle.spec_history.specs.Examples.{declined_moves, early, early_moves, fill_moves, forgetful, freed_moves, late_moves, make_moves, marks_at};
 ghost use Rattle.spec_history.specs.Examples.{mindful, one_entry, pair_disk, put_moves, read_moves, refused_moves, rival_disk, rivals, sevens, stray_moves};
-ghost use Rattle.spec_history.specs.Examples.{strays, events_of_moves, twin_moves, twins, vol, world_of, write_moves};
+ghost use Rattle.spec_history.specs.Examples.{strays, events_of_moves, tidy_moves, twin_moves, twins, vol, world_of, write_moves};
 
 /// A client's disk is chosen by two servers and applied by both, and its client hears of it.
 pub fn a_disk_is_made()
@@ -32,13 +32,14 @@ pub fn a_write_is_read_back()
 {}
 
 /// While the write's lead has put and its second server was not told yet, the block is marked busy at the lead. After the
-/// write it is not. The lead's device then has three records: the mark, the put, and that the mark is gone.
+/// write it still is, with two records on the lead's device, the mark and the put. At a tick of the lead the mark goes.
 pub fn a_write_marks_its_block()
     ensures primary { chain_at (world_of sevens (make_moves ++ put_moves)) 1 5 ≡ one_entry 1 (fill_block 7) }
     ensures secondary { chain_at (world_of sevens (make_moves ++ put_moves)) 0 5 ≡ [] }
     ensures marked { marks_at (world_of sevens (make_moves ++ put_moves)) 1 ≡ record { kind = Busy; cell = cell_at 5 } ∷ [] }
-    ensures unmarked { marks_at (world_of sevens (make_moves ++ write_moves)) 1 ≡ [] }
-    ensures records { ((world_of sevens (make_moves ++ write_moves)).servers 1).own.store.records ≡ 3 }
+    ensures still_marked { marks_at (world_of sevens (make_moves ++ write_moves)) 1 ≡ record { kind = Busy; cell = cell_at 5 } ∷ [] }
+    ensures records { ((world_of sevens (make_moves ++ write_moves)).servers 1).own.store.records ≡ 2 }
+    ensures unmarked { marks_at (world_of sevens (make_moves ++ write_moves ++ tidy_moves)) 1 ≡ [] }
 {}
 
 /// A second disk of the same name is answered by its own entry of the log.

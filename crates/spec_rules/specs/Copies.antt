@@ -157,7 +157,7 @@ abbrev pub catches_up : JobContext → PairState → LinkRow → Option ℕ → 
 catches_up here own row None = silent own
 catches_up here own row (Some other) = goes_for here own row other (next_copy here.state row own)
 
--- in Both, the least block that is marked here without an operation: a mark that an earlier life left
+-- in Both, the least block that is marked here without an operation: a mark that a write or an earlier life left
 abbrev pub idle_mark : State → LinkRow → PairState → Option ℕ
 idle_mark state row own = least (filter (λ block. not (is_under_way own (cell_at row block))) (marked_blocks state row own))
 

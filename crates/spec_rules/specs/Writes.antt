@@ -35,15 +35,14 @@ use Rattle.spec_rules.specs.declared.job.Job.TheVariants as job
 
 -- ### The table of stages
 
--- what the operation does next in Both: reserve a slot at the second server, mark the block busy, put, replicate, take the
--- mark away, answer
+-- what the operation does next in Both: reserve a slot at the second server, mark the block busy, put, replicate, answer. The
+-- mark stays until a tick of the lead finds it idle
 abbrev pub both_action : Stage → Action
 both_action stage =
     if not stage.reserved then action.Reserve
     else if not (stage.busy || stage.put) then action.Mark mark.Busy
     else if not stage.put then action.Put
     else if not stage.paired then action.Replicate
-    else if stage.busy then action.Unmark mark.Busy
     else action.Answer
 
 -- what it does next at a holder that is alone: mark the block stale, put if it has not, take the busy mark away, answer

@@ -12,14 +12,15 @@ const ONE_WRITE: &str =
 
 const WRITES: &[Case] = &[
     Case {
-        shows: "a reply that is lost is asked for again; the mark at the lead is gone when the write ends",
+        shows: "a reply that is lost is asked for again; the mark at the lead stays when the write ends, until a tick",
         script: ONE_WRITE,
         steps: "a calls 2; agree; a calls 3; told begin; write a>1; 1 works; reserve 1>0; 0 works;
             drop reserved 0>1; not 1 works; 1 ticks; reserve 1>0; 0 works; reserved 0>1; 1 works; 1 works;
             not sent 1 replicate 1>0; 1 works; not 1 works; replicate 1>0; told begin; 1 has 0/5 fill 7; 1 marks 0 5; 0 has 0/5 fill 0;
             0 works; told begin take; 0 has 0/5 fill 7; 0 marks 0 none;
-            replicated 0>1; 1 works; not sent 1 written 1>a; 1 works; line 3 open; written 1>a; line 3 ok; told begin take end;
-            1 has 0/5 fill 7; not 1 has 0/5 fill 8; 1 marks 0 none; not 1 marks 0 5; wait; b calls 5; read b>0; 0 works; data 0>b; line 5 fill 7; told begin take end look",
+            replicated 0>1; not sent 1 written 1>a; 1 works; not 1 works; line 3 open; written 1>a; line 3 ok; told begin take end;
+            1 has 0/5 fill 7; not 1 has 0/5 fill 8; 1 marks 0 5; not 1 marks 0 none; 1 ticks; 1 works off; 1 marks 0 none;
+            wait; b calls 5; read b>0; 0 works; data 0>b; line 5 fill 7; told begin take end look",
     },
     Case {
         shows: "a copy that comes again is put once",

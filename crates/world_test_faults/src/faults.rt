@@ -53,7 +53,7 @@ const FAILS: Calls = Calls {
     before: "",
     arms: "0 arms data any",
     first: 1,
-    last: 16,
+    last: 12,
     how: "",
     told: "failed 1; stopped 0",
 };
@@ -61,8 +61,8 @@ const FAILS: Calls = Calls {
 /// There are no more calls than these: where the next one is to fail, none does.
 const FAILS_NO_MORE: Calls = Calls {
     shows: "no call of the device is left to fail",
-    first: 17,
-    last: 17,
+    first: 13,
+    last: 13,
     told: "failed 0; stopped 0",
     ..FAILS
 };
@@ -122,8 +122,8 @@ const STOPS: Calls = Calls {
 /// There are no more calls than these.
 const STOPS_NO_MORE: Calls = Calls {
     shows: "no call of the device is left to stop at",
-    first: 17,
-    last: 17,
+    first: 13,
+    last: 13,
     told: "stopped 0; failed 0",
     ..STOPS
 };
@@ -179,12 +179,12 @@ fn each_sync(alloc: Global, arms: &str, commits: &[u32]) -> Result<(), Fail> {
     Ok(())
 }
 
-/// There are no more syncs of the lead's data device than seven.
+/// There are no more syncs of the lead's data device than five.
 const SYNCS_NO_MORE: Calls = Calls {
     shows: "no sync of the device is left to fail late",
     arms: "0 arms data sync",
-    first: 8,
-    last: 8,
+    first: 6,
+    last: 6,
     how: " late",
     told: "failed 0; stopped 0; committed 0",
     ..FAILS
@@ -197,10 +197,10 @@ const SECOND_SYNCS_NO_MORE: Calls = Calls {
     ..SYNCS_NO_MORE
 };
 
-// The block is marked, put, and its mark is taken away: a record after its gate, and the gate; before a put the content.
+// The block is marked, and put: a record after its gate, and the gate; before a put the content.
 #[test]
 fn each_sync_of_a_data_device(rt: HostRuntime) -> Result<(), Fail> {
-    each_sync(rt.alloc(), "0 arms data", &[0, 1, 0, 0, 1, 0, 1])?;
+    each_sync(rt.alloc(), "0 arms data", &[0, 1, 0, 0, 1])?;
     each_sync(rt.alloc(), "1 arms data", &[0, 0, 1])?;
     strike_all(rt.alloc(), &[SYNCS_NO_MORE, SECOND_SYNCS_NO_MORE])
 }

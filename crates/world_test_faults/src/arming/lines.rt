@@ -9,18 +9,18 @@ use step_runner::Case;
 const ARMS: &[Case] = &[
     Case {
         shows: "a line gives its server the one plan, and then its glance, before which the server takes no other step",
-        script: "servers 3 slots 4\na disk vol on 0 1 2\nwait\nop stop 0 at 16\nwait\na write vol 0 fill 7\nwait\nb read vol 0\n",
-        steps: "by lines; a calls 2; agree; not 0 arms data any 16 stop; wait; not 0 arms data any 16 stop; op calls 4; not 0 shows 4;
-            not 0 arms state any 16 stop; not 0 arms data any 15 stop; not 0 arms data sync 16 stop; not 0 arms data any 16;
-            not 0 arms data any 16 late stop; not 0 disarms data; not 1 arms data any 16 stop; not 0 stops; 0 ticks;
-            0 arms data any 16 stop; not 0 arms data any 16 stop; not 0 ticks; line 4 open; 0 shows 4; not 0 shows 4;
+        script: "servers 3 slots 4\na disk vol on 0 1 2\nwait\nop stop 0 at 12\nwait\na write vol 0 fill 7\nwait\nb read vol 0\n",
+        steps: "by lines; a calls 2; agree; not 0 arms data any 12 stop; wait; not 0 arms data any 12 stop; op calls 4; not 0 shows 4;
+            not 0 arms state any 12 stop; not 0 arms data any 11 stop; not 0 arms data sync 12 stop; not 0 arms data any 12;
+            not 0 arms data any 12 late stop; not 0 disarms data; not 1 arms data any 12 stop; not 0 stops; 0 ticks;
+            0 arms data any 12 stop; not 0 arms data any 12 stop; not 0 ticks; line 4 open; 0 shows 4; not 0 shows 4;
             seen 0>op; line 4 ok; play out; stopped 1; failed 0; committed 0; line 6 ok; line 8 fill 7",
     },
     Case {
         shows: "a line for a fault gives a plan that does not stop the server",
-        script: "servers 3 slots 4\na disk vol on 0 1 2\nwait\nop fault 0 data sync 7\nwait\na write vol 0 fill 7\nwait\nb read vol 0\n",
-        steps: "by lines; a calls 2; agree; wait; op calls 4; not 0 arms data sync 7 stop; not 0 arms data any 7; not 0 arms state sync 7;
-            0 arms data sync 7; 0 shows 4; seen 0>op; line 4 ok; play out; failed 1; stopped 0; line 6 ok; line 8 fill 7",
+        script: "servers 3 slots 4\na disk vol on 0 1 2\nwait\nop fault 0 data sync 5\nwait\na write vol 0 fill 7\nwait\nb read vol 0\n",
+        steps: "by lines; a calls 2; agree; wait; op calls 4; not 0 arms data sync 5 stop; not 0 arms data any 5; not 0 arms state sync 5;
+            0 arms data sync 5; 0 shows 4; seen 0>op; line 4 ok; play out; failed 1; stopped 0; line 6 ok; line 8 fill 7",
     },
     Case {
         shows: "a device of a server that is stopped is armed by a line too",
@@ -95,8 +95,8 @@ fn done_before_the_write(alloc: Global, line: &str, told: &str) -> Result<(), Fa
 #[test]
 fn the_call_that_a_line_names(rt: HostRuntime) -> Result<(), Fail> {
     done_before_the_write(rt.alloc(), "stop 0 at 1", "stopped 1; failed 0")?;
-    done_before_the_write(rt.alloc(), "stop 0 at 16", "stopped 1; failed 0")?;
-    done_before_the_write(rt.alloc(), "stop 0 at 17", "stopped 0; failed 0")?;
-    done_before_the_write(rt.alloc(), "fault 0 data sync 7", "stopped 0; failed 1")?;
-    done_before_the_write(rt.alloc(), "fault 0 data sync 8", "stopped 0; failed 0")
+    done_before_the_write(rt.alloc(), "stop 0 at 12", "stopped 1; failed 0")?;
+    done_before_the_write(rt.alloc(), "stop 0 at 13", "stopped 0; failed 0")?;
+    done_before_the_write(rt.alloc(), "fault 0 data sync 5", "stopped 0; failed 1")?;
+    done_before_the_write(rt.alloc(), "fault 0 data sync 6", "stopped 0; failed 0")
 }

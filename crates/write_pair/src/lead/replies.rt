@@ -98,7 +98,7 @@ pub fn on_pair_full<D: Disk>(
     }
 }
 
-/// The second server has put its copy: the block's mark is taken away next.
+/// The second server has put its copy: what the operation was opened for ends.
 ///
 /// # Errors
 /// As of [`go_on`](crate::lead::actions::go_on).

@@ -35,7 +35,7 @@ pub fn next_stage(here: &JobContext, pending: &Pending) -> Action
     }
 }
 
-/// In Both: the block is marked busy until the second server has its copy.
+/// In Both: the block is marked busy before the lead puts, and the mark outlives the operation.
 fn both_action(stage: &Stage) -> Action
     ensures { result ≡ writes.both_action stage.now }
 {
@@ -47,8 +47,6 @@ fn both_action(stage: &Stage) -> Action
         Action::Put
     } else if !stage.paired {
         Action::Replicate
-    } else if stage.busy {
-        Action::Unmark(MarkKind::Busy)
     } else {
         Action::Answer
     }

@@ -2,7 +2,7 @@
 use Rattle.law_steps.proofs.Imports.{setting_of, start}
 use Rattle.law_steps.proofs.WorldsAreFirm.{always_firm}
 use Rattle.law_steps.proofs.KindsInHistories.{ready_chosen, rests_after, firm_after, start_rests}
-use Rattle.law_steps.proofs.operations_rest_in_four_stages.Goals as goal
+use Rattle.law_steps.proofs.operations_rest_in_three_stages.Goals as goal
 
 pub returns-clause-chosen : goal.returns-clause-chosen
 returns-clause-chosen c script records sound legal =
