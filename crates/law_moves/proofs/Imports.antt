@@ -21,30 +21,30 @@ pub use Rattle.law_steps.specs.Imports.{IsBelow, Paired, Stage, StaysSo, Subject
 unfoldable pub use Rattle.law_steps.specs.Imports.{next_fill}
 pub use Rattle.law_steps.proofs.Imports.{ByBoth, ByNone, ByOne, Chain, Copies, Filling, Full, Greater, HasStage, IsCaughtIn, IsCaughtStill, IsHeldBy}
 pub use Rattle.law_steps.proofs.Imports.{IsSteady, Less, Logged, Ordering, Pairs, Store, Written, alone_not_both, alone_row, at-empty, at-where, by_settled}
-pub use Rattle.law_steps.proofs.Imports.{cell_apart, cell_cmp_same, cell_same, comes_before, comes_next, dies, earlier, ends_cell, fill_left, first_key}
-pub use Rattle.law_steps.proofs.Imports.{found_at, history_grows, history_is_firm, holder_is_one, is_on, is_the, keys_in, keys_of, log_alone, log_below}
-pub use Rattle.law_steps.proofs.Imports.{log_rev, log_roles, log_steady, lookup, max, new_stage, no_copies, not_noted, noted, old_stage, one_prefix, or_true}
-pub use Rattle.law_steps.proofs.Imports.{prefix_itself, prefix_long, prefix_more, prefix_on, prefix_plain, prefix_same, region_leaving, same_id, settling}
-pub use Rattle.law_steps.proofs.Imports.{so_both, stage_by, stage_most, up_some, version_of}
+pub use Rattle.law_steps.proofs.Imports.{cell_cmp_same, comes_before, comes_next, dies, earlier, ends_cell, fill_left, first_key, found_at, history_grows}
+pub use Rattle.law_steps.proofs.Imports.{history_is_firm, holder_is_one, in_filter, is_on, is_the, keys_in, keys_of, log_alone, log_below, log_rev, log_roles}
+pub use Rattle.law_steps.proofs.Imports.{log_steady, lookup, max, new_stage, no_copies, not_noted, noted, old_stage, one_prefix, or_true, prefix_itself}
+pub use Rattle.law_steps.proofs.Imports.{prefix_long, prefix_more, prefix_on, prefix_plain, prefix_same, region_leaving, same_id, settling, so_both, stage_by}
+pub use Rattle.law_steps.proofs.Imports.{stage_most, up_some, version_of}
 unfoldable pub use Rattle.law_steps.proofs.Imports.{put}
-pub use Rattle.law_jobs.specs.Imports.{Did, IsFilled, IsNextFill, IsNextKey, Taken, chains_with, progress}
-pub use Rattle.law_jobs.proofs.Imports.{As_it_is, As_told, Aside, Blanks, By_ballot, By_entry, By_job, Ends, Fails, Goes, Handled, Happens, IsSame, Of_job}
-pub use Rattle.law_jobs.proofs.Imports.{Rests, Serves, Serving, Stays, Turns, Wakes, Was_sent, Worked, always_firm, at_apart, at_same, below_itself}
-pub use Rattle.law_jobs.proofs.Imports.{happens_sent, is_clients, last_happens, next_comes, own_place, own_plain, proposed_pairs, rests_after, row_named}
+pub use Rattle.law_jobs.specs.Imports.{IsFilled, IsNextFill, IsNextKey, Taken, chains_with, progress}
+pub use Rattle.law_jobs.proofs.Imports.{As_it_is, As_told, Aside, Blanks, By_ballot, By_entry, By_job, Did, Ends, Fails, Goes, Handled, Happens, IsSame}
+pub use Rattle.law_jobs.proofs.Imports.{Of_job, Rests, Serves, Serving, Stays, Turns, Wakes, Was_sent, Worked, always_firm, at_apart, at_same, below_itself}
+pub use Rattle.law_jobs.proofs.Imports.{happens_sent, is_clients, last_happens, next_comes, own_place, own_plain, proposed_pairs, rests_after}
 pub use Rattle.law_jobs.proofs.Imports.{same_cell_or_apart, same_itself, same_on, start_rests, stood, taking}
 pub use Rattle.law_copies.specs.Imports.{WasStarted, blank_joins_in, is_between, kept_store, one_put_ahead}
 pub use Rattle.law_copies.proofs.Imports.{A_lead, A_new_copy, A_sweep, Alone_has, An_operation, As_operation, At, BeforeBlank, Both_have, By_caught, By_join}
-pub use Rattle.law_copies.proofs.Imports.{By_leave, Closes, Drops, Effect, Fills, For_a_fill, For_a_write, HasEnded, HasJoinedSince, IsCaughtBy, IsDroppedFor}
-pub use Rattle.law_copies.proofs.Imports.{IsInBoth, IsOpening, IsPutFor, IsSetFor, Is_retired, May, Opens, Puts, Says}
-pub use Rattle.law_copies.proofs.Imports.{Sets, Stood, The_last_copy, Writes, applied, before_part, by_run, chain_apart, chain_put, in_filter}
+pub use Rattle.law_copies.proofs.Imports.{By_leave, Closes, Drops, Effect, Fills, For_a_fill, For_a_write, Goes_on, HasEnded, HasJoinedSince, IsCaughtBy}
+pub use Rattle.law_copies.proofs.Imports.{IsDroppedFor, IsInBoth, IsOpening, IsPaired, IsPutFor, IsSetFor, Is_apart, Is_replicated, Is_retired, May, Opens}
+pub use Rattle.law_copies.proofs.Imports.{Puts, Says, Sets, The_last_copy, Was_paired, Writes, applied, before_part, by_run, chain_apart, chain_put}
 pub use Rattle.law_copies.proofs.Imports.{chosen_caught_was, counted, counted_by, did_come, drop_apart, drop_none, either_true, entry_ahead, first_by}
 pub use Rattle.law_copies.proofs.Imports.{first_state, happened_in, in_none, job_keeps, joined_counts, joined_since, kept, kept_by, letters_of_job}
 pub use Rattle.law_copies.proofs.Imports.{link_led_by, live_stage, log_both_place, log_grown, log_lost, log_touched, longer, lost_not_both, none_before_none}
-pub use Rattle.law_copies.proofs.Imports.{on_row, one_before, past_link, places_grow, prefix_within, primary_is_one, row_joined, run_of, running_prefixes}
-pub use Rattle.law_copies.proofs.Imports.{second_by, secondary_is_one, setting_in, since, split_last, stage_live, start_plain, stays_alone, stays_both}
-pub use Rattle.law_copies.proofs.Imports.{tuple_on}
-pub use Rattle.law_epochs.proofs.Imports.{AliveIn, IsAt, IsLinked, IsTouchedBy, Noted, WasThere, at_by, at_most_or_above, ballot_store, epoch_at, is_at}
-pub use Rattle.law_epochs.proofs.Imports.{is_at_so, log_retired, place_by, place_of_later, place_touched, proper, runs_at, split_prefixes, stage_facts}
+pub use Rattle.law_copies.proofs.Imports.{on_row, one_before, past_link, places_grow, prefix_within, primary_is_one, put_with, row_joined, row_named, run_of}
+pub use Rattle.law_copies.proofs.Imports.{running_prefixes, second_by, secondary_is_one, setting_in, since, split_last, stage_live, start_plain, stays_alone}
+pub use Rattle.law_copies.proofs.Imports.{stays_both, tuple_on}
+pub use Rattle.law_epochs.proofs.Imports.{AliveIn, IsAt, IsLinked, IsTouchedBy, Noted, Stood, WasThere, at_by, at_most_or_above, ballot_store, epoch_at}
+pub use Rattle.law_epochs.proofs.Imports.{is_at, is_at_so, log_retired, place_by, place_of_later, place_touched, proper, runs_at, split_prefixes, stage_facts}
 pub use Rattle.law_epochs.proofs.Imports.{stands_in}
 pub use Rattle.law_moves.specs.Imports.{HasNewer, IsFilledFrom, IsServing}
 pub use Rattle.law_copies.proofs.ChainsRise.{in_kept, in_mapped}
@@ -53,8 +53,8 @@ pub use Rattle.law_copies.proofs.EmptyJoins.{after_prefix, joined_where}
 pub use Rattle.law_copies.proofs.NewPlaces.{half_store}
 pub use Rattle.law_copies.proofs.OtherIsNotHolder.{IsOther, held_by, other_apart}
 pub use Rattle.law_copies.proofs.PlacesByPrefixes.{alive_on, linked_between, one_place, one_row, places_up, prefixes_meet, rows_later, state_next}
-pub use Rattle.law_copies.proofs.ServedAtLaterPrefixes.{alone_or_flagged, both_last, both_since, other_than, same_only, serves_alone, serves_its}
-pub use Rattle.law_copies.proofs.ServedAtLaterPrefixes.{heard_there, unseen_beyond}
+pub use Rattle.law_copies.proofs.ServedAtLaterPrefixes.{alone_or_flagged, both_last, both_since, heard_there, other_than, same_only, serves_alone, serves_its}
+pub use Rattle.law_copies.proofs.ServedAtLaterPrefixes.{unseen_beyond}
 pub use Rattle.law_copies.proofs.StoreHistories.{in_counts, in_own, kept_after, own_by}
 pub use Rattle.law_copies.proofs.StoresAlongRecords.{before_last, stays_filled}
 pub use Rattle.law_copies.specs.CopyProgress.{AreCopying, HasSent, IsCaught, IsLeft, IsTold}
@@ -77,7 +77,7 @@ pub use Rattle.law_jobs.proofs.FillsByJobs.{IsOpenedFill, Is_next, Is_other, did
 pub use Rattle.law_jobs.proofs.OperationsCome.{restaged}
 pub use Rattle.law_jobs.proofs.Runs.{after}
 pub use Rattle.law_jobs.specs.ComingCells.{WasComing}
-pub use Rattle.law_jobs.specs.Effects.{Goes_on, chains_ahead}
+pub use Rattle.law_jobs.specs.Effects.{chains_ahead}
 pub use Rattle.law_log.proofs.FillJobsLeaveLog.{filled_beside, filled_here}
 pub use Rattle.law_log.proofs.LogInHistories.{first_incs, join_was_wanted, moved_was_wanted}
 pub use Rattle.law_log.specs.ProposedCommands.{WasMoving}
@@ -91,6 +91,7 @@ pub use Rattle.law_state.proofs.TwinsAreOfOneDisk.{IsMoved, cells_same, goal_sam
 pub use Rattle.law_state.specs.LaterStates.{KeepsRoles}
 pub use Rattle.law_state.specs.NotedLinks.{HasMovedIn}
 pub use Rattle.law_steps.proofs.MovesAreOfComingCells.{leaves_with, next_on, region_left}
+pub use Rattle.law_steps.proofs.Records.{tails}
 pub use Rattle.law_steps.specs.DidStep.{IsSeatedOrMute}
 pub use Rattle.law_steps.specs.Operations.{A_fill, A_write, IsOpenedFor, IsStaged}
 pub use Rattle.law_steps.specs.Ties.{HasOwnCaught}

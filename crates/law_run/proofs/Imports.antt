@@ -31,19 +31,19 @@ pub use Rattle.law_steps.specs.Imports.{Finished, Glanced, IsBelow, Refused, Sen
 pub use Rattle.law_steps.specs.Imports.{crossed, entry_at, epochs_beyond, letters_of, live, pattern_block, stage_at}
 pub use Rattle.law_steps.proofs.Imports.{ByBoth, ByNone, ByOne, Chain, Follows, Greater, HasLater, HasStage, IsCaughtStill, IsHeldBy, IsRetired, IsSteady}
 pub use Rattle.law_steps.proofs.Imports.{Less, Ordering, Pairs, Store, alone_not_both, at-empty, cell_cmp_same, cell_same, clock_of, found_at, history_agrees}
-pub use Rattle.law_steps.proofs.Imports.{history_grows, history_is_firm, in_once, insert_entry, log_alone, log_below, log_rev, log_roles, log_steady, lookup}
-pub use Rattle.law_steps.proofs.Imports.{match_ordering, new_stage, old_stage, one_prefix, or_true, out_has_stopped, prefix_itself, prefix_long, prefix_more}
-pub use Rattle.law_steps.proofs.Imports.{prefix_on, prefix_plain, said_to_all, same_only, same_place, settling, so_alone, so_both, stage_by, version_of}
-pub use Rattle.law_steps.proofs.Imports.{was_true}
+pub use Rattle.law_steps.proofs.Imports.{history_grows, history_is_firm, in_filter, in_once, insert_entry, log_alone, log_below, log_rev, log_roles}
+pub use Rattle.law_steps.proofs.Imports.{log_steady, lookup, match_ordering, new_stage, old_stage, one_prefix, or_true, out_has_stopped, prefix_itself}
+pub use Rattle.law_steps.proofs.Imports.{prefix_long, prefix_more, prefix_on, prefix_plain, said_to_all, same_only, same_place, settling, so_alone, so_both}
+pub use Rattle.law_steps.proofs.Imports.{stage_by, version_of, was_true}
 unfoldable pub use Rattle.law_steps.proofs.Imports.{put}
-pub use Rattle.law_jobs.specs.Imports.{Did, IsReadable, IsRefusal, Taken, chains_with, progress, putting}
-pub use Rattle.law_jobs.proofs.Imports.{As_it_is, As_told, Blanks, By_ballot, By_entry, By_job, By_read, Ends, Fails, Goes, Handled, Happens, IsMoment}
-pub use Rattle.law_jobs.proofs.Imports.{IsSame, Not_here, Of_the_log, Ready, Refuses, Repeats, Rests, Serves, Serving, Shows, Stays, Turns, Wakes, Worked}
-pub use Rattle.law_jobs.proofs.Imports.{always_firm, at_apart, at_same, happens, is_clients, own_place, own_plain, prefix_legal, rests_after, rests_next}
-pub use Rattle.law_jobs.proofs.Imports.{retired_second, same_cell_or_apart, start_rests, taking, world_more}
+pub use Rattle.law_jobs.specs.Imports.{IsReadable, IsRefusal, Taken, answering, chains_with, progress}
+pub use Rattle.law_jobs.proofs.Imports.{As_it_is, As_told, Blanks, By_ballot, By_entry, By_job, By_read, Did, Ends, Fails, Goes, Handled, Happens, IsMoment}
+pub use Rattle.law_jobs.proofs.Imports.{IsSame, Not_here, Ready, Rests, Serves, Serving, Shows, Stays, Turns, Wakes, Worked, always_firm, at_apart, at_same}
+pub use Rattle.law_jobs.proofs.Imports.{happens, is_clients, own_place, own_plain, prefix_legal, rests_after, rests_next, retired_second, same_cell_or_apart}
+pub use Rattle.law_jobs.proofs.Imports.{start_rests, taking, world_more}
 pub use Rattle.law_copies.specs.Imports.{IsRising, blank_joins_in, kept_store, no_pairs, one_put_ahead}
 pub use Rattle.law_copies.proofs.Imports.{AllMayWake, Alone_has, At, BeforeBlank, Both_have, By_caught, By_join, By_leave, Ends_fill, HasJoinedSince, IsLater}
-pub use Rattle.law_copies.proofs.Imports.{Is_declined, Is_retired, Moves, Moves_on, OneMore, Run, Says}
+pub use Rattle.law_copies.proofs.Imports.{IsPaired, Is_apart, Is_declined, Is_replicated, Is_retired, Moves, Moves_on, OneMore, Run, Says, Was_paired}
 pub use Rattle.law_copies.proofs.Imports.{alone_by, at_row, before_part, both_row, by_run, cases_lt, chain_apart, chain_put, chosen_caught_was, counted}
 pub use Rattle.law_copies.proofs.Imports.{counted_by, either_true, firm_in, get_in, grown_in, held_as_flag, in_get, in_map, in_none, is_at_work, kept}
 pub use Rattle.law_copies.proofs.Imports.{kept_by, lead_links, letters_of_job, live_stage, log_grown, log_lost, log_touched, longer, may_wake}
@@ -60,10 +60,10 @@ pub use Rattle.law_moves.specs.Imports.{HasNewer, IsFilledFrom, IsServing}
 pub use Rattle.law_moves.proofs.Imports.{AliveIn, AreCopies, AreCopying, AreTwins, Good, HasSent, IsAt, IsCaught, IsLast, IsLeft, IsLinked, IsOther, IsOwn}
 pub use Rattle.law_moves.proofs.Imports.{IsStaged, IsTold, PairOk, WasThere, Working, alive_on, alone_authority, alone_or_flagged, at_by, ballot_store}
 pub use Rattle.law_moves.proofs.Imports.{begins_to_leave, both_authority, both_last, both_since, chain_that_counts, chains_ahead, far, frozen_by, good_after}
-pub use Rattle.law_moves.proofs.Imports.{half, half_store, held_by, in_counts, in_filter, in_kept, in_mapped, in_own, is_at, joined_where, lead}
-pub use Rattle.law_moves.proofs.Imports.{linked_between, no_home, one_place, one_row, other_apart, other_than, pair_at, pair_of, place_by, place_of_later}
-pub use Rattle.law_moves.proofs.Imports.{place_touched, places_up, prefixes_meet, rows_later, source_same, split_prefixes, stage_facts, stage_in, stage_is}
-pub use Rattle.law_moves.proofs.Imports.{start_good, step_goes, store_by, unseen_beyond}
+pub use Rattle.law_moves.proofs.Imports.{half, half_store, held_by, in_counts, in_kept, in_mapped, in_own, is_at, joined_where, lead, linked_between, no_home}
+pub use Rattle.law_moves.proofs.Imports.{one_place, one_row, other_apart, other_than, pair_at, pair_of, place_by, place_of_later, place_touched, places_up}
+pub use Rattle.law_moves.proofs.Imports.{prefixes_meet, rows_later, source_same, split_prefixes, stage_facts, stage_in, stage_is, start_good, step_goes}
+pub use Rattle.law_moves.proofs.Imports.{store_by, unseen_beyond}
 pub use Rattle.std.proofs.Math.Seq.{drop-append_seam}
 pub use Rattle.std.proofs.lemmas.Cmp.{nat_list_eq_equiv}
 pub use Rattle.std.proofs.lemmas.List.{length-append}
