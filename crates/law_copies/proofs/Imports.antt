@@ -56,10 +56,9 @@ pub use Rattle.law_jobs.proofs.Runs.{since, stepped_in}
 pub use Rattle.law_jobs.specs.Effects.{A_copy, A_lead, A_new_copy, A_sweep, Alone_has, An_operation, As_copy, As_operation, As_second, Begins_copy, Both_have}
 pub use Rattle.law_jobs.specs.Effects.{By_a_copy, By_its_operation, Closes, CopyGoes, Drops, Effect, Ends_copy, For_a_fill, For_a_write, Found_no_slot}
 pub use Rattle.law_jobs.specs.Effects.{Goes_on, HasEnded, Has_put, Has_trimmed, Holds_slots, Idle, IsApart, IsClosedFor, IsDroppedFor, IsIdle, IsNewCopy}
-pub use Rattle.law_jobs.specs.Effects.{IsNextPage, IsNotHeld, IsOpening, IsPutFor, IsReserved, IsSetFor, IsToBegin, IsToEnd, IsUnderWay}
-pub use Rattle.law_jobs.specs.Effects.{IsUnmarkedFor, Is_copied, Is_declined, Is_off, Is_old, Is_over, Is_retired, Is_whole, Marks}
-pub use Rattle.law_jobs.specs.Effects.{May, Opens, Puts, Reserves, Sets, The_last_copy, Turns_page, Unmarks, applied, ended_copy, entry_ahead}
-pub use Rattle.law_jobs.specs.Effects.{turned_page}
+pub use Rattle.law_jobs.specs.Effects.{IsNextPage, IsNotHeld, IsOpening, IsPutFor, IsReserved, IsSetFor, IsToBegin, IsToEnd, IsUnderWay, IsUnmarkedFor}
+pub use Rattle.law_jobs.specs.Effects.{Is_copied, Is_declined, Is_off, Is_old, Is_over, Is_retired, Is_whole, Marks, May, Opens, Puts, Reserves, Sets}
+pub use Rattle.law_jobs.specs.Effects.{The_last_copy, Turns_page, Unmarks, applied, ended_copy, entry_ahead, turned_page}
 pub use Rattle.law_jobs.specs.Sayings.{Asks_copy, Asks_slot, Begins, Ends_fill, Has_copy, Has_slot, IsCopying, Is_sync_full, Is_synced, Moves, Moves_on, Says}
 pub use Rattle.law_jobs.specs.Sayings.{Syncs, Tells_page, Trims}
 pub use Rattle.law_log.proofs.BallotFlags.{flag_put}

@@ -1,14 +1,11 @@
 -- What a step of the first server of a cell in Both keeps of its two copies.
-use Rattle.law_copies.proofs.Imports.{◌+◌, ◌∙◌, ◌≡◌, ◌≢◌, ◌≤◌, ◌⊎◌, A_lead, Alone_has, An_operation, As_copy, As_operation, As_second, Body}
-use Rattle.law_copies.proofs.Imports.{Bool, Both_have, Cell, Closes, Did, Drops, Effect, Ending, For_a_fill, For_a_write, HasEnded, IsApart, IsClosedFor}
-use Rattle.law_copies.proofs.Imports.{IsOpening, IsPutFor, IsReserved, IsSetFor, Is_declined, Is_over, Is_retired}
-use Rattle.law_copies.proofs.Imports.{JobResult, Key, LastOp, May, None, Opens, PairState, Pairs, Pending, Puts, Sets, Some, Stage}
-use Rattle.law_copies.proofs.Imports.{Stored, about, ap, applied, arith, at, both, both_not_alone, cell_cmp}
-use Rattle.law_copies.proofs.Imports.{cell_gone, cell_of, cell_same, chain_in, chain_put, chains_with, ended, entry_ahead, false}
-use Rattle.law_copies.proofs.Imports.{fill_operation, follows, inl, inr, is_alone_on, live, nat_cmp, operation, pending_on, put}
-use Rattle.law_copies.proofs.Imports.{putting, refl, same_some, so_both, stage_live, subst, sym, taking, true, true_false}
-use Rattle.law_copies.proofs.Imports.{version_of, without}
-use Rattle.law_jobs.specs.Effects.{Goes_on}
+use Rattle.law_copies.proofs.Imports.{◌+◌, ◌∙◌, ◌≡◌, ◌≢◌, ◌≤◌, ◌⊎◌, A_lead, Alone_has, An_operation, As_copy, As_operation, As_second, Body, Bool, Both_have}
+use Rattle.law_copies.proofs.Imports.{Cell, Closes, Did, Drops, Effect, Ending, For_a_fill, For_a_write, Goes_on, HasEnded, IsApart, IsClosedFor, IsOpening}
+use Rattle.law_copies.proofs.Imports.{IsPutFor, IsReserved, IsSetFor, Is_declined, Is_over, Is_retired, JobResult, Key, LastOp, May, None, Opens, PairState}
+use Rattle.law_copies.proofs.Imports.{Pairs, Pending, Puts, Sets, Some, Stage, Stored, about, ap, applied, arith, at, both, both_not_alone, cell_cmp}
+use Rattle.law_copies.proofs.Imports.{cell_gone, cell_of, cell_same, chain_in, chain_put, chains_with, ended, entry_ahead, false, fill_operation, follows}
+use Rattle.law_copies.proofs.Imports.{inl, inr, is_alone_on, live, nat_cmp, operation, pending_on, put, putting, refl, same_some, so_both, stage_live, subst}
+use Rattle.law_copies.proofs.Imports.{sym, taking, true, true_false, version_of, without}
 use Rattle.law_copies.specs.Pair.{Keeps, Known, Pair, PairOk, far, pair_of}
 use Rattle.law_copies.specs.Visits.{AliveIn}
 use Rattle.law_copies.proofs.CellInBoth.{CellInBoth, no_other, second_apart}

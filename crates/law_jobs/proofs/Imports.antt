@@ -3,8 +3,8 @@ pub use Rattle.law_state.specs.Imports.{Cell, Command, IsPrefix, LinkId, LinkRow
 pub use Rattle.law_state.specs.Imports.{chosen_state, link_cmp, state_after}
 unfoldable pub use Rattle.law_state.specs.Imports.{In, at}
 pub use Rattle.law_state.proofs.Imports.{[], ◌++◌, ◌∙◌, ◌∷◌, ◌≡◌, ◌≢◌, ◌≤◌, ◌⊎◌, Bool, List, None, Option, Some, ap, append-nil, append_assoc, arith, by_bool}
-pub use Rattle.law_state.proofs.Imports.{by_test, false, in-append, in_both, in_former, in_later, inl, inr, length, none_some, refl, same_or_apart, same_some}
-pub use Rattle.law_state.proofs.Imports.{subst, sym, true, true_false, unwrap_or, ℕ}
+pub use Rattle.law_state.proofs.Imports.{by_test, false, in-append, in_former, in_later, inl, inr, length, none_some, refl, same_or_apart, same_some, subst}
+pub use Rattle.law_state.proofs.Imports.{sym, true, true_false, unwrap_or, ℕ}
 pub use Rattle.law_log.proofs.Imports.{Acted, Action, Actor, AreStepsFrom, Body, Copying, Ending, Firm, FollowProgress, JobContext, JobResult, Key, LastCopy}
 pub use Rattle.law_log.proofs.Imports.{LastOp, Letter, Log, OpKind, Pending, Post, Script, Step, Stored, Table, above, all_put, begins_copy, blanked, cell_at}
 pub use Rattle.law_log.proofs.Imports.{cell_holder, cell_of, chain_in, ends, fill_operation, gives_back, gives_up, id_of, is_second, key_at, last_copy}
@@ -12,7 +12,7 @@ pub use Rattle.law_log.proofs.Imports.{last_on, nat_cmp, pending_on, post_to, pr
 pub use Rattle.law_log.proofs.Imports.{with_progress, without_copying, without_pending, world_after}
 unfoldable pub use Rattle.law_log.proofs.Imports.{step}
 pub use Rattle.law_steps.specs.Imports.{Busy, Finished, IsBelow, MarkKind, Stage, Stale, Subject, acts, cell_cmp, coming, crossed, live, marks, next_stage}
-pub use Rattle.law_steps.specs.Imports.{operation, puts, with_paired, with_pending, with_reserved, without_entry, without_mark_on}
+pub use Rattle.law_steps.specs.Imports.{operation, puts, with_pending, with_reserved, without_entry, without_mark_on}
 pub use Rattle.law_steps.proofs.Imports.{Chain, Filling, Logged, Mark, Pairs, Store, at-empty, cell_apart, cell_gone, cell_gone_apart, cell_same}
 pub use Rattle.law_steps.proofs.Imports.{history_grows, history_is_firm, log_rev, prefix_on, settling, version_of, with_mark_at, with_mark_on}
 unfoldable pub use Rattle.law_steps.proofs.Imports.{put, without}
@@ -41,7 +41,7 @@ pub use Rattle.law_steps.specs.DidHolder.{Asks_page, Asks_to_trim, Begins_copy, 
 pub use Rattle.law_steps.specs.DidHolder.{Finds_it_full, Goes_on_copying, Sends, Tidies, Turns_page, Unmarks_copied}
 pub use Rattle.law_steps.specs.DidLead.{A_copied_entry, A_copy, A_page, A_slot, A_trim, An_entry_to_move, As_it_is, As_told, Asks, Asks_for, Closes}
 pub use Rattle.law_steps.specs.DidLead.{Closes_alone, DidLead, Gives_up, Goes_on_retired, Has_fill, Has_no_room, Is_full, Marks, Marks_alone, Of_the_log}
-pub use Rattle.law_steps.specs.DidLead.{Opens, Opens_alone, Opens_fill, Opens_fill_alone, Puts, Puts_alone, Repeats, Unmarks, Unmarks_alone, told}
+pub use Rattle.law_steps.specs.DidLead.{Opens, Opens_alone, Opens_fill, Opens_fill_alone, Puts, Puts_alone, Repeats, Unmarks_alone, told}
 pub use Rattle.law_steps.specs.DidOther.{Answers_page, DidOther, Drops_entry, Goes_on_trimming, Has_entry, Has_no_slot, Is_copied_to, Is_trimmed, OtherReply}
 pub use Rattle.law_steps.specs.DidOther.{Puts_entry, Replies, TrimStep}
 pub use Rattle.law_steps.specs.DidRead.{DidRead, Not_here, Shows}

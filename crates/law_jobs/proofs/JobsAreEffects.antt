@@ -4,26 +4,25 @@ use Rattle.law_jobs.proofs.Imports.{By_other, By_read, By_second, By_sweep, Cell
 use Rattle.law_jobs.proofs.Imports.{Copy_trimmed, Copying, Did, DidFiller, DidHolder, DidLead, DidOther, DidSecond, DidSweep, Drops_entry, Ending}
 use Rattle.law_jobs.proofs.Imports.{Finds_it_full, FollowProgress, Follows, Gives_up, Goes_on_copying, Goes_on_retired, Goes_on_trimming, Ignores}
 use Rattle.law_jobs.proofs.Imports.{Is_copied_to, Is_filled, Is_full, Is_out_of_slots, Is_trimmed, JobContext, JobResult, Key, LastCopy, LinkRow, MarkKind}
-use Rattle.law_jobs.proofs.Imports.{Marks, Marks_alone, None, OpKind, Opens, Opens_alone, Opens_fill, Opens_fill_alone, Option, PairState, Pending}
-use Rattle.law_jobs.proofs.Imports.{Promises, Puts, Puts_alone, Puts_entry, Refuses, Sends, Sets_apart, Some, Stage, Sweeps, Taken, TakenCopy, Tidies}
-use Rattle.law_jobs.proofs.Imports.{TrimStep, Turns_page, Unmarks_alone, Unmarks_copied, above, acts, ap, begins_copy, by_test, cell_at}
-use Rattle.law_jobs.proofs.Imports.{cell_gone, cell_link, cell_of, cell_same, chain_in, ends, false, fill_operation, first_copy, first_last, gives_back}
-use Rattle.law_jobs.proofs.Imports.{gives_up, inl, inr, is_marked, key_at, last_copy, live, marks, next_stage, of_read, operation, pending_on}
-use Rattle.law_jobs.proofs.Imports.{progress_on, puts, putting, refl, subst, sym, taking, tells, told, true, true_false, version_of, with_copied}
-use Rattle.law_jobs.proofs.Imports.{with_mark_at, with_opened, with_page, with_pending, with_progress, with_reserved, without_copying}
-use Rattle.law_jobs.proofs.Imports.{without_pending, ℕ}
+use Rattle.law_jobs.proofs.Imports.{Marks, Marks_alone, None, OpKind, Opens, Opens_alone, Opens_fill, Opens_fill_alone, Option, PairState, Pending, Promises}
+use Rattle.law_jobs.proofs.Imports.{Puts, Puts_alone, Puts_entry, Refuses, Sends, Sets_apart, Some, Stage, Sweeps, Taken, TakenCopy, Tidies, TrimStep}
+use Rattle.law_jobs.proofs.Imports.{Turns_page, Unmarks_alone, Unmarks_copied, above, acts, ap, begins_copy, by_test, cell_at, cell_gone, cell_link, cell_of}
+use Rattle.law_jobs.proofs.Imports.{cell_same, chain_in, ends, false, fill_operation, first_copy, first_last, gives_back, gives_up, inl, inr, is_marked}
+use Rattle.law_jobs.proofs.Imports.{key_at, last_copy, live, marks, next_stage, of_read, operation, pending_on, progress_on, puts, putting, refl, subst, sym}
+use Rattle.law_jobs.proofs.Imports.{taking, tells, told, true, true_false, version_of, with_copied, with_mark_at, with_opened, with_page, with_pending}
+use Rattle.law_jobs.proofs.Imports.{with_progress, with_reserved, without_copying, without_pending, ℕ}
 use Rattle.law_jobs.specs.Effects.{A_copy, A_lead, A_new_copy, A_sweep, Alone_has, An_operation, As_copy, As_it_was, As_operation, As_second, Becomes}
-use Rattle.law_jobs.specs.Effects.{Both_have, By_a_copy, By_its_operation, By_operation, Effect, For_a_fill, For_a_write, Found_no_slot, Goes_on}
-use Rattle.law_jobs.specs.Effects.{Had_no_slot, HasEnded, Has_put, Has_trimmed, Idle, IsApart, IsDroppedFor, IsFilledAs, IsNewCopy, IsNextPage, IsNotHeld}
-use Rattle.law_jobs.specs.Effects.{IsOpening, IsSetFor, IsToBegin, IsToPut, IsUnderWay, IsUnmarkedFor, Is_declined, Is_off, Is_old, Is_over}
-use Rattle.law_jobs.specs.Effects.{Is_retired, Is_whole, May, The_last_copy, Then, applied, ended_copy, entry_ahead}
+use Rattle.law_jobs.specs.Effects.{Both_have, By_a_copy, By_its_operation, By_operation, Effect, For_a_fill, For_a_write, Found_no_slot, Goes_on, Had_no_slot}
+use Rattle.law_jobs.specs.Effects.{HasEnded, Has_put, Has_trimmed, Idle, IsApart, IsDroppedFor, IsFilledAs, IsNewCopy, IsNextPage, IsNotHeld, IsOpening}
+use Rattle.law_jobs.specs.Effects.{IsSetFor, IsToBegin, IsToPut, IsUnderWay, IsUnmarkedFor, Is_declined, Is_off, Is_old, Is_over, Is_retired, Is_whole, May}
+use Rattle.law_jobs.specs.Effects.{The_last_copy, Then, applied, ended_copy, entry_ahead}
+use Rattle.law_jobs.proofs.MarksApart.{mark_there}
 use Rattle.busy_marks.specs.declared.marks.MarkKind.TheVariants as mark
 use Rattle.petal_msg.specs.declared.retired.Retired.TheVariants as retired
 use Rattle.petal_msg.specs.declared.operation.Action.TheVariants as action
 use Rattle.petal_msg.specs.declared.operation.Ending.TheVariants as ending
 use Rattle.petal_msg.specs.declared.operation.FollowProgress.TheVariants as follow_progress
 use Rattle.petal_msg.specs.declared.operation.OpKind.TheVariants as kind
-use Rattle.law_jobs.proofs.MarksApart.{mark_there}
 use Rattle.law_jobs.specs.Effects as effect
 
 module _ (heard : Body → Type 0) (here : JobContext) (own : PairState) where

@@ -1,12 +1,12 @@
 -- Of what a job is made: effects, each on one place of a server's own part, with what was so when it was had.
 use Rattle.law_jobs.specs.Imports.{Block, Body, Both, Busy, Cell, Chain, Copying, Ending, Entry, Finished, Full, IsHeldWith, IsNew, IsNewFill, IsNextKey}
-use Rattle.law_jobs.specs.Imports.{IsOfCopy, IsSynced, JobContext, Key, LastCopy, LastOp, LinkId, LinkRow, MarkKind, Moving, PairState, Pending, Stage}
-use Rattle.law_jobs.specs.Imports.{Stale, Stored, Table, Taken, Wanted, Write, Written, at, begins_copy, cell_at, cell_cmp, cell_holder, cell_link, cell_of}
+use Rattle.law_jobs.specs.Imports.{IsOfCopy, IsSynced, JobContext, Key, LastCopy, LastOp, LinkId, LinkRow, MarkKind, Moving, PairState, Pending, Stage, Stale}
+use Rattle.law_jobs.specs.Imports.{Stored, Table, Taken, Wanted, Write, Written, at, begins_copy, cell_at, cell_cmp, cell_holder, cell_link, cell_of}
 use Rattle.law_jobs.specs.Imports.{chain_in, chains_with, copying, copying_on, epochs_beyond, fill_operation, first_last, free_of, idle_mark, in_both}
 use Rattle.law_jobs.specs.Imports.{is_alone_on, is_marked, is_second, key_at, last_copy, last_on, link_named, live, next_copy, operation, pending_on}
-use Rattle.law_jobs.specs.Imports.{progress, progress_on, put, putting, same_block, version_of, with_copied, with_copying, with_entry, with_filled}
-use Rattle.law_jobs.specs.Imports.{with_full, with_last, with_last_copy, with_mark_on, with_page, with_pending, without_copying, without_entry}
-use Rattle.law_jobs.specs.Imports.{without_mark_on, without_pending}
+use Rattle.law_jobs.specs.Imports.{progress, progress_on, put, putting, same_block, version_of, with_copied, with_copying, with_entry, with_filled, with_full}
+use Rattle.law_jobs.specs.Imports.{with_last, with_last_copy, with_mark_on, with_page, with_pending, without_copying, without_entry, without_mark_on}
+use Rattle.law_jobs.specs.Imports.{without_pending}
 use Rattle.std.specs.Prelude.{◌+◌, ◌<◌, ◌∷◌, ◌≡◌, ◌≤◌, ◌⊎◌, Bool, List, None, Option, Some, false, length, true, ℕ}
 use Rattle.std.specs.Ordering.{nat_cmp}
 use Rattle.petal_msg.specs.declared.body.Body.TheVariants as body

@@ -35,14 +35,13 @@ pub use Rattle.law_jobs.proofs.Imports.{same_cell_or_apart, same_itself, same_on
 pub use Rattle.law_copies.specs.Imports.{WasStarted, blank_joins_in, is_between, kept_store, one_put_ahead}
 pub use Rattle.law_copies.proofs.Imports.{A_lead, A_new_copy, A_sweep, Alone_has, An_operation, As_operation, At, BeforeBlank, Both_have, By_caught, By_join}
 pub use Rattle.law_copies.proofs.Imports.{By_leave, Closes, Drops, Effect, Fills, For_a_fill, For_a_write, Goes_on, HasEnded, HasJoinedSince, IsCaughtBy}
-pub use Rattle.law_copies.proofs.Imports.{IsDroppedFor, IsInBoth, IsOpening, IsPaired, IsPutFor, IsSetFor, Is_apart, Is_replicated, Is_retired, May, Opens}
-pub use Rattle.law_copies.proofs.Imports.{Puts, Says, Sets, The_last_copy, Was_paired, Writes, applied, before_part, by_run, chain_apart, chain_put}
-pub use Rattle.law_copies.proofs.Imports.{chosen_caught_was, counted, counted_by, did_come, drop_apart, drop_none, either_true, entry_ahead, first_by}
-pub use Rattle.law_copies.proofs.Imports.{first_state, happened_in, in_none, job_keeps, joined_counts, joined_since, kept, kept_by, letters_of_job}
-pub use Rattle.law_copies.proofs.Imports.{link_led_by, live_stage, log_both_place, log_grown, log_lost, log_touched, longer, lost_not_both, none_before_none}
-pub use Rattle.law_copies.proofs.Imports.{on_row, one_before, past_link, places_grow, prefix_within, primary_is_one, put_with, row_joined, row_named, run_of}
-pub use Rattle.law_copies.proofs.Imports.{running_prefixes, second_by, secondary_is_one, setting_in, since, split_last, stage_live, start_plain, stays_alone}
-pub use Rattle.law_copies.proofs.Imports.{stays_both, tuple_on}
+pub use Rattle.law_copies.proofs.Imports.{IsDroppedFor, IsInBoth, IsOpening, IsPutFor, IsSetFor, Is_retired, May, Opens, Puts, Says, Sets, The_last_copy}
+pub use Rattle.law_copies.proofs.Imports.{Writes, applied, before_part, by_run, chain_apart, chain_put, chosen_caught_was, counted, counted_by, did_come}
+pub use Rattle.law_copies.proofs.Imports.{drop_apart, drop_none, either_true, entry_ahead, first_by, first_state, happened_in, in_none, job_keeps}
+pub use Rattle.law_copies.proofs.Imports.{joined_counts, joined_since, kept, kept_by, letters_of_job, link_led_by, live_stage, log_both_place, log_grown}
+pub use Rattle.law_copies.proofs.Imports.{log_lost, log_touched, longer, lost_not_both, none_before_none, on_row, one_before, past_link, places_grow}
+pub use Rattle.law_copies.proofs.Imports.{prefix_within, primary_is_one, put_with, row_joined, row_named, run_of, running_prefixes, second_by}
+pub use Rattle.law_copies.proofs.Imports.{secondary_is_one, setting_in, since, split_last, stage_live, start_plain, stays_alone, stays_both, tuple_on}
 pub use Rattle.law_epochs.proofs.Imports.{AliveIn, IsAt, IsLinked, IsTouchedBy, Noted, Stood, WasThere, at_by, at_most_or_above, ballot_store, epoch_at}
 pub use Rattle.law_epochs.proofs.Imports.{is_at, is_at_so, log_retired, place_by, place_of_later, place_touched, proper, runs_at, split_prefixes, stage_facts}
 pub use Rattle.law_epochs.proofs.Imports.{stands_in}

@@ -3,12 +3,12 @@
 use Rattle.law_moves.proofs.Imports.{◌+◌, ◌<◌, ◌==◌, ◌∙◌, ◌≡◌, ◌≢◌, ◌≤◌, ◌⊎◌, AliveIn, AreCopies, Bool, Both, Cell, Chain, Command, Handled, HasOwnCaught}
 use Rattle.law_moves.proofs.Imports.{IsHeldBy, IsInBoth, IsLinked, IsPrefix, IsServing, LinkRow, List, None, Only, Option, PairOk, PairState, Pending, Run}
 use Rattle.law_moves.proofs.Imports.{Some, Store, Working, alone_not_both, alone_row, ap, arith, at, at-empty, at_apart, at_most_or_above, at_same}
-use Rattle.law_moves.proofs.Imports.{blank_joins_in, both_since, by_bool, cell_cmp, cell_link, chain_in, chosen_state, either_true, end_of, false, far}
-use Rattle.law_moves.proofs.Imports.{half, half_store, has_proposed, has_server, heard_there, holder_is_one, in_both, inl, inr, is_alone_on, is_clients}
-use Rattle.law_moves.proofs.Imports.{is_some, is_the_one, kept, link_led_by, nat_cmp, none_some, one_before, one_put_ahead, one_row, option_and_then}
-use Rattle.law_moves.proofs.Imports.{pair_at, pair_of, pending_on, place_by, places_up, prefix_itself, primary_is_one, progress, put, refl, row_lead}
-use Rattle.law_moves.proofs.Imports.{rows_later, running_prefixes, same_numbers, same_only, same_or_apart, same_some, server_state, serves_alone}
-use Rattle.law_moves.proofs.Imports.{serves_its, so_both, stage_at, stage_live, stays_alone, subst, sym, true, true_false, unseen_beyond, ℕ}
+use Rattle.law_moves.proofs.Imports.{blank_joins_in, both_since, by_bool, cell_cmp, cell_link, chain_in, chosen_state, either_true, end_of, false, far, half}
+use Rattle.law_moves.proofs.Imports.{half_store, has_proposed, has_server, heard_there, holder_is_one, in_both, inl, inr, is_alone_on, is_clients, is_some}
+use Rattle.law_moves.proofs.Imports.{is_the_one, kept, link_led_by, nat_cmp, none_some, one_before, one_put_ahead, one_row, option_and_then, pair_at, pair_of}
+use Rattle.law_moves.proofs.Imports.{pending_on, place_by, places_up, prefix_itself, primary_is_one, progress, put, refl, row_lead, rows_later}
+use Rattle.law_moves.proofs.Imports.{running_prefixes, same_numbers, same_only, same_or_apart, same_some, server_state, serves_alone, serves_its, so_both}
+use Rattle.law_moves.proofs.Imports.{stage_at, stage_live, stays_alone, subst, sym, true, true_false, unseen_beyond, ℕ}
 use Rattle.law_moves.specs.Fills.{Has}
 use Rattle.law_moves.proofs.MoveWorlds.{chosen_twins, facts_at, firm, good, own_counts, rests, steady_at, up}
 use Rattle.law_moves.proofs.MoveScenes.{LeadsAt, TwoLeads}

@@ -1,11 +1,9 @@
 -- What is pending after a job was so before: with the same number, and put only if it was, or the job put it; or it is new, under the next number,
 -- and not put.
 use Rattle.law_moves.proofs.Imports.{◌∙◌, ◌≡◌, ◌⊎◌, An_operation, As_operation, Body, Cell, Chain, Closes, Did, Drops, Effect, For_a_fill, For_a_write}
-use Rattle.law_moves.proofs.Imports.{Goes_on, IsOpening, IsPutFor, IsSame, IsSetFor, JobContext, JobResult, Key, May, None}
-use Rattle.law_moves.proofs.Imports.{Opens, PairState, Pending, Puts, Sets, Some, Stored, Table, ap, applied, at, cell_cmp}
-use Rattle.law_moves.proofs.Imports.{cell_of, chain_in, chains_ahead, chains_with, entry_ahead, false, inl, inr, job_keeps, put, refl}
-use Rattle.law_moves.proofs.Imports.{restaged, same_itself, same_on, stood, sym, true}
-use Rattle.law_jobs.proofs.OperationsCome.{put_with}
+use Rattle.law_moves.proofs.Imports.{Goes_on, IsOpening, IsPutFor, IsSame, IsSetFor, JobContext, JobResult, Key, May, None, Opens, PairState, Pending, Puts}
+use Rattle.law_moves.proofs.Imports.{Sets, Some, Stored, Table, ap, applied, at, cell_cmp, cell_of, chain_in, chains_ahead, chains_with, entry_ahead, false}
+use Rattle.law_moves.proofs.Imports.{inl, inr, job_keeps, put, put_with, refl, restaged, same_itself, same_on, stood, sym, true}
 use Rattle.law_moves.proofs.JobsChangeOneChain.{not_ahead}
 
 -- the operation was pending, or is new

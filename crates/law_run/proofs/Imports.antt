@@ -36,20 +36,19 @@ pub use Rattle.law_steps.proofs.Imports.{log_steady, lookup, match_ordering, new
 pub use Rattle.law_steps.proofs.Imports.{prefix_long, prefix_more, prefix_on, prefix_plain, said_to_all, same_only, same_place, settling, so_alone, so_both}
 pub use Rattle.law_steps.proofs.Imports.{stage_by, version_of, was_true}
 unfoldable pub use Rattle.law_steps.proofs.Imports.{put}
-pub use Rattle.law_jobs.specs.Imports.{IsReadable, IsRefusal, Taken, answering, chains_with, progress}
+pub use Rattle.law_jobs.specs.Imports.{IsReadable, IsRefusal, Taken, chains_with, progress}
 pub use Rattle.law_jobs.proofs.Imports.{As_it_is, As_told, Blanks, By_ballot, By_entry, By_job, By_read, Did, Ends, Fails, Goes, Handled, Happens, IsMoment}
 pub use Rattle.law_jobs.proofs.Imports.{IsSame, Not_here, Ready, Rests, Serves, Serving, Shows, Stays, Turns, Wakes, Worked, always_firm, at_apart, at_same}
 pub use Rattle.law_jobs.proofs.Imports.{happens, is_clients, own_place, own_plain, prefix_legal, rests_after, rests_next, retired_second, same_cell_or_apart}
 pub use Rattle.law_jobs.proofs.Imports.{start_rests, taking, world_more}
 pub use Rattle.law_copies.specs.Imports.{IsRising, blank_joins_in, kept_store, no_pairs, one_put_ahead}
 pub use Rattle.law_copies.proofs.Imports.{AllMayWake, Alone_has, At, BeforeBlank, Both_have, By_caught, By_join, By_leave, Ends_fill, HasJoinedSince, IsLater}
-pub use Rattle.law_copies.proofs.Imports.{IsPaired, Is_apart, Is_declined, Is_replicated, Is_retired, Moves, Moves_on, OneMore, Run, Says, Was_paired}
-pub use Rattle.law_copies.proofs.Imports.{alone_by, at_row, before_part, both_row, by_run, cases_lt, chain_apart, chain_put, chosen_caught_was, counted}
-pub use Rattle.law_copies.proofs.Imports.{counted_by, either_true, firm_in, get_in, grown_in, held_as_flag, in_get, in_map, in_none, is_at_work, kept}
-pub use Rattle.law_copies.proofs.Imports.{kept_by, lead_links, letters_of_job, live_stage, log_grown, log_lost, log_touched, longer, may_wake}
-pub use Rattle.law_copies.proofs.Imports.{none_before_none, one_before, other_between, places_grow, primary_is_one, put_rises, rests_in, row_joined, run_of}
-pub use Rattle.law_copies.proofs.Imports.{said, second_by, secondary_is_one, served_so, setting_in, shown_so, stepped_in, stopped_so, turned_asks}
-pub use Rattle.law_copies.proofs.Imports.{without_rev}
+pub use Rattle.law_copies.proofs.Imports.{Is_declined, Is_retired, Moves, Moves_on, OneMore, Run, Says, alone_by, at_row, before_part, both_row, by_run}
+pub use Rattle.law_copies.proofs.Imports.{cases_lt, chain_apart, chain_put, chosen_caught_was, counted, counted_by, either_true, firm_in, get_in, grown_in}
+pub use Rattle.law_copies.proofs.Imports.{held_as_flag, in_get, in_map, in_none, is_at_work, kept, kept_by, lead_links, letters_of_job, live_stage, log_grown}
+pub use Rattle.law_copies.proofs.Imports.{log_lost, log_touched, longer, may_wake, none_before_none, one_before, other_between, places_grow, primary_is_one}
+pub use Rattle.law_copies.proofs.Imports.{put_rises, rests_in, row_joined, run_of, said, second_by, secondary_is_one, served_so, setting_in, shown_so}
+pub use Rattle.law_copies.proofs.Imports.{stepped_in, stopped_so, turned_asks, without_rev}
 pub use Rattle.law_requests.specs.Imports.{done_to, line_by}
 pub use Rattle.law_requests.proofs.Imports.{Answered, Begins, Blanks_it, By_operation, By_verdict, By_witness, Fails_it, Goes_on, Had_no_slot, Has_no_space}
 pub use Rattle.law_requests.proofs.Imports.{Heard, IsCalled, IsFinishedFor, IsJudged, IsReason, IsSeatedOrMute, IsSeenAs, Is_settled, Is_told, Judges}
@@ -60,10 +59,10 @@ pub use Rattle.law_moves.specs.Imports.{HasNewer, IsFilledFrom, IsServing}
 pub use Rattle.law_moves.proofs.Imports.{AliveIn, AreCopies, AreCopying, AreTwins, Good, HasSent, IsAt, IsCaught, IsLast, IsLeft, IsLinked, IsOther, IsOwn}
 pub use Rattle.law_moves.proofs.Imports.{IsStaged, IsTold, PairOk, WasThere, Working, alive_on, alone_authority, alone_or_flagged, at_by, ballot_store}
 pub use Rattle.law_moves.proofs.Imports.{begins_to_leave, both_authority, both_last, both_since, chain_that_counts, chains_ahead, far, frozen_by, good_after}
-pub use Rattle.law_moves.proofs.Imports.{half, half_store, held_by, in_counts, in_kept, in_mapped, in_own, is_at, joined_where, lead, linked_between, no_home}
-pub use Rattle.law_moves.proofs.Imports.{one_place, one_row, other_apart, other_than, pair_at, pair_of, place_by, place_of_later, place_touched, places_up}
-pub use Rattle.law_moves.proofs.Imports.{prefixes_meet, rows_later, source_same, split_prefixes, stage_facts, stage_in, stage_is, start_good, step_goes}
-pub use Rattle.law_moves.proofs.Imports.{store_by, unseen_beyond}
+pub use Rattle.law_moves.proofs.Imports.{half, half_store, heard_there, held_by, in_counts, in_kept, in_mapped, in_own, is_at, joined_where, lead}
+pub use Rattle.law_moves.proofs.Imports.{linked_between, no_home, one_place, one_row, other_apart, other_than, pair_at, pair_of, place_by, place_of_later}
+pub use Rattle.law_moves.proofs.Imports.{place_touched, places_up, prefixes_meet, rows_later, source_same, split_prefixes, stage_facts, stage_in, stage_is}
+pub use Rattle.law_moves.proofs.Imports.{start_good, step_goes, store_by, unseen_beyond}
 pub use Rattle.std.proofs.Math.Seq.{drop-append_seam}
 pub use Rattle.std.proofs.lemmas.Cmp.{nat_list_eq_equiv}
 pub use Rattle.std.proofs.lemmas.List.{length-append}
@@ -78,7 +77,7 @@ pub use Rattle.law_copies.proofs.MarksPrecedePuts.{marks_first}
 pub use Rattle.law_copies.proofs.OtherIsNotHolder.{held_not_lead}
 pub use Rattle.law_copies.proofs.PlacesByPrefixes.{linked_alive, retired_not}
 pub use Rattle.law_copies.proofs.RolesOfWorkers.{other_alone}
-pub use Rattle.law_copies.proofs.ServedAtLaterPrefixes.{AllStarted, been_below, heard_there, holder_is_one, holds_since, reached_here}
+pub use Rattle.law_copies.proofs.ServedAtLaterPrefixes.{AllStarted, been_below, holder_is_one, holds_since, reached_here}
 pub use Rattle.law_copies.proofs.StoreHistories.{always_empty}
 pub use Rattle.law_copies.proofs.TwoCopyRules.{copies_after, covered_after}
 pub use Rattle.law_copies.specs.CopyProgress.{IsLastCopy, IsTrimming, links_of}

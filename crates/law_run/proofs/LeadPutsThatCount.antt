@@ -1,12 +1,12 @@
 -- What a job leaves pending and finished at its server: the write of what is put where it counts, or is closed, has had its bytes.
 use Rattle.law_run.proofs.Imports.{◌+◌, ◌∙◌, ◌≡◌, ◌≤◌, ◌⊎◌, A_copy, Alone_has, An_asked, An_own, AreCopies, As_it_is, As_told, Bool, Both, Both_have}
-use Rattle.law_run.proofs.Imports.{By_operation, Cell, Chain, Did, Finished, Had_no_slot, IsFinishedFor, IsLinked, IsOpen, IsSame, IsSteady}
-use Rattle.law_run.proofs.Imports.{Is_declined, Is_new, Is_retired, It_was, JobResult, LinkRow, NeverRetired, None, Nothing_new}
-use Rattle.law_run.proofs.Imports.{Of_the_retired, Only, Option, PairOk, PairState, Pending, Plain, Some, Stage, Store, StoresSo, Table, Taken}
-use Rattle.law_run.proofs.Imports.{Working, ap, at, authority, cell_cmp, cell_of, chain_apart, chain_in, chains_ahead}
-use Rattle.law_run.proofs.Imports.{chosen_state, copied_apart, did_was, false, far, half, held_not_lead, in_both, inl, inr, is_alone_on, is_clients, is_lead}
-use Rattle.law_run.proofs.Imports.{is_second, is_the_one, kept, lead_links, led_by, live, nat_cmp, not_ahead, own_steady, pair_of, put, refl}
-use Rattle.law_run.proofs.Imports.{same_cell_or_apart, same_some, second_by, secondary_is_one, so_both, subst, sym, true, true_false, ℕ}
+use Rattle.law_run.proofs.Imports.{By_operation, Cell, Chain, Did, Finished, Had_no_slot, IsFinishedFor, IsLinked, IsOpen, IsSame, IsSteady, Is_declined}
+use Rattle.law_run.proofs.Imports.{Is_new, Is_retired, It_was, JobResult, LinkRow, NeverRetired, None, Nothing_new, Of_the_retired, Only, Option, PairOk}
+use Rattle.law_run.proofs.Imports.{PairState, Pending, Plain, Some, Stage, Store, StoresSo, Table, Taken, Working, ap, at, authority, cell_cmp, cell_of}
+use Rattle.law_run.proofs.Imports.{chain_apart, chain_in, chains_ahead, chosen_state, copied_apart, did_was, false, far, half, held_not_lead, in_both, inl}
+use Rattle.law_run.proofs.Imports.{inr, is_alone_on, is_clients, is_lead, is_second, is_the_one, kept, lead_links, led_by, live, nat_cmp, not_ahead}
+use Rattle.law_run.proofs.Imports.{own_steady, pair_of, put, refl, same_cell_or_apart, same_some, second_by, secondary_is_one, so_both, subst, sym, true}
+use Rattle.law_run.proofs.Imports.{true_false, ℕ}
 use Rattle.law_run.specs.WritesGoOn.{is_held, Onward}
 use Rattle.law_run.specs.MachineTies.{HasCounted, Is_followed, Is_counted}
 use Rattle.law_run.proofs.ServerFrames.{kept_finished, own_counted}

@@ -1,16 +1,15 @@
 -- What a server that runs relies on at its own place of a cell's link: that no server that serves the link has been further, and what the
 -- other server has in memory of the place.
-use Rattle.law_run.proofs.Imports.{[], ◌&&◌, ◌++◌, ◌∙◌, ◌∷◌, ◌≡◌, ◌≤◌, ◌⊎◌, AliveIn, AreCopies, AreTwins, Body, Both, Cell, Command, Handled}
-use Rattle.law_run.proofs.Imports.{HasProperTuples, HasStage, IsHeldBy, IsLast, IsLinked, IsPrefix, IsStaged, Join, LinkRow, List, None, Only, Option, Pair}
-use Rattle.law_run.proofs.Imports.{PairOk, PairState, Pending, Setting, Some, Store, about, alive_on, alone_authority, alone_not_both, ap, arith, at}
-use Rattle.law_run.proofs.Imports.{at-empty, authority, blank_joins_in, both_last, both_row, both_since, by_bool, cell_cmp, chain_in, chosen_log}
-use Rattle.law_run.proofs.Imports.{chosen_state, counted, far, half, half_store, has_proposed, has_server, heard_there, held_as_flag, holds_since, in_both}
-use Rattle.law_run.proofs.Imports.{inl, inr, is_alone_on, is_clients, is_in, is_lead, is_second, is_the_one, kept, lead, led_by, linked_alive}
-use Rattle.law_run.proofs.Imports.{linked_between, live, live_stage, none_some, one_before, one_row, op_there, own_below, own_plain, own_steady, owns_of}
-use Rattle.law_run.proofs.Imports.{pair_at, pair_of, place_by, place_of_later, place_touched, places_up, prefix_itself, prefix_more, prefix_on}
-use Rattle.law_run.proofs.Imports.{primary_is_one, reached_here, ready_chosen, refl, retired_second, rows_later, runs_now, second, second_by}
-use Rattle.law_run.proofs.Imports.{secondary_is_one, server_state, serves, so_alone, so_both, stage_at, stage_facts, subst, sym, top_last, true, true_false}
-use Rattle.law_run.proofs.Imports.{ℕ}
+use Rattle.law_run.proofs.Imports.{[], ◌&&◌, ◌++◌, ◌∙◌, ◌∷◌, ◌≡◌, ◌≤◌, ◌⊎◌, AliveIn, AreCopies, AreTwins, Body, Both, Cell, Command, Handled, HasProperTuples}
+use Rattle.law_run.proofs.Imports.{HasStage, IsHeldBy, IsLast, IsLinked, IsPrefix, IsStaged, Join, LinkRow, List, None, Only, Option, Pair, PairOk, PairState}
+use Rattle.law_run.proofs.Imports.{Pending, Setting, Some, Store, about, alive_on, alone_authority, alone_not_both, ap, arith, at, at-empty, authority}
+use Rattle.law_run.proofs.Imports.{blank_joins_in, both_last, both_row, both_since, by_bool, cell_cmp, chain_in, chosen_log, chosen_state, counted, far, half}
+use Rattle.law_run.proofs.Imports.{half_store, has_proposed, has_server, heard_there, held_as_flag, holds_since, in_both, inl, inr, is_alone_on, is_clients}
+use Rattle.law_run.proofs.Imports.{is_in, is_lead, is_second, is_the_one, kept, lead, led_by, linked_alive, linked_between, live, live_stage, none_some}
+use Rattle.law_run.proofs.Imports.{one_before, one_row, op_there, own_below, own_plain, own_steady, owns_of, pair_at, pair_of, place_by, place_of_later}
+use Rattle.law_run.proofs.Imports.{place_touched, places_up, prefix_itself, prefix_more, prefix_on, primary_is_one, reached_here, ready_chosen, refl}
+use Rattle.law_run.proofs.Imports.{retired_second, rows_later, runs_now, second, second_by, secondary_is_one, server_state, serves, so_alone, so_both}
+use Rattle.law_run.proofs.Imports.{stage_at, stage_facts, subst, sym, top_last, true, true_false, ℕ}
 use Rattle.law_copies.specs.Pair.{Known}
 use Rattle.law_run.proofs.FirstIsOneAhead.{unfollowed_equal}
 use Rattle.law_run.proofs.BlankedServeNothing.{more_joins}

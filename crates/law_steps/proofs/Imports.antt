@@ -49,8 +49,8 @@ unfoldable pub use Rattle.law_log.proofs.Imports.{on_propose, on_read, on_replic
 unfoldable pub use Rattle.law_log.proofs.Imports.{on_trim, on_trimmed, on_write, put_at, refusal, repairs, starts, step, sweeps, ticked, trims_on}
 pub use Rattle.law_steps.specs.Imports.{Busy, Copied, Finished, Glanced, IsBelow, MarkKind, Nothing, Paired, Pattern, Sender, Stage, Stale, StaysSo, Subject}
 pub use Rattle.law_steps.specs.Imports.{acts, bytes_of, cell_cmp, coming, crossed, entry_at, epochs_beyond, epochs_of, holder_of, least, letters_of, live}
-pub use Rattle.law_steps.specs.Imports.{mark_left, marked_blocks, next_stage, operation, pattern_block, settled_by, stage_at, with_copying, with_paired}
-pub use Rattle.law_steps.specs.Imports.{with_pending, with_reserved}
+pub use Rattle.law_steps.specs.Imports.{mark_left, marked_blocks, next_stage, operation, pattern_block, settled_by, stage_at, with_copying, with_pending}
+pub use Rattle.law_steps.specs.Imports.{with_reserved}
 unfoldable pub use Rattle.law_steps.specs.Imports.{next_fill}
 pub use Rattle.std.proofs.Common.{fold}
 pub use Rattle.std.specs.BTreeMap.{insert_entry, is_at}
@@ -121,7 +121,7 @@ pub use Rattle.spec_rules.specs.State.{is_on, needs_full_copy}
 pub use Rattle.spec_rules.specs.Store.{Chain, Store, version_of, with_entry, with_mark_on, with_ticket}
 pub use Rattle.spec_rules.specs.Sweeping.{retired_in, retired_key, retired_mark}
 pub use Rattle.spec_rules.specs.World.{clock_of, line_in, received}
-pub use Rattle.spec_rules.specs.Writes.{alone_action, both_action, has_slot, standing, with_mark_at}
+pub use Rattle.spec_rules.specs.Writes.{alone_action, both_action, has_slot, standing, with_mark_at, with_paired}
 pub use Rattle.spec_state.specs.CellState.{noted, region_leaving, region_on_way}
 pub use Rattle.spec_state.specs.Place.{touches_cell}
 pub use Rattle.spec_state.specs.Role.{is_the, row_in_both}

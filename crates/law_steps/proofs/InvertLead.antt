@@ -1,17 +1,17 @@
 -- What a lead does for a write is one of the kinds that the relation names.
 use Rattle.law_steps.proofs.Imports.{if◌then◌else◌, ◌&&◌, ◌+◌, ◌<◌, ◌==◌, ◌||◌, ◌∙◌, ◌≡◌, ◌≤◌, Again, Body, Bool, Cell, Copy, Finished, In, IsSteady}
-use Rattle.law_steps.proofs.Imports.{JobContext, JobResult, Moving, Newer, None, Older, OpKind, Option, PairState, Pending, Post, Some, Stage, Wanted, acts}
-use Rattle.law_steps.proofs.Imports.{alone_action, ap, arith, at, both_action, both_true, by_bool, by_test, cell_cmp_total, cell_of, cell_same, chain_in}
-use Rattle.law_steps.proofs.Imports.{copying_on, either_false, either_of, ends, false, fill_operation, free_of, goes_on, goes_on_with, has_epoch}
-use Rattle.law_steps.proofs.Imports.{has_proposed, hears_fill, hears_pair_full, hears_replicated, hears_reserved, held, in_both, is_in, is_kept_back}
-use Rattle.law_steps.proofs.Imports.{is_lead, is_pending_for, is_replicating, is_reserving, is_some, is_under_way, is_writes_held, leads_link, live}
-use Rattle.law_steps.proofs.Imports.{nat_cmp, nat_lt, nat_tests, next_stage, none_of, not, not_true, on_fill, on_write, only, opened, opens, opens_fill}
-use Rattle.law_steps.proofs.Imports.{operation, pending_on, post_to, refl, said, same_numbers, says, second, standing, subst, sym, takes, takes_newer, true}
-use Rattle.law_steps.proofs.Imports.{true_false, was_true, with_opened, with_paired, with_pending, with_reserved, without_pending, Written, ℕ}
+use Rattle.law_steps.proofs.Imports.{JobContext, JobResult, Moving, Newer, None, Older, OpKind, Option, PairState, Pending, Post, Some, Stage, Wanted}
+use Rattle.law_steps.proofs.Imports.{Written, acts, alone_action, ap, arith, at, both_action, both_true, by_bool, by_test, cell_cmp_total, cell_of, cell_same}
+use Rattle.law_steps.proofs.Imports.{chain_in, copying_on, either_false, either_of, ends, false, fill_operation, free_of, goes_on, goes_on_with, has_epoch}
+use Rattle.law_steps.proofs.Imports.{has_proposed, hears_fill, hears_pair_full, hears_replicated, hears_reserved, held, in_both, is_in, is_kept_back, is_lead}
+use Rattle.law_steps.proofs.Imports.{is_pending_for, is_replicating, is_reserving, is_some, is_under_way, is_writes_held, leads_link, live, nat_cmp, nat_lt}
+use Rattle.law_steps.proofs.Imports.{nat_tests, next_stage, none_of, not, not_true, on_fill, on_write, only, opened, opens, opens_fill, operation, pending_on}
+use Rattle.law_steps.proofs.Imports.{post_to, refl, said, same_numbers, says, second, standing, subst, sym, takes, takes_newer, true, true_false, was_true}
+use Rattle.law_steps.proofs.Imports.{with_opened, with_paired, with_pending, with_reserved, without_pending, ℕ}
 use Rattle.law_steps.specs.Operations.{IsStaged, AtRest, Waiting, Putting, Copying, waiting, putting, copying, done_to}
-use Rattle.law_steps.specs.DidLead.{Asks_for, Repeats, Is_full, Opens, Marks, Puts, Gives_up, Closes, Opens_alone, Marks_alone, Puts_alone}
-use Rattle.law_steps.specs.DidLead.{Unmarks_alone, Closes_alone, Opens_fill, Opens_fill_alone, Has_fill, Has_no_room, Goes_on_retired, Asks, A_slot, A_copy}
-use Rattle.law_steps.specs.DidLead.{IsNew, IsNewFill, Taken, As_it_is, As_told, IsIdleFill}
+use Rattle.law_steps.specs.DidLead.{Asks_for, Repeats, Is_full, Opens, Marks, Puts, Gives_up, Closes, Opens_alone, Marks_alone, Puts_alone, Unmarks_alone}
+use Rattle.law_steps.specs.DidLead.{Closes_alone, Opens_fill, Opens_fill_alone, Has_fill, Has_no_room, Goes_on_retired, Asks, A_slot, A_copy, IsNew}
+use Rattle.law_steps.specs.DidLead.{IsNewFill, Taken, As_it_is, As_told, IsIdleFill}
 use Rattle.law_steps.specs.Did.{Did, Ignores, Refuses, For_a_write, By_copy_for_a_write, A_write, By_lead}
 use Rattle.law_steps.proofs.BusyLetters.{busy_not_held, busy_seq, held_not_busy, held_seq}
 use Rattle.law_steps.proofs.TablesOfPuts.{without_put}

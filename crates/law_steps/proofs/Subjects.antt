@@ -5,8 +5,8 @@ use Rattle.law_steps.proofs.Imports.{acts, ap, at, by_test, cell_cmp, cell_link,
 use Rattle.law_steps.proofs.Imports.{no_progress, option_map_or, progress_on, refl, subject_of, subst, sym, tells, unwrap_or, without_pending, ℕ}
 use Rattle.law_steps.specs.Ready.{IsRising}
 use Rattle.law_steps.specs.DidRead.{DidRead, Not_here, Shows}
-use Rattle.law_steps.specs.DidLead.{DidLead, Repeats, Marks, Puts, Gives_up, Closes, Opens_alone, Marks_alone, Puts_alone, Unmarks_alone}
-use Rattle.law_steps.specs.DidLead.{Closes_alone, Opens_fill_alone, Goes_on_retired, Taken}
+use Rattle.law_steps.specs.DidLead.{DidLead, Repeats, Marks, Puts, Gives_up, Closes, Opens_alone, Marks_alone, Puts_alone, Unmarks_alone, Closes_alone}
+use Rattle.law_steps.specs.DidLead.{Opens_fill_alone, Goes_on_retired, Taken}
 use Rattle.law_steps.specs.DidSecond.{DidSecond, Sets_apart, Promises, Declines, Follows}
 use Rattle.law_steps.specs.DidFiller.{DidFiller, Is_filled, Is_out_of_slots}
 use Rattle.law_steps.specs.DidSweep.{DidSweep, Sweeps}

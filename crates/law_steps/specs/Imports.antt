@@ -57,8 +57,8 @@ pub use Rattle.spec_rules.specs.Sweeping.{without_retired}
 unfoldable pub use Rattle.spec_rules.specs.Sweeping.{next_retired}
 pub use Rattle.spec_rules.specs.World.{before_blanks, lines_of, next_line, reacts, server_state}
 pub use Rattle.spec_rules.specs.Writes.{Wanted, acts, ended, ends, finishes, first_stage, follows, gives_back, is_for, is_under_way, last_on, marks}
-pub use Rattle.spec_rules.specs.Writes.{next_stage, old_lead, opened, operation, pending_on, puts, tells, unmarks, with_last, with_opened, with_paired}
-pub use Rattle.spec_rules.specs.Writes.{with_pending, with_reserved, without_pending}
+pub use Rattle.spec_rules.specs.Writes.{next_stage, old_lead, opened, operation, pending_on, puts, tells, unmarks, with_last, with_opened, with_pending}
+pub use Rattle.spec_rules.specs.Writes.{with_reserved, without_pending}
 pub use Rattle.spec_rules.specs.declared.job.Job.{Job}
 pub use Rattle.spec_rules.specs.declared.step.CommitEnd.TheVariants.{After}
 pub use Rattle.spec_rules.specs.declared.step.Step.{Step}
