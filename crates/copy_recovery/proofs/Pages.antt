@@ -10,7 +10,7 @@ use Rattle.server_store.specs.Holdings.{Holdings}
 use Rattle.kept_chains.specs.Marking.{IsCommit}
 use Rattle.pair_memory.specs.declared.job_result.JobResult.{JobResult as Left}
 use Rattle.pair_memory.specs.declared.error.WorkError.{WorkError}
-use Rattle.pair_memory.specs.declared.error.WorkError.TheVariants.{Failed, JournalFull, NoMemory}
+use Rattle.pair_memory.specs.declared.error.WorkError.TheVariants.{Failed, JournalFull, NoMemory, Exhausted}
 use Rattle.pair_memory.specs.JobResult.{HoldsAt, IsDone, held}
 use Rattle.pair_memory.specs.Refusals.{work_error}
 use Rattle.pair_memory.specs.PairMemory.{PairMemory}
@@ -39,6 +39,13 @@ failed_is store.JournalFull may is = absurd (cc)
 failed_is (store.BadRecord index) may is = absurd may
 failed_is store.NoMemory may is = absurd (cc)
 
+spent_not : (e : StoreError) → ¬ (work_error e ≡ Exhausted)
+spent_not store.Failed = λ no. absurd (cc)
+spent_not store.NoSpace = λ no. absurd (cc)
+spent_not store.JournalFull = λ no. absurd (cc)
+spent_not (store.BadRecord index) = λ no. absurd (cc)
+spent_not store.NoMemory = λ no. absurd (cc)
+
 -- a job whose one commit was refused, and whose side is as before
 refused_done : {D T : Type 0} (device : Ghosts D) (here : JobContext) (old new : PairMemory) (before after : Holdings D) (e : StoreError) (rule : JobResult)
     → new ≡ old
@@ -56,6 +63,7 @@ refused_done {D = D} device here old new before after e rule same commit = recor
   full = λ is.
       (let full = commit.full (ap Err (full_is e commit.errors (err_is (work_error e) JournalFull is))) in
       record { count = full.count; over = full.over; same = (same, full.same) });
+  spent = λ is. absurd (spent_not e (err_is (work_error e) Exhausted is));
   cause = record {
     later = commit.cause.later;
     failed = λ is. commit.cause.failed (ap Err (failed_is e commit.errors (err_is (work_error e) Failed is)));

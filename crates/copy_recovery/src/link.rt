@@ -1,9 +1,11 @@
 //! What a job for a link does: the next page, the next copy, or the next old mark.
 
-ghost use Rattle.std.specs.Prelude.{◌≡◌, filter, map, Some, IfOk};
+ghost use Rattle.std.specs.Prelude.{◌≡◌, ◌<◌, filter, map, Some, Err, IfOk};
 ghost use Rattle.spec_rules.specs.Copies as copies;
+ghost use Rattle.spec_rules.specs.World.{greatest_u64};
 ghost use Rattle.spec_rules.specs.State.{id_of, other_in};
 ghost use Rattle.spec_rules.specs.declared.job.Job.TheVariants as job;
+ghost use Rattle.pair_memory.specs.declared.error.WorkError.TheVariants as error;
 ghost use Rattle.pair_memory.specs.PairMemory.{own_of, HasTicketsAt};
 ghost use Rattle.pair_memory.specs.JobResult.{IsDone, IsSaid, held};
 
@@ -31,8 +33,10 @@ fn go_for<D: Disk>(
     next: NextCopy,
 ) -> Result<JobResult, WorkError>
     requires { HasTicketsAt side.old store.now }
-    ensures { IsSaid here.now side.old side.new store.now store.now result
+    ensures said { ¬ (result ≡ Err error.Exhausted) → IsSaid here.now side.old side.new store.now store.now result
         (copies.goes_for here.now (own_of side.old store.now) row.now other next) }
+    ensures spent { result ≡ Err error.Exhausted → (side.new ≡ side.old)
+        × (greatest_u64 < (copies.goes_for here.now (own_of side.old store.now) row.now other next).own.pairs.next) }
 {
     match next {
         NextCopy::Ask => say_to(here, side, store, Some(other), page_wanted(side, row)),
@@ -49,8 +53,10 @@ fn catch_up<D: Disk>(
     row: &LinkRow,
 ) -> Result<JobResult, WorkError>
     requires { HasTicketsAt side.old store.now }
-    ensures { IsSaid here.now side.old side.new store.now store.now result
+    ensures said { ¬ (result ≡ Err error.Exhausted) → IsSaid here.now side.old side.new store.now store.now result
         (copies.catches_up here.now (own_of side.old store.now) row.now (other_in here.now.state here.now.me row.now)) }
+    ensures spent { result ≡ Err error.Exhausted → (side.new ≡ side.old) × (greatest_u64
+        < (copies.catches_up here.now (own_of side.old store.now) row.now (other_in here.now.state here.now.me row.now)).own.pairs.next) }
 {
     match other_in(here, row) {
         None => silent(here, side, store),

@@ -108,6 +108,13 @@ module _ {D : Type 0} (here : JobContext) (was : PairMemory) (store : Holdings D
         store = refl;
       }))
 
+-- a copy that begins takes a number
+pub begun_next : (here : JobContext) (own : PairState) (cell : Cell) → (copies_on here (begins_copy own cell) cell).own.pairs.next ≡ own.pairs.next + 1
+begun_next here own cell =
+    let begun : Copying = record { op = own.pairs.next; trimmed = false; index = 0 } in
+    let numbered : PairState = record own { pairs = record own.pairs { next = own.pairs.next + 1 } } in
+    ap (λ (rule : Rule). rule.own.pairs.next) (acts_there here numbered cell begun)
+
 -- ### Letters that move a copy on
 
 pub trimmed_is : (here : JobContext) (own : PairState) (number : ℕ) (cell : Cell) (copy : Copying) → at cell_cmp own.copies.pending cell ≡ Some copy

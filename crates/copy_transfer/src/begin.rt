@@ -1,26 +1,24 @@
 //! A copy that begins.
 
-ghost use Rattle.std.specs.Prelude.{◌≡◌, ◌+◌, IfOk};
+ghost use Rattle.std.specs.Prelude.{◌≡◌, ◌<◌, Err};
 ghost use Rattle.spec_rules.specs.Copies as copies;
+ghost use Rattle.spec_rules.specs.World.{greatest_u64};
+ghost use Rattle.pair_memory.specs.declared.error.WorkError.TheVariants as error;
 ghost use Rattle.pair_memory.specs.PairMemory.{own_of, HasTicketsAt};
 ghost use Rattle.pair_memory.specs.JobResult.{IsSaid};
 
 use crate::copy::trim_body;
 use link_blocks::other_on;
-use pair_memory::{JobContext, JobResult, PairMemory, WorkError, only};
-use petal_base::{Cell, NoMemory, Op};
+use pair_memory::{JobContext, JobResult, PairMemory, WorkError, next_number, only};
+use petal_base::Cell;
 use petal_disk::Disk;
 use petal_msg::Copying;
 use server_store::Store;
 
-/// The number after this one.
-fn next_number(op: Op) -> Result<Op, NoMemory>
-    ensures { IfOk result (λ next. next ≡ op + 1) }
-{
-    Ok(op.checked_add(1).ok_or(NoMemory)?)
-}
-
 /// A copy begins under the next number of this life: the other server is to drop its other entries.
+///
+/// # Errors
+/// `NoMemory`, and `Exhausted` where no number is left: nothing changed.
 pub fn begin_copy<D: Disk>(
     here: &JobContext,
     side: &mut PairMemory,
@@ -28,8 +26,10 @@ pub fn begin_copy<D: Disk>(
     cell: Cell,
 ) -> Result<JobResult, WorkError>
     requires { HasTicketsAt side.old store.now }
-    ensures { IsSaid here.now side.old side.new store.now store.now result
+    ensures said { ¬ (result ≡ Err error.Exhausted) → IsSaid here.now side.old side.new store.now store.now result
         (copies.copies_on here.now (copies.begins_copy (own_of side.old store.now) cell) cell) }
+    ensures spent { result ≡ Err error.Exhausted → (side.new ≡ side.old)
+        × (greatest_u64 < (copies.copies_on here.now (copies.begins_copy (own_of side.old store.now) cell) cell).own.pairs.next) }
 {
     let later = next_number(side.next)?;
     let copy = Copying {

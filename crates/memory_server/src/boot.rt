@@ -63,6 +63,7 @@ fn boot_opened<D: Disk>(
             Ok(Attempt::failed(Sequence::new(alloc), end))
         }
         Err(WorkError::NoMemory) => Err(HostError::NoMemory),
+        Err(WorkError::Exhausted) => Err(HostError::Exhausted),
     }
 }
 

@@ -38,6 +38,7 @@ pub fn of_store(error: StoreError) -> HostError {
 pub fn of_state(error: StateError) -> HostError {
     match error {
         StateError::NoMemory => HostError::NoMemory,
+        StateError::Exhausted => HostError::Exhausted,
         StateError::Failed
         | StateError::Blank
         | StateError::BadRecord { .. }

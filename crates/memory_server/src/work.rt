@@ -46,5 +46,6 @@ pub fn work_first<D: Disk>(
             Ok(Attempt::failed(letters, end))
         }
         Err(WorkError::NoMemory) => Err(HostError::NoMemory),
+        Err(WorkError::Exhausted) => Err(HostError::Exhausted),
     }
 }

@@ -51,6 +51,7 @@ module _ {D : Type 0} (device : Ghosts D) (only_now : (d : D) (c : List ℕ) →
       same = λ no. absurd (cc);
       kept = tt;
       full = λ no. absurd (cc);
+      spent = λ no. absurd (cc);
       cause = record { later = later; failed = λ no. absurd (cc) };
       run = run;
     }
@@ -63,6 +64,7 @@ module _ {D : Type 0} (device : Ghosts D) (only_now : (d : D) (c : List ℕ) →
       same = λ _. (said.err.1, same);
       kept = λ _. ap (λ (s : Holdings D). s.entries) same;
       full = λ f. absurd (let e_is : e ≡ NoMemory = said.err.0 in cc);
+      spent = λ f. absurd (let e_is : e ≡ NoMemory = said.err.0 in cc);
       cause = record { later = later; failed = λ f. absurd (let e_is : e ≡ NoMemory = said.err.0 in cc) };
       run = run;
     }

@@ -6,6 +6,7 @@ use Rattle.petal_msg.specs.declared.letter.Letter.{Letter}
 use Rattle.physical_map.specs.Entries.{top_of}
 use Rattle.spec_rules.specs.Server.{PairState, JobContext, sender, letters_of}
 use Rattle.spec_rules.specs.Server.{JobResult as Rule}
+use Rattle.spec_rules.specs.World.{greatest_u64}
 use Rattle.spec_rules.specs.declared.job.Job.{Job}
 use Rattle.spec_rules.specs.declared.job.Job.TheVariants as job
 use Rattle.kept_chains.specs.Holdings.{Holdings, listed}
@@ -13,7 +14,7 @@ pub use Rattle.kept_chains.specs.Shown.{HoldsAt}
 use Rattle.kept_chains.specs.Kept.{store_of}
 use Rattle.kept_chains.specs.Standing.{StandsAsEither}
 use Rattle.pair_memory.specs.declared.error.WorkError.{WorkError}
-use Rattle.pair_memory.specs.declared.error.WorkError.TheVariants.{Failed, JournalFull, NoMemory}
+use Rattle.pair_memory.specs.declared.error.WorkError.TheVariants.{Failed, JournalFull, NoMemory, Exhausted}
 use Rattle.pair_memory.specs.declared.job_result.JobResult.{JobResult}
 use Rattle.pair_memory.specs.declared.job_result.FollowUp.{FollowUp}
 use Rattle.pair_memory.specs.declared.job_result.FollowUp.TheVariants as follow
@@ -73,10 +74,15 @@ module _ {D : Type 0} where
     pub over : rule.own.store.records ≡ length before.log.records + 1
     pub same : (new ≡ old) × (after ≡ before)
 
+  -- the rule's next number of an operation is beyond the greatest, and all but the device's state is as it was
+  pub record IsSpent (device : Ghosts D) (before after : Held D) (rule : Rule) : Type 0 where
+    pub next : device.observable → greatest_u64 < rule.own.pairs.next
+    pub same : (after.side ≡ before.side) × (after.store ≡ record before.store { disk = after.store.disk })
+
   -- a job is the rule's where the device tells its bytes, and the tickets still stand where they are needed; a device that showed
   -- the store shows it after the job too, and after one that was refused for memory, which left all but the device's state as it
   -- was. A crash at any moment leaves the store before the job, or the rule's after it. Any other refusal left the entries.
-  -- `JournalFull` comes only where the journal has no room for the record of the job
+  -- `JournalFull` comes only where the journal has no room for the record of the job, and `Exhausted` only where no number is left for the operation
   pub record IsDone (device : Ghosts D) (here : JobContext) (before after : Held D) (result : Result JobResult WorkError) (rule : Rule) : Type 0 where
     pub done : IfOk result (λ done. device.observable → IsBy here (own_of after.side after.store) done rule)
     pub keeps : OnOk result (HasTicketsAt after.side after.store)
@@ -87,5 +93,6 @@ module _ {D : Type 0} where
     pub same : result ≡ Err NoMemory → (after.side ≡ before.side) × (after.store ≡ record before.store { disk = after.store.disk })
     pub kept : OnErr result (device.observable → after.store.entries ≡ before.store.entries)
     pub full : result ≡ Err JournalFull → IsFull before.side after.side before.store after.store rule
+    pub spent : result ≡ Err Exhausted → IsSpent device before after rule
     pub cause : HasFault (device.faults before.store.disk) (device.faults after.store.disk) result
     pub run : device.came_to before.store.disk after.store.disk

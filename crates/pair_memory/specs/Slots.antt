@@ -6,7 +6,7 @@ use Rattle.petal_base.specs.declared.cell.Key.{Key}
 use Rattle.spec_rules.specs.Store.{Store, Stored, cell_cmp, with_entry, with_ticket}
 use Rattle.kept_chains.specs.Holdings.{Holdings}
 use Rattle.pair_memory.specs.declared.error.WorkError.{WorkError}
-use Rattle.pair_memory.specs.declared.error.WorkError.TheVariants.{Failed, JournalFull, NoMemory}
+use Rattle.pair_memory.specs.declared.error.WorkError.TheVariants.{Failed, JournalFull, NoMemory, Exhausted}
 
 -- a slot was set apart, and its ticket stands at the cell
 pub record IsKept {D : Type 0} (old_table new_table : Table Cell ℕ) (old new : Holdings D) (cell : Cell) : Type 0 where
@@ -30,3 +30,4 @@ abbrev pub IsStop : WorkError → Type 0
 IsStop Failed = ⊤
 IsStop JournalFull = ⊤
 IsStop NoMemory = ⊥
+IsStop Exhausted = ⊥

@@ -16,6 +16,9 @@ pub enum WorkError {
     /// There was no memory for this job, which changed nothing.
     #[error("out of memory")]
     NoMemory,
+    /// A number that the job counts up is the greatest of its type. It changed nothing.
+    #[error("a counter is at its end")]
+    Exhausted,
 }
 
 impl From<NoMemory> for WorkError {

@@ -27,5 +27,5 @@ pub use kept_chains::{Store, next_marked, next_stored};
 pub use links::link_id;
 pub use replies::{ended, finish, say, say_to, silent};
 pub use sending::with_letter;
-pub use side::PairMemory;
+pub use side::{PairMemory, next_number};
 pub use slots::{give_back, keep, put_new, spend};

@@ -1,14 +1,17 @@
 //! What a server has in memory of its pairs.
 
-ghost use Rattle.std.specs.Prelude.{◌≡◌, ◌||◌, IfOk, IfSome, is_some};
+ghost use Rattle.std.specs.Prelude.{◌≡◌, ◌||◌, ◌<◌, ◌+◌, IfOk, IfErr, IfSome, is_some};
 ghost use Rattle.std.specs.List.Sorted.{IsStrictlySortedBy};
 ghost use Rattle.std.specs.Map.{keys_of};
 ghost use Rattle.std.specs.Ordering.{nat_cmp};
 ghost use Rattle.petal_table.specs.Table.{at};
 ghost use Rattle.spec_rules.specs.Store.{cell_cmp};
+ghost use Rattle.spec_rules.specs.World.{greatest_u64};
+ghost use Rattle.pair_memory.specs.declared.error.WorkError.TheVariants as error;
 ghost use Rattle.pair_memory.specs.PairMemory.{new_side};
 
 use crate::copies::Copies;
+use crate::error::WorkError;
 use crate::links::LinkTable;
 use kept_chains::Ticket;
 use pair_lock::PairLock;
@@ -99,4 +102,15 @@ impl PairMemory {
             None => Ok(None),
         }
     }
+}
+
+/// The number of the operation after this one.
+///
+/// # Errors
+/// `Exhausted` where there is none.
+pub fn next_number(number: Op) -> Result<Op, WorkError>
+    ensures ok { IfOk result (λ next. next ≡ number + 1) }
+    ensures spent { IfErr result (λ e. (e ≡ error.Exhausted) × (greatest_u64 < number + 1)) }
+{
+    number.checked_add(1).ok_or(WorkError::Exhausted)
 }

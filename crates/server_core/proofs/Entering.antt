@@ -13,7 +13,7 @@ use Rattle.pair_memory.specs.Crossed.{IsEntered, lacks_room}
 use Rattle.pair_memory.specs.JobResult.{HoldsAt}
 use Rattle.pair_memory.specs.PairMemory.{PairMemory, own_of}
 use Rattle.pair_memory.specs.declared.error.WorkError.{WorkError}
-use Rattle.pair_memory.specs.declared.error.WorkError.TheVariants.{Failed, JournalFull, NoMemory}
+use Rattle.pair_memory.specs.declared.error.WorkError.TheVariants.{Failed, JournalFull, NoMemory, Exhausted}
 use Rattle.pair_memory.proofs.Entering.{lacking}
 use Rattle.petal_command.specs.declared.command.Command.{Command}
 use Rattle.petal_disk.specs.Disk.{LeavesOnly}
@@ -107,6 +107,7 @@ module _ {D : Type 0} (device : Ghosts D) (records : List StateRecord) (old : Se
     same = λ no. absurd (cc);
     kept = tt;
     full = λ no. absurd (cc);
+    spent = λ no. absurd (cc);
     cause = record { later = entered.cause.later; failed = λ no. absurd (cc) };
     run = entered.run;
   }
@@ -126,6 +127,7 @@ module _ {D : Type 0} (device : Ghosts D) (records : List StateRecord) (old : Se
     same = λ no. absurd (cc);
     kept = entered.kept;
     full = λ no. absurd (cc);
+    spent = λ no. absurd (cc);
     cause = record { later = entered.cause.later; failed = λ _. entered.cause.failed (ap Err is) };
     run = entered.run;
   }
@@ -146,6 +148,7 @@ module _ {D : Type 0} (device : Ghosts D) (records : List StateRecord) (old : Se
       same = λ _. (same, refl);
       kept = λ _. refl;
       full = λ no. absurd (cc);
+      spent = λ no. absurd (cc);
       cause = record { later = omega arith; failed = λ no. absurd (cc) };
       run = stays before.disk;
     }
@@ -163,6 +166,7 @@ module _ {D : Type 0} (device : Ghosts D) (records : List StateRecord) (old : Se
         let is = same refl in
         subst (λ (held : Holdings D). IsStoreWork device records old new before held (Err NoMemory)) (sym is.2)
         (applied_nothing new (λ i. record { running = running i; log = is.0 i; side = is.1 i; queue = queue i }))
+    applied_not new left Exhausted entered same running voter queue = let e = (entered (λ no. absurd (cc))).errors in absurd (cc)
 
     -- the journal has no room for its record
     pub applied_full : lacks_room old.log.voter.me old.log.voter.inc (next_known old.log records) before ≡ true
@@ -183,14 +187,16 @@ module _ {D : Type 0} (device : Ghosts D) (records : List StateRecord) (old : Se
             same = (same, refl);
             stops = λ _ holds. entry_stops old (store_of before) records there (full_stored device before holds full.0 _ full.1);
           };
+          spent = λ no. absurd (cc);
           cause = record { later = omega arith; failed = λ no. absurd (cc) };
           run = stays before.disk;
         }
 
     -- it was refused before anything changed
-    pub applied_refused : (new : ServerView) → new ≡ old → (e : WorkError) → e ≢ Failed
+    pub applied_refused : (new : ServerView) → new ≡ old → (e : WorkError) → (e ≢ Failed) × (e ≢ Exhausted)
         → (e ≡ JournalFull → lacks_room old.log.voter.me old.log.voter.inc (next_known old.log records) before ≡ true)
         → IsStoreWork device records old new before before (Err e)
-    applied_refused new same Failed other lacks = absurd (other refl)
+    applied_refused new same Failed other lacks = absurd (other.0 refl)
     applied_refused new same JournalFull other lacks = applied_full (lacks refl) new same
     applied_refused new same NoMemory other lacks = applied_nothing new same
+    applied_refused new same Exhausted other lacks = absurd (other.1 refl)

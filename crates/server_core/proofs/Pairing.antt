@@ -70,6 +70,7 @@ module _ {D : Type 0} (device : Ghosts D) (records : List StateRecord) (old new 
     same = λ no. absurd (cc);
     kept = tt;
     full = λ no. absurd (cc);
+    spent = λ no. absurd (cc);
     cause = record { later = is.cause.later; failed = λ no. absurd (cc) };
     run = is.run;
   }

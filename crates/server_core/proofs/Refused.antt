@@ -7,7 +7,7 @@ use Rattle.server_log.specs.Part.{Part}
 use Rattle.server_log.specs.declared.memory.done.LogDone.{LogDone}
 use Rattle.pair_memory.specs.PairMemory.{PairMemory}
 use Rattle.pair_memory.specs.declared.error.WorkError.{WorkError}
-use Rattle.pair_memory.specs.declared.error.WorkError.TheVariants.{Failed, JournalFull, NoMemory}
+use Rattle.pair_memory.specs.declared.error.WorkError.TheVariants.{Failed, JournalFull, NoMemory, Exhausted}
 use Rattle.petal_disk.specs.Disk.{LeavesOnly}
 use Rattle.petal_disk.specs.declared.disk.Disk.{Ghosts}
 use Rattle.spec_rules.specs.Log.{LogDone as Rule}
@@ -57,15 +57,16 @@ module _ {D : Type 0} (device : Ghosts D) (store : Store) (old new : ServerView)
 
   -- the job's refusal is told by that of the state store
   refused_as : (e : StateError) (w : WorkError) → (w ≡ Failed → e ≡ state.Failed) → (w ≡ JournalFull → e ≡ state.JournalFull)
-      → (w ≡ NoMemory → e ≡ state.NoMemory) → IsLogDone device old.log new.log before after (Err e) rule
+      → (w ≡ NoMemory → e ≡ state.NoMemory) → (w ≡ Exhausted → e ≡ state.Exhausted) → IsLogDone device old.log new.log before after (Err e) rule
       → IsLogWork device store old new before after (Err w)
-  refused_as e w failed full nothing done = record {
+  refused_as e w failed full nothing spent done = record {
     work = tt;
     life = (running, done.voter);
     side = noted;
     holds = λ _ _. tt;
     moments = log_moments device store old before after first there kind done;
     same = λ is. let same = done.same (ap Err (nothing (cc))) in (same_core same.0, same.1);
+    spent = λ is. let same = (done.spent (ap Err (spent (cc)))).same in (same_core same.0, same.1);
     kept = done.kept;
     full = λ is. is_full e (full (cc)) done;
     cause = record { later = done.later; failed = λ is. done.failed (ap Err (failed (cc))) };
@@ -74,8 +75,9 @@ module _ {D : Type 0} (device : Ghosts D) (store : Store) (old new : ServerView)
 
   pub refused_work : (e : StateError) → IsLogDone device old.log new.log before after (Err e) rule
       → IsLogWork device store old new before after (Err (of_state e))
-  refused_work state.Failed done = refused_as state.Failed Failed (λ _. refl) (λ no. absurd (cc)) (λ no. absurd (cc)) done
+  refused_work state.Failed done = refused_as state.Failed Failed (λ _. refl) (λ no. absurd (cc)) (λ no. absurd (cc)) (λ no. absurd (cc)) done
   refused_work state.Blank done = absurd (done.only)
   refused_work (state.BadRecord index) done = absurd (done.only)
-  refused_work state.JournalFull done = refused_as state.JournalFull JournalFull (λ no. absurd (cc)) (λ _. refl) (λ no. absurd (cc)) done
-  refused_work state.NoMemory done = refused_as state.NoMemory NoMemory (λ no. absurd (cc)) (λ no. absurd (cc)) (λ _. refl) done
+  refused_work state.JournalFull done = refused_as state.JournalFull JournalFull (λ no. absurd (cc)) (λ _. refl) (λ no. absurd (cc)) (λ no. absurd (cc)) done
+  refused_work state.NoMemory done = refused_as state.NoMemory NoMemory (λ no. absurd (cc)) (λ no. absurd (cc)) (λ _. refl) (λ no. absurd (cc)) done
+  refused_work state.Exhausted done = refused_as state.Exhausted Exhausted (λ no. absurd (cc)) (λ no. absurd (cc)) (λ no. absurd (cc)) (λ _. refl) done

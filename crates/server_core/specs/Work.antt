@@ -6,7 +6,7 @@ use Rattle.server_log.specs.Done as logs
 use Rattle.pair_memory.specs.JobResult.{HasFault, HoldsAt}
 use Rattle.pair_memory.specs.PairMemory.{HasTicketsAt}
 use Rattle.pair_memory.specs.declared.error.WorkError.{WorkError}
-use Rattle.pair_memory.specs.declared.error.WorkError.TheVariants.{Failed, JournalFull, NoMemory}
+use Rattle.pair_memory.specs.declared.error.WorkError.TheVariants.{Failed, JournalFull, NoMemory, Exhausted}
 use Rattle.petal_disk.specs.declared.disk.Disk.{Ghosts}
 use Rattle.petal_disk.specs.Disk.{LeavesOnly}
 use Rattle.petal_msg.specs.declared.letter.Letter.{Letter}
@@ -28,6 +28,7 @@ of_state state.Blank = Failed
 of_state (state.BadRecord index) = Failed
 of_state state.JournalFull = JournalFull
 of_state state.NoMemory = NoMemory
+of_state state.Exhausted = Exhausted
 
 -- there is no room for the record of the first job, and the rule lets the server stop
 abbrev pub Stops : ServerView → Store → List StateRecord → Type 0
@@ -57,6 +58,7 @@ module _ {D : Type 0} where
     pub same : result ≡ Err NoMemory → (new ≡ old) × (after ≡ record before { disk = after.disk })
     pub kept : OnErr result (device.observable → after.entries ≡ before.entries)
     pub full : result ≡ Err JournalFull → IsFullStore device records old new before after
+    pub spent : result ≡ Err Exhausted → (new ≡ old) × (after ≡ record before { disk = after.disk })
     pub cause : HasFault (device.faults before.disk) (device.faults after.disk) result
     pub run : device.came_to before.disk after.disk
 
@@ -79,6 +81,7 @@ module _ {D : Type 0} where
         → LeavesOnly device.moment device.left_since before.disk after.disk
         (StandsForEither before.records (left_by_first old store before.records).log.records)
     pub same : result ≡ Err NoMemory → (new ≡ old) × (after ≡ before)
+    pub spent : result ≡ Err Exhausted → (new ≡ old) × (after ≡ before)
     pub kept : OnErr result (after.records ≡ before.records)
     pub full : result ≡ Err JournalFull → IsFullLog device store old new before after
     pub cause : HasFault (device.faults before.disk) (device.faults after.disk) result

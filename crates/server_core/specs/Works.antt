@@ -6,7 +6,7 @@ use Rattle.server_log.specs.Done as logs
 use Rattle.pair_memory.specs.JobResult.{HoldsAt}
 use Rattle.pair_memory.specs.PairMemory.{HasTicketsAt}
 use Rattle.pair_memory.specs.declared.error.WorkError.{WorkError}
-use Rattle.pair_memory.specs.declared.error.WorkError.TheVariants.{JournalFull, NoMemory}
+use Rattle.pair_memory.specs.declared.error.WorkError.TheVariants.{JournalFull, NoMemory, Exhausted}
 use Rattle.petal_disk.specs.declared.disk.Disk.{Ghosts}
 use Rattle.petal_disk.specs.Disk.{LeavesOnly}
 use Rattle.petal_msg.specs.declared.letter.Letter.{Letter}
@@ -38,6 +38,7 @@ pub record IsFirstJob {D E : Type 0} (device : Ghosts D) (other : Ghosts E) (old
   pub same : result ≡ Err NoMemory → (new ≡ old) × (after ≡ record before { disk = after.disk }) × (left ≡ state)
   pub kept : OnErr result (device.observable → after.entries ≡ before.entries)
   pub full : result ≡ Err JournalFull → IsFullWork device other old new before after state left
+  pub spent : result ≡ Err Exhausted → (new ≡ old) × (after ≡ record before { disk = after.disk }) × (left ≡ state)
   pub cause : HasFaults (device.faults before.disk) (device.faults after.disk) (other.faults state.disk) (other.faults left.disk) result
   pub run : device.came_to before.disk after.disk
   pub state_holds : other.observable → logs.HoldsAt other state → OnOk result (logs.HoldsAt other left)

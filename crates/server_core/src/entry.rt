@@ -133,7 +133,7 @@ fn next_with_jobs<D: Disk, E: Disk>(
         ≡ jobs_by (state_of log.now) log.now.voter.me (option_map entry_in found.0) (own_in side.now held)) }
     ensures full { result ≡ Err error.JournalFull
         → lacks_room log.now.voter.me log.now.voter.inc (next_known log.now state.now.records) store.now ≡ true }
-    ensures err { IfErr result (λ e. e ≢ error.Failed) }
+    ensures err { IfErr result (λ e. (e ≢ error.Failed) × (e ≢ error.Exhausted)) }
 {
     let next = log.next_entry(alloc, state)?;
     if next_lacks_room(alloc, log, &next, store) {

@@ -24,6 +24,7 @@ pub fn of_state(error: StateError) -> WorkError
         StateError::Failed | StateError::Blank | StateError::BadRecord { .. } => WorkError::Failed,
         StateError::JournalFull => WorkError::JournalFull,
         StateError::NoMemory => WorkError::NoMemory,
+        StateError::Exhausted => WorkError::Exhausted,
     }
 }
 

@@ -9,20 +9,30 @@ use Rattle.spec_paxos.specs.Kept.{AddsNothing, committed}
 use Rattle.spec_paxos.specs.declared.record.StateRecord.{StateRecord}
 use Rattle.spec_rules.specs.Log.{Log, commits}
 use Rattle.spec_rules.specs.Log.{LogDone as Rule}
+use Rattle.state_store.specs.Body.{HasBody}
 use Rattle.state_store.specs.Errors.{IsCommitError}
 use Rattle.state_store.specs.Device.{Keeping, StandsForEither}
 use Rattle.state_store.specs.declared.error.StateError.{StateError}
-use Rattle.state_store.specs.declared.error.StateError.TheVariants.{Failed, JournalFull, NoMemory}
+use Rattle.state_store.specs.declared.error.StateError.TheVariants.{Failed, Blank, BadRecord, JournalFull, NoMemory, Exhausted}
 use Rattle.server_log.specs.declared.memory.done.LogDone.{LogDone}
 use Rattle.server_log.specs.Part.{Part}
 use Rattle.server_log.specs.Said.{IsLogSaid}
-use Rattle.server_log.specs.Done.{HoldsAt, IsLogDone}
+use Rattle.server_log.specs.Done.{HoldsAt, IsLogDone, IsLogError}
 use Rattle.petal_base.specs.Limits.{journal_records}
 
 -- a commit was refused for what the job was refused for
 refusal_is : {T : Type 0} (answer : Result LogDone StateError) (refusal : Result T StateError) (e f : StateError)
     → answer ≡ Err e → refusal ≡ Err e → answer ≡ Err f → IsErrOf refusal f
 refusal_is answer refusal e f one refused is = cc
+
+-- a commit is refused for nothing else than a job
+log_error : (e : StateError) → IsCommitError e → IsLogError e
+log_error Failed is = is
+log_error Blank is = is
+log_error (BadRecord index) is = is
+log_error JournalFull is = is
+log_error NoMemory is = is
+log_error Exhausted is = absurd is
 
 module _ {D : Type 0} (device : Ghosts D) where
   -- what a crash leaves, where a commit makes the records after it
@@ -50,6 +60,7 @@ module _ {D : Type 0} (device : Ghosts D) where
       same = λ no. absurd (cc);
       only = tt;
       full = λ no. absurd (cc);
+      spent = λ no. absurd (cc);
       later = omega arith;
       failed = λ no. absurd (cc);
       run = stays store.disk;
@@ -65,10 +76,29 @@ module _ {D : Type 0} (device : Ghosts D) where
           same = λ _. (said.err.1, refl);
           only = tt;
           full = λ no. absurd (cc);
+          spent = λ no. absurd (cc);
           later = omega arith;
           failed = λ no. absurd (cc);
           run = stays store.disk;
         })
+
+    -- a job whose record has no spelling leaves all as it was
+    pub spent_done : (part : Part) (store : Keeping D) (entry : StateRecord) (rule : Rule) → ¬ HasBody entry
+        → rule.log.records ≡ committed store.records entry → IsLogDone device part part store store (Err Exhausted) rule
+    spent_done part store entry rule unspelled records = record {
+      done = tt;
+      voter = refl;
+      holds = λ _ _. tt;
+      moments = λ _. still_left store rule.log.records;
+      kept = refl;
+      same = λ no. absurd (cc);
+      only = tt;
+      full = λ no. absurd (cc);
+      spent = λ _. record { entry = entry; unspelled = unspelled; records = records; same = (refl, refl) };
+      later = omega arith;
+      failed = λ no. absurd (cc);
+      run = stays store.disk;
+    }
 
   -- a commit that was refused leaves what a refused job leaves, where it makes the records of the rule. A full journal has no
   -- room for a record that is needed (X)
@@ -90,7 +120,8 @@ module _ {D : Type 0} (device : Ghosts D) where
     moments = λ observed holds. left_as before.disk after.disk before.records made rule.log.records is (left observed holds);
     kept = kept;
     same = λ out. (refl, memory (refusal_is _ refusal e NoMemory refl refused out));
-    only = only;
+    only = log_error e only;
+    spent = λ out. let is : e ≡ Exhausted = cc in absurd (subst IsCommitError is only);
     full = λ out.
         let held = full (refusal_is _ refusal e JournalFull refl refused out) in
         record { count = held.0; over = ap (λ (rs : List StateRecord). length rs) (sym is) ∙ over held.1; same = (refl, held.2) };

@@ -6,7 +6,7 @@ ghost use Rattle.server_log.specs.Part.{log_of};
 ghost use Rattle.server_log.specs.Done.{IsLogDone};
 
 use crate::entries::learn;
-use crate::jobs::{asked, downed, heard, proposed, quiet};
+use crate::jobs::{asked, downed, exhausted, heard, proposed, quiet};
 use crate::memory::{LogDone, LogSide, only, room_for};
 use crate::news::on_news;
 use paxos_core::{on_accept, on_prepare};
@@ -98,7 +98,7 @@ fn on_pax<D: Disk>(
 ///
 /// # Errors
 /// `Failed` where the device failed, `JournalFull` only where its journal had all its records: the server is to be stopped.
-/// `NoMemory`: nothing changed.
+/// `NoMemory`, and `Exhausted` only where no record can name the place or the round: nothing changed.
 #[tactic(auto, unfolding(spec_rules::specs::Jobs::hears_log))]
 pub fn on_letter<D: Disk>(
     alloc: Global,
@@ -142,8 +142,12 @@ pub fn start_ballot<D: Disk>(
     let servers = log.servers().get();
     let room = room_for(alloc, servers)?;
     let envelope = log.envelope();
-    let place = log.ballot_place()?;
-    let round = log.next_round(state, place)?;
+    let Some(place) = log.ballot_place() else {
+        return exhausted(log, state);
+    };
+    let Some(round) = log.next_round(state, place) else {
+        return exhausted(log, state);
+    };
     let ballot = Ballot {
         round,
         server: log.me(),

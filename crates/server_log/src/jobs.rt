@@ -1,10 +1,15 @@
 //! One job of the log. Those that make no call of the device are said here to be such as may have made one.
 
+ghost use Rattle.std.specs.Prelude.{◌≡◌, Err};
+ghost use Rattle.spec_paxos.specs.Kept.{committed};
 ghost use Rattle.spec_paxos.specs.Proposer as proposers;
+ghost use Rattle.spec_paxos.specs.declared.record.StateRecord.{StateRecord};
 ghost use Rattle.spec_rules.specs.Ballots as ballots;
 ghost use Rattle.spec_rules.specs.Entries as entries;
 ghost use Rattle.spec_rules.specs.Jobs.{log_does};
-ghost use Rattle.spec_rules.specs.Log.{keeps};
+ghost use Rattle.spec_rules.specs.Log.{LogDone as Rule, keeps};
+ghost use Rattle.state_store.specs.Body.{HasBody};
+ghost use Rattle.state_store.specs.declared.error.StateError.TheVariants as error;
 ghost use Rattle.server_log.specs.Part.{log_of};
 ghost use Rattle.server_log.specs.Said.{IsLogSaid};
 ghost use Rattle.server_log.specs.Done.{IsLogDone};
@@ -31,6 +36,20 @@ pub(crate) fn quiet<D: Disk>(
     let _ = log;
     let _ = state;
     Ok(only(Sequence::new(alloc)))
+}
+
+/// No record can be of the job, as it would name a place or a round beyond the greatest. Nothing is done.
+pub(crate) fn exhausted<D: Disk>(
+    log: &LogSide,
+    state: &StateStore<D>,
+) -> Result<LogDone, StateError>
+    ensures refused { result ≡ Err error.Exhausted }
+    ensures done { (entry : StateRecord) → (rule : Rule) → ¬ HasBody entry → rule.log.records ≡ committed state.now.records entry
+        → IsLogDone D.Disk log.now log.now state.now state.now result rule }
+{
+    let _ = log;
+    let _ = state;
+    Err(StateError::Exhausted)
 }
 
 /// A client's command is wanted.

@@ -1,6 +1,6 @@
 //! News of the log: one entry a job.
 
-ghost use Rattle.std.specs.Prelude.{◌≡◌, IfOk};
+ghost use Rattle.std.specs.Prelude.{◌≡◌, ◌≤◌, ◌^◌, None, IfOk};
 ghost use Rattle.spec_rules.specs.Entries as rules;
 ghost use Rattle.spec_rules.specs.Log.{Log};
 ghost use Rattle.spec_rules.specs.declared.job.Job.TheVariants as job;
@@ -8,7 +8,7 @@ ghost use Rattle.server_log.specs.Part.{log_of};
 ghost use Rattle.server_log.specs.Done.{IsLogDone};
 
 use crate::entries::learn;
-use crate::jobs::quiet;
+use crate::jobs::{exhausted, quiet};
 use crate::memory::{LogDone, LogSide};
 use petal_base::{NoMemory, Rev, Sequence};
 use petal_command::Command;
@@ -21,20 +21,38 @@ use std::alloc::Global;
 fn unknown_from<D: Disk>(
     alloc: Global,
     state: &StateStore<D>,
-    from: u32,
+    from: u64,
     commands: &[Command],
-) -> Result<Sequence<(u32, Command)>, NoMemory>
+) -> Result<Sequence<(u64, Command)>, NoMemory>
+    requires { from ≤ 2 ^ 32 }
     ensures { (log : Log) → log.records ≡ state.now.records → IfOk result (λ unknown. unknown ≡ rules.unknown_from log from commands.now) }
 {
     let mut unknown = Sequence::new(alloc);
     let mut place = from;
     for command in commands {
-        if state.chosen(place as u64).is_none() {
+        if state.chosen(place).is_none() {
             unknown.push((place, command.copy()))?;
         }
-        place = place.checked_add(1).ok_or(NoMemory)?;
+        place += 1;
     }
     Ok(unknown)
+}
+
+/// The command is chosen for the place, which may be beyond the greatest that a record can name.
+fn learn_at<D: Disk>(
+    alloc: Global,
+    log: &LogSide,
+    state: &mut StateStore<D>,
+    place: u64,
+    command: &Command,
+) -> Result<LogDone, StateError>
+    ensures alone { IfOk result (λ done. done.again ≡ None) }
+    ensures done { IsLogDone D.Disk log.now log.now state.old state.new result (rules.learns (log_of log.now state.old.records) place command.now) }
+{
+    if place > u32::MAX as u64 {
+        return exhausted(log, state);
+    }
+    learn(alloc, log, state, place as u32, command)
 }
 
 /// The command is chosen for the place, and the letter that tells it follows up.
@@ -43,14 +61,14 @@ fn learn_one<D: Disk>(
     log: &LogSide,
     state: &mut StateStore<D>,
     letter: &SharedLetter,
-    place: u32,
+    place: u64,
     command: &Command,
 ) -> Result<LogDone, StateError>
     ensures { IsLogDone D.Disk log.now log.now state.old state.new result
         (rules.followed_by (rules.learns (log_of log.now state.old.records) place command.now) (job.Letter letter.now)) }
 {
     let letter = letter.share()?;
-    let done = learn(alloc, log, state, place, command)?;
+    let done = learn_at(alloc, log, state, place, command)?;
     Ok(LogDone {
         letters: done.letters,
         apply: done.apply,
@@ -71,11 +89,10 @@ pub(crate) fn on_news<D: Disk>(
     ensures { IsLogDone D.Disk log.now log.now state.old state.new result
         (rules.on_news (log_of log.now state.old.records) letter.now after commands.now) }
 {
-    let first = after.checked_add(1).ok_or(NoMemory)?;
-    let unknown = unknown_from(alloc, state, first, commands)?;
+    let unknown = unknown_from(alloc, state, after as u64 + 1, commands)?;
     match unknown.as_slice() {
         [] => quiet(alloc, log, state),
-        [(place, command)] => learn(alloc, log, state, *place, command),
+        [(place, command)] => learn_at(alloc, log, state, *place, command),
         [(place, command), ..] => { learn_one(alloc, log, state, letter, *place, command) },
     }
 }

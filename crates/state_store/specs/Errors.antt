@@ -3,7 +3,7 @@ use Rattle.std.specs.Prelude.{◌≤◌, ◌<◌, ℕ, ⊤, Result, IsErrOf}
 use Rattle.block_journal.specs.declared.error.JournalError.{JournalError}
 use Rattle.block_journal.specs.declared.error.JournalError.TheVariants as journal
 use Rattle.state_store.specs.declared.error.StateError.{StateError}
-use Rattle.state_store.specs.declared.error.StateError.TheVariants.{Failed, Blank, BadRecord, JournalFull, NoMemory}
+use Rattle.state_store.specs.declared.error.StateError.TheVariants.{Failed, Blank, BadRecord, JournalFull, NoMemory, Exhausted}
 
 abbrev pub of_journal : JournalError → StateError
 of_journal journal.Failed = Failed
@@ -17,6 +17,7 @@ IsReadError Blank = ⊥
 IsReadError (BadRecord index) = ⊤
 IsReadError JournalFull = ⊥
 IsReadError NoMemory = ⊤
+IsReadError Exhausted = ⊥
 
 -- the count of faults does not fall, `Failed` comes only where it has risen, and reading the journal ends neither at a blank device
 -- nor at a full journal
@@ -33,6 +34,7 @@ IsAppendError Blank = ⊥
 IsAppendError (BadRecord index) = ⊥
 IsAppendError JournalFull = ⊤
 IsAppendError NoMemory = ⊥
+IsAppendError Exhausted = ⊥
 
 -- the refusals of a commit that may take memory
 abbrev pub IsCommitError : StateError → Type 0
@@ -41,3 +43,4 @@ IsCommitError Blank = ⊥
 IsCommitError (BadRecord index) = ⊥
 IsCommitError JournalFull = ⊤
 IsCommitError NoMemory = ⊤
+IsCommitError Exhausted = ⊥

@@ -23,6 +23,9 @@ pub enum StateError {
     /// There was no memory. Nothing changed.
     #[error("out of memory")]
     NoMemory,
+    /// A record would name a place or a round beyond the greatest of its type. Nothing changed.
+    #[error("a place or a round beyond the greatest")]
+    Exhausted,
 }
 
 impl From<Failed> for StateError {

@@ -210,6 +210,7 @@ module _ {D : Type 0} (here : JobContext) (side : PairMemory) (store : Holdings 
     same = λ no. absurd (cc);
     kept = tt;
     full = λ no. absurd (cc);
+    spent = λ no. absurd (cc);
     cause = record { later = commit.cause.later; failed = λ no. absurd (cc) };
     run = commit.run;
   })

@@ -1,5 +1,7 @@
 -- An operation that is opened.
-use Rattle.std.proofs.Common.{◌≡◌, ◌+◌, ℕ, Bool, true, false, length, Some, None, Result, Err, OnErr, refl, sym, subst, ap, ◌∙◌, IsSome, arith}
+use Rattle.std.proofs.Common.{◌≡◌, ◌+◌, ℕ, Bool, true, false, List, length, Option, Some, None, IsSome, refl, sym, subst, ap, ◌∙◌, arith}
+use Rattle.std.proofs.Common.{Result, Ok, Err, OnErr, IsErr, IsErrAnd}
+use Rattle.std.specs.Prelude.{if◌then◌else◌}
 use Rattle.petal_base.specs.declared.cell.Cell.{Cell}
 use Rattle.petal_disk.specs.Disk.{LeavesOnly}
 use Rattle.petal_disk.specs.declared.disk.Disk.{Ghosts}
@@ -7,8 +9,14 @@ use Rattle.petal_table.specs.Table.{Table, at, put, without}
 use Rattle.spec_rules.specs.Server.{JobContext, PairState}
 use Rattle.spec_rules.specs.Server.{JobResult as Rule}
 use Rattle.spec_rules.specs.Store.{Store, cell_cmp}
+use Rattle.petal_msg.specs.declared.operation.Action.{Action}
+use Rattle.petal_msg.specs.declared.operation.Action.TheVariants as action
+use Rattle.petal_msg.specs.declared.operation.Ending.{Ending}
+use Rattle.petal_msg.specs.declared.operation.Ending.TheVariants.{Written}
+use Rattle.petal_msg.specs.declared.operation.OpKind.{OpKind}
+use Rattle.petal_msg.specs.declared.operation.OpKind.TheVariants as kind
 use Rattle.petal_msg.specs.declared.operation.Pending.{Pending}
-use Rattle.spec_rules.specs.Writes.{goes_on, with_opened}
+use Rattle.spec_rules.specs.Writes.{acts, ends, gives_back, goes_on, goes_on_with, next_stage, with_opened, without_pending}
 use Rattle.spec_rules.proofs.CellTables.{cell_cmp_total, cell_same}
 use Rattle.server_store.specs.Holdings.{Holdings}
 use Rattle.server_store.specs.Tickets as lists
@@ -17,15 +25,64 @@ use Rattle.kept_chains.specs.Kept.{store_of}
 use Rattle.kept_chains.specs.Standing.{StandsAsEither}
 use Rattle.pair_memory.specs.declared.job_result.JobResult.{JobResult}
 use Rattle.pair_memory.specs.declared.error.WorkError.{WorkError}
-use Rattle.pair_memory.specs.declared.error.WorkError.TheVariants.{JournalFull, NoMemory}
+use Rattle.pair_memory.specs.declared.error.WorkError.TheVariants.{Failed, JournalFull, NoMemory, Exhausted}
 use Rattle.pair_memory.specs.JobResult.{HasFault, HoldsAt, IsDone, IsFull, held}
 use Rattle.pair_memory.specs.PairMemory.{PairMemory, HasTicketsAt, needs_own, own_of, pairs_of}
 use Rattle.pair_memory.specs.Slots.{IsOutAt}
 use Rattle.pair_memory.proofs.Tickets as tickets
-use Rattle.write_pair.specs.Opened.{IsOpened, begun}
+use Rattle.pair_memory.proofs.Said.{all_same, all_spent, said_done, spent_done}
+use Rattle.write_pair.specs.Opened.{IsOpenError, IsOpened, begun}
+
+-- what holds of an error holds of the result that has it
+pub of_error : {T E : Type 0} (P : Result T E → Type 0) (e : E) (result : Result T E) → IsErr result × IsErrAnd result (λ it. it ≡ e) → P (Err e) → P result
+of_error P e (Ok value) is holds = let no = is.0 in absurd (cc)
+of_error P e (Err it) is holds = subst (λ (x : _). P (Err x)) (sym is.1) holds
+
+ends_next : (here : JobContext) (own : PairState) (op : Pending) (kind : OpKind) (ending : Ending)
+    → (ends here own op kind ending).own.pairs.next ≡ own.pairs.next
+ends_next here own op kind.Write ending = refl
+ends_next here own op kind.Fill ending = refl
+ends_next here own op kind.Copy ending = refl
+
+left_next : (own : PairState) (op : Pending) (put : Bool)
+    → (if put then without_pending own op.cell else gives_back (without_pending own op.cell)).pairs.next ≡ own.pairs.next
+left_next own op true = refl
+left_next own op false = refl
+
+-- no stage takes a number
+acts_next : (here : JobContext) (own : PairState) (op : Pending) (action : Action) → (acts here own op action).own.pairs.next ≡ own.pairs.next
+acts_next here own op action.Reserve = refl
+acts_next here own op (action.Mark kind) = refl
+acts_next here own op action.Put = refl
+acts_next here own op action.Replicate = refl
+acts_next here own op (action.Unmark kind) = refl
+acts_next here own op action.Answer = ends_next here (without_pending own op.cell) op op.kind Written
+acts_next here own op action.Drop = left_next own op op.stage.put
+
+begun_next : (here : JobContext) (own : PairState) (op : Pending) → (begun here own op true).own.pairs.next ≡ own.pairs.next + 1
+unfolding goes_on
+begun_next here own op =
+    ap (λ (o : Option Pending). (goes_on_with here (with_opened own op) o).own.pairs.next) (cell_same own.pairs.pending op.cell op)
+    ∙ acts_next here (with_opened own op) op (next_stage here.state here.me op)
 
 module _ {D : Type 0} (op : Pending) (side : PairMemory) (store : Holdings D) (h : HasTicketsAt side store)
     (none : at cell_cmp side.pending op.cell ≡ None) where
+  -- it was not opened
+  pub not_opened : (here : JobContext) (device : Ghosts D) → ((d : D) → device.came_to d d)
+      → ((d : D) (c : List ℕ) → device.left_since d (device.moment d) c → device.may_leave d c)
+      → (new : PairMemory) (after : Holdings D) (room : Bool) (e : WorkError) → new ≡ side → after ≡ store → IsOpenError side.next room e
+      → IsDone device here (held side store) (held new after) (Err e) (begun here (own_of side store) op room)
+  not_opened here device stays only_now new after room Failed same kept why = absurd why
+  not_opened here device stays only_now new after room JournalFull same kept why = absurd why
+  not_opened here device stays only_now new after room NoMemory same kept why =
+      said_done device stays only_now here side new store after (Err NoMemory) (begun here (own_of side store) op room)
+      (all_same here side new store after (begun here (own_of side store) op room) same kept)
+  not_opened here device stays only_now new after room Exhausted same kept why =
+      let next : (begun here (own_of side store) op room).own.pairs.next ≡ side.next + 1 = rw why.1 (begun_next here (own_of side store) op) in
+      let over = why.0 in
+      spent_done device stays only_now here side new store after (begun here (own_of side store) op room)
+      (all_spent device stays only_now side new store after (begun here (own_of side store) op room) same kept (omega (arith, next, over))) kept
+
   own_none : at cell_cmp side.own op.cell ≡ None
   own_none = tickets.own_none side.pending side.last side.own side.apart store.tickets h op.cell (ap needs_own none)
 
@@ -94,10 +151,10 @@ module _ {D : Type 0} (op : Pending) (side : PairMemory) (store : Holdings D) (h
     -- what its first stage leaves, as seen from before it was opened; unless that was refused, as it is taken back then
     pub opened_done : (here : JobContext) (device : Ghosts D) (last : PairMemory) (left : Holdings D) (result : Result JobResult WorkError) (room : Bool)
         → room ≡ true
-        → ¬ (result ≡ Err NoMemory) → ¬ (result ≡ Err JournalFull)
+        → ¬ (result ≡ Err NoMemory) → ¬ (result ≡ Err JournalFull) → ¬ (result ≡ Err Exhausted)
         → IsDone device here (held new after) (held last left) result (goes_on here (own_of new after) op.cell)
         → IsDone device here (held side store) (held last left) result (begun here (own_of side store) op room)
-    opened_done here device last left result room is memory full stage =
+    opened_done here device last left result room is memory full spent stage =
         rw is (subst (λ (rule : Rule). IsDone device here (held side store) (held last left) result rule)
         (ap (λ (own : PairState). goes_on here own op.cell) opened_is) (record {
           done = stage.done;
@@ -111,6 +168,7 @@ module _ {D : Type 0} (op : Pending) (side : PairMemory) (store : Holdings D) (h
           same = λ no. absurd (memory no);
           kept = subst (λ (s : Holdings D). OnErr result (device.observable → left.entries ≡ s.entries)) opened.store stage.kept;
           full = λ no. absurd (full no);
+          spent = λ no. absurd (spent no);
           cause = subst (λ (s : Holdings D). HasFault (device.faults s.disk) (device.faults left.disk) result) opened.store stage.cause;
           run = subst (λ (s : Holdings D). device.came_to s.disk left.disk) opened.store stage.run;
         }))

@@ -1,6 +1,6 @@
 //! The server's proposer: what its next ballot is for, and what it hears of its ballot.
 
-ghost use Rattle.std.specs.Prelude.{◌≡◌, ◌+◌, max, IfOk, List};
+ghost use Rattle.std.specs.Prelude.{◌≡◌, ◌≤◌, ◌+◌, ◌^◌, max, IfOk, IfSome, IfNone, List};
 ghost use Rattle.petal_command.specs.declared.pax.Pax.TheVariants.{Prepare};
 ghost use Rattle.spec_paxos.specs.Kept.{row_of};
 ghost use Rattle.spec_paxos.specs.Proposer as proposers;
@@ -82,15 +82,14 @@ impl LogSide {
         self.most_urgent(alloc, returning)
     }
 
-    /// One above each round that its acceptor promised at the place, or that it was refused with.
-    ///
-    /// # Errors
-    /// Where that has no number.
-    pub fn next_round<D: Disk>(&self, state: &StateStore<D>, place: u32) -> Result<u32, NoMemory>
-        ensures { IfOk result (λ round. round ≡ max (rules.round_of (row_of state.now.records place).promised) self.now.refused + 1) }
+    /// One above each round that its acceptor promised at the place, or that it was refused with; None exactly where no record can
+    /// name that.
+    pub fn next_round<D: Disk>(&self, state: &StateStore<D>, place: u32) -> Option<u32>
+        ensures some { IfSome result (λ round. round ≡ max (rules.round_of (row_of state.now.records place).promised) self.now.refused + 1) }
+        ensures none { IfNone result (2 ^ 32 ≤ max (rules.round_of (row_of state.now.records place).promised) self.now.refused + 1) }
     {
         let known = round_of(state.promised(place)).max(self.refused);
-        known.checked_add(1).ok_or(NoMemory)
+        known.checked_add(1)
     }
 
     /// Its proposer collects promises of this ballot of its own. Gives the letter that asks for them.

@@ -1,6 +1,6 @@
 //! What a server has in memory of the agreed log.
 
-ghost use Rattle.std.specs.Prelude.{◌≡◌, ◌≤◌, ◌<◌, ◌+◌, ◌^◌, IfOk, length};
+ghost use Rattle.std.specs.Prelude.{◌≡◌, ◌≤◌, ◌<◌, ◌+◌, ◌^◌, IfOk, length, IfSome, IfNone};
 ghost use Rattle.spec_rules.specs.World.{greatest_u32};
 ghost use Rattle.server_log.specs.Part.{new_part, sender_of, state_of};
 
@@ -139,13 +139,11 @@ impl LogSide {
         self.rev() as u64 + 1
     }
 
-    /// The same, as a ballot names it.
-    ///
-    /// # Errors
-    /// Where that has no number.
-    pub fn ballot_place(&self) -> Result<u32, NoMemory>
-        ensures { IfOk result (λ place. place ≡ length self.now.applied + 1) }
+    /// The same, as a ballot names it; None exactly where no record can name it.
+    pub fn ballot_place(&self) -> Option<u32>
+        ensures some { IfSome result (λ place. place ≡ length self.now.applied + 1) }
+        ensures none { IfNone result (2 ^ 32 ≤ length self.now.applied + 1) }
     {
-        self.rev().checked_add(1).ok_or(NoMemory)
+        self.rev().checked_add(1)
     }
 }

@@ -68,6 +68,7 @@ pub fn act<D: Disk>(
     ensures job { IsDone D.Disk here.now (held side.old store.old) (held side.new store.new) result
         (writes.acts here.now (writes.with_pending (own_of side.old store.old) op.now) op.now (writes.next_stage here.now.state here.now.me op.now)) }
     ensures same { result ≡ Err error.NoMemory → store.new ≡ store.old }
+    ensures unspent { ¬ (result ≡ Err error.Exhausted) }
 {
     match next_stage(here, op) {
         Action::Reserve => reserve(here, side, store, op),
@@ -94,6 +95,7 @@ pub fn go_on<D: Disk>(
     requires ready { IsReady side.old store.old }
     ensures job { IsDone D.Disk here.now (held side.old store.old) (held side.new store.new) result (writes.goes_on here.now (own_of side.old store.old) cell) }
     ensures same { result ≡ Err error.NoMemory → store.new ≡ store.old }
+    ensures unspent { ¬ (result ≡ Err error.Exhausted) }
 {
     match side.pending_on(cell)? {
         Some(op) => act(here, side, store, &op),

@@ -1,6 +1,6 @@
 //! An operation that is opened.
 
-ghost use Rattle.std.specs.Prelude.{◌≡◌, ◌+◌, ℕ, nat_lt, true, false, Some, None, Err, IsSome, IfOk, OnErr, OnOk};
+ghost use Rattle.std.specs.Prelude.{◌≡◌, ◌+◌, ℕ, nat_lt, true, false, Some, None, Err, IsSome, IfOk, IfErr, OnErr, OnOk};
 ghost use Rattle.petal_table.specs.Table.{at, put, without};
 ghost use Rattle.spec_rules.specs.Store.{cell_cmp, free_of};
 ghost use Rattle.server_store.specs.Tickets as lists;
@@ -9,31 +9,35 @@ ghost use Rattle.pair_memory.specs.declared.error.WorkError.TheVariants as error
 ghost use Rattle.pair_memory.specs.PairMemory.{own_of, HasTicketsAt};
 ghost use Rattle.pair_memory.specs.JobResult.{IsDone, IsReady, held};
 ghost use Rattle.pair_memory.specs.Slots.{IsOutAt};
-ghost use Rattle.write_pair.specs.Opened.{IsOpened, begun};
+ghost use Rattle.write_pair.specs.Opened.{IsOpenError, IsOpened, begun};
 
 use crate::lead::actions::go_on;
 use crate::lead::end::end;
 use pair_lock::PairLock;
-use pair_memory::{JobContext, JobResult, PairMemory, WorkError, give_back, keep};
-use petal_base::{Cell, NoMemory, Op};
+use pair_memory::{JobContext, JobResult, PairMemory, WorkError, give_back, keep, next_number};
+use petal_base::{Cell, Op};
 use petal_disk::Disk;
 use petal_msg::{Ending, Pending};
 use server_store::Store;
 
 /// The operation is pending from now on, and the next one has a number more.
-fn add_pending(next: &mut Op, locks: &mut PairLock, op: &Pending) -> Result<(), NoMemory>
+fn add_pending(next: &mut Op, locks: &mut PairLock, op: &Pending) -> Result<(), WorkError>
     requires { at cell_cmp locks.old op.now.cell ≡ None }
     ensures ok { OnOk result (locks.new ≡ put cell_cmp locks.old op.now.cell op.now) }
     ensures next { OnOk result (next.new ≡ next.old + 1) }
     ensures err { OnErr result ((locks.new ≡ locks.old) × (next.new ≡ next.old)) }
+    ensures why { IfErr result (IsOpenError next.old true) }
 {
-    let later = next.checked_add(1).ok_or(NoMemory)?;
-    match locks.open(op.clone()?) {
+    let later = next_number(*next)?;
+    let Ok(pending) = op.clone() else {
+        return Err(WorkError::NoMemory);
+    };
+    match locks.open(pending) {
         Ok(()) => {
             *next = later;
             Ok(())
         }
-        Err(_) => Err(NoMemory),
+        Err(_) => Err(WorkError::NoMemory),
     }
 }
 
@@ -42,22 +46,23 @@ fn begin<D: Disk>(
     side: &mut PairMemory,
     store: &mut Store<D>,
     op: &Pending,
-) -> Result<bool, NoMemory>
+) -> Result<bool, WorkError>
     requires tickets { HasTicketsAt side.old store.old }
     requires none { at cell_cmp side.old.pending op.now.cell ≡ None }
     ensures room { IfOk result (λ begun. begun ≡ nat_lt 0 (free_of (store_of store.old))) }
     ensures yes { IfOk result (λ begun. begun ≡ true → IsOpened op.now side.old side.new store.old store.new) }
     ensures no { IfOk result (λ begun. begun ≡ false → (side.new ≡ side.old) × (store.new ≡ store.old)) }
     ensures err { OnErr result ((side.new ≡ side.old) × (store.new ≡ store.old)) }
+    ensures why { IfErr result (IsOpenError side.old.next (nat_lt 0 (free_of (store_of store.old)))) }
 {
     if !keep(&mut side.own, store, op.cell)? {
         return Ok(false);
     }
     match add_pending(&mut side.next, &mut side.locks, op) {
         Ok(()) => Ok(true),
-        Err(NoMemory) => {
+        Err(error) => {
             give_back(&mut side.own, store, op.cell);
-            Err(NoMemory)
+            Err(error)
         }
     }
 }
@@ -76,6 +81,9 @@ fn take_back<D: Disk>(side: &mut PairMemory, store: &mut Store<D>, cell: Cell, n
 
 /// An operation gets a slot of its own, is opened and does its first stage; where no slot is free what it is for ends. Nothing of it
 /// is done yet.
+///
+/// # Errors
+/// As of [`go_on`], and `Exhausted` where no number is left for it: nothing changed.
 pub fn open<D: Disk>(
     here: &JobContext,
     side: &mut PairMemory,
@@ -103,6 +111,7 @@ pub fn open<D: Disk>(
             Err(WorkError::JournalFull)
         }
         Err(WorkError::Failed) => Err(WorkError::Failed),
+        Err(WorkError::Exhausted) => Err(WorkError::Exhausted),
         Ok(done) => Ok(done),
     }
 }

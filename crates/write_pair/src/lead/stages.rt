@@ -130,6 +130,7 @@ pub fn flags<D: Disk>(
     ensures job { IsDone D.Disk here.now (held side.old store.old) (held side.new store.new) result
         (flags (writes.with_pending (own_of side.old store.old) op.now) op.now kind is) }
     ensures same { result ≡ Err error.NoMemory → store.new ≡ store.old }
+    ensures unspent { ¬ (result ≡ Err error.Exhausted) }
 {
     set_mark(store, kind, op.cell, is)?;
     side.locks
@@ -159,6 +160,7 @@ pub fn put_own<D: Disk>(
     ensures job { IsDone D.Disk here.now (held side.old store.old) (held side.new store.new) result
         (writes.acts here.now (writes.with_pending (own_of side.old store.old) op.now) op.now action.Put) }
     ensures same { result ≡ Err error.NoMemory → store.new ≡ store.old }
+    ensures unspent { ¬ (result ≡ Err error.Exhausted) }
 {
     let version = next_version(store, op.cell);
     spend(&mut side.own, store, op.cell, op.key, version, &op.bytes)?;

@@ -26,6 +26,7 @@ returns-in-Ok g c =
       same = λ no. absurd (cc);
       only = tt;
       full = λ no. absurd (cc);
+      spent = λ no. absurd (cc);
       later = c.in-Ok.ensures.later;
       failed = λ no. absurd (cc);
       run = c.in-Ok.ensures.run;

@@ -26,6 +26,7 @@ returns-in-Ok-clause-done g c =
       same = λ no. absurd (cc);
       only = tt;
       full = λ no. absurd (cc);
+      spent = λ no. absurd (cc);
       later = search rules;
       failed = λ no. absurd (cc);
       run = search rules;

@@ -20,6 +20,7 @@ returns g c =
       same = λ no. absurd (cc);
       only = tt;
       full = λ no. absurd (cc);
+      spent = λ no. absurd (cc);
       later = learnt.later;
       failed = λ no. absurd (cc);
       run = learnt.run;

@@ -27,6 +27,7 @@ returns-in-Ok g c =
       holds = done.holds;
       moments = rw (← c.self.view_is) (log_moments g.E.Disk store old c.args.state.now c.does_log.new.state job first is done);
       same = λ no. absurd (cc);
+      spent = λ no. absurd (cc);
       kept = tt;
       full = λ no. absurd (cc);
       cause = record { later = done.later; failed = λ no. absurd (cc) };

@@ -1,4 +1,4 @@
-use Rattle.std.proofs.Common.{refl, ◌∙◌}
+use Rattle.std.proofs.Common.{refl, sym, ◌∙◌}
 use Rattle.pair_memory.specs.PairMemory.{PairMemory}
 use Rattle.pair_memory.proofs.Viewed.{left_of}
 use Rattle.pair_memory.proofs.Kept.{kept_there, kept_some, kept_out}
@@ -24,3 +24,6 @@ returns-in-Err-clause-err g c =
     let back = own_back c.args.op.now side c.args.store.now h none c.keep.new.table c.give_back.new.table kept.slot kept.table c.give_back.ensures.table in
     let held = c.give_back.ensures.store kept.slot there ∙ undone c.args.store.now c.keep.new.store kept.slot kept.slot kept.store refl kept.other in
     rw (← c.side.view_is) ((λ i. record side { next = c.in-Err.ensures.err.1 i; pending = c.in-Err.ensures.err.0 i; own = back i }), held)
+
+pub returns-in-Err-clause-why : goal.returns-in-Err-clause-why
+returns-in-Err-clause-why g c = rw (sym c.in_ok-keep.ensures.room ∙ c.if-not-branch.false) (rw (← c.side.view_is) c.in-Err.ensures.why)

@@ -2,7 +2,10 @@ use Rattle.std.proofs.Common.{Err, nat_lt, sym, ap, ◌∙◌}
 use Rattle.kept_chains.specs.Kept.{store_of}
 use Rattle.pair_memory.proofs.Said.{all_same, full_done, said_done}
 use Rattle.spec_rules.specs.Store.{free_of}
-use Rattle.write_pair.proofs.Opens.{full_back, opened_done, opened_tickets, slot_some, slot_out, side_back, store_back}
+use Rattle.pair_memory.specs.JobResult.{IsDone, held}
+use Rattle.pair_memory.specs.PairMemory.{own_of}
+use Rattle.write_pair.specs.Opened.{begun}
+use Rattle.write_pair.proofs.Opens.{full_back, not_opened, of_error, opened_done, opened_tickets, slot_some, slot_out, side_back, store_back}
 use Rattle.write_pair.proofs.lead.open.open.Goals as goal
 
 pub go_on-requires-clause-ready : goal.go_on-requires-clause-ready
@@ -81,12 +84,29 @@ returns-in-Ok-clause-job g c =
     opened_done c.args.op.now c.args.side.now c.args.store.now c.requires.ready.tickets c.requires.none c.begin.new.side c.begin.new.store
     (c.in_ok-begin.ensures.yes c.if-not-branch.false) c.args.here.now g.D.Disk c.go_on.new.side c.go_on.new.store
     _ (nat_lt 0 (free_of (store_of c.args.store.now)))
-    (sym c.in_ok-begin.ensures.room ∙ c.if-not-branch.false) (λ no. absurd (cc)) (λ no. absurd (cc)) c.in-Ok.ensures.job
+    (sym c.in_ok-begin.ensures.room ∙ c.if-not-branch.false) (λ no. absurd (cc)) (λ no. absurd (cc)) (λ no. absurd (cc)) c.in-Ok.ensures.job
 
 pub returns-in-Err-Failed-clause-job : goal.returns-in-Err-Failed-clause-job
 returns-in-Err-Failed-clause-job g c =
     opened_done c.args.op.now c.args.side.now c.args.store.now c.requires.ready.tickets c.requires.none c.begin.new.side c.begin.new.store
     (c.in_ok-begin.ensures.yes c.if-not-branch.false) c.args.here.now g.D.Disk c.go_on.new.side c.go_on.new.store
     _ (nat_lt 0 (free_of (store_of c.args.store.now)))
-    (sym c.in_ok-begin.ensures.room ∙ c.if-not-branch.false) (λ no. absurd (cc)) (λ no. absurd (cc))
+    (sym c.in_ok-begin.ensures.room ∙ c.if-not-branch.false) (λ no. absurd (cc)) (λ no. absurd (cc)) (λ no. absurd (cc))
     (rw c.in-Err-Failed.field-0-is at c.in-Err-Failed.ensures.job)
+
+pub returns-in-Err-Exhausted-clause-job : goal.returns-in-Err-Exhausted-clause-job
+returns-in-Err-Exhausted-clause-job g c = absurd (c.in-Err-Exhausted.ensures.unspent (ap Err c.in-Err-Exhausted.field-0-is))
+
+pub returns-in_err-begin-clause-job : goal.returns-in_err-begin-clause-job
+returns-in_err-begin-clause-job g c =
+    let law = g.met.D.Disk g.world.𝓛 g.world.𝓜 g.world.𝓡 ((λ s x. x), (λ x. x), (λ x. x), λ x. x) in
+    let here = c.args.here.now in
+    let op = c.args.op.now in
+    let old = c.args.side.now in
+    let store = c.args.store.now in
+    let room = nat_lt 0 (free_of (store_of store)) in
+    of_error
+    (λ result. IsDone g.D.Disk here (held old store) (held c.begin.new.side c.begin.new.store) result (begun here (own_of old store) op room))
+    c.in_err-begin.field-0.0 c.from_residual.result c.from_residual.ensures
+    (not_opened op old store c.requires.ready.tickets c.requires.none here g.D.Disk law.stays law.only_now c.begin.new.side c.begin.new.store
+    room c.in_err-begin.field-0.0 c.in_err-begin.ensures.err.0 c.in_err-begin.ensures.err.1 c.in_err-begin.ensures.why)

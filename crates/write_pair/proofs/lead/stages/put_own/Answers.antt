@@ -37,6 +37,7 @@ returns-clause-job g c =
       same = λ no. absurd (cc);
       kept = tt;
       full = λ no. absurd (cc);
+      spent = λ no. absurd (cc);
       cause = record { later = c.in_ok-spend.ensures.cause.later; failed = λ no. absurd (cc) };
       run = c.in_ok-spend.ensures.run;
     })
