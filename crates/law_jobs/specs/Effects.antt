@@ -298,7 +298,29 @@ May heard here own now (Is_full full) = full ≡ true → HearsNone heard here o
 May heard here own now (Fills row key) = IsFilledAs heard here own row key × (now.filled ≡ own.filled)
 May heard here own now _ = Unit {0}
 
--- what a server's own part may become by effects, one after the other
-pub data Becomes (heard : Body → Type 0) (here : JobContext) (own : PairState) : PairState → Type 0 where
-  As_it_was : Becomes heard here own own
-  Then : (now : PairState) (effect : Effect) → Becomes heard here own now → May heard here own now effect → Becomes heard here own (applied now effect)
+-- the cell that an effect is on, where it is on one
+abbrev pub IsOn : Option Cell → Effect → Type 0
+IsOn at (Opens op) = at ≡ Some op.cell
+IsOn at (Sets op) = at ≡ Some op.cell
+IsOn at (Closes cell) = at ≡ Some cell
+IsOn at (Reserves cell number) = at ≡ Some cell
+IsOn at (Puts key stored (As_operation op)) = at ≡ Some op.cell
+IsOn at (Puts key stored noted) = at ≡ Some (cell_of key)
+IsOn at (Drops key) = at ≡ Some (cell_of key)
+IsOn at (Marks kind cell) = at ≡ Some cell
+IsOn at (Unmarks kind cell) = at ≡ Some cell
+IsOn at (Begins_copy cell) = at ≡ Some cell
+IsOn at (Copies cell copy) = at ≡ Some cell
+IsOn at (Ends_copy cell row) = at ≡ Some cell
+IsOn at (Is_copied cell number epochs) = at ≡ Some cell
+IsOn at (Turns_page row (Some block)) = at ≡ Some (cell_at row block)
+IsOn at _ = Unit {0}
+
+-- what a server's own part may become by effects, one after the other, in a job that works on this cell or none
+pub data BecomesAt (heard : Body → Type 0) (here : JobContext) (own : PairState) (cell : Option Cell) : PairState → Type 0 where
+  As_it_was : BecomesAt heard here own cell own
+  Then : (now : PairState) (effect : Effect) → BecomesAt heard here own cell now → May heard here own now effect → IsOn cell effect
+      → BecomesAt heard here own cell (applied now effect)
+
+abbrev pub Becomes : (heard : Body → Type 0) → JobContext → (own now : PairState) → Type 0
+Becomes heard here own now = (cell : Option Cell) × BecomesAt heard here own cell now

@@ -17,7 +17,8 @@ ghost use Rattle.spec_rules.specs.Lists.{In};
 ghost use Rattle.spec_rules.specs.Server.{JobResult, Post};
 ghost use Rattle.spec_rules.specs.World.{Setting, World};
 
-/// What a server's own part becomes by a job, it becomes by effects, one after the other, each of which the server may have had.
+/// What a server's own part becomes by a job, it becomes by effects, one after the other, each of which the server may have had, and all on one
+/// cell, if they are on any.
 pub fn a_job_is_a_list_of_effects()
     ensures { (setting : Setting) (w : World) (n : ℕ) (done : JobResult) → Did (Handled w n) (own_place setting w n) (w.servers n).own done
         → Becomes (Handled w n) (own_place setting w n) (w.servers n).own done.own }
