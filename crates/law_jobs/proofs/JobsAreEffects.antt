@@ -267,7 +267,7 @@ module _ (heard : Body → Type 0) (here : JobContext) (own : PairState) where
   filler_to _ (Is_filled key row posts h next fills) =
       let to : Key = record { map = row.map; block = key.block; epoch = key.epoch } in
       let filled : IsFilledAs heard here own row to = record { key = key; told = h; next = next; is = refl } in
-      job_at (Then (applied own (effect.Fills row to)) (effect.Is_full false) (Then own (effect.Fills row to) As_it_was (filled, refl) tt)
+      job_at {cell = None} (Then (applied own (effect.Fills row to)) (effect.Is_full false) (Then own (effect.Fills row to) As_it_was (filled, refl) tt)
       (λ e. true_false e refl) tt)
   filler_to _ (Is_out_of_slots key row h next) =
       (None, Then own (effect.Is_full true) As_it_was (λ e. inr (record { key = key; row = row; said = h; next = next })) tt)
