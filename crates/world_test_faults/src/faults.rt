@@ -47,13 +47,14 @@ fn strike_all(alloc: Global, all: &[Calls]) -> Result<(), Fail> {
     Ok(())
 }
 
-/// Each of the first calls of the lead's data device since the run began fails.
+/// Each of the first calls of the lead's data device since the run began fails. Twelve are for the write. Its mark is still there when
+/// the lead ticks, before the reader has its answer, and goes in four more.
 const FAILS: Calls = Calls {
     shows: "a device fails, and each line is answered as if none had",
     before: "",
     arms: "0 arms data any",
     first: 1,
-    last: 12,
+    last: 16,
     how: "",
     told: "failed 1; stopped 0",
 };
@@ -61,8 +62,8 @@ const FAILS: Calls = Calls {
 /// There are no more calls than these: where the next one is to fail, none does.
 const FAILS_NO_MORE: Calls = Calls {
     shows: "no call of the device is left to fail",
-    first: 13,
-    last: 13,
+    first: 17,
+    last: 17,
     told: "failed 0; stopped 0",
     ..FAILS
 };
@@ -110,10 +111,11 @@ fn calls_of_both_state_devices(rt: HostRuntime) -> Result<(), Fail> {
 }
 
 /// The plan is made once the disk is there, and stops the lead in such a call of the write. What was not synced is lost, so the commit
-/// that it was about is not made.
+/// that it was about is not made. No tick comes to the lead after the write.
 const STOPS: Calls = Calls {
     shows: "a server stops in a call of a device, and the write is answered as if it had not",
     before: "a calls 2; agree; wait; ",
+    last: 12,
     how: " stop",
     told: "stopped 1; failed 0; committed 0",
     ..FAILS
@@ -179,12 +181,12 @@ fn each_sync(alloc: Global, arms: &str, commits: &[u32]) -> Result<(), Fail> {
     Ok(())
 }
 
-/// There are no more syncs of the lead's data device than five.
+/// There are no more syncs of the lead's data device than seven.
 const SYNCS_NO_MORE: Calls = Calls {
     shows: "no sync of the device is left to fail late",
     arms: "0 arms data sync",
-    first: 6,
-    last: 6,
+    first: 8,
+    last: 8,
     how: " late",
     told: "failed 0; stopped 0; committed 0",
     ..FAILS
@@ -197,10 +199,10 @@ const SECOND_SYNCS_NO_MORE: Calls = Calls {
     ..SYNCS_NO_MORE
 };
 
-// The block is marked, and put: a record after its gate, and the gate; before a put the content.
+// The block is marked, and put, and at a tick its mark is taken away: a record after its gate, and the gate; before a put the content.
 #[test]
 fn each_sync_of_a_data_device(rt: HostRuntime) -> Result<(), Fail> {
-    each_sync(rt.alloc(), "0 arms data", &[0, 1, 0, 0, 1])?;
+    each_sync(rt.alloc(), "0 arms data", &[0, 1, 0, 0, 1, 0, 1])?;
     each_sync(rt.alloc(), "1 arms data", &[0, 0, 1])?;
     strike_all(rt.alloc(), &[SYNCS_NO_MORE, SECOND_SYNCS_NO_MORE])
 }

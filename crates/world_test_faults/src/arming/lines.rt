@@ -5,7 +5,7 @@ use std::alloc::Global;
 use std::test::Fail;
 use step_runner::Case;
 
-// Of three servers, server 0 leads block 0. Its data device takes sixteen calls for the write, the seventh of its syncs the last.
+// Of three servers, server 0 leads block 0. Its data device takes twelve calls for the write, the fifth of its syncs the last.
 const ARMS: &[Case] = &[
     Case {
         shows: "a line gives its server the one plan, and then its glance, before which the server takes no other step",
@@ -95,8 +95,8 @@ fn done_before_the_write(alloc: Global, line: &str, told: &str) -> Result<(), Fa
 #[test]
 fn the_call_that_a_line_names(rt: HostRuntime) -> Result<(), Fail> {
     done_before_the_write(rt.alloc(), "stop 0 at 1", "stopped 1; failed 0")?;
-    done_before_the_write(rt.alloc(), "stop 0 at 12", "stopped 1; failed 0")?;
-    done_before_the_write(rt.alloc(), "stop 0 at 13", "stopped 0; failed 0")?;
-    done_before_the_write(rt.alloc(), "fault 0 data sync 5", "stopped 0; failed 1")?;
-    done_before_the_write(rt.alloc(), "fault 0 data sync 6", "stopped 0; failed 0")
+    done_before_the_write(rt.alloc(), "stop 0 at 16", "stopped 1; failed 0")?;
+    done_before_the_write(rt.alloc(), "stop 0 at 17", "stopped 0; failed 0")?;
+    done_before_the_write(rt.alloc(), "fault 0 data sync 7", "stopped 0; failed 1")?;
+    done_before_the_write(rt.alloc(), "fault 0 data sync 8", "stopped 0; failed 0")
 }
