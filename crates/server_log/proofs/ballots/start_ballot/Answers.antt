@@ -75,7 +75,7 @@ returns-in_default-next_round g c =
     let round = max (round_of (row_of old.records place).promised) part.refused + 1 in
     let beyond = c.in_default-next_round.ensures.none in
     rw c.in-Some.is
-    (c.exhausted-2.ensures.done (kind.Promise place (record { round = round; server = part.voter.me })) _
+    (c.exhausted-in_default-next_round.ensures.done (kind.Promise place (record { round = round; server = part.voter.me })) _
     (λ body. absurd (let small = body.1.0 in omega (arith, small, beyond)))
     (sym (records_are part old.records place round c.in-Some.want (record { place_is = c.in-Some-ballot_place.ensures.some; round_is = refl }))))
 
