@@ -59,5 +59,5 @@ pub fn no_lost_link_is_read()
 
 /// In the run in which a block is written and read back, the read's line has one look, which the server's step tells.
 pub fn a_read_looks_where_the_server_answers()
-    ensures { looks_along sevens (start sevens) 0 sevens_records ≡ (48, (3, Look vol None 5 (fill_block 7))) ∷ [] }
+    ensures { looks_along sevens (start sevens) 0 sevens_records ≡ (47, (3, Look vol None 5 (fill_block 7))) ∷ [] }
 {}
