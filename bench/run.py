@@ -1,7 +1,7 @@
 #!/usr/bin/env python3
 """Times petal and the plain C program on one script, in one run: wall time, requests a second, peak memory, ratio. Then times how long
 petal moves a disk of 1,000 blocks from five servers to three, against the time of writing them. Ends with 1 where the ratio is above 4,
-or the move takes more than 10 times as long as the writing.
+where writing the blocks takes more than 4 times their bytes of memory, or the move takes more than 10 times as long as the writing.
 
 usage: bench/run.py [REQUESTS [BLOCKS [SEED [CLIENTS [DISKS]]]]]   (petal must be built: ./petal prove)
 PETAL=COMMAND times another program.
@@ -11,7 +11,7 @@ import os, resource, shlex, subprocess, sys, tempfile, time
 TOP = os.path.dirname(os.path.dirname(os.path.abspath(__file__)))
 PETAL = shlex.split(os.environ.get("PETAL", f"{TOP}/petal")) + ["run"]
 TURNS = 5
-BLOCKS, MOST_TIMES, MOST_RATIO = 1000, 10, 4
+BLOCKS, MOST_TIMES, MOST_HELD, MOST_RATIO = 1000, 10, 4, 4
 
 def measure(command, text):
     """The least wall time of some turns in seconds, peak memory in MiB, and what was written."""
@@ -39,17 +39,20 @@ def beyond(total, start_up):
     return total - start_up
 
 def time_move():
-    """Moves a disk of 1,000 blocks from five servers to three."""
+    """Writes a disk of 1,000 blocks of 64 KiB each, and moves it from five servers to three."""
     empty = "servers 5 slots 1024\na disk vol on 0 1 2 3 4\nwait\n"
     writes = empty + "".join(f"{'abcdefgh'[block % 8]} write vol {block} fill {block % 256}\n" for block in range(BLOCKS))
     moves = writes + "wait\na move vol on 0 2 4\nwait\nop settle\n"
-    (start_up, _, _), (written, _, _), (moved, peak, out) = (measure(PETAL, text.encode()) for text in (empty, writes, moves))
+    (start_up, _, _), (written, held, _), (moved, peak, out) = (measure(PETAL, text.encode()) for text in (empty, writes, moves))
     if not out.endswith(f"{BLOCKS + 5}: ok\n{BLOCKS + 7}: ok\n".encode()):
         sys.exit("the disk was not moved")
     writing = beyond(written, start_up)
     times = (moved - written) / writing
-    print(f"{BLOCKS} blocks: written in {writing * 1000:.1f} ms, moved from five servers to three in "
-          f"{(moved - written) * 1000:.1f} ms, {times:.1f} times as long; peak {peak:.0f} MiB")
+    copies = held / (BLOCKS / 16)
+    print(f"{BLOCKS} blocks: written in {writing * 1000:.1f} ms, peak {held:.0f} MiB, {copies:.1f} times their bytes; moved from five servers "
+          f"to three in {(moved - written) * 1000:.1f} ms, {times:.1f} times as long, peak {peak:.0f} MiB")
+    if copies > MOST_HELD:
+        sys.exit(f"that is more than {MOST_HELD} times their bytes")
     if times > MOST_TIMES:
         sys.exit(f"that is more than {MOST_TIMES} times")
 
