@@ -1,12 +1,13 @@
 //! The script of a drill.
 
-ghost use Rattle.std.specs.Prelude.{◌≡◌, ◌≤◌, Ok, IfOk};
+ghost use Rattle.std.specs.Prelude.{◌≡◌, ◌≤◌, IfOk};
 ghost use Rattle.petal_script.specs.Script.{script_of};
+ghost use Rattle.petal_script.specs.Told.{Reads};
 ghost use Rattle.petal_drill.specs.Drill.{drill_text, drill_after};
 
 use crate::writer::Writer;
 use petal_base::NoMemory;
-use petal_script::read_script;
+use petal_script::{ScriptError, read_script};
 use script_lines::Script;
 use std::alloc::Global;
 
@@ -29,16 +30,15 @@ fn drill_text(alloc: Global, seed: u32, count: u32) -> Result<Vec<u8>, NoMemory>
 }
 
 /// The script of the drill with so many requests that are drawn from the seed.
-pub fn drill_script(alloc: Global, seed: u32, count: u32) -> Result<Script, NoMemory>
+///
+/// # Errors
+/// `NoMemory`. `Refused` is never seen: a drill has at most 949 lines in less than 64 KiB, 49 of them start a server, and at most one
+/// server is down at a time. That is not proved.
+pub fn drill_script(alloc: Global, seed: u32, count: u32) -> Result<Script, ScriptError>
     requires seed { seed ≤ 2147483647 }
     requires count { count ≤ 800 }
-    ensures { IfOk result (λ script. script_of (drill_text seed count) ≡ Ok script) }
+    ensures { Reads result (script_of (drill_text seed count)) }
 {
     let text = drill_text(alloc, seed, count)?;
-    match read_script(alloc, &text) {
-        Ok(script) => Ok(script),
-        // Memory is what is lacking here: a text of a drill is never refused. It has at most 949 lines in less than 64 KiB,
-        // 49 of them start a server, and at most one server is down at a time.
-        Err(_) => Err(NoMemory),
-    }
+    read_script(alloc, &text)
 }

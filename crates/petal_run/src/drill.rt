@@ -20,7 +20,7 @@ use law_answers::phases_come_one_after_the_other;
 use law_run::{every_history_keeps_the_law, read_scripts_are_sound};
 use petal_base::NoMemory;
 use petal_drill::{Counts, drill_script, summary_text};
-use petal_script::{Line, Script};
+use petal_script::{Line, Script, ScriptError};
 use plain_schedule::{Answers, GaveUp, Playing};
 use std::alloc::Global;
 use std::sync::Wait;
@@ -171,6 +171,8 @@ pub(crate) fn run_drill<R: Wait, W: Sink>(
     nothing_is_a_part();
     match drill_script(alloc, seed, count) {
         Ok(script) => play_drill(rt, alloc, seed, count, script, sink),
-        Err(NoMemory) => given_up(alloc, GaveUp::NoMemory),
+        Err(ScriptError::NoMemory) => given_up(alloc, GaveUp::NoMemory),
+        // never seen: its lines are in order
+        Err(ScriptError::Refused { .. }) => given_up(alloc, GaveUp::Unexpected),
     }
 }
