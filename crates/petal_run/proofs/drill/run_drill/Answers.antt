@@ -13,5 +13,5 @@ returns-in-Err-NoMemory-clause-in_part g c = λ told which.
 
 pub returns-in-Err-Refused-clause-in_part : goal.returns-in-Err-Refused-clause-in_part
 returns-in-Err-Refused-clause-in_part g c = λ told which.
-    rw c.given_up.ensures.history
+    rw c.given_up-in-Err-Refused.ensures.history
     (c.nothing_is_a_part.ensures.part (Some (forms.Drill c.args.seed c.args.count)) [] (g.W.Sink.taken c.args.sink.now))
