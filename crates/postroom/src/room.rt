@@ -8,7 +8,7 @@ ghost use Rattle.postroom.specs.declared.mail.Mail.TheVariants as mail;
 use crate::handing::{Handing, Handings};
 use crate::mail::Mail;
 use boxcar::Pushed;
-use crossbeam_channel::{Receiver, Sender};
+use crossbeam_channel::{Receiver, SendError, Sender};
 use petal_base::{CLIENTS, NoMemory};
 use petal_msg::{Actor, SharedLetter};
 use std::alloc::Global;
@@ -112,7 +112,9 @@ impl Postroom {
             None => Ok(()),
             Some(channel) => match channel.to.send(rt, number) {
                 Ok(()) => Ok(()),
-                Err(_) => Err(NoMemory),
+                Err(SendError::OutOfMemory(_)) => Err(NoMemory),
+                // never so: the room has the other end
+                Err(SendError::Disconnected(_)) => Ok(()),
             },
         }
     }
